@@ -1,0 +1,6 @@
+//! Writing by way of a buffer, so that what was written is known after a fault too.
+#![tactic(auto)]
+
+pub mod sink;
+#[cfg(test)]
+mod tests;
