@@ -1,0 +1,25 @@
+use Rattle.std.proofs.Common.{sym, ap, not, Ok, Err}
+use Rattle.fl_labels.specs.CapOrder.{cap_total, cap_exact}
+use Rattle.fl_labels.proofs.SortedVec.{answers, inserted, kept_insert}
+use Rattle.fl_labels.proofs.cap_set.CapSet.insert.Goals as goal
+
+pub invariant_of-self-in-Err : goal.invariant_of-self-in-Err
+invariant_of-self-in-Err c =
+    let new = inserted cap_total cap_exact _ _ c.self.invariant c.self.view_is _ c.deref.ensures.value c.args.cap _ _ c.in-Err.ensures.bound c.in-Err.ensures.position c.in_ok-insert-in-Err.ensures.items in
+    new.rises
+
+pub returns-in-Ok-clause-ok : goal.returns-in-Ok-clause-ok
+returns-in-Ok-clause-ok c =
+    kept_insert cap_total cap_exact _ _ c.self.invariant c.self.view_is _ c.deref.ensures.value c.args.cap _ c.in-Ok.ensures.bound c.in-Ok.ensures.position
+
+pub returns-in-Ok-clause-new : goal.returns-in-Ok-clause-new
+returns-in-Ok-clause-new c =
+    ap not (sym (answers cap_total cap_exact _ _ c.self.invariant c.self.view_is _ c.deref.ensures.value c.args.cap (Ok c.in-Ok.field-0) c.in-Ok.ensures.bound c.in-Ok.ensures.position))
+
+pub returns-in_ok-insert-in-Err-clause-ok : goal.returns-in_ok-insert-in-Err-clause-ok
+returns-in_ok-insert-in-Err-clause-ok c =
+    (inserted cap_total cap_exact _ _ c.self.invariant c.self.view_is _ c.deref.ensures.value c.args.cap _ _ c.in-Err.ensures.bound c.in-Err.ensures.position c.in_ok-insert-in-Err.ensures.items).view
+
+pub returns-in_ok-insert-in-Err-clause-new : goal.returns-in_ok-insert-in-Err-clause-new
+returns-in_ok-insert-in-Err-clause-new c =
+    ap not (sym (answers cap_total cap_exact _ _ c.self.invariant c.self.view_is _ c.deref.ensures.value c.args.cap (Err c.in-Err.place) c.in-Err.ensures.bound c.in-Err.ensures.position))

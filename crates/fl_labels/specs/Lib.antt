@@ -1,0 +1,12 @@
+pub mod Name
+pub mod SetBy
+pub mod Found
+pub mod NameOrder
+pub mod Cap
+pub mod CapOrder
+pub mod Label
+pub mod Pid
+pub mod PidOrder
+pub mod Text
+pub mod Words
+pub mod ItemText

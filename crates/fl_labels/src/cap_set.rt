@@ -1,0 +1,135 @@
+// Sets of capabilities.
+ghost use Rattle.std.specs.Prelude.{◌≡◌, IfOk, OnOk, OnErr, IsErrOf, not};
+ghost use Rattle.fl_labels.specs.Cap.{cap_cmp};
+ghost use Rattle.fl_labels.specs.Text.{cap_text};
+ghost use Rattle.fl_labels.specs.Words.{IsListing};
+ghost use Rattle.fl_labels.specs.SetBy as set;
+
+use crate::cap::Cap;
+use crate::error::SetError;
+use crate::list::{read_items, rises};
+use std::alloc::{AllocError, Global};
+use std::fmt;
+use std::marker::Model;
+
+/// A set of capabilities, kept as a rising vector.
+#[derive(Debug, Drop)]
+pub struct CapSet {
+    caps: Vec<Cap>,
+}
+
+impl Model for CapSet {
+    ghost use Rattle.fl_labels.specs.SetBy as set;
+    ghost use Rattle.fl_labels.specs.Cap.{cap_cmp};
+    ghost use Rattle.fl_labels.specs.CapOrder.{coded_cap};
+    ghost use Rattle.std.specs.List.Sorted.{IsStrictlySortedBy};
+
+    ghost Value = { set.SetBy cap_cmp };
+
+    ghost coded = { set.code coded_cap };
+
+    ghost view = { λ a. set.of_list a.caps.items };
+
+    ghost invariant = { λ a. IsStrictlySortedBy cap_cmp a.caps.items };
+}
+
+impl fmt::Display for CapSet {
+    ghost use Rattle.std.specs.Prelude.{Some};
+    ghost use Rattle.fl_labels.specs.Text.{caps_text};
+
+    ghost output = { λ s. Some (caps_text s) };
+
+    fn fmt<W: fmt::Write>(&self, f: &mut fmt::Formatter<W>) -> fmt::Result {
+        match self.caps.split_first() {
+            None => f.write_str("{}"),
+            Some((first, rest)) => {
+                write!(f, "{{{first}")?;
+                for cap in rest {
+                    write!(f, ",{cap}")?;
+                }
+                f.write_str("}")
+            }
+        }
+    }
+}
+
+impl CapSet {
+    /// The set of nothing. Takes no memory.
+    pub fn new(alloc: Global) -> Self
+        ensures { result ≡ set.empty }
+    {
+        CapSet {
+            caps: Vec::new(alloc),
+        }
+    }
+
+    /// The set of some capabilities, in any order, repeated or not. `Memory` where there is not enough.
+    pub fn from_caps(alloc: Global, caps: &[Cap]) -> Result<Self, AllocError>
+        ensures { IfOk result (λ made. made ≡ set.of_list caps.now) }
+    {
+        let mut set = CapSet::new(alloc);
+        for cap in caps {
+            set.insert(*cap)?;
+        }
+        Ok(set)
+    }
+
+    /// Reads a text such as `{+1.1,-1.4}`: capabilities in any order, a repeated one once.
+    ///
+    /// `BadText` of a text that lists no capabilities in braces, `Memory`. Linear in a text that lists rising capabilities, and
+    /// else an insert for each of them.
+    pub fn from_text(alloc: Global, text: &str) -> Result<Self, SetError>
+        ensures ok { IfOk result (λ caps. IsListing cap_text caps text.now) }
+        ensures bad_text { IsErrOf result SetError.BadText → (s : set.SetBy cap_cmp) → IsListing cap_text s text.now → ⊥ }
+        ensures never_too_long { IsErrOf result SetError.TooLong → ⊥ }
+    {
+        let caps = read_items(alloc, text)?;
+        if rises(&caps) {
+            return Ok(CapSet { caps });
+        }
+        Ok(CapSet::from_caps(alloc, &caps)?)
+    }
+
+    /// Whether the capability is a member. A binary search.
+    pub fn contains(&self, cap: Cap) -> bool
+        ensures { result ≡ set.contains self.now cap }
+    {
+        self.caps.binary_search(&cap).is_ok()
+    }
+
+    /// The members, rising.
+    pub fn as_slice(&self) -> &[Cap]
+        ensures { result.now ≡ set.members self.now }
+    {
+        &self.caps
+    }
+
+    /// Adds a capability, and answers whether it is new. An error leaves the set.
+    pub fn insert(&mut self, cap: Cap) -> Result<bool, AllocError>
+        ensures ok { OnOk result (self.new ≡ set.insert self.old cap) }
+        ensures new { IfOk result (λ new. new ≡ not (set.contains self.old cap)) }
+        ensures err { OnErr result (self.new ≡ self.old) }
+    {
+        match self.caps.binary_search(&cap) {
+            Ok(_) => Ok(false),
+            Err(place) => {
+                self.caps.insert(place, cap)?;
+                Ok(true)
+            }
+        }
+    }
+
+    /// Removes a capability, and answers whether it was a member. Takes no memory.
+    pub fn remove(&mut self, cap: Cap) -> bool
+        ensures after { self.new ≡ set.remove self.old cap }
+        ensures was { result ≡ set.contains self.old cap }
+    {
+        match self.caps.binary_search(&cap) {
+            Ok(place) => {
+                self.caps.remove(place);
+                true
+            }
+            Err(_) => false,
+        }
+    }
+}

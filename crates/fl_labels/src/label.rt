@@ -1,0 +1,165 @@
+// Labels: sets of at most 256 tags.
+ghost use Rattle.std.specs.Prelude.{◌≡◌, ◌<◌, ◌≤◌, IfOk, OnOk, OnErr, IsErrOf, not, false, length, find, IfNone, IfSome, List};
+ghost use Rattle.fl_labels.specs.declared.name.Name.{Name};
+ghost use Rattle.fl_labels.specs.Text.{name_text, label_text};
+ghost use Rattle.fl_labels.specs.Words.{IsListing};
+ghost use Rattle.fl_labels.specs.Name.{name_cmp};
+ghost use Rattle.fl_labels.specs.SetBy as set;
+
+use crate::error::SetError;
+use crate::list::{read_items, rises};
+use crate::name::Name;
+use std::alloc::Global;
+use std::fmt;
+use std::marker::Model;
+
+/// How many tags a label holds at most.
+pub const MOST_TAGS: usize = 256;
+
+/// A set of tags.
+#[derive(Debug, Drop)]
+pub struct Label {
+    tags: Vec<Name>,
+}
+
+impl Model for Label {
+    ghost use Rattle.fl_labels.specs.SetBy as set;
+    ghost use Rattle.fl_labels.specs.Name.{name_cmp};
+    ghost use Rattle.fl_labels.specs.NameOrder.{coded_name};
+    ghost use Rattle.fl_labels.specs.Label.{IsLabel};
+
+    ghost Value = { set.SetBy name_cmp };
+
+    ghost coded = { set.code coded_name };
+
+    ghost view = { λ a. set.of_list a.tags.items };
+
+    ghost invariant = { λ a. IsLabel a.tags.items };
+}
+
+impl fmt::Display for Label {
+    ghost use Rattle.std.specs.Prelude.{Some};
+    ghost use Rattle.fl_labels.specs.Text.{label_text};
+
+    ghost output = { λ s. Some (label_text s) };
+
+    fn fmt<W: fmt::Write>(&self, f: &mut fmt::Formatter<W>) -> fmt::Result {
+        match self.tags.split_first() {
+            None => f.write_str("{}"),
+            Some((first, rest)) => {
+                write!(f, "{{{first}")?;
+                for tag in rest {
+                    write!(f, ",{tag}")?;
+                }
+                f.write_str("}")
+            }
+        }
+    }
+}
+
+impl Label {
+    pub fn new(alloc: Global) -> Self
+        ensures { result ≡ set.empty }
+    {
+        Label {
+            tags: Vec::new(alloc),
+        }
+    }
+
+    /// The set of some tags, in any order, repeated or not.
+    pub fn from_tags(alloc: Global, tags: &[Name]) -> Result<Self, SetError>
+        ensures ok { IfOk result (λ label. label ≡ set.of_list tags.now) }
+        ensures short { IfOk result (λ label. set.len label ≤ 256) }
+        ensures too_long { IsErrOf result SetError.TooLong → 256 < set.len (set.of_list {R = name_cmp} tags.now) }
+        ensures never_bad { IsErrOf result SetError.BadText → ⊥ }
+    {
+        let mut label = Label::new(alloc);
+        for tag in tags {
+            label.insert(*tag)?;
+        }
+        Ok(label)
+    }
+
+    /// Reads a text such as `{1.1,1.4}`: tags in any order, a repeated one once.
+    ///
+    /// `BadText` of a text that lists no names in braces, `TooLong` where it lists more than 256, `Memory`. Linear in a text that
+    /// lists rising tags, and else an insert for each tag.
+    pub fn from_text(alloc: Global, text: &str) -> Result<Self, SetError>
+        ensures ok { IfOk result (λ label. IsListing name_text label text.now) }
+        ensures short { IfOk result (λ label. set.len label ≤ 256) }
+        ensures too_long { IsErrOf result SetError.TooLong → (s : set.SetBy name_cmp) × IsListing name_text s text.now × (256 < set.len s) }
+        ensures bad_text { IsErrOf result SetError.BadText → (s : set.SetBy name_cmp) → IsListing name_text s text.now → ⊥ }
+    {
+        let tags = read_items(alloc, text)?;
+        if !rises(&tags) {
+            return Label::from_tags(alloc, &tags);
+        }
+        if tags.len() > MOST_TAGS {
+            return Err(SetError::TooLong);
+        }
+        Ok(Label { tags })
+    }
+
+    pub fn contains(&self, tag: Name) -> bool
+        ensures { result ≡ set.contains self.now tag }
+    {
+        self.tags.binary_search(&tag).is_ok()
+    }
+
+    /// The tags, rising.
+    pub fn as_slice(&self) -> &[Name]
+        ensures { result.now ≡ set.members self.now }
+    {
+        &self.tags
+    }
+
+    /// Adds a tag, and answers whether it is new.
+    pub fn insert(&mut self, tag: Name) -> Result<bool, SetError>
+        ensures ok { OnOk result (self.new ≡ set.insert self.old tag) }
+        ensures new { IfOk result (λ new. new ≡ not (set.contains self.old tag)) }
+        ensures short { OnOk result (set.len self.new ≤ 256) }
+        ensures too_long { IsErrOf result SetError.TooLong → (set.contains self.old tag ≡ false) × (set.len self.old ≡ 256) }
+        ensures never_bad { IsErrOf result SetError.BadText → ⊥ }
+        ensures err { OnErr result (self.new ≡ self.old) }
+    {
+        match self.tags.binary_search(&tag) {
+            Ok(_) => Ok(false),
+            Err(place) => {
+                if self.tags.len() == MOST_TAGS {
+                    return Err(SetError::TooLong);
+                }
+                self.tags.insert(place, tag)?;
+                Ok(true)
+            }
+        }
+    }
+
+    /// Removes a tag, and answers whether it was there.
+    pub fn remove(&mut self, tag: Name) -> bool
+        ensures after { self.new ≡ set.remove self.old tag }
+        ensures was { result ≡ set.contains self.old tag }
+    {
+        match self.tags.binary_search(&tag) {
+            Ok(place) => {
+                self.tags.remove(place);
+                true
+            }
+            Err(_) => false,
+        }
+    }
+
+    /// The least tag that the other label lacks.
+    pub fn first_missing(&self, other: &Label) -> Option<Name>
+        ensures none { IfNone result (set.IsWithin self.now other.now) }
+        ensures least { IfSome result (set.IsLeast name_cmp (set.IsMissing self.now other.now)) }
+    {
+        first_outside(&self.tags, other)
+    }
+}
+
+/// The first of the tags that the label lacks.
+fn first_outside(tags: &[Name], label: &Label) -> Option<Name>
+    ensures { result ≡ find (λ tag. not (set.contains label.now tag)) tags.now }
+{
+    tags.iter().copied().find(|tag| !label.contains(*tag))
+}

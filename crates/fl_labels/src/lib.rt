@@ -1,0 +1,13 @@
+//! Names, capabilities, process identifiers, and sets of them.
+#![tactic(auto)]
+
+pub mod cap;
+pub mod cap_set;
+pub mod error;
+pub mod label;
+pub mod list;
+pub mod name;
+pub mod pid;
+#[cfg(test)]
+mod tests;
+pub mod text;

@@ -1,0 +1,89 @@
+// Lists in braces.
+ghost use Rattle.std.specs.Prelude.{◌≡◌, ℕ, IfSome, IfNone, IfOk, IsErrOf, IsTrue, ◌↔◌, List, [], ◌∷◌, ◌++◌, map};
+ghost use Rattle.std.specs.List.{join_with_byte};
+ghost use Rattle.std.specs.List.Sorted.{IsStrictlySortedBy};
+ghost use Rattle.fl_labels.specs.Found.{Finds};
+ghost use Rattle.fl_labels.specs.Text.{name_text, cap_text, braces};
+ghost use Rattle.fl_labels.specs.Words.{NoComma};
+
+use crate::cap::Cap;
+use crate::error::SetError;
+use crate::name::Name;
+use crate::text::{read_cap, read_name};
+use std::alloc::Global;
+
+/// What a list in braces may hold: each has a text with no comma in it.
+pub trait Item: Copy + Drop {
+    ghost text: { Self → List ℕ };
+
+    /// The item that a word spells.
+    fn read(word: &str) -> Option<Self>
+        ensures { Finds result (λ item. word.now ≡ text item) };
+
+    ghost no_comma: { (item : Self) → NoComma (text item) };
+}
+
+impl Item for Name {
+    ghost use Rattle.fl_labels.specs.ItemText.{no_comma-name_text};
+
+    ghost text = { name_text };
+
+    ghost no_comma = { no_comma-name_text };
+
+    fn read(word: &str) -> Option<Self> {
+        read_name(word)
+    }
+}
+
+impl Item for Cap {
+    ghost use Rattle.fl_labels.specs.ItemText.{no_comma-cap_text};
+
+    ghost text = { cap_text };
+
+    ghost no_comma = { no_comma-cap_text };
+
+    fn read(word: &str) -> Option<Self> {
+        read_cap(word)
+    }
+}
+
+/// Whether each item is above the one before it. One pass.
+pub fn rises<T: Ord>(items: &[T]) -> bool
+    ensures { IsTrue result ↔ IsStrictlySortedBy T.cmp items.now }
+{
+    items.is_sorted_by(|a, b| a.cmp(b).is_lt())
+}
+
+/// What stands between braces round the whole text.
+fn inner_of(text: &str) -> Option<&str>
+    ensures some { IfSome result (λ inner. text.now ≡ 123 ∷ (inner.now ++ 125 ∷ [])) }
+    ensures none { IfNone result ((inner : List ℕ) → text.now ≡ 123 ∷ (inner ++ 125 ∷ []) → ⊥) }
+{
+    text.strip_prefix('{')?.strip_suffix('}')
+}
+
+/// The items that a text spells, with commas between them.
+fn read_parts<T: Item>(alloc: Global, inner: &str) -> Result<Vec<T>, SetError>
+    ensures ok { IfOk result (λ items. inner.now ≡ join_with_byte 44 (map T.text items.items)) }
+    ensures bad_text { IsErrOf result SetError.BadText → (items : List T) → inner.now ≡ join_with_byte 44 (map T.text items) → ⊥ }
+    ensures never_too_long { IsErrOf result SetError.TooLong → ⊥ }
+{
+    let mut items = Vec::new(alloc);
+    if inner.is_empty() {
+        return Ok(items);
+    }
+    for part in inner.split(',') {
+        items.push(T::read(part).ok_or(SetError::BadText)?)?;
+    }
+    Ok(items)
+}
+
+/// The items that a text such as `{1.1,1.4}` spells, in their order.
+pub fn read_items<T: Item>(alloc: Global, text: &str) -> Result<Vec<T>, SetError>
+    ensures ok { IfOk result (λ items. text.now ≡ braces T.text items.items) }
+    ensures bad_text { IsErrOf result SetError.BadText → (items : List T) → text.now ≡ braces T.text items → ⊥ }
+    ensures never_too_long { IsErrOf result SetError.TooLong → ⊥ }
+{
+    let inner = inner_of(text).ok_or(SetError::BadText)?;
+    read_parts(alloc, inner)
+}

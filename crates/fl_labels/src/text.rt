@@ -1,0 +1,74 @@
+// Readers of words.
+ghost use Rattle.std.specs.Prelude.{◌≡◌, ℕ, ◌<◌, ◌∷◌, List};
+ghost use Rattle.fl_labels.specs.Found.{Finds};
+ghost use Rattle.fl_labels.specs.Text.{name_text, cap_text, pid_text};
+ghost use Rattle.fl_labels.specs.Words.{IsNumber, IsNode};
+
+use crate::cap::Cap;
+use crate::name::Name;
+use crate::pid::Pid;
+
+/// The number from 1 to 4294967295 that a word spells: decimal, with no sign and no leading zero. `None` of any other word.
+pub fn read_number(text: &str) -> Option<u32>
+    ensures { Finds result (λ n. IsNumber n text.now) }
+{
+    // A sign and a leading 0 come before 1 among the characters.
+    if text.as_bytes().first().copied().unwrap_or(0) <= b'0' {
+        return None;
+    }
+    text.parse().ok()
+}
+
+/// The number from 1 to 65535 that a word spells, as `read_number` reads it. `None` of any other word.
+pub fn read_node(text: &str) -> Option<u16>
+    ensures { Finds result (λ n. IsNode n text.now) }
+{
+    u16::try_from(read_number(text)?).ok()
+}
+
+/// The name that a word such as `1.4` spells. `None` of any other word.
+pub fn read_name(text: &str) -> Option<Name>
+    ensures { Finds result (λ name. text.now ≡ name_text name) }
+{
+    let (node, seq) = text.split_once('.')?;
+    let node = read_node(node)?;
+    let seq = read_number(seq)?;
+    Some(Name { node, seq })
+}
+
+/// The name that stands behind a sign.
+fn read_signed(text: &str, sign: char) -> Option<Name>
+    requires { sign < 128 }
+    ensures { Finds result (λ name. text.now ≡ sign ∷ name_text name) }
+{
+    read_name(text.strip_prefix(sign)?)
+}
+
+/// The capability that a word such as `+1.4` spells; the signs are `+`, `-`, `*` (use) and `^` (grow). `None` of any other word.
+pub fn read_cap(text: &str) -> Option<Cap>
+    ensures { Finds result (λ cap. text.now ≡ cap_text cap) }
+{
+    if let Some(name) = read_signed(text, '+') {
+        return Some(Cap::Plus(name));
+    }
+    if let Some(name) = read_signed(text, '-') {
+        return Some(Cap::Minus(name));
+    }
+    if let Some(name) = read_signed(text, '*') {
+        return Some(Cap::Use(name));
+    }
+    let name = read_signed(text, '^')?;
+    Some(Cap::Grow(name))
+}
+
+/// The process identifier that a word such as `p1.1.1` spells. `None` of any other word.
+pub fn read_pid(text: &str) -> Option<Pid>
+    ensures { Finds result (λ pid. text.now ≡ pid_text pid) }
+{
+    let (node, rest) = text.strip_prefix('p')?.split_once('.')?;
+    let (boot, serial) = rest.split_once('.')?;
+    let node = read_node(node)?;
+    let boot = read_number(boot)?;
+    let serial = read_number(serial)?;
+    Some(Pid { node, boot, serial })
+}
