@@ -1,0 +1,85 @@
+-- A name from its six bytes, and an operation from its fields.
+use Rattle.std.proofs.Common.{None, nat_lt, nat_le, slice_index, ◌≡◌, ◌≢◌, ℕ, ◌+◌, ◌-◌, ◌*◌, ◌<◌, ◌≤◌, true, Bool, ◌&&◌, List, [], ◌∷◌, ◌++◌, length, get_or, take, drop, sym, ap, subst, refl, ◌∙◌, arith, length-drop, get_or-drop}
+use Rattle.std.proofs.lemmas.List.{drop-drop}
+use lib.Seq.{take-add}
+use Rattle.std.specs.Int.{w16, w32, to_be_bytes, from_be_bytes}
+use Rattle.std.proofs.lemmas.Nat.{be_bytes_2, be_bytes_4}
+use Rattle.std.proofs.lemmas.Bool.{le-leb, lt-ltb, and_parts, leb-true, false≢true}
+use Rattle.fl_labels.specs.declared.name.Name.{Name}
+use Rattle.fl_ops.specs.declared.op.Body.{Body}
+use Rattle.fl_ops.specs.Bytes.{name_bytes, kind_byte, body_bytes, op_bytes}
+use Rattle.fl_ops.specs.Grammar.{has_name, has_byte, body_fields, first_fault, op_fault}
+
+-- each cell is a byte
+abbrev pub IsBytes : List ℕ → Type 0
+IsBytes bs = (i : ℕ) → get_or bs i 0 < 256
+
+two_cells : (a b i : ℕ) → a < 256 → b < 256 → get_or (a ∷ b ∷ []) i 0 < 256
+two_cells a b i p q = grind arith
+
+four_cells : (a b c d i : ℕ) → a < 256 → b < 256 → c < 256 → d < 256 → get_or (a ∷ b ∷ c ∷ d ∷ []) i 0 < 256
+four_cells a b c d i p q r s = grind arith
+
+-- what stands in six cells
+cells : (ds : List ℕ) (node seq : ℕ) → 6 ≤ length ds → IsBytes ds → node ≡ from_be_bytes w16 (take 2 ds) → seq ≡ from_be_bytes w32 (take 4 (drop 2 ds)) → take 6 ds ≡ to_be_bytes w16 node ++ to_be_bytes w32 seq
+cells (a ∷ b ∷ c ∷ d ∷ e ∷ f ∷ ds) node seq long fits p q =
+    let first = be_bytes_2 (a ∷ b ∷ []) node refl (λ i. two_cells a b i (fits 0) (fits 1)) p in
+    let second = be_bytes_4 (c ∷ d ∷ e ∷ f ∷ []) seq refl (λ i. four_cells c d e f i (fits 2) (fits 3) (fits 4) (fits 5)) q in
+    λ i. sym first i ++ sym second i
+cells ds node seq long fits p q = absurd (omega arith)
+
+-- six cells read as two numbers
+read_cells : (ds field : List ℕ) (node seq : ℕ) → 6 ≤ length ds → field ≡ take 6 ds
+    → node ≡ get_or field 0 0 * 256 + get_or field 1 0
+    → seq ≡ ((get_or field 2 0 * 16777216 + get_or field 3 0 * 65536) + get_or field 4 0 * 256) + get_or field 5 0
+    → (node ≡ from_be_bytes w16 (take 2 ds)) × (seq ≡ from_be_bytes w32 (take 4 (drop 2 ds)))
+read_cells (a ∷ b ∷ c ∷ d ∷ e ∷ f ∷ ds) field node seq long same p q = (
+  p ∙ ap (λ l. get_or l 0 0 * 256 + get_or l 1 0) same,
+  q ∙ ap (λ l. ((get_or l 2 0 * 16777216 + get_or l 3 0 * 65536) + get_or l 4 0 * 256) + get_or l 5 0) same,
+)
+read_cells ds field node seq long same p q = absurd (omega arith)
+
+-- what `name_at` owes where it answers a name
+pub name_found : (bs : List ℕ) (at : ℕ) (field : List ℕ) (node seq : ℕ) → IsBytes bs → at + 6 ≤ length bs → field ≡ take (at + 6 - at) (drop at bs)
+    → node ≡ get_or field 0 0 * 256 + get_or field 1 0
+    → seq ≡ ((get_or field 2 0 * 16777216 + get_or field 3 0 * 65536) + get_or field 4 0 * 256) + get_or field 5 0
+    → node ≢ 0 → seq ≢ 0
+    → (has_name bs at ≡ true) × (take 6 (drop at bs) ≡ to_be_bytes w16 node ++ to_be_bytes w32 seq)
+name_found bs at field node seq fits within is p q some_node some_seq =
+    let six : at + 6 - at ≡ 6 = omega arith in
+    let long : 6 ≤ length (drop at bs) = omega (arith, length-drop at bs) in
+    let numbers = read_cells (drop at bs) field node seq long (is ∙ ap (λ n. take n (drop at bs)) six) p q in
+    let second : seq ≡ from_be_bytes w32 (take 4 (drop (at + 2) bs)) = numbers.1 ∙ ap (λ l. from_be_bytes w32 (take 4 l)) (drop-drop 2 at bs) in (
+      rw (le-leb (at + 6) (length bs) within, ← numbers.0, ← second, lt-ltb 0 node (omega arith), lt-ltb 0 seq (omega arith)) refl,
+      cells (drop at bs) node seq long (λ i. subst (λ n. n < 256) (sym (get_or-drop at bs i 0)) (fits (at + i))) numbers.0 numbers.1,
+    )
+
+one_byte : (x : ℕ) (b : Bool) → (b && (nat_le 1 x && nat_le x 1)) ≡ true → x ≡ 1
+one_byte x b h =
+    let parts = and_parts (nat_le 1 x) (nat_le x 1) (and_parts b (nat_le 1 x && nat_le x 1) h).1 in
+    omega (arith, leb-true 1 x parts.0, leb-true x 1 parts.1)
+
+-- the two bytes before the name
+front_bytes : (bs : List ℕ) → has_byte bs 0 1 1 ≡ true → has_byte bs 1 1 1 ≡ true → take 2 bs ≡ 1 ∷ 1 ∷ []
+front_bytes [] a b = absurd (false≢true a)
+front_bytes (x ∷ []) a b = absurd (false≢true b)
+front_bytes (x ∷ y ∷ bs) a b = λ i. one_byte x _ a i ∷ one_byte y _ b i ∷ []
+
+kind_is : (bs : List ℕ) → has_byte bs 1 1 1 ≡ true → slice_index bs 1 ≡ 1
+kind_is bs h = one_byte (slice_index bs 1) (nat_lt 1 (length bs)) h
+
+-- what `decode` owes where it answers an operation
+pub op_found : (bs : List ℕ) (name : Name) (body : Body) (end : ℕ)
+    → has_byte bs 0 1 1 ≡ true → has_byte bs 1 1 1 ≡ true
+    → (has_name bs 2 ≡ true) × (take 6 (drop 2 bs) ≡ name_bytes name)
+    → (first_fault (body_fields bs 1 8) ≡ None) × (kind_byte body ≡ 1) × (end ≡ 8 + length (body_bytes body)) × (take (length (body_bytes body)) (drop 8 bs) ≡ body_bytes body)
+    → (op_fault bs ≡ None) × (end ≡ length (op_bytes (record { name = name; body = body }))) × (take end bs ≡ op_bytes (record { name = name; body = body }))
+op_found bs name body end format kind named rest =
+    let m = length (body_bytes body) in
+    let parts : take (2 + (6 + m)) bs ≡ take 2 bs ++ (take 6 (drop 2 bs) ++ take m (drop 8 bs)) =
+    take-add 2 (6 + m) bs ∙ ap (λ l. take 2 bs ++ l) (take-add 6 m (drop 2 bs) ∙ ap (λ l. take 6 (drop 2 bs) ++ take m l) (drop-drop 6 2 bs)) in
+    let same : end ≡ 2 + (6 + m) = omega (arith, rest.2) in (
+      rw (format, kind, named.0, kind_is bs kind, rest.0) refl,
+      omega (arith, rest.2),
+      rw (same, parts, front_bytes bs format kind, named.1, rest.3, rest.1) refl,
+    )

@@ -1,0 +1,4 @@
+pub mod Reaching
+pub mod Fields
+pub mod OneSpelling
+pub mod BytesOrder

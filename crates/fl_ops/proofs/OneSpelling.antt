@@ -1,0 +1,93 @@
+-- What an operation spells has no fault, and is spelled by no other.
+use Rattle.std.proofs.Common.{◌≡◌, ℕ, ◌+◌, ◌≤◌, Bool, true, ◌&&◌, List, [], ◌∷◌, ◌++◌, length, get_or, take, drop, slice_index, nat_lt, sym, ap, refl, ◌∙◌, lit≤, arith, length-append, None}
+use Rattle.std.specs.List.{AllByRecursion}
+use Rattle.std.specs.Int.{w16, w32, to_be_bytes, from_be_bytes}
+use Rattle.std.proofs.lemmas.Nat.{from_be_bytes-to_be_bytes_2, from_be_bytes-to_be_bytes_4}
+use Rattle.std.proofs.lemmas.Bool.{le-leb, lt-ltb}
+use Rattle.std.proofs.lemmas.List.{drop-drop}
+use Rattle.std.proofs.Math.Seq.{drop-append_seam, get_or-append_seam}
+use Rattle.fl_labels.specs.declared.name.Name.{Name}
+use Rattle.fl_labels.specs.NameOrder.{same_name}
+use Rattle.fl_ops.specs.declared.op.Policy.{Policy}
+use Rattle.fl_ops.specs.declared.op.Policy.TheVariants.{Export, Read, Integrity}
+use Rattle.fl_ops.specs.declared.op.Body.{Body}
+use Rattle.fl_ops.specs.declared.op.Body.TheVariants.{MakeTag}
+use Rattle.fl_ops.specs.declared.op.Op.{Op}
+use Rattle.fl_ops.specs.Bytes.{name_bytes, policy_byte, kind_byte, body_bytes, op_bytes}
+use Rattle.fl_ops.specs.Grammar.{op_fields, has_byte, has_name, first_fault, op_fault}
+
+node_back : (n : Name) → from_be_bytes w16 (to_be_bytes w16 n.node) ≡ n.node
+node_back n = from_be_bytes-to_be_bytes_2 n.node n.node_in_range.1
+
+seq_back : (n : Name) → from_be_bytes w32 (to_be_bytes w32 n.seq) ≡ n.seq
+seq_back n = from_be_bytes-to_be_bytes_4 n.seq n.seq_in_range.1
+
+-- ---- no fault
+
+byte_there : (front : List ℕ) (b : ℕ) (rest : List ℕ) (low high : ℕ) → low ≤ b → b ≤ high → has_byte (front ++ b ∷ rest) (length front) low high ≡ true
+byte_there front b rest low high p q =
+    let here : slice_index (front ++ b ∷ rest) (length front) ≡ b = get_or-append_seam front b rest 0 in
+    rw (lt-ltb (length front) (length (front ++ b ∷ rest)) (omega (arith, length-append front (b ∷ rest))), here, le-leb low b p, le-leb b high q) refl
+
+all_three : {a b c : Bool} → a ≡ true → b ≡ true → c ≡ true → (a && (b && c)) ≡ true
+all_three p q r = rw (p, q, r) refl
+
+name_there : (front : List ℕ) (n : Name) (rest : List ℕ) → has_name (front ++ (name_bytes n ++ rest)) (length front) ≡ true
+name_there front n rest =
+    let bs = front ++ (name_bytes n ++ rest) in
+    let at : drop (length front) bs ≡ name_bytes n ++ rest = drop-append_seam front (name_bytes n ++ rest) in
+    let node : from_be_bytes w16 (take 2 (drop (length front) bs)) ≡ n.node = ap (λ l. from_be_bytes w16 (take 2 l)) at ∙ node_back n in
+    let seq : from_be_bytes w32 (take 4 (drop (length front + 2) bs)) ≡ n.seq =
+    ap (λ l. from_be_bytes w32 (take 4 l)) (sym (drop-drop 2 (length front) bs) ∙ ap (drop 2) at) ∙ seq_back n in
+    all_three (le-leb (length front + 6) (length bs) (omega (arith, length-append front (name_bytes n ++ rest))))
+    (ap (nat_lt 0) node ∙ lt-ltb 0 n.node n.node_in_range.0) (ap (nat_lt 0) seq ∙ lt-ltb 0 n.seq n.seq_in_range.0)
+
+no_faults : (fs : List (ℕ × Bool)) → AllByRecursion (λ f. f.1 ≡ true) fs → first_fault fs ≡ None
+no_faults [] h = refl
+no_faults (f ∷ fs) h = rw h.0 (no_faults fs h.1)
+
+policy_range : (p : Policy) → (1 ≤ policy_byte p) × (policy_byte p ≤ 3)
+policy_range Export = (lit≤ tt, lit≤ tt)
+policy_range Read = (lit≤ tt, lit≤ tt)
+policy_range Integrity = (lit≤ tt, lit≤ tt)
+
+-- the two bytes before the name, and the name
+head_there : (kind : ℕ) (n : Name) (rest : List ℕ) → 1 ≤ kind → kind ≤ 1 →
+    (has_byte (1 ∷ kind ∷ (name_bytes n ++ rest)) 0 1 1 ≡ true) × (has_byte (1 ∷ kind ∷ (name_bytes n ++ rest)) 1 1 1 ≡ true) × (has_name (1 ∷ kind ∷ (name_bytes n ++ rest)) 2 ≡ true)
+head_there kind n rest low high =
+    (byte_there [] 1 (kind ∷ (name_bytes n ++ rest)) 1 1 (lit≤ tt) (lit≤ tt), byte_there (1 ∷ []) kind (name_bytes n ++ rest) 1 1 low high, name_there (1 ∷ kind ∷ []) n rest)
+
+-- what an operation spells has no fault
+pub no_fault : (n : Name) (body : Body) (rest : List ℕ) → op_fault (op_bytes (record { name = n; body = body }) ++ rest) ≡ None
+no_fault n (MakeTag p) rest =
+    let r = policy_range p in
+    let h = head_there 1 n (policy_byte p ∷ rest) (lit≤ tt) (lit≤ tt) in
+    let k : has_byte (1 ∷ 1 ∷ (name_bytes n ++ policy_byte p ∷ rest)) 8 1 3 ≡ true = byte_there (1 ∷ 1 ∷ name_bytes n) (policy_byte p) rest 1 3 r.0 r.1 in
+    no_faults (op_fields (op_bytes (record { name = n; body = MakeTag p }) ++ rest) 0) (h.0, (h.1, (h.2, (k, tt))))
+
+-- ---- one operation
+
+name_front : (n m : Name) (u v : List ℕ) → name_bytes n ++ u ≡ name_bytes m ++ v → (n ≡ m) × (u ≡ v)
+name_front n m u v e = (
+  same_name n m
+      (sym (node_back n) ∙ ap (λ l. from_be_bytes w16 (take 2 l)) e ∙ node_back m)
+      (sym (seq_back n) ∙ ap (λ l. from_be_bytes w32 (take 4 (drop 2 l))) e ∙ seq_back m),
+  ap (drop 6) e,
+)
+
+policy_same : (p q : Policy) → policy_byte p ≡ policy_byte q → p ≡ q
+policy_same Export Export e = refl
+policy_same Read Read e = refl
+policy_same Integrity Integrity e = refl
+policy_same p q e = absurd (cc)
+
+body_front : (a b : Body) (u v : List ℕ) → kind_byte a ≡ kind_byte b → body_bytes a ++ u ≡ body_bytes b ++ v → (a ≡ b) × (u ≡ v)
+body_front (MakeTag p) (MakeTag q) u v k e = (ap MakeTag (policy_same p q (ap (λ l. get_or l 0 0) e)), ap (drop 1) e)
+
+-- no spelling begins another
+pub op_front : (a b : Op) (u v : List ℕ) → op_bytes a ++ u ≡ op_bytes b ++ v → (a ≡ b) × (u ≡ v)
+op_front a b u v e =
+    let regroup : (o : Op) (w : List ℕ) → drop 2 (op_bytes o ++ w) ≡ name_bytes o.name ++ (body_bytes o.body ++ w) = λ o w. refl in
+    let first = name_front a.name b.name (body_bytes a.body ++ u) (body_bytes b.body ++ v) (sym (regroup a u) ∙ ap (drop 2) e ∙ regroup b v) in
+    let second = body_front a.body b.body u v (ap (λ l. get_or l 1 0) e) first.1 in
+    (λ x. record { name = first.0 x; body = second.0 x }, second.1)

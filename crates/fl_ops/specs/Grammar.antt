@@ -1,0 +1,35 @@
+-- The fields of an operation as bytes have them: where each begins, and whether it is there and in its range.
+use Rattle.std.specs.Prelude.{ℕ, ◌+◌, Bool, ◌&&◌, List, [], ◌∷◌, length, take, drop, Option, Some, None, slice_index, nat_lt, nat_le, ◌==◌, if◌then◌else◌}
+use Rattle.std.specs.Int.{w16, w32, from_be_bytes}
+
+-- the first field that isn't there
+abbrev pub first_fault : List (ℕ × Bool) → Option ℕ
+first_fault [] = None
+first_fault (f ∷ fs) = if f.1 then first_fault fs else Some f.0
+
+-- a byte from low to high
+abbrev pub has_byte : List ℕ → ℕ → ℕ → ℕ → Bool
+has_byte bytes at low high = nat_lt at (length bytes) && (nat_le low (slice_index bytes at) && nat_le (slice_index bytes at) high)
+
+-- two bytes and four bytes, neither of which are 0 as a number
+abbrev pub has_name : List ℕ → ℕ → Bool
+has_name bytes at = nat_le (at + 6) (length bytes)
+    && (nat_lt 0 (from_be_bytes w16 (take 2 (drop at bytes))) && nat_lt 0 (from_be_bytes w32 (take 4 (drop (at + 2) bytes))))
+
+-- what follows the name, by the kind
+abbrev pub body_fields : List ℕ → ℕ → ℕ → List (ℕ × Bool)
+body_fields bytes kind at =
+    if kind == 1 then (at, has_byte bytes at 1 3) ∷ []
+    else []
+
+-- those of an operation that begins at a place
+abbrev pub op_fields : List ℕ → ℕ → List (ℕ × Bool)
+op_fields bytes at =
+    (at, has_byte bytes at 1 1)
+    ∷ (at + 1, has_byte bytes (at + 1) 1 1)
+    ∷ (at + 2, has_name bytes (at + 2))
+    ∷ body_fields bytes (slice_index bytes (at + 1)) (at + 8)
+
+-- the place of the first fault of the operation at the front, if there is one
+abbrev pub op_fault : List ℕ → Option ℕ
+op_fault bytes = first_fault (op_fields bytes 0)

@@ -1,0 +1,6 @@
+pub mod Bytes
+pub mod Grammar
+pub mod OpOrder
+pub mod OpLaws
+pub mod Registry
+pub mod PolicyText

@@ -1,0 +1,59 @@
+-- Operations are totally ordered, and only equal ones tie.
+use Rattle.std.specs.Prelude.{◌≡◌, ℕ, List, refl, slice_index}
+use Rattle.std.proofs.Common.{ap}
+use Rattle.std.specs.Cmp.{IsTotalOrder, IsPartialOrder, IsEquivalence, IsPartialEquivalence, eq_by_cmp_equiv, partial_equiv_from_equiv, po}
+use Rattle.std.specs.FinMap.{IsAntisymmetric, slice_cmp-IsAntisymmetric, nat_cmp-IsAntisymmetric}
+use Rattle.std.specs.Ordering.{ordering_then, eq_by_cmp, as_partial_cmp}
+use Rattle.std.specs.declared.cmp.Ordering.{Ordering}
+use Rattle.std.specs.declared.cmp.Ordering.TheVariants.{Less, Equal, Greater}
+use Rattle.std.specs.Coded.{Coded}
+use Rattle.std.proofs.lemmas.Cmp.{then_total, on_total, nat_list_cmp_total}
+use Rattle.fl_labels.specs.NameOrder.{name_total, name_exact}
+use Rattle.fl_ops.specs.contracts.op.Op as ops_row
+use Rattle.fl_ops.specs.declared.op.Policy.{Policy}
+use Rattle.fl_ops.specs.declared.op.Policy.TheVariants.{Export, Read, Integrity}
+use Rattle.fl_ops.specs.declared.op.Body.{Body}
+use Rattle.fl_ops.specs.declared.op.Body.TheVariants.{MakeTag}
+use Rattle.fl_ops.specs.declared.op.Op.{Op}
+use Rattle.fl_ops.specs.Bytes.{policy_byte}
+use Rattle.fl_ops.specs.OpOrder.{body_key, op_cmp}
+
+abbrev pub coded_op : Coded Op
+coded_op = (ops_row.the_row).coded
+
+pub op_total : IsTotalOrder op_cmp
+op_total = then_total (on_total (λ o. o.name) name_total) (on_total (λ o. body_key o.body) nat_list_cmp_total)
+
+policy_same : (p q : Policy) → policy_byte p ≡ policy_byte q → p ≡ q
+policy_same Export Export e = refl
+policy_same Read Read e = refl
+policy_same Integrity Integrity e = refl
+policy_same p q e = absurd (cc)
+
+at : ℕ → List ℕ → ℕ
+at i l = slice_index l i
+
+body_same : (a b : Body) → body_key a ≡ body_key b → a ≡ b
+unfolding at
+body_same (MakeTag p) (MakeTag q) e = ap MakeTag (policy_same p q (ap (at 1) e))
+
+level : (o p : Ordering) → ordering_then o p ≡ Equal → (o ≡ Equal) × (p ≡ Equal)
+level Less p e = absurd (cc)
+level Equal p e = (refl, e)
+level Greater p e = absurd (cc)
+
+pub op_exact : IsAntisymmetric op_cmp
+op_exact a b h =
+    let parts = level _ _ h in
+    let name = name_exact a.name b.name parts.0 in
+    let body = body_same a.body b.body (slice_cmp-IsAntisymmetric nat_cmp-IsAntisymmetric _ _ parts.1) in
+    λ i. record { name = name i; body = body i }
+
+pub op_equivalence : IsEquivalence (eq_by_cmp op_cmp)
+op_equivalence = eq_by_cmp_equiv op_total
+
+pub op_partial_equivalence : IsPartialEquivalence (eq_by_cmp op_cmp)
+op_partial_equivalence = partial_equiv_from_equiv op_equivalence
+
+pub op_partial : IsPartialOrder (eq_by_cmp op_cmp) (as_partial_cmp op_cmp)
+op_partial = po op_total (λ _ _. refl)

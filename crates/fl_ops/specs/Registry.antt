@@ -1,0 +1,48 @@
+-- Registries, and what they give to those who own capabilities. A registry is a set of operations, said as a predicate: the members of
+-- a finite set, the items of a list and a union of both are then all registries.
+use Rattle.std.specs.Prelude.{◌⊎◌, List}
+use Rattle.std.specs.List.{Contains}
+use Rattle.fl_labels.specs.declared.name.Name.{Name}
+use Rattle.fl_labels.specs.declared.cap.Cap.{Cap}
+use Rattle.fl_labels.specs.declared.cap.Cap.TheVariants.{Plus, Minus, Use, Grow}
+use Rattle.fl_ops.specs.declared.op.Op.{Op}
+use Rattle.fl_ops.specs.declared.op.Body.{Body}
+use Rattle.fl_ops.specs.declared.op.Body.TheVariants.{MakeTag}
+use Rattle.fl_ops.specs.declared.op.Policy.{Policy}
+use Rattle.fl_ops.specs.declared.op.Policy.TheVariants.{Export, Integrity}
+
+-- the operation that makes a tag
+abbrev pub tag_op : Name → Policy → Op
+tag_op tag policy = record { name = tag; body = MakeTag policy }
+
+-- the operation puts c into the group
+abbrev pub Puts : Body → Name → Cap → Type 0
+Puts (MakeTag policy) group c = ⊥
+
+-- A chain leads from the first capability to the last: each but the last is the use of a group into which the registry puts the next one.
+pub data Chain (U : Op → Type 0) : Cap → Cap → Type 0 where
+  here : {c : Cap} → Chain U c c
+  into : {op : Op} {group : Name} {b c : Cap} → U op → Puts op.body group b → Chain U b c → Chain U (Use group) c
+
+-- a chain leads to c from some root
+abbrev pub Reach : (Op → Type 0) → (Cap → Type 0) → Cap → Type 0
+Reach U roots c = (a : Cap) × roots a × Chain U a c
+
+-- everybody may add an export tag, and remove an integrity tag
+abbrev pub Global : (Op → Type 0) → Cap → Type 0
+Global U (Plus tag) = U (tag_op tag Export)
+Global U (Minus tag) = U (tag_op tag Integrity)
+Global U (Use group) = ⊥
+Global U (Grow group) = ⊥
+
+-- what the owner of these capabilities has in effect
+abbrev pub Eff : (Op → Type 0) → (Cap → Type 0) → Cap → Type 0
+Eff U owned c = Reach U owned c ⊎ Global U c
+
+-- the tags that may be both added and removed by who has E in effect
+abbrev pub Dual : (Cap → Type 0) → Name → Type 0
+Dual E tag = E (Plus tag) × E (Minus tag)
+
+-- the registry of a list's items
+abbrev pub Listed : List Op → Op → Type 0
+Listed ops = λ op. Contains ops op

@@ -1,0 +1,10 @@
+//! Operations of the tag registry, their order and their bytes.
+#![tactic(auto)]
+
+pub mod fault;
+pub mod laws;
+pub mod op;
+pub mod reading;
+#[cfg(test)]
+mod tests;
+pub mod writing;

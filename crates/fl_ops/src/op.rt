@@ -1,0 +1,136 @@
+// Operations and their order.
+ghost use Rattle.std.specs.Prelude.{◌≡◌, refl, length};
+ghost use Rattle.std.specs.Ordering.{nat_cmp, as_partial_cmp, eq_by_cmp};
+ghost use Rattle.std.specs.Cmp.Lexicographic.{slice_cmp};
+ghost use Rattle.fl_ops.specs.Bytes.{policy_byte, kind_byte, op_bytes};
+ghost use Rattle.fl_ops.specs.PolicyText.{policy_text};
+ghost use Rattle.fl_ops.specs.OpOrder.{body_key, op_cmp};
+
+use fl_labels::name::Name;
+use std::cmp::Ordering;
+
+/// Which capability of a new tag everyone gets: to add it, none, or to remove it.
+#[derive(Clone, Copy, Debug, PartialEq, Eq)]
+pub enum Policy {
+    Export,
+    Read,
+    Integrity,
+}
+
+/// What an operation does.
+#[derive(Clone, Copy, Debug, PartialEq, Eq)]
+pub enum Body {
+    /// Makes the tag of the operation's name.
+    MakeTag(Policy),
+}
+
+/// An entry of the tag registry. Ordered by name, then by its bytes.
+#[derive(Clone, Copy, Debug)]
+pub struct Op {
+    pub name: Name,
+    pub body: Body,
+}
+
+impl Policy {
+    /// Its number in the bytes of an operation.
+    pub fn number(self) -> u8
+        ensures { result ≡ policy_byte self }
+    {
+        match self {
+            Policy::Export => 1,
+            Policy::Read => 2,
+            Policy::Integrity => 3,
+        }
+    }
+
+    /// Its word: `export`, `read` or `integrity`.
+    pub fn text(self) -> &'static str
+        ensures { result.now ≡ policy_text self }
+    {
+        match self {
+            Policy::Export => "export",
+            Policy::Read => "read",
+            Policy::Integrity => "integrity",
+        }
+    }
+}
+
+impl Body {
+    /// The number of its kind in the bytes of an operation.
+    pub fn kind(&self) -> u8
+        ensures { result ≡ kind_byte self.now }
+    {
+        match self {
+            Body::MakeTag(_) => 1,
+        }
+    }
+}
+
+impl Op {
+    /// How many bytes its spelling takes.
+    pub fn length(&self) -> usize
+        ensures { result ≡ length (op_bytes self.now) }
+    {
+        match self.body {
+            Body::MakeTag(_) => 9,
+        }
+    }
+}
+
+// As the bytes of the bodies.
+fn cmp_bodies(a: &Body, b: &Body) -> Ordering
+    ensures { result ≡ slice_cmp nat_cmp (body_key a.now) (body_key b.now) }
+{
+    match (a, b) {
+        (Body::MakeTag(p), Body::MakeTag(q)) => p.number().cmp(&q.number()),
+    }
+}
+
+// Equal where the order does not tell them apart.
+impl PartialEq for Op {
+    ghost use Rattle.fl_ops.specs.OpLaws.{op_partial_equivalence};
+
+    ghost eq = { eq_by_cmp op_cmp };
+
+    ghost laws = { op_partial_equivalence };
+
+    fn eq(&self, other: &Self) -> bool {
+        self.cmp(other).is_eq()
+    }
+}
+
+impl Eq for Op {
+    ghost use Rattle.fl_ops.specs.OpLaws.{op_equivalence};
+
+    ghost laws = { op_equivalence };
+}
+
+impl Ord for Op {
+    ghost use Rattle.fl_ops.specs.OpLaws.{op_total};
+
+    ghost cmp = { op_cmp };
+
+    ghost total = { op_total };
+
+    ghost matches_partial_cmp = { λ _ _. refl };
+
+    ghost matches_eq = { λ _ _. refl };
+
+    fn cmp(&self, other: &Self) -> Ordering {
+        self.name
+            .cmp(&other.name)
+            .then(cmp_bodies(&self.body, &other.body))
+    }
+}
+
+impl PartialOrd for Op {
+    ghost use Rattle.fl_ops.specs.OpLaws.{op_partial};
+
+    ghost partial_cmp = { as_partial_cmp op_cmp };
+
+    ghost laws = { op_partial };
+
+    fn partial_cmp(&self, other: &Self) -> Option<Ordering> {
+        Some(self.cmp(other))
+    }
+}
