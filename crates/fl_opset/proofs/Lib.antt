@@ -1,0 +1,3 @@
+pub mod Partition
+pub mod Names
+pub mod Written

@@ -1,0 +1,27 @@
+use Rattle.std.proofs.Common.{sym, ap, subst, not, Ok, Err}
+use Rattle.std.specs.List.Sorted.{IsStrictlySortedBy}
+use Rattle.fl_ops.specs.OpOrder.{op_cmp}
+use Rattle.fl_ops.specs.OpLaws.{op_total, op_exact}
+use Rattle.fl_labels.proofs.SortedVec.{answers, inserted, kept_insert}
+use Rattle.fl_opset.proofs.set.OpSet.add.Goals as goal
+
+pub invariant_of-self-in-Err : goal.invariant_of-self-in-Err
+invariant_of-self-in-Err c =
+    let new = inserted op_total op_exact _ _ c.self.invariant c.self.view_is _ c.deref.ensures.value c.args.op _ _ c.in-Err.ensures.bound (c.in-Err.ensures.position (subst (IsStrictlySortedBy op_cmp) (sym c.deref.ensures.value) c.self.invariant)) c.in_ok-insert-in-Err.ensures.items in
+    new.rises
+
+pub returns-in-Ok-clause-ok : goal.returns-in-Ok-clause-ok
+returns-in-Ok-clause-ok c =
+    kept_insert op_total op_exact _ _ c.self.invariant c.self.view_is _ c.deref.ensures.value c.args.op _ c.in-Ok.ensures.bound (c.in-Ok.ensures.position (subst (IsStrictlySortedBy op_cmp) (sym c.deref.ensures.value) c.self.invariant))
+
+pub returns-in-Ok-clause-new : goal.returns-in-Ok-clause-new
+returns-in-Ok-clause-new c =
+    ap not (sym (answers op_total op_exact _ _ c.self.invariant c.self.view_is _ c.deref.ensures.value c.args.op (Ok c.in-Ok.field-0) c.in-Ok.ensures.bound (c.in-Ok.ensures.position (subst (IsStrictlySortedBy op_cmp) (sym c.deref.ensures.value) c.self.invariant))))
+
+pub returns-in_ok-insert-in-Err-clause-ok : goal.returns-in_ok-insert-in-Err-clause-ok
+returns-in_ok-insert-in-Err-clause-ok c =
+    (inserted op_total op_exact _ _ c.self.invariant c.self.view_is _ c.deref.ensures.value c.args.op _ _ c.in-Err.ensures.bound (c.in-Err.ensures.position (subst (IsStrictlySortedBy op_cmp) (sym c.deref.ensures.value) c.self.invariant)) c.in_ok-insert-in-Err.ensures.items).view
+
+pub returns-in_ok-insert-in-Err-clause-new : goal.returns-in_ok-insert-in-Err-clause-new
+returns-in_ok-insert-in-Err-clause-new c =
+    ap not (sym (answers op_total op_exact _ _ c.self.invariant c.self.view_is _ c.deref.ensures.value c.args.op (Err c.in-Err.place) c.in-Err.ensures.bound (c.in-Err.ensures.position (subst (IsStrictlySortedBy op_cmp) (sym c.deref.ensures.value) c.self.invariant))))

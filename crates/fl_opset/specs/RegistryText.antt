@@ -1,0 +1,22 @@
+-- How a registry is written.
+use Rattle.std.specs.Prelude.{ℕ, List, [], ◌∷◌, ◌++◌, codes}
+use Rattle.std.specs.List.{flat_map}
+use Rattle.fl_labels.specs.SetBy.{SetBy, members}
+use Rattle.fl_labels.specs.Text.{name_text}
+use Rattle.fl_ops.specs.PolicyText.{policy_text}
+use Rattle.fl_ops.specs.declared.op.Body.{Body}
+use Rattle.fl_ops.specs.declared.op.Body.TheVariants.{MakeTag}
+use Rattle.fl_ops.specs.declared.op.Op.{Op}
+use Rattle.fl_ops.specs.OpOrder.{op_cmp}
+
+-- `tag export`
+abbrev pub body_text : Body → List ℕ
+body_text (MakeTag p) = codes "tag " ++ policy_text p
+
+-- `1.1 tag export`, and a line feed
+abbrev pub op_line : Op → List ℕ
+op_line op = name_text op.name ++ 32 ∷ (body_text op.body ++ 10 ∷ [])
+
+-- the lines of the members, rising
+abbrev pub registry_text : SetBy op_cmp → List ℕ
+registry_text s = flat_map op_line (members s)

@@ -1,0 +1,57 @@
+// What binary searches find among operations that rise.
+ghost use Rattle.std.specs.Prelude.{◌≡◌, ◌≢◌, ◌≤◌, ◌<◌, length, true, false};
+ghost use Rattle.std.specs.List.{All, Any};
+ghost use Rattle.std.specs.List.Sorted.{IsStrictlySortedBy, IsSearchInRange, IsBinarySearchResult};
+ghost use Rattle.fl_ops.specs.OpOrder.{op_cmp};
+
+use fl_ops::op::Op;
+
+/// The place of an operation, or the place at which it would stand. The last operation is asked first, since most are added
+/// at the end.
+pub fn place_of(ops: &[Op], op: &Op) -> Result<usize, usize>
+    ensures bound { IsSearchInRange result (length ops.now) }
+    ensures position { IsStrictlySortedBy op_cmp ops.now → IsBinarySearchResult (λ y. op_cmp y op.now) ops.now result }
+{
+    let Some(last) = ops.last() else {
+        return Err(0);
+    };
+    if last < op {
+        return Err(ops.len());
+    }
+    ops.binary_search(op)
+}
+
+/// The greatest sequence number of a node, or 0 where it has none.
+pub fn last_seq(ops: &[Op], node: u16) -> u32
+    requires { IsStrictlySortedBy op_cmp ops.now }
+    ensures upper { All (λ op. op.name.node ≡ node → op.name.seq ≤ result) ops.now }
+    ensures reached { 0 < result → Any (λ op. (op.name.node ≡ node) × (op.name.seq ≡ result)) ops.now }
+{
+    let end = ops.partition_point(|op| op.name.node <= node);
+    let Some(last) = ops[..end].last() else {
+        return 0;
+    };
+    if last.name.node == node {
+        last.name.seq
+    } else {
+        0
+    }
+}
+
+/// Whether one of the operations has the name of this one, and another body.
+pub fn has_other(ops: &[Op], op: &Op) -> bool
+    requires { IsStrictlySortedBy op_cmp ops.now }
+    ensures some { result ≡ true → Any (λ other. (other.name ≡ op.now.name) × (other ≢ op.now)) ops.now }
+    ensures none { result ≡ false → All (λ other. other.name ≡ op.now.name → other ≡ op.now) ops.now }
+{
+    let first = ops.partition_point(|other| other.name < op.name);
+    for other in &ops[first..] {
+        if other.name != op.name {
+            return false;
+        }
+        if other != op {
+            return true;
+        }
+    }
+    false
+}

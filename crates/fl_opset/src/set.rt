@@ -1,0 +1,138 @@
+// Sets of operations, in a sorted `Vec`.
+ghost use Rattle.std.specs.Prelude.{◌≡◌, ◌≢◌, ◌≤◌, ◌<◌, [], IfOk, IfSome, IfNone, OnOk, OnErr, not};
+ghost use Rattle.std.specs.Io.KnownBytes.{Appends};
+ghost use Rattle.fl_labels.specs.SetBy as set;
+ghost use Rattle.fl_labels.specs.SetBy.{In};
+ghost use Rattle.fl_ops.specs.declared.op.Op.{Op};
+ghost use Rattle.fl_ops.specs.OpOrder.{op_cmp};
+ghost use Rattle.fl_sink.specs.Sink.{Cuts, Passes};
+ghost use Rattle.fl_opset.specs.RegistryText.{registry_text};
+
+use crate::search::{has_other, last_seq, place_of};
+use crate::text::write_lines;
+use fl_labels::name::Name;
+use fl_ops::op::Op;
+use fl_sink::sink::{Sink, WriteFault};
+use std::alloc::{AllocError, Global};
+use std::io::Write;
+use std::marker::Model;
+
+/// A set of operations. Two members may have one name.
+#[derive(Debug, Drop)]
+pub struct OpSet {
+    ops: Vec<Op>,
+}
+
+impl Model for OpSet {
+    ghost use Rattle.std.specs.List.Sorted.{IsStrictlySortedBy};
+    ghost use Rattle.fl_labels.specs.SetBy as set;
+    ghost use Rattle.fl_ops.specs.OpOrder.{op_cmp};
+    ghost use Rattle.fl_ops.specs.OpLaws.{coded_op};
+
+    ghost Value = { set.SetBy op_cmp };
+
+    ghost coded = { set.code coded_op };
+
+    ghost view = { λ a. set.of_list a.ops.items };
+
+    ghost invariant = { λ a. IsStrictlySortedBy op_cmp a.ops.items };
+}
+
+impl OpSet {
+    /// The set of nothing. Takes no memory.
+    pub fn new(alloc: Global) -> Self
+        ensures { result ≡ set.empty }
+    {
+        OpSet {
+            ops: Vec::new(alloc),
+        }
+    }
+
+    /// How many members there are.
+    pub fn len(&self) -> usize
+        ensures { result ≡ set.len self.now }
+    {
+        self.ops.len()
+    }
+
+    /// The members, rising.
+    pub fn as_slice(&self) -> &[Op]
+        ensures { result.now ≡ set.members self.now }
+    {
+        &self.ops
+    }
+
+    /// Whether the operation is a member. A binary search.
+    pub fn contains(&self, op: &Op) -> bool
+        ensures { result ≡ set.contains self.now op.now }
+    {
+        self.ops.binary_search(op).is_ok()
+    }
+
+    /// The greatest sequence number of the node's members, or 0 where it has none. A binary search.
+    pub fn last_of(&self, node: u16) -> u32
+        ensures upper { (op : Op) → In self.now op → op.name.node ≡ node → op.name.seq ≤ result }
+        ensures reached { 0 < result → (op : Op) × In self.now op × (op.name.node ≡ node) × (op.name.seq ≡ result) }
+    {
+        last_seq(&self.ops, node)
+    }
+
+    /// The name of the operation, where a member has that name and another body. A binary search; takes no memory.
+    pub fn clash(&self, op: &Op) -> Option<Name>
+        ensures some { IfSome result (λ name. (name ≡ op.now.name) × ((other : Op) × In self.now other × (other.name ≡ name) × (other ≢ op.now))) }
+        ensures none { IfNone result ((other : Op) → In self.now other → other.name ≡ op.now.name → other ≡ op.now) }
+    {
+        has_other(&self.ops, op).then_some(op.name)
+    }
+
+    /// Adds an operation, and answers whether it is new. An error leaves the set.
+    ///
+    /// One above all members costs one comparison, and none of them moves; else a binary search, and those above it move.
+    pub fn add(&mut self, op: Op) -> Result<bool, AllocError>
+        ensures ok { OnOk result (self.new ≡ set.insert self.old op) }
+        ensures new { IfOk result (λ new. new ≡ not (set.contains self.old op)) }
+        ensures err { OnErr result (self.new ≡ self.old) }
+    {
+        match place_of(&self.ops, &op) {
+            Ok(_) => Ok(false),
+            Err(place) => {
+                self.ops.insert(place, op)?;
+                Ok(true)
+            }
+        }
+    }
+
+    /// Takes an operation out, and answers whether it was a member. Takes no memory. The members above it move.
+    pub fn remove(&mut self, op: &Op) -> bool
+        ensures after { self.new ≡ set.remove self.old op.now }
+        ensures was { result ≡ set.contains self.old op.now }
+    {
+        match place_of(&self.ops, op) {
+            Ok(place) => {
+                self.ops.remove(place);
+                true
+            }
+            Err(_) => false,
+        }
+    }
+
+    /// Puts the text of the members into a sink, a line for each, rising: `1.1 tag export`. Takes no memory but the sink's.
+    ///
+    /// At a fault a front of what waited and the text was written, and the sink may not be used again.
+    pub fn write_text<W: Write>(&self, sink: &mut Sink, output: &mut W) -> Result<(), WriteFault>
+        ensures ok { OnOk result (Passes (W.contents output.old) (W.contents output.new) sink.old (registry_text self.now) sink.new) }
+        ensures err { OnErr result (Cuts (W.contents output.old) (W.contents output.new) sink.old (registry_text self.now)) }
+    {
+        write_lines(&self.ops, sink, output)
+    }
+
+    /// Writes the text of the members, as [`OpSet::write_text`] has it. At a fault a front of it was written.
+    pub fn text<W: Write>(&self, output: &mut W) -> Result<(), WriteFault>
+        ensures ok { OnOk result (Appends (W.contents output.old) (W.contents output.new) (registry_text self.now)) }
+        ensures err { OnErr result (Cuts (W.contents output.old) (W.contents output.new) [] (registry_text self.now)) }
+    {
+        let mut sink = Sink::new(*self.ops.allocator());
+        self.write_text(&mut sink, output)?;
+        sink.finish(output)
+    }
+}

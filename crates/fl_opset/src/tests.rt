@@ -1,0 +1,91 @@
+// Tests of sets of operations.
+use crate::set::OpSet;
+use fl_labels::name::Name;
+use fl_ops::op::{Body, Op, Policy};
+use fl_sink::sink::Sink;
+use std::test::Fail;
+
+fn tag(name: Name, policy: Policy) -> Op {
+    Op {
+        name,
+        body: Body::MakeTag(policy),
+    }
+}
+
+#[test]
+fn adds_and_takes_out(rt: HostRuntime) -> Result<(), Fail> {
+    let mut ops = OpSet::new(rt.alloc());
+    let first = tag(Name { node: 1, seq: 1 }, Policy::Export);
+    let second = tag(Name { node: 1, seq: 2 }, Policy::Read);
+    let third = tag(Name { node: 2, seq: 1 }, Policy::Integrity);
+    assert!(rt; ops.add(first)?);
+    assert!(rt; ops.add(third)?);
+    assert!(rt; ops.add(second)?);
+    assert!(rt; !ops.add(third)?);
+    assert_eq!(rt; ops.as_slice(), [first, second, third].as_slice());
+    assert_eq!(rt; ops.len(), 3);
+    assert!(rt; ops.contains(&second));
+    assert!(rt; ops.remove(&second));
+    assert!(rt; !ops.remove(&second));
+    assert!(rt; !ops.contains(&second));
+    assert_eq!(rt; ops.as_slice(), [first, third].as_slice());
+    Ok(())
+}
+
+#[test]
+fn tells_the_last_of_a_node(rt: HostRuntime) -> Result<(), Fail> {
+    let mut ops = OpSet::new(rt.alloc());
+    assert_eq!(rt; ops.last_of(1), 0);
+    ops.add(tag(Name { node: 2, seq: 7 }, Policy::Export))?;
+    ops.add(tag(Name { node: 2, seq: 30 }, Policy::Export))?;
+    ops.add(tag(Name { node: 4, seq: 1 }, Policy::Read))?;
+    for (node, last) in [(1, 0), (2, 30), (3, 0), (4, 1), (65535, 0)] {
+        assert_eq!(rt; ops.last_of(node), last);
+    }
+    Ok(())
+}
+
+#[test]
+fn two_members_may_have_one_name(rt: HostRuntime) -> Result<(), Fail> {
+    let mut ops = OpSet::new(rt.alloc());
+    let name = Name { node: 1, seq: 1 };
+    let export = tag(name, Policy::Export);
+    let read = tag(name, Policy::Read);
+    ops.add(tag(Name { node: 1, seq: 2 }, Policy::Read))?;
+    assert_eq!(rt; ops.clash(&read), None);
+    ops.add(read)?;
+    assert_eq!(rt; ops.clash(&read), None);
+    assert_eq!(rt; ops.clash(&export), Some(name));
+    assert!(rt; ops.add(export)?);
+    assert_eq!(rt; ops.clash(&read), Some(name));
+    assert_eq!(rt; ops.clash(&export), Some(name));
+    assert_eq!(rt; ops.len(), 3);
+    assert_eq!(rt; ops.last_of(1), 2);
+    Ok(())
+}
+
+#[test]
+fn writes_its_text(rt: HostRuntime) -> Result<(), Fail> {
+    let mut ops = OpSet::new(rt.alloc());
+    let mut output = Vec::new(rt.alloc());
+    ops.text(&mut output)?;
+    assert!(rt; output.is_empty());
+    ops.add(tag(
+        Name {
+            node: 65535,
+            seq: 4294967295,
+        },
+        Policy::Integrity,
+    ))?;
+    ops.add(tag(Name { node: 1, seq: 1 }, Policy::Export))?;
+    ops.add(tag(Name { node: 1, seq: 10 }, Policy::Read))?;
+    ops.text(&mut output)?;
+    let text = b"1.1 tag export\n1.10 tag read\n65535.4294967295 tag integrity\n";
+    assert_eq!(rt; output.as_slice(), text.as_slice());
+    output.clear();
+    let mut sink = Sink::new(rt.alloc());
+    ops.write_text(&mut sink, &mut output)?;
+    sink.finish(&mut output)?;
+    assert_eq!(rt; output.as_slice(), text.as_slice());
+    Ok(())
+}
