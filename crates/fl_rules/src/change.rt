@@ -1,0 +1,90 @@
+// When a label may become another.
+ghost use Rattle.std.specs.Prelude.{◌≡◌, [], MatchOption};
+ghost use Rattle.std.specs.List.Sorted.{IsStrictlySortedBy};
+ghost use Rattle.fl_labels.specs.Cap.{cap_cmp};
+ghost use Rattle.fl_labels.specs.Name.{name_cmp};
+ghost use Rattle.fl_labels.specs.Found.{Found, IsLeastOutside};
+ghost use Rattle.fl_rules.specs.Safety.{Takes, SafeChange};
+ghost use Rattle.fl_rules.specs.Walk.{Turns, Splits};
+
+use crate::has::Has;
+use fl_labels::cap::Cap;
+use fl_labels::label::Label;
+use fl_labels::name::Name;
+use std::cmp::Ordering;
+
+// What comes first on the way from one list of tags to another, and what is left of the way.
+#[derive(Clone, Copy)]
+struct Step<'a> {
+    cap: Option<Cap>,
+    from: &'a [Name],
+    to: &'a [Name],
+}
+
+// The first step from one list to the other, or none where both are empty.
+fn split_change<'a>(from: &'a [Name], to: &'a [Name]) -> Option<Step<'a>>
+    requires from_rises { IsStrictlySortedBy name_cmp from.now }
+    requires to_rises { IsStrictlySortedBy name_cmp to.now }
+    ensures { MatchOption result ((from.now ≡ []) × (to.now ≡ [])) (λ step. Splits from.now to.now step.cap step.from.now step.to.now) }
+{
+    match (from.split_first(), to.split_first()) {
+        (None, None) => None,
+        (Some((lost, from)), None) => Some(Step {
+            cap: Some(Cap::Minus(*lost)),
+            from,
+            to,
+        }),
+        (None, Some((gained, to))) => Some(Step {
+            cap: Some(Cap::Plus(*gained)),
+            from,
+            to,
+        }),
+        (Some((lost, others)), Some((gained, rest))) => Some(match lost.cmp(gained) {
+            Ordering::Less => Step {
+                cap: Some(Cap::Minus(*lost)),
+                from: others,
+                to,
+            },
+            Ordering::Equal => Step {
+                cap: None,
+                from: others,
+                to: rest,
+            },
+            Ordering::Greater => Step {
+                cap: Some(Cap::Plus(*gained)),
+                from,
+                to: rest,
+            },
+        }),
+    }
+}
+
+// The least capability that the way from one list to the other takes and that is not in effect.
+fn first_wanting<H: Has>(has: &mut H, from: &[Name], to: &[Name]) -> Option<Cap>
+    requires from_rises { IsStrictlySortedBy name_cmp from.now }
+    requires to_rises { IsStrictlySortedBy name_cmp to.now }
+    ensures found { Found cap_cmp (Turns from.now to.now) (H.effective has.old) result }
+    ensures same { H.keeps has.old has.new }
+{
+    let mut old = from;
+    let mut new = to;
+    while let Some(step) = split_change(old, new) {
+        if let Some(cap) = step.cap {
+            if !has.has(cap) {
+                return Some(cap);
+            }
+        }
+        old = step.from;
+        new = step.to;
+    }
+    None
+}
+
+/// The least capability that the change of a label takes and that is not in effect, or none where all are. One walk along
+/// both labels, with one question for each tag that only one of them has. Takes no memory.
+pub fn safe_change<H: Has>(has: &mut H, from: &Label, to: &Label) -> Option<Cap>
+    ensures found { MatchOption result (SafeChange (H.effective has.old) from.now to.now) (IsLeastOutside cap_cmp (Takes from.now to.now) (H.effective has.old)) }
+    ensures same { H.keeps has.old has.new }
+{
+    first_wanting(has, from.as_slice(), to.as_slice())
+}
