@@ -1,0 +1,42 @@
+//! Jobs: what processes ask for.
+
+use fl_labels::cap::Cap;
+use fl_labels::label::Label;
+use fl_labels::pid::Pid;
+use fl_ops::op::Policy;
+
+/// One of the two labels of a process.
+#[derive(Clone, Copy, Debug, PartialEq, Eq)]
+pub enum Side {
+    Secrecy,
+    Integrity,
+}
+
+/// A label of more than 256 tags was asked for.
+#[derive(Clone, Copy, Debug, PartialEq, Eq)]
+pub struct TooLong;
+
+/// What adds an operation to the registry.
+#[derive(Clone, Copy, Debug, PartialEq, Eq)]
+pub enum Order {
+    /// A new tag of this policy.
+    Tag(Policy),
+}
+
+/// What one process asks for by itself.
+#[derive(Debug, Drop)]
+pub enum Act {
+    Order(Order),
+    /// The label of this side becomes this one.
+    Relabel(Side, Result<Label, TooLong>),
+    /// Whether the capability is in effect.
+    Ask(Cap),
+}
+
+/// One job of the reference monitor.
+#[derive(Debug, Drop)]
+pub enum Job {
+    /// A new process, with nothing.
+    Proc,
+    By(Pid, Act),
+}

@@ -1,0 +1,7 @@
+pub mod Reaching
+pub mod Looks
+pub mod Table
+pub mod Sets
+pub mod Given
+pub mod ActLemmas
+pub mod JobLemmas

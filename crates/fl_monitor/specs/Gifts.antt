@@ -1,0 +1,31 @@
+-- What the maker of an operation gets.
+use Rattle.std.specs.Prelude.{List, [], ◌∷◌}
+use Rattle.std.specs.declared.option.Option.{Option}
+use Rattle.std.specs.declared.option.Option.TheVariants.{None, Some}
+use Rattle.std.specs.FinMap as map
+use Rattle.fl_labels.specs.SetBy as set
+use Rattle.fl_labels.specs.declared.name.Name.{Name}
+use Rattle.fl_labels.specs.declared.cap.Cap.{Cap}
+use Rattle.fl_labels.specs.declared.cap.Cap.TheVariants.{Plus, Minus}
+use Rattle.fl_labels.specs.Pid.{pid_cmp}
+use Rattle.fl_labels.specs.declared.pid.Pid.{Pid}
+use Rattle.fl_ops.specs.declared.op.Op.{Op}
+use Rattle.fl_ops.specs.declared.op.Body.{Body}
+use Rattle.fl_ops.specs.declared.op.Body.TheVariants.{MakeTag}
+use Rattle.fl_monitor.specs.declared.process.Process.{Process}
+use Rattle.fl_monitor.specs.Bench.{State}
+
+-- of a tag, to add and to remove it
+abbrev pub given_by : Body → Name → List Cap
+given_by (MakeTag policy) tag = Plus tag ∷ Minus tag ∷ []
+
+abbrev pub given : Op → List Cap
+given op = given_by op.body op.name
+
+abbrev pub receives : map.FinMap pid_cmp Process → Pid → List Cap → Option Process → map.FinMap pid_cmp Process
+receives m pid caps None = m
+receives m pid caps (Some p) = map.insert m pid (record p { owned = set.insert_all p.owned caps })
+
+-- the process owns what the operation gives, if there is one
+abbrev pub finished : State → Pid → Op → State
+finished b pid op = record b { processes = receives b.processes pid (given op) (map.get b.processes pid) }

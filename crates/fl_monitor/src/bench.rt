@@ -1,0 +1,123 @@
+// Benches: processes that work under one view.
+ghost use Rattle.std.specs.Option.{option_copied};
+ghost use Rattle.std.specs.Prelude.{◌≡◌, ◌≤◌, ◌<◌, OnOk, OnErr};
+ghost use Rattle.std.specs.FinMap as map;
+ghost use Rattle.fl_ops.specs.Registry.{Listed};
+ghost use Rattle.fl_monitor.specs.Bench.{opened};
+ghost use Rattle.fl_monitor.specs.Jobs.{Does};
+ghost use Rattle.fl_monitor.specs.Acts.{Births};
+ghost use Rattle.fl_monitor.specs.Gifts.{finished};
+
+use crate::process::Process;
+use crate::processes::Processes;
+use crate::view::View;
+use fl_jobs::answer::{Outcome, Refusal, Reply};
+use fl_jobs::job::Job;
+use fl_labels::pid::Pid;
+use fl_ops::op::Op;
+use std::alloc::{AllocError, Global};
+use std::marker::Model;
+
+/// One of a node's benches: its processes, and the serial of the next.
+#[derive(Debug, Drop)]
+pub struct Bench {
+    node: u16,
+    boot: u32,
+    next: u64,
+    stride: u32,
+    processes: Processes,
+}
+
+impl Model for Bench {
+    ghost use Rattle.std.specs.Prelude.{◌<◌};
+    ghost use Rattle.fl_monitor.specs.Bench.{State, coded_state};
+
+    ghost Value = { State };
+
+    ghost coded = { coded_state };
+
+    ghost view = { λ b. record { node = b.node; boot = b.boot; next = b.next; stride = b.stride; processes = b.processes } };
+
+    ghost invariant = { λ b. (0 < b.node) × ((0 < b.boot) × (0 < b.next)) };
+}
+
+impl Bench {
+    /// A bench with no process, as one of `stride` benches at this boot of the node: its processes get the serials `index`,
+    /// `index + stride` and so on, so that no two benches give the same. Takes no memory.
+    pub fn new(alloc: Global, node: u16, boot: u32, index: u32, stride: u32) -> Self
+        requires node_known { 0 < node }
+        requires boot_known { 0 < boot }
+        requires index_from_one { 1 ≤ index }
+        requires index_within { index ≤ stride }
+        ensures { result ≡ opened node boot index stride }
+    {
+        Bench {
+            node,
+            boot,
+            next: u64::from(index),
+            stride,
+            processes: Processes::new(alloc),
+        }
+    }
+
+    /// The process, or none where it does not stand here.
+    pub fn process(&self, pid: Pid) -> Option<&Process>
+        ensures { option_copied result ≡ map.get self.now.processes pid }
+    {
+        self.processes.get(pid)
+    }
+
+    // A new process with nothing, under the next serial.
+    fn proc(&mut self, alloc: Global) -> Result<Outcome, Refusal>
+        ensures { Births self.old result self.new }
+    {
+        let Ok(serial) = u32::try_from(self.next) else {
+            return Err(Refusal::NamesSpent);
+        };
+        let pid = Pid {
+            node: self.node,
+            boot: self.boot,
+            serial,
+        };
+        let Ok(()) = self.processes.insert(pid, Process::new(alloc)) else {
+            return Err(Refusal::Memory);
+        };
+        self.next += u64::from(self.stride);
+        Ok(Outcome::Reply(Reply::Made(pid)))
+    }
+
+    /// Does a job under the view's registry, or says why not and leaves the bench as it was. The reasons, in the order in
+    /// which they are looked for:
+    ///
+    /// - `NoProcess`: who asks does not stand here.
+    /// - `LabelTooLong`: the label that is asked for has more than 256 tags.
+    /// - `MissingCap`: the least capability that the change of a label takes and that is not in effect for who asks.
+    /// - `NamesSpent`: the next process would get a serial above 4,294,967,295.
+    /// - `Memory`: a new process found no room. No other job takes memory.
+    ///
+    /// An order becomes the body of an operation and its maker, and leaves the bench. A change of a label asks the view one
+    /// question at most for each tag that the label gains or loses.
+    pub fn job<V: View>(
+        &mut self,
+        alloc: Global,
+        view: &mut V,
+        job: Job,
+    ) -> Result<Outcome, Refusal>
+        ensures does { Does (Listed (V.list view.old)) self.old job result self.new }
+        ensures same { V.list view.new ≡ V.list view.old }
+    {
+        match job {
+            Job::Proc => self.proc(alloc),
+            Job::By(pid, act) => self.processes.act(view, pid, act),
+        }
+    }
+
+    /// Gives the maker of an operation what the operation gives: of a tag, to add and to remove it. Where that process does
+    /// not stand here, nothing. An error is a growth refused, and leaves the bench.
+    pub fn finish(&mut self, pid: Pid, op: &Op) -> Result<(), AllocError>
+        ensures ok { OnOk result (self.new ≡ finished self.old pid op.now) }
+        ensures err { OnErr result (self.new ≡ self.old) }
+    {
+        self.processes.give(pid, op)
+    }
+}

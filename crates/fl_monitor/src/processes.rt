@@ -1,0 +1,86 @@
+// The processes of one bench.
+ghost use Rattle.std.specs.Option.{option_copied};
+ghost use Rattle.std.specs.Prelude.{◌≡◌, OnOk, OnErr};
+ghost use Rattle.std.specs.FinMap as map;
+ghost use Rattle.fl_ops.specs.Registry.{Listed};
+ghost use Rattle.fl_monitor.specs.Acts.{ActsAt};
+ghost use Rattle.fl_monitor.specs.Gifts.{given, receives};
+
+use crate::process::Process;
+use crate::view::View;
+use fl_jobs::answer::{Outcome, Refusal};
+use fl_jobs::job::Act;
+use fl_labels::pid::Pid;
+use fl_ops::op::Op;
+use std::alloc::{AllocError, Global};
+use std::collections::BTreeMap;
+use std::marker::Model;
+
+/// Processes by what they are called.
+#[derive(Debug, Drop)]
+pub struct Processes {
+    all: BTreeMap<Pid, Process>,
+}
+
+impl Model for Processes {
+    ghost use Rattle.std.specs.FinMap as map;
+    ghost use Rattle.fl_labels.specs.Pid.{pid_cmp};
+    ghost use Rattle.fl_labels.specs.PidOrder.{coded_pid};
+    ghost use Rattle.fl_monitor.specs.declared.process.Process.{Process};
+    ghost use Rattle.fl_monitor.specs.contracts.process.Process as processes_row;
+
+    ghost Value = { map.FinMap pid_cmp Process };
+
+    ghost coded = { map.code coded_pid (processes_row.the_row).coded };
+
+    ghost view = { λ a. map.from_entries a.all.entries };
+}
+
+impl Processes {
+    /// None. Takes no memory.
+    pub fn new(alloc: Global) -> Self
+        ensures { result ≡ map.empty }
+    {
+        Processes {
+            all: BTreeMap::new(alloc),
+        }
+    }
+
+    /// The process of that name, or none.
+    pub fn get(&self, pid: Pid) -> Option<&Process>
+        ensures { option_copied result ≡ map.get self.now pid }
+    {
+        self.all.get(&pid)
+    }
+
+    /// Puts a process, in the place of one of that name. An error leaves them.
+    pub fn insert(&mut self, pid: Pid, process: Process) -> Result<(), AllocError>
+        ensures ok { OnOk result (self.new ≡ map.insert self.old pid process) }
+        ensures err { OnErr result (self.new ≡ self.old) }
+    {
+        self.all.insert(pid, process)?;
+        Ok(())
+    }
+
+    /// Does what one process asks for by itself.
+    pub fn act<V: View>(&mut self, view: &mut V, pid: Pid, act: Act) -> Result<Outcome, Refusal>
+        ensures acts { ActsAt (Listed (V.list view.old)) self.old pid act result self.new }
+        ensures same { V.list view.new ≡ V.list view.old }
+    {
+        let Some(process) = self.all.get_mut(&pid) else {
+            return Err(Refusal::NoProcess(pid));
+        };
+        process.act(view, pid, act)
+    }
+
+    /// Gives a process what the operation gives its maker, if there is that process. An error leaves them.
+    pub fn give(&mut self, pid: Pid, op: &Op) -> Result<(), AllocError>
+        ensures ok { OnOk result (self.new ≡ receives self.old pid (given op.now) (map.get self.old pid)) }
+        ensures err { OnErr result (self.new ≡ self.old) }
+    {
+        let Some(process) = self.all.get_mut(&pid) else {
+            return Ok(());
+        };
+        process.give(op)
+    }
+}
