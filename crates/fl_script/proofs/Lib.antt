@@ -1,0 +1,7 @@
+pub mod CutLemmas
+pub mod LabelWord
+pub mod OneText
+pub mod OneWord
+pub mod OneLine
+pub mod OneReading
+pub mod Quiet

@@ -1,0 +1,49 @@
+-- The lines of the script, each by the words that spell it.
+use Rattle.std.specs.Prelude.{◌≡◌, ℕ, List, [], ◌∷◌, codes}
+use Rattle.fl_labels.specs.Text.{pid_text, cap_text}
+use Rattle.fl_labels.specs.Words.{IsNode}
+use Rattle.fl_jobs.specs.declared.job.Order.TheVariants.{Tag}
+use Rattle.fl_jobs.specs.declared.job.Act.TheVariants.{Order as Orders, Relabel, Ask}
+use Rattle.fl_jobs.specs.declared.job.Job.{Job}
+use Rattle.fl_jobs.specs.declared.job.Job.TheVariants.{Proc, By}
+use Rattle.fl_script.specs.Cut.{Word}
+use Rattle.fl_ops.specs.PolicyText.{policy_text}
+use Rattle.fl_script.specs.Words.{side_text, IsLabelWord}
+use Rattle.fl_script.specs.declared.line.Line.{Line}
+use Rattle.fl_script.specs.declared.line.Line.TheVariants.{Job as OfJob, Text}
+
+-- the word is this one
+abbrev pub Is : List ℕ → Word → Type 0
+Is text word = word ≡ text
+
+-- each word is of its form, and there are no others
+abbrev pub Matches : List (Word → Type 0) → List Word → Type 0
+Matches [] [] = Unit {0}
+Matches (p ∷ ps) (word ∷ words) = p word × Matches ps words
+Matches [] (word ∷ words) = ⊥
+Matches (p ∷ ps) [] = ⊥
+
+-- the table of the jobs: the forms of the words of each, after the node
+abbrev pub job_forms : Job → List (Word → Type 0)
+job_forms Proc = Is (codes "proc") ∷ []
+job_forms (By p (Orders (Tag policy))) = Is (codes "tag") ∷ Is (pid_text p) ∷ Is (policy_text policy) ∷ []
+job_forms (By p (Relabel side label)) = Is (codes "label") ∷ Is (pid_text p) ∷ Is (side_text side) ∷ IsLabelWord label ∷ []
+job_forms (By p (Ask cap)) = Is (codes "ask") ∷ Is (pid_text p) ∷ Is (cap_text cap) ∷ []
+
+-- the table of the lines
+abbrev pub forms : Line → List (Word → Type 0)
+forms (OfJob n job) = IsNode n ∷ job_forms job
+forms (Text n) = IsNode n ∷ Is (codes "text") ∷ []
+
+-- the words after the node spell the job
+abbrev pub SpellsJob : Job → List Word → Type 0
+SpellsJob job words = Matches (job_forms job) words
+
+-- the words spell the line
+abbrev pub Spells : Line → List Word → Type 0
+Spells line words = Matches (forms line) words
+
+-- the line's node
+abbrev pub node_of : Line → ℕ
+node_of (OfJob node job) = node
+node_of (Text node) = node

@@ -1,0 +1,33 @@
+-- The words of a side and of a label.
+use Rattle.std.specs.Prelude.{ℕ, List, ◌≤◌, ◌<◌, codes}
+use Rattle.std.specs.declared.result.Result.{Result}
+use Rattle.std.specs.declared.result.Result.TheVariants.{Ok, Err}
+use Rattle.fl_labels.specs.Name.{name_cmp}
+use Rattle.fl_labels.specs.SetBy.{SetBy, len}
+use Rattle.fl_labels.specs.Text.{name_text}
+use Rattle.fl_jobs.specs.declared.job.Side.{Side}
+use Rattle.fl_jobs.specs.declared.job.Side.TheVariants.{Secrecy, Integrity as IntegritySide}
+use Rattle.fl_jobs.specs.declared.job.TooLong.{TooLong}
+use Rattle.fl_script.specs.Cut.{Word}
+use Rattle.fl_labels.specs.Words.{IsListing}
+
+-- `S`, `I`
+abbrev pub side_text : Side → List ℕ
+side_text Secrecy = codes "S"
+side_text IntegritySide = codes "I"
+
+-- the word lists the tags of this label
+pub record ListsLabel (label : SetBy name_cmp) (word : Word) : Type 0 where
+  pub listed : IsListing name_text label word
+  pub short : len label ≤ 256
+
+-- the word lists more tags than a label holds
+pub record ListsTooMany (word : Word) : Type 0 where
+  pub tags : SetBy name_cmp
+  pub listed : IsListing name_text tags word
+  pub long : 256 < len tags
+
+-- the word is that of a label, or of too long a one
+abbrev pub IsLabelWord : Result (SetBy name_cmp) TooLong → Word → Type 0
+IsLabelWord (Ok label) word = ListsLabel label word
+IsLabelWord (Err e) word = ListsTooMany word
