@@ -1,0 +1,86 @@
+-- Any run goes on to the end of the script: each further line that asks may want memory.
+use Rattle.std.proofs.Common.{◌≡◌, ◌≤◌, ◌<◌, ◌+◌, ◌++◌, ◌∙◌, ◌⊎◌, inl, inr, refl, sym, ap, List, [], ◌∷◌, ℕ, Bool, true, false, suc, length, slice_get, Option, Some, arith}
+use Rattle.std.proofs.lemmas.List.{append_assoc}
+use Rattle.std.proofs.lemmas.List.Concat.{flat_map-append}
+use Rattle.std.proofs.lemmas.Str.{IsUtf8-from_is_utf8, is_utf8-from_IsUtf8}
+use Rattle.std.proofs.lemmas.Bool.{cases_lt, cases_eq, false≢true}
+use Rattle.std.specs.Str.{is_utf8}
+use Rattle.std.specs.List.{flat_map}
+use Rattle.fl_script.specs.Reading.{IsText, IsQuiet}
+use Rattle.fl_script.specs.declared.reading.Reading.TheVariants as reading
+use Rattle.fl_script.proofs.Quiet.{text_or_not, quiet_or_not}
+use Rattle.fl_jobs.specs.declared.answer.Refusal.TheVariants.{Memory}
+use Rattle.fl_cluster.specs.State.{State, start}
+use Rattle.fl_cluster.specs.Answer.{Answer, silence, refused, bad_line}
+use Rattle.fl_cluster.specs.AnswerText.{text_of}
+use Rattle.fl_cluster.specs.Turn.{Turn}
+use Rattle.fl_cluster.specs.Output.{Run, Writes, WritesFront}
+use Rattle.std.specs.Str.Lines.{lines}
+use Rattle.std.specs.Io.KnownBytes.{Appends}
+
+-- what may be answered to a line, and what it leaves
+record Next (number : ℕ) (old : State) (line : List ℕ) : Type 0 where
+  answer : Answer
+  new : State
+  turn : Turn number old line answer new
+
+next : (number : ℕ) (old : State) (line : List ℕ) → Next number old line
+next number old line = by_cases (text_or_not line) (quiet_or_not line)
+  where
+    by_cases : IsText line ⊎ (IsText line → ⊥) → IsQuiet line ⊎ (IsQuiet line → ⊥) → Next number old line
+    by_cases text (inl quiet) = record { answer = silence; new = old; turn = inl (record { reading = reading.Quiet; says = quiet; answered = (refl, refl) }) }
+    by_cases (inr never) (inr loud) = record { answer = bad_line number; new = old; turn = inl (record { reading = reading.Bad; says = record { loud = loud; spells_none = λ text. absurd (never text) }; answered = (refl, refl) }) }
+    by_cases (inl text) (inr loud) = record { answer = refused Memory; new = old; turn = inr (record { asks = record { loud = loud; text = text }; answered = refl; unchanged = refl }) }
+
+-- what may be answered to lines, and what they leave
+record Going (number : ℕ) (old : State) (ls : List (List ℕ)) : Type 0 where
+  answers : List Answer
+  new : State
+  run : Run number old ls answers new
+
+go_on : (number : ℕ) (old : State) (ls : List (List ℕ)) → Going number old ls
+go_on number old [] = record { answers = []; new = old; run = refl }
+go_on number old (l ∷ ls) =
+    let n = next number old l in
+    let g = go_on (number + 1) n.new ls in
+    record { answers = n.answer ∷ g.answers; new = g.new; run = (n.new, n.turn, g.run) }
+
+-- one run after another
+pub Run-append : (number : ℕ) (old : State) (ls : List (List ℕ)) (bs : List Answer) (mid : State) (ms : List (List ℕ)) (cs : List Answer) (new : State) → Run number old ls bs mid → Run (number + length ls) mid ms cs new → Run number old (ls ++ ms) (bs ++ cs) new
+Run-append number old [] [] mid ms cs new r q =
+    let e : number + 0 ≡ number = omega arith in rw (e, r) at q
+Run-append number old [] (b ∷ bs) mid ms cs new r q = absurd r
+Run-append number old (l ∷ ls) [] mid ms cs new r q = absurd r
+Run-append number old (l ∷ ls) (b ∷ bs) mid ms cs new r q =
+    let e : number + suc (length ls) ≡ number + 1 + length ls = omega arith in
+    (r.0, r.1, Run-append (number + 1) r.0 ls bs mid ms cs new r.2 (rw e at q))
+
+-- known bytes grow by a front of what is written for the first lines of the script
+pub record WritesCut (old new : Option (List ℕ)) (script : List ℕ) : Type 0 where
+  pub seen : List (List ℕ)
+  pub later : List (List ℕ)
+  pub split : lines script ≡ seen ++ later
+  pub front : List ℕ
+  pub rest : List ℕ
+  pub status : ℕ
+  pub output : Writes seen (front ++ rest) status
+  pub written : Appends old new front
+
+-- what was written of the first lines' text is a front of the whole script's
+pub front_of_all : {a b : Option (List ℕ)} {script : List ℕ} → WritesCut a b script → WritesFront a b script
+front_of_all {a} {b} {script} p =
+    let o = p.output in
+    let g = go_on (1 + length p.seen) o.end p.later in
+    record {
+      front = p.front;
+      rest = p.rest ++ flat_map text_of g.answers;
+      status = _;
+      output = record {
+        answers = o.answers ++ g.answers;
+        end = g.new;
+        run = rw p.split (Run-append 1 start p.seen o.answers o.end p.later g.answers g.new o.run g.run);
+        text_is = sym (append_assoc p.front p.rest (flat_map text_of g.answers)) ∙ ap (λ x. x ++ flat_map text_of g.answers) o.text_is ∙ sym (flat_map-append text_of o.answers g.answers);
+        status_is = refl;
+      };
+      written = p.written;
+    }

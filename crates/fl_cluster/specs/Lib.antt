@@ -1,0 +1,10 @@
+pub mod State
+pub mod Answer
+pub mod AnswerText
+pub mod LastName
+pub mod NodeStep
+pub mod Turn
+pub mod Output
+pub mod Served
+pub mod Interpreter
+pub mod Stream

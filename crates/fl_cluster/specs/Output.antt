@@ -1,0 +1,48 @@
+-- What is written for a script.
+use Rattle.std.specs.Prelude.{◌≡◌, ◌≢◌, ◌+◌, ◌++◌, ◌∷◌, [], ℕ, List, Option, if◌then◌else◌}
+use Rattle.std.specs.List.{flat_map, list_any}
+use Rattle.std.specs.Str.Lines.{lines}
+use Rattle.std.specs.Io.KnownBytes.{Appends}
+use Rattle.fl_cluster.specs.State.{State, start}
+use Rattle.fl_jobs.specs.declared.answer.Refusal.TheVariants.{Memory}
+use Rattle.fl_cluster.specs.Answer.{Answer, refused, is_bad}
+use Rattle.fl_cluster.specs.AnswerText.{text_of}
+use Rattle.fl_cluster.specs.Turn.{Turn}
+
+-- the lines are answered one after another, the first of them being the number-th
+abbrev pub Run : ℕ → State → List (List ℕ) → List Answer → State → Type 0
+Run number old [] [] new = new ≡ old
+Run number old (line ∷ lines) (answer ∷ answers) new = (mid : State) × Turn number old line answer mid × Run (number + 1) mid lines answers new
+Run number old [] (answer ∷ answers) new = ⊥
+Run number old (line ∷ lines) [] new = ⊥
+
+-- the text is what is written for these lines, with this status
+pub record Writes (lines : List (List ℕ)) (text : List ℕ) (status : ℕ) : Type 0 where
+  pub answers : List Answer
+  pub end : State
+  pub run : Run 1 start lines answers end
+  pub text_is : text ≡ flat_map text_of answers
+  pub status_is : status ≡ (if list_any is_bad answers then 1 else 0)
+
+-- the text is what is written for this script, cut into lines
+abbrev pub Output : List ℕ → List ℕ → ℕ → Type 0
+Output script text status = Writes (lines script) text status
+
+-- known bytes grow by an output of the script, with this status
+pub record WritesOutput (old new : Option (List ℕ)) (script : List ℕ) (status : ℕ) : Type 0 where
+  pub text : List ℕ
+  pub output : Output script text status
+  pub written : Appends old new text
+
+-- known bytes grow by a front of an output of the script
+pub record WritesFront (old new : Option (List ℕ)) (script : List ℕ) : Type 0 where
+  pub front : List ℕ
+  pub rest : List ℕ
+  pub status : ℕ
+  pub output : Output script (front ++ rest) status
+  pub written : Appends old new front
+
+-- no answer is for want of memory
+abbrev pub IsAmple : List Answer → Type 0
+IsAmple [] = Unit {0}
+IsAmple (answer ∷ answers) = (answer ≢ refused Memory) × IsAmple answers

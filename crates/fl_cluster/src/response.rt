@@ -1,0 +1,34 @@
+//! What is answered to a line.
+ghost use Rattle.std.specs.Prelude.{◌≡◌};
+
+use fl_jobs::answer::{Refusal, Reply};
+use fl_labels::name::Name;
+
+/// What is answered to a line.
+#[derive(Clone, Copy, Debug, PartialEq, Eq)]
+pub enum Response {
+    /// Nothing: the line is empty or a comment.
+    Silence,
+    /// What a job is answered that made no operation.
+    Reply(Reply),
+    /// The name of the operation that the line made.
+    Named(Name),
+    /// The lines of the node's operations, which are written from the node itself.
+    Text,
+    /// The job was refused, and nothing changed.
+    Refused(Refusal),
+    /// The line of this number is none of the script, and nothing changed.
+    BadLine(u64),
+}
+
+impl Response {
+    ghost use Rattle.fl_cluster.specs.State.{State};
+    ghost use Rattle.fl_cluster.specs.Answer.{is_bad, shown};
+
+    /// Whether the line was none of the script.
+    pub fn is_bad(self) -> bool
+        ensures { (state : State) → result ≡ is_bad (shown state self) }
+    {
+        matches!(self, Response::BadLine(_))
+    }
+}

@@ -1,0 +1,158 @@
+//! Bytes are taken as they come: each line is answered once it has ended.
+ghost use Rattle.std.specs.Prelude.{◌≡◌, ◌≢◌, ◌≤◌, ◌+◌, ◌∷◌, ◌++◌, [], IfErr, IfOk, OnErr, OnOk, length};
+ghost use Rattle.std.specs.Str.Lines.{lines};
+ghost use Rattle.fl_cluster.specs.Served.{HasNoFeed};
+ghost use Rattle.fl_cluster.specs.Interpreter.{Halts, Proceeds};
+ghost use Rattle.fl_cluster.specs.Stream.{Advances, Ends, Stops, StopsAtEnd, fresh_stream};
+
+use crate::fault::RunFault;
+use crate::interpreter::Interpreter;
+use crate::split::{cut_line, without_return};
+use fl_sink::sink::WriteFault;
+use std::alloc::Global;
+use std::io::Write;
+use std::marker::Model;
+
+/// A interpreter, and the line that has not ended yet.
+#[derive(Drop)]
+pub struct Stream {
+    interpreter: Interpreter,
+    held: Vec<u8>,
+}
+
+impl Model for Stream {
+    ghost use Rattle.fl_cluster.specs.Stream.{StreamState, coded_stream};
+
+    ghost Value = { StreamState };
+
+    ghost coded = { coded_stream };
+
+    ghost view = { λ s. record { interpreter = s.interpreter; held = s.held.items } };
+}
+
+impl Stream {
+    pub fn new(alloc: Global) -> Stream
+        ensures { result ≡ fresh_stream }
+    {
+        Stream {
+            interpreter: Interpreter::new(alloc),
+            held: Vec::new(alloc),
+        }
+    }
+
+    /// Answers the line that ends with these bytes and a line feed. It is copied only where some of it came before.
+    fn end_line<W: Write>(
+        &mut self,
+        alloc: Global,
+        line: &[u8],
+        output: &mut W,
+    ) -> Result<(), RunFault>
+        requires number { self.old.interpreter.number ≤ 16777217 }
+        requires part { HasNoFeed self.old.held }
+        requires line { HasNoFeed line.now }
+        ensures ok { OnOk result (Advances self.old self.new (W.contents output.old) (W.contents output.new) (line.now ++ 10 ∷ [])) }
+        ensures number { OnOk result (self.new.interpreter.number ≡ self.old.interpreter.number + 1) }
+        ensures part { OnOk result (self.new.held ≡ []) }
+        ensures kind { IfErr result (λ e. e ≢ RunFault.Read) }
+        ensures err { OnErr result (Stops self.old (W.contents output.old) (W.contents output.new) (line.now ++ 10 ∷ [])) }
+    {
+        if self.held.is_empty() {
+            match self.interpreter.answer(alloc, without_return(line), output) {
+                Ok(()) => {}
+                Err(WriteFault) => return Err(RunFault::Write),
+            }
+            return Ok(());
+        }
+        if self.held.extend_from_slice(line).is_err() {
+            return Err(RunFault::Memory);
+        }
+        match self
+            .interpreter
+            .answer(alloc, without_return(&self.held), output)
+        {
+            Ok(()) => {}
+            Err(WriteFault) => return Err(RunFault::Write),
+        }
+        self.held.clear();
+        Ok(())
+    }
+
+    /// Answers the lines that end in these bytes, and keeps what follows the last of them.
+    pub fn take<W: Write>(
+        &mut self,
+        alloc: Global,
+        bytes: &[u8],
+        output: &mut W,
+    ) -> Result<(), RunFault>
+        requires number { self.old.interpreter.number + length bytes.now ≤ 16777217 }
+        requires part { HasNoFeed self.old.held }
+        ensures ok { OnOk result (Advances self.old self.new (W.contents output.old) (W.contents output.new) bytes.now) }
+        ensures number { OnOk result (self.new.interpreter.number ≤ self.old.interpreter.number + length bytes.now) }
+        ensures part { OnOk result (HasNoFeed self.new.held) }
+        ensures kind { IfErr result (λ e. e ≢ RunFault.Read) }
+        ensures err { OnErr result (Stops self.old (W.contents output.old) (W.contents output.new) bytes.now) }
+    {
+        let mut rest = bytes;
+        while let Some((line, after)) = cut_line(rest) {
+            match self.end_line(alloc, line, output) {
+                Ok(()) => {}
+                Err(fault) => return Err(fault),
+            }
+            rest = after;
+        }
+        if self.held.extend_from_slice(rest).is_err() {
+            return Err(RunFault::Memory);
+        }
+        Ok(())
+    }
+
+    /// Writes the answers so far, and flushes them.
+    pub fn send<W: Write>(&mut self, output: &mut W) -> Result<(), WriteFault>
+        ensures ok { OnOk result (Advances self.old self.new (W.contents output.old) (W.contents output.new) []) }
+        ensures same { OnOk result (self.new.interpreter.number ≡ self.old.interpreter.number) }
+        ensures held { self.new.held ≡ self.old.held }
+        ensures empty { OnOk result (self.new.interpreter.pending ≡ []) }
+        ensures err { OnErr result (Stops self.old (W.contents output.old) (W.contents output.new) []) }
+    {
+        match self.interpreter.send(output) {
+            Ok(()) => {}
+            Err(fault) => return Err(fault),
+        }
+        Ok(())
+    }
+
+    /// Answers the last line, where it did not end.
+    fn answer_last<W: Write>(&mut self, alloc: Global, output: &mut W) -> Result<(), WriteFault>
+        requires number { self.old.interpreter.number ≤ 16777217 }
+        requires part { HasNoFeed self.old.held }
+        ensures ok { OnOk result (Proceeds self.old.interpreter self.new.interpreter (W.contents output.old) (W.contents output.new) (lines self.old.held)) }
+        ensures err { OnErr result (Halts self.old.interpreter (W.contents output.old) (W.contents output.new) (lines self.old.held)) }
+    {
+        if self.held.is_empty() {
+            return Ok(());
+        }
+        match self.interpreter.answer(alloc, &self.held, output) {
+            Ok(()) => {}
+            Err(fault) => return Err(fault),
+        }
+        Ok(())
+    }
+
+    /// Answers the last line, where it did not end, and writes all. Says whether some line was none of the script.
+    pub fn finish<W: Write>(&mut self, alloc: Global, output: &mut W) -> Result<bool, WriteFault>
+        requires number { self.old.interpreter.number ≤ 16777217 }
+        requires part { HasNoFeed self.old.held }
+        ensures ok { IfOk result (λ bad. Ends self.old (W.contents output.old) (W.contents output.new) bad) }
+        ensures err { OnErr result (StopsAtEnd self.old (W.contents output.old) (W.contents output.new)) }
+    {
+        match self.answer_last(alloc, output) {
+            Ok(()) => {}
+            Err(fault) => return Err(fault),
+        }
+        match self.interpreter.send(output) {
+            Ok(()) => {}
+            Err(fault) => return Err(fault),
+        }
+        Ok(self.interpreter.any_bad())
+    }
+}
