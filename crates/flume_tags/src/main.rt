@@ -1,0 +1,53 @@
+//! `flume-tags`: reads a script from standard input, and writes the answers to its lines to standard output.
+#![tactic(auto)]
+
+use clap::{ArgMatches, Command};
+use fl_cluster::run::run;
+use std::process::ExitCode;
+use std::{env, io};
+
+/// The status where the program's words were refused, or its help was asked for.
+const BAD_WORDS: u8 = 2;
+
+/// The status where a read, a write or memory failed.
+const FAULT: u8 = 3;
+
+/// Reads the words of the program, of which none is wanted.
+fn parsed<'a>(rt: &HostRuntime, words: &'a [String]) -> Result<ArgMatches<'a>, clap::Error> {
+    Command::new(rt.alloc(), "flume-tags")
+        .about("Answers a script of tags, labels and questions, read from standard input")
+        .try_get_matches_from(words)
+}
+
+/// Whether the program may run. If not, the parser's text was printed.
+fn may_run(rt: &HostRuntime) -> bool {
+    let Ok(words) = env::args(rt) else {
+        return false;
+    };
+    let words: Vec<String> = match words.collect(rt.alloc()) {
+        Ok(words) => words,
+        Err(_) => return false,
+    };
+    match parsed(rt, &words) {
+        Ok(_) => true,
+        Err(error) => {
+            let _ = error.print(rt);
+            false
+        }
+    }
+}
+
+fn main(rt: HostRuntime) -> ExitCode {
+    if !may_run(&rt) {
+        return ExitCode::from(BAD_WORDS);
+    }
+    let mut input = rt.reader();
+    let mut output = io::writer(&rt);
+    match run(&rt, &mut input, &mut output) {
+        Ok(status) => ExitCode::from(status),
+        Err(fault) => {
+            let _ = eprintln!(rt; "flume-tags: {fault}");
+            ExitCode::from(FAULT)
+        }
+    }
+}
