@@ -1,4 +1,3 @@
-pub mod Reaching
 pub mod Looks
 pub mod Table
 pub mod Sets

@@ -10,7 +10,7 @@ use Rattle.fl_labels.specs.declared.cap.Cap.{Cap}
 use Rattle.fl_ops.specs.OpOrder.{op_cmp}
 use Rattle.fl_ops.specs.OpLaws.{op_total, op_exact}
 use Rattle.fl_ops.specs.Registry.{Eff, Global, Listed}
-use Rattle.fl_monitor.proofs.Reaching.{eff_alone, owned_eff, global_more}
+use Rattle.fl_ops.proofs.Reaching.{eff_alone, owned_eff, global_more}
 
 listed : (s : SetBy op_cmp) → Within (In s) (Listed (members s))
 listed s op h = Contains-from_any (λ x y e. op_exact x y ((Equal-is (op_cmp x y)).0 e)) op (members s) (sym (contains-members s op) ∙ h)

@@ -16,14 +16,15 @@ pub record State : Type 0 where
   pub stride : ℕ
   pub processes : map.FinMap pid_cmp Process
 
--- with no process, as one of stride benches
+-- with no process, as the bench index of stride benches
 abbrev pub opened : ℕ → ℕ → ℕ → ℕ → State
 opened node boot index stride = record { node = node; boot = boot; next = index; stride = stride; processes = map.empty }
 
+-- with the process p as pid
 abbrev pub has_at : State → Pid → Process → State
 has_at b pid p = record b { processes = map.insert b.processes pid p }
 
--- the next process is called pid
+-- pid is what the next process is called
 pub record IsNext (b : State) (pid : Pid) : Type 0 where
   pub node : pid.node ≡ b.node
   pub boot : pid.boot ≡ b.boot

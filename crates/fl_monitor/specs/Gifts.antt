@@ -15,17 +15,19 @@ use Rattle.fl_ops.specs.declared.op.Body.TheVariants.{MakeTag}
 use Rattle.fl_monitor.specs.declared.process.Process.{Process}
 use Rattle.fl_monitor.specs.Bench.{State}
 
--- of a tag, to add and to remove it
+-- what an operation of this body and name gives its maker: of a tag, to add and to remove it
 abbrev pub given_by : Body → Name → List Cap
 given_by (MakeTag policy) tag = Plus tag ∷ Minus tag ∷ []
 
+-- the same, of the operation
 abbrev pub given : Op → List Cap
 given op = given_by op.body op.name
 
+-- the process that stands as pid, if one does, owns these too
 abbrev pub receives : map.FinMap pid_cmp Process → Pid → List Cap → Option Process → map.FinMap pid_cmp Process
 receives m pid caps None = m
 receives m pid caps (Some p) = map.insert m pid (record p { owned = set.insert_all p.owned caps })
 
--- the process owns what the operation gives, if there is one
+-- with what the operation gives to its maker pid
 abbrev pub finished : State → Pid → Op → State
 finished b pid op = record b { processes = receives b.processes pid (given op) (map.get b.processes pid) }

@@ -23,15 +23,18 @@ use Rattle.fl_monitor.specs.declared.process.Process.{Process}
 
 -- ---- the checks of each job, in their order
 
+-- of an act of the process p
 abbrev pub checks_of : (Op → Type 0) → Process → Act → Check
 checks_of V p (Order order) = no_check
 checks_of V p (Relabel side (Err e)) = fails LabelTooLong
 checks_of V p (Relabel side (Ok label)) = demand cap_cmp (Takes (side_of side p.labels) label) (effective V p) MissingCap
 checks_of V p (Ask c) = no_check
 
+-- the next serial is no greater than the greatest that a process can have
 abbrev pub serials_left : State → Check
 serials_left b = refuse_if (nat_lt 4294967295 b.next) NamesSpent
 
+-- who asks stands at the bench
 abbrev pub checks : (Op → Type 0) → State → Job → Check
 checks V b Proc = serials_left b
 checks V b (By pid act) = with (map.get b.processes pid) (NoProcess pid) (λ p. checks_of V p act)
@@ -42,12 +45,14 @@ checks V b (By pid act) = with (map.get b.processes pid) (NoProcess pid) (λ p. 
 abbrev pub Answers : Outcome → Type 0 → Type 0
 Answers outcome P = ((outcome ≡ Outcome.Reply Yes) × P) ⊎ ((outcome ≡ Outcome.Reply NotYet) × (¬ P))
 
+-- an act of the process p, which stands at the bench b as pid
 abbrev pub Performs : (Op → Type 0) → State → Pid → Process → Act → Outcome → State → Type 0
 Performs V b pid p (Order order) outcome b' = (outcome ≡ Outcome.Order (body_of order) pid) × (b' ≡ b)
 Performs V b pid p (Relabel side (Err e)) outcome b' = ⊥
 Performs V b pid p (Relabel side (Ok label)) outcome b' = (outcome ≡ Outcome.Reply Done) × (b' ≡ has_at b pid (record p { labels = with_side side label p.labels }))
 Performs V b pid p (Ask c) outcome b' = Answers outcome (effective V p c) × (b' ≡ b)
 
+-- a job at the bench b, which it leaves as b'
 abbrev pub Effect : (Op → Type 0) → State → Job → Outcome → State → Type 0
 Effect V b Proc outcome b' = (pid : Pid) × IsNext b pid × (outcome ≡ Outcome.Reply (Made pid)) × (b' ≡ born b pid newborn)
 Effect V b (By pid act) outcome b' = (p : Process) × (map.get b.processes pid ≡ Some p) × Performs V b pid p act outcome b'

@@ -19,6 +19,7 @@ pub trait View {
     ghost use Rattle.fl_ops.specs.declared.op.Op.{Op};
     ghost use Rattle.fl_ops.specs.Registry.{Eff, Listed};
 
+    // the operations
     ghost list: { Self → List Op };
 
     /// Whether the owner of these capabilities has this one in effect.

@@ -27,13 +27,13 @@ Turns old new (Minus tag) = OnlyIn old new tag
 Turns old new (Use group) = ⊥
 Turns old new (Grow group) = ⊥
 
--- P has the first, which is its least, and besides what Q has
+-- P is what Q is and the first besides, which is the least of P
 pub record Heads (first : Cap) (P Q : Cap → Type 0) : Type 0 where
   pub member : P first
   pub least : (cap : Cap) → P cap → is_gt (cap_cmp first cap) ≡ false
   pub parts : (cap : Cap) → P cap ↔ (cap ≡ first) ⊎ Q cap
 
--- P has what may come first, and what Q has
+-- P is what Q is, and what comes first, if anything does
 abbrev pub Leads : Option Cap → (Cap → Type 0) → (Cap → Type 0) → Type 0
 Leads None P Q = (cap : Cap) → P cap ↔ Q cap
 Leads (Some first) P Q = Heads first P Q

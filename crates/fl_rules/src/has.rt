@@ -11,7 +11,7 @@ pub trait Has {
     // what is in effect
     ghost effective: { Self → Cap → Type 0 };
 
-    // the second is the first, after questions
+    // the second value is what the first may be after questions
     ghost keeps: { Self → Self → Type 0 };
 
     /// Whether the capability is in effect.
@@ -19,10 +19,13 @@ pub trait Has {
         ensures answer { Tells result (effective self.old cap) }
         ensures same { keeps self.old self.new };
 
+    // no question leaves all as it was
     ghost keeps_itself: { (a : Self) → keeps a a };
 
+    // one question after another
     ghost keeps_on: { (a b c : Self) → keeps a b → keeps b c → keeps a c };
 
+    // no question changes what is in effect
     ghost keeps_effective: { (a b : Self) → keeps a b → (cap : Cap) → effective b cap ↔ effective a cap };
 }
 
