@@ -1,6 +1,9 @@
 pub mod Rising
 pub mod SortedVec
-pub mod Least
 pub mod Written
 pub mod Numbers
 pub mod Cut
+pub mod OneReading
+pub mod Searches
+pub mod Walk
+pub mod Arrange

@@ -1,10 +1,9 @@
 -- Lists that strictly rise in a total order, and the finite sets that they list.
-use Rattle.std.proofs.Common.{append-nil, append_assoc, ◌≡◌, ℕ, ◌+◌, ◌-◌, ◌<◌, ◌≤◌, Bool, true, false, cond, not, ◌||◌, ◌&&◌, List, [], ◌∷◌, ◌++◌, length, get_or, take, drop, refl, sym, ap, subst, ◌∙◌, inl, inr, arith, Result, Ok, Err, is_ok, Ordering, Less, Equal, Greater}
+use Rattle.std.proofs.Common.{◌≡◌, ℕ, ◌+◌, ◌-◌, ◌<◌, ◌≤◌, Bool, true, false, not, ◌||◌, ◌&&◌, List, [], ◌∷◌, ◌++◌, length, get_or, refl, sym, ap, ◌∙◌, inl, inr, arith, Result, Ok, Err, is_ok, Ordering, Less, Equal, Greater}
 use Rattle.std.specs.Cmp.{IsTotalOrder, tied_itself, eq_by_cmp_equiv}
 use Rattle.std.specs.FinMap.{IsAntisymmetric}
 use Rattle.fl_labels.specs.SetBy.{SetBy, contains, of_list, contains_tied, contains-of_list, contains-insert, contains-remove, same_set, len, len-insert}
 use Rattle.fl_labels.specs.SetBy as set
-use Rattle.std.proofs.lemmas.List.{take_more, take-append-drop}
 use Rattle.std.specs.List.{insert, remove, list_any, IsAllAdjacentAnswer}
 use Rattle.std.specs.List.Sorted.{IsStrictlySortedBy, IsBinarySearchResult, IsSearchInRange, IsNonDecreasingBy, IsPartitionPoint}
 use Rattle.std.specs.Ordering.{eq_by_cmp, is_eq, is_lt, ordering_index, ordering_reverse}
@@ -24,10 +23,10 @@ is_less Equal e = absurd (cc)
 is_less Greater e = absurd (cc)
 
 module _ {K : Type 0} {R : K → K → Ordering} (o : IsTotalOrder R) where
-  turned : (x y : K) → R x y ≡ Greater → R y x ≡ Less
+  pub turned : (x y : K) → R x y ≡ Greater → R y x ≡ Less
   turned x y e = o.antisymm y x ∙ ap ordering_reverse e
 
-  turned_back : (x y : K) → R x y ≡ Less → R y x ≡ Greater
+  pub turned_back : (x y : K) → R x y ≡ Less → R y x ≡ Greater
   turned_back x y e = o.antisymm y x ∙ ap ordering_reverse e
 
   -- what a binary search wants
@@ -137,35 +136,6 @@ module _ {K : Type 0} {R : K → K → Ordering} (o : IsTotalOrder R) where
     pub of_list-push : (xs : List K) (x : K) → of_list {R = R} (xs ++ x ∷ []) ≡ set.insert (of_list xs) x
     of_list-push xs x = ap of_list (sym (insert_end xs x)) ∙ of_list-insert xs (length xs) x
 
-    -- a set with one more item has as many members, or one more
-    len-push : (xs : List K) (x : K) → len (of_list {R = R} xs) ≤ len (of_list {R = R} (xs ++ x ∷ []))
-    len-push xs x = rw (of_list-push xs x, len-insert o (of_list xs) x) (grow (contains (of_list {R = R} xs) x) (len (of_list {R = R} xs)))
-      where
-        grow : (b : Bool) (n : ℕ) → n ≤ cond b n (n + 1)
-        grow true n = omega arith
-        grow false n = omega arith
-
-    pub len-more : (ys xs : List K) → len (of_list {R = R} xs) ≤ len (of_list {R = R} (xs ++ ys))
-    len-more [] xs = rw append-nil (omega arith)
-    len-more (y ∷ ys) xs =
-        let next = len-more ys (xs ++ y ∷ []) in
-        let regrouped : len (of_list {R = R} (xs ++ y ∷ [])) ≤ len (of_list {R = R} (xs ++ y ∷ ys)) = subst (λ l. len (of_list {R = R} (xs ++ y ∷ [])) ≤ len (of_list {R = R} l)) (append_assoc xs (y ∷ []) ys) next in
-        omega (arith, len-push xs y, regrouped)
-
-    -- a loop over the items, which inserts each
-    pub listed_more : (xs : List K) (i : ℕ) (x : K) (s t : SetBy R) → s ≡ of_list (take i xs) → t ≡ set.insert s x → i < length xs → x ≡ get_or xs i x → t ≡ of_list (take (i + 1) xs)
-    listed_more xs i x s t so new h at =
-        new ∙ ap (λ u. set.insert u x) so ∙ sym (of_list-push (take i xs) x)
-        ∙ ap of_list (ap (λ y. take i xs ++ y ∷ []) at ∙ sym (take_more xs i x h))
-
-    -- where the set was full, the list has more distinct items than that
-    pub listed_over : (xs : List K) (i n : ℕ) (x : K) (s : SetBy R) → s ≡ of_list (take i xs) → contains s x ≡ false → len s ≡ n → i < length xs → x ≡ get_or xs i x → n < len (of_list {R = R} xs)
-    listed_over xs i n x s so new full h at =
-        let more : len (set.insert s x) ≡ n + 1 = len-insert o s x ∙ ap (λ b. cond b (len s) (len s + 1)) new ∙ ap (λ m. m + 1) full in
-        let next : len (set.insert s x) ≡ len (of_list {R = R} (take (i + 1) xs)) = ap len (listed_more xs i x s _ so refl h at) in
-        let all : len (of_list {R = R} (take (i + 1) xs)) ≤ len (of_list {R = R} xs) = subst (λ l. len (of_list {R = R} (take (i + 1) xs)) ≤ len (of_list {R = R} l)) (take-append-drop (i + 1) xs) (len-more (drop (i + 1) xs) (take (i + 1) xs)) in
-        omega (arith, more, next, all)
-
   -- a test of each item and the next tells whether a list rises
   rises_where : (xs : List K) → IsAllAdjacentAnswer (λ x y b. b ≡ is_lt (R x y)) xs true → IsStrictlySortedBy R xs
   unfolding IsStrictlySortedBy
@@ -173,7 +143,7 @@ module _ {K : Type 0} {R : K → K → Ordering} (o : IsTotalOrder R) where
   rises_where (x ∷ xs) h = sorted_from_all_adjacent o (x ∷ xs) x (λ k high. is_less _ (h k x high))
 
   falls_where : (xs : List K) → IsAllAdjacentAnswer (λ x y b. b ≡ is_lt (R x y)) xs false → IsStrictlySortedBy R xs → IsTrue false
-  falls_where [] h up = absurd (omega (arith, h.2))
+  falls_where [] h up = absurd (omega (arith, h.1))
   falls_where (x ∷ xs) h up = h.2 x ∙ ap is_lt (Less-from_sorted R (x ∷ xs) h.0 (h.0 + 1) x up (omega arith) h.1)
 
   pub rises_answer : (xs : List K) (b : Bool) → IsAllAdjacentAnswer (λ x y b. b ≡ is_lt (R x y)) xs b → (IsTrue b → IsStrictlySortedBy R xs) × (IsStrictlySortedBy R xs → IsTrue b)

@@ -1,6 +1,7 @@
 -- What the methods of a set in a sorted `Vec` owe: xs are the items as they were, s the set that they list, ys what
 -- the search read.
-use Rattle.std.proofs.Common.{arith, true, ◌≡◌, ℕ, ◌<◌, ◌≤◌, List, length, get_or, sym, ap, subst, ◌∙◌, Result, Ok, Err, Ordering, Equal, is_ok}
+use Rattle.std.proofs.Common.{Bool, ◌==◌, IsTrue, arith, true, ◌≡◌, ℕ, ◌<◌, ◌≤◌, List, length, get_or, sym, ap, subst, ◌∙◌, Result, Ok, Err, Ordering, Equal, is_ok}
+use Rattle.std.proofs.lemmas.Bool.Decides.{nat_tests}
 use Rattle.std.specs.Cmp.{IsTotalOrder, Equal-is, tied_itself}
 use Rattle.std.specs.Ordering.{eq_by_cmp, is_eq}
 use Rattle.std.proofs.lemmas.Map.Views.{Contains-from_any}
@@ -20,9 +21,6 @@ pub record Lists {K : Type 0} (R : K → K → Ordering) (xs : List K) (s : SetB
 module _ {K : Type 0} {R : K → K → Ordering} (o : IsTotalOrder R) (exact : IsAntisymmetric R) where
   pub len_listed : (xs : List K) (s : SetBy R) → IsStrictlySortedBy R xs → of_list xs ≡ s → len s ≡ length xs
   len_listed xs s up view = len-members s ∙ ap length (ap members (sym view) ∙ members-of_list o exact xs up)
-
-  pub rises_as : (ys xs : List K) → ys ≡ xs → IsStrictlySortedBy R ys → IsStrictlySortedBy R xs
-  rises_as ys xs same up = subst (IsStrictlySortedBy R) same up
 
   pub short_listed : (n : ℕ) (xs : List K) (s : SetBy R) → IsStrictlySortedBy R xs → of_list xs ≡ s → length xs ≤ n → len s ≤ n
   short_listed n xs s up view short = omega (arith, len_listed xs s up view)
@@ -65,3 +63,7 @@ module _ {K : Type 0} {R : K → K → Ordering} (o : IsTotalOrder R) (exact : I
   item_member xs s view q k within at =
       ap (λ t. contains t q) (sym view) ∙ contains-of_list o xs q
       ∙ list_any_at (eq_by_cmp R q) xs k q within (ap (λ y. eq_by_cmp R q y) at ∙ ap is_eq (tied_itself o q))
+
+-- a test of a length that is m tells whether the set is empty
+pub empty_test : (b : Bool) (n m k : ℕ) → b ≡ (n == 0) → n ≡ m → k ≡ m → (IsTrue b → k ≡ 0) × (k ≡ 0 → IsTrue b)
+empty_test b n m k test e f = (λ t. grind (arith, nat_tests), λ z. grind (arith, nat_tests))

@@ -10,3 +10,5 @@ pub mod PidOrder
 pub mod Text
 pub mod Words
 pub mod ItemText
+pub mod Arranged
+pub mod Error

@@ -15,7 +15,7 @@ use Rattle.std.specs.FinMap.{FinMap, IsAntisymmetric}
 use Rattle.std.specs.FinMap.Entries.{is_sorted, below_all, is_some-find}
 use Rattle.std.specs.List.{list_any, AllByRecursion}
 use Rattle.std.specs.List.Sorted.{IsStrictlySortedBy}
-use Rattle.std.specs.Ordering.{eq_by_cmp, is_lt, is_gt}
+use Rattle.std.specs.Ordering.{eq_by_cmp, is_lt}
 
 abbrev pub SetBy : {K : Type 0} → (K → K → Ordering) → Type 0
 SetBy R = FinMap R (Unit {0})
@@ -124,19 +124,10 @@ module _ {K : Type 0} {R : K → K → Ordering} where
   unfolding members
   members_rise s = rise_from R (map.entries s) (map.entries_sorted s)
 
--- each member of s is one of t
-abbrev pub IsWithin : {K : Type 0} {R : K → K → Ordering} → SetBy R → SetBy R → Type 0
-IsWithin {K} s t = (q : K) → contains s q ≡ true → contains t q ≡ true
-
 -- q is a member of s alone
 pub record IsMissing {K : Type 0} {R : K → K → Ordering} (s t : SetBy R) (q : K) : Type 0 where
   pub here : contains s q ≡ true
   pub not_there : contains t q ≡ false
-
--- x has P, and no lesser key has
-pub record IsLeast {K : Type 0} (R : K → K → Ordering) (P : K → Type 0) (x : K) : Type 0 where
-  pub passes : P x
-  pub least : (q : K) → P q → is_gt (R x q) ≡ false
 
 pub contains-empty : {K : Type 0} (R : K → K → Ordering) (q : K) → contains (empty {R = R}) q ≡ false
 unfolding contains empty

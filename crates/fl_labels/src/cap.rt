@@ -10,13 +10,18 @@ use std::fmt;
 /// What may be done with a tag (add, remove) or a group (use, grow). Ordered by name, then in the order of the variants.
 #[derive(Clone, Copy, Debug, PartialEq, Eq, Hash)]
 pub enum Cap {
+    /// To add the tag, `+1.4`.
     Plus(Name),
+    /// To remove the tag, `-1.4`.
     Minus(Name),
+    /// To use the group, `*1.4`.
     Use(Name),
+    /// To grow the group, `^1.4`.
     Grow(Name),
 }
 
 impl Cap {
+    /// The tag or group.
     pub fn name(self) -> Name
         ensures { result ≡ cap_name self }
     {

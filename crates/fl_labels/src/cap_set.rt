@@ -1,16 +1,19 @@
 // Sets of capabilities.
-ghost use Rattle.std.specs.Prelude.{◌≡◌, IfOk, OnOk, OnErr, IsErrOf, not};
+ghost use Rattle.std.specs.Prelude.{◌≡◌, IfOk, OnOk, OnErr, IsErrOf, IsTrue, ◌↔◌, not};
 ghost use Rattle.fl_labels.specs.Cap.{cap_cmp};
+ghost use Rattle.fl_labels.specs.Found.{Found};
 ghost use Rattle.fl_labels.specs.Text.{cap_text};
 ghost use Rattle.fl_labels.specs.Words.{IsListing};
 ghost use Rattle.fl_labels.specs.SetBy as set;
 
 use crate::cap::Cap;
 use crate::error::SetError;
-use crate::list::{read_items, rises};
+use crate::list::read_items;
+use crate::sorted::{arrange, first_outside};
 use std::alloc::{AllocError, Global};
 use std::fmt;
 use std::marker::Model;
+use std::slice::Iter;
 
 /// A set of capabilities, kept as a rising vector.
 #[derive(Debug, Drop)]
@@ -63,31 +66,25 @@ impl CapSet {
         }
     }
 
-    /// The set of some capabilities, in any order, repeated or not. `Memory` where there is not enough.
-    pub fn from_caps(alloc: Global, caps: &[Cap]) -> Result<Self, AllocError>
-        ensures { IfOk result (λ made. made ≡ set.of_list caps.now) }
+    /// The set of some capabilities, in any order, repeated or not. Linear where they rise, and else a sort in place. Takes no
+    /// memory.
+    pub fn from_vec(mut caps: Vec<Cap>) -> Self
+        ensures { result ≡ set.of_list caps.items }
     {
-        let mut set = CapSet::new(alloc);
-        for cap in caps {
-            set.insert(*cap)?;
-        }
-        Ok(set)
+        arrange(&mut caps);
+        CapSet { caps }
     }
 
     /// Reads a text such as `{+1.1,-1.4}`: capabilities in any order, a repeated one once.
     ///
     /// `BadText` of a text that lists no capabilities in braces, `Memory`. Linear in a text that lists rising capabilities, and
-    /// else an insert for each of them.
+    /// else with a sort.
     pub fn from_text(alloc: Global, text: &str) -> Result<Self, SetError>
         ensures ok { IfOk result (λ caps. IsListing cap_text caps text.now) }
         ensures bad_text { IsErrOf result SetError.BadText → (s : set.SetBy cap_cmp) → IsListing cap_text s text.now → ⊥ }
         ensures never_too_long { IsErrOf result SetError.TooLong → ⊥ }
     {
-        let caps = read_items(alloc, text)?;
-        if rises(&caps) {
-            return Ok(CapSet { caps });
-        }
-        Ok(CapSet::from_caps(alloc, &caps)?)
+        Ok(CapSet::from_vec(read_items(alloc, text)?))
     }
 
     /// Whether the capability is a member. A binary search.
@@ -104,7 +101,8 @@ impl CapSet {
         &self.caps
     }
 
-    /// Adds a capability, and answers whether it is new. An error leaves the set.
+    /// Adds a capability, and answers whether it is new. Fails only where there is not enough memory, and then leaves the set.
+    /// Moves the capabilities above it.
     pub fn insert(&mut self, cap: Cap) -> Result<bool, AllocError>
         ensures ok { OnOk result (self.new ≡ set.insert self.old cap) }
         ensures new { IfOk result (λ new. new ≡ not (set.contains self.old cap)) }
@@ -119,7 +117,7 @@ impl CapSet {
         }
     }
 
-    /// Removes a capability, and answers whether it was a member. Takes no memory.
+    /// Removes a capability, and answers whether it was a member. Takes no memory. Moves the capabilities above it.
     pub fn remove(&mut self, cap: Cap) -> bool
         ensures after { self.new ≡ set.remove self.old cap }
         ensures was { result ≡ set.contains self.old cap }
@@ -131,5 +129,41 @@ impl CapSet {
             }
             Err(_) => false,
         }
+    }
+
+    /// The least capability that the other set lacks, or `None` where it has each. One walk along the two.
+    pub fn first_missing(&self, other: &CapSet) -> Option<Cap>
+        ensures { Found cap_cmp (set.In self.now) (set.In other.now) result }
+    {
+        first_outside(&self.caps, &other.caps)
+    }
+
+    /// How many capabilities there are.
+    pub fn len(&self) -> usize
+        ensures { result ≡ set.len self.now }
+    {
+        self.caps.len()
+    }
+
+    /// Whether there is no capability.
+    pub fn is_empty(&self) -> bool
+        ensures { IsTrue result ↔ (set.len self.now ≡ 0) }
+    {
+        self.caps.is_empty()
+    }
+
+    /// The capabilities, rising.
+    pub fn iter(&self) -> Iter<'_, Cap>
+        ensures { result.rest.now ≡ set.members self.now }
+    {
+        self.caps.iter()
+    }
+
+    /// The same set again. Fails only where there is not enough memory.
+    pub fn copy(&self, alloc: Global) -> Result<Self, AllocError>
+        ensures { IfOk result (λ made. made ≡ self.now) }
+    {
+        let caps = Vec::from_slice(alloc, &self.caps)?;
+        Ok(CapSet { caps })
     }
 }

@@ -1,22 +1,24 @@
 // Labels: sets of at most 256 tags.
-ghost use Rattle.std.specs.Prelude.{◌≡◌, ◌<◌, ◌≤◌, IfOk, OnOk, OnErr, IsErrOf, not, false, length, find, IfNone, IfSome, List};
-ghost use Rattle.fl_labels.specs.declared.name.Name.{Name};
-ghost use Rattle.fl_labels.specs.Text.{name_text, label_text};
+ghost use Rattle.std.specs.Prelude.{◌≡◌, ◌<◌, ◌≤◌, IfOk, IfErr, OnOk, OnErr, IsErrOf, not, false, IsTrue, ◌↔◌};
+ghost use Rattle.fl_labels.specs.Found.{Found};
+ghost use Rattle.fl_labels.specs.Text.{name_text};
 ghost use Rattle.fl_labels.specs.Words.{IsListing};
 ghost use Rattle.fl_labels.specs.Name.{name_cmp};
 ghost use Rattle.fl_labels.specs.SetBy as set;
 
 use crate::error::SetError;
-use crate::list::{read_items, rises};
+use crate::list::read_items;
 use crate::name::Name;
-use std::alloc::Global;
+use crate::sorted::{arrange, first_outside};
+use std::alloc::{AllocError, Global};
 use std::fmt;
 use std::marker::Model;
+use std::slice::Iter;
 
 /// How many tags a label holds at most.
 pub const MOST_TAGS: usize = 256;
 
-/// A set of tags.
+/// A set of at most 256 tags, kept as a rising vector.
 #[derive(Debug, Drop)]
 pub struct Label {
     tags: Vec<Name>,
@@ -58,6 +60,7 @@ impl fmt::Display for Label {
 }
 
 impl Label {
+    /// The label of nothing. Takes no memory.
     pub fn new(alloc: Global) -> Self
         ensures { result ≡ set.empty }
     {
@@ -66,40 +69,35 @@ impl Label {
         }
     }
 
-    /// The set of some tags, in any order, repeated or not.
-    pub fn from_tags(alloc: Global, tags: &[Name]) -> Result<Self, SetError>
-        ensures ok { IfOk result (λ label. label ≡ set.of_list tags.now) }
+    /// The set of some tags, in any order, repeated or not. `TooLong` where they are more than 256, each counted once.
+    /// Linear where they rise, and else a sort in place. Takes no memory.
+    pub fn from_vec(mut tags: Vec<Name>) -> Result<Self, SetError>
+        ensures ok { IfOk result (λ label. label ≡ set.of_list tags.items) }
         ensures short { IfOk result (λ label. set.len label ≤ 256) }
-        ensures too_long { IsErrOf result SetError.TooLong → 256 < set.len (set.of_list {R = name_cmp} tags.now) }
-        ensures never_bad { IsErrOf result SetError.BadText → ⊥ }
+        ensures err { IfErr result (λ e. e ≡ SetError.TooLong) }
+        ensures too_long { IsErrOf result SetError.TooLong → 256 < set.len (set.of_list {R = name_cmp} tags.items) }
     {
-        let mut label = Label::new(alloc);
-        for tag in tags {
-            label.insert(*tag)?;
-        }
-        Ok(label)
-    }
-
-    /// Reads a text such as `{1.1,1.4}`: tags in any order, a repeated one once.
-    ///
-    /// `BadText` of a text that lists no names in braces, `TooLong` where it lists more than 256, `Memory`. Linear in a text that
-    /// lists rising tags, and else an insert for each tag.
-    pub fn from_text(alloc: Global, text: &str) -> Result<Self, SetError>
-        ensures ok { IfOk result (λ label. IsListing name_text label text.now) }
-        ensures short { IfOk result (λ label. set.len label ≤ 256) }
-        ensures too_long { IsErrOf result SetError.TooLong → (s : set.SetBy name_cmp) × IsListing name_text s text.now × (256 < set.len s) }
-        ensures bad_text { IsErrOf result SetError.BadText → (s : set.SetBy name_cmp) → IsListing name_text s text.now → ⊥ }
-    {
-        let tags = read_items(alloc, text)?;
-        if !rises(&tags) {
-            return Label::from_tags(alloc, &tags);
-        }
+        arrange(&mut tags);
         if tags.len() > MOST_TAGS {
             return Err(SetError::TooLong);
         }
         Ok(Label { tags })
     }
 
+    /// Reads a text such as `{1.1,1.4}`: tags in any order, a repeated one once.
+    ///
+    /// `BadText` of a text that lists no names in braces, `TooLong` where it lists more than 256, `Memory`. Linear in a text that
+    /// lists rising tags, and else with a sort.
+    pub fn from_text(alloc: Global, text: &str) -> Result<Self, SetError>
+        ensures ok { IfOk result (λ label. IsListing name_text label text.now) }
+        ensures short { IfOk result (λ label. set.len label ≤ 256) }
+        ensures too_long { IsErrOf result SetError.TooLong → (s : set.SetBy name_cmp) × IsListing name_text s text.now × (256 < set.len s) }
+        ensures bad_text { IsErrOf result SetError.BadText → (s : set.SetBy name_cmp) → IsListing name_text s text.now → ⊥ }
+    {
+        Label::from_vec(read_items(alloc, text)?)
+    }
+
+    /// Whether the tag is in the label. A binary search.
     pub fn contains(&self, tag: Name) -> bool
         ensures { result ≡ set.contains self.now tag }
     {
@@ -113,7 +111,8 @@ impl Label {
         &self.tags
     }
 
-    /// Adds a tag, and answers whether it is new.
+    /// Adds a tag, and answers whether it is new. `TooLong` of a new tag where there are 256, `Memory`; either leaves the label.
+    /// Moves the tags above it.
     pub fn insert(&mut self, tag: Name) -> Result<bool, SetError>
         ensures ok { OnOk result (self.new ≡ set.insert self.old tag) }
         ensures new { IfOk result (λ new. new ≡ not (set.contains self.old tag)) }
@@ -134,7 +133,7 @@ impl Label {
         }
     }
 
-    /// Removes a tag, and answers whether it was there.
+    /// Removes a tag, and answers whether it was there. Takes no memory. Moves the tags above it.
     pub fn remove(&mut self, tag: Name) -> bool
         ensures after { self.new ≡ set.remove self.old tag }
         ensures was { result ≡ set.contains self.old tag }
@@ -148,18 +147,40 @@ impl Label {
         }
     }
 
-    /// The least tag that the other label lacks.
+    /// The least tag that the other label lacks, or `None` where it has each. One walk along the two.
     pub fn first_missing(&self, other: &Label) -> Option<Name>
-        ensures none { IfNone result (set.IsWithin self.now other.now) }
-        ensures least { IfSome result (set.IsLeast name_cmp (set.IsMissing self.now other.now)) }
+        ensures { Found name_cmp (set.In self.now) (set.In other.now) result }
     {
-        first_outside(&self.tags, other)
+        first_outside(&self.tags, &other.tags)
     }
-}
 
-/// The first of the tags that the label lacks.
-fn first_outside(tags: &[Name], label: &Label) -> Option<Name>
-    ensures { result ≡ find (λ tag. not (set.contains label.now tag)) tags.now }
-{
-    tags.iter().copied().find(|tag| !label.contains(*tag))
+    /// How many tags there are, at most 256.
+    pub fn len(&self) -> usize
+        ensures count { result ≡ set.len self.now }
+        ensures short { result ≤ 256 }
+    {
+        self.tags.len()
+    }
+
+    /// Whether there is no tag.
+    pub fn is_empty(&self) -> bool
+        ensures { IsTrue result ↔ (set.len self.now ≡ 0) }
+    {
+        self.tags.is_empty()
+    }
+
+    /// The tags, rising.
+    pub fn iter(&self) -> Iter<'_, Name>
+        ensures { result.rest.now ≡ set.members self.now }
+    {
+        self.tags.iter()
+    }
+
+    /// The same label again. Fails only where there is not enough memory.
+    pub fn copy(&self, alloc: Global) -> Result<Self, AllocError>
+        ensures { IfOk result (λ made. made ≡ self.now) }
+    {
+        let tags = Vec::from_slice(alloc, &self.tags)?;
+        Ok(Label { tags })
+    }
 }

@@ -5,9 +5,11 @@ pub mod cap;
 pub mod cap_set;
 pub mod error;
 pub mod label;
+pub mod laws;
 pub mod list;
 pub mod name;
 pub mod pid;
+pub mod sorted;
 #[cfg(test)]
 mod tests;
 pub mod text;

@@ -1,7 +1,6 @@
 // Lists in braces.
-ghost use Rattle.std.specs.Prelude.{◌≡◌, ℕ, IfSome, IfNone, IfOk, IsErrOf, IsTrue, ◌↔◌, List, [], ◌∷◌, ◌++◌, map};
+ghost use Rattle.std.specs.Prelude.{◌≡◌, ℕ, IfSome, IfNone, IfOk, IsErrOf, List, [], ◌∷◌, ◌++◌, map};
 ghost use Rattle.std.specs.List.{join_with_byte};
-ghost use Rattle.std.specs.List.Sorted.{IsStrictlySortedBy};
 ghost use Rattle.fl_labels.specs.Found.{Finds};
 ghost use Rattle.fl_labels.specs.Text.{name_text, cap_text, braces};
 ghost use Rattle.fl_labels.specs.Words.{NoComma};
@@ -16,7 +15,7 @@ use std::alloc::Global;
 pub trait Item: Copy + Drop {
     ghost text: { Self → List ℕ };
 
-    /// The item that a word spells.
+    /// The item that a word spells. `None` of any other word.
     fn read(word: &str) -> Option<Self>
         ensures { Finds result (λ item. word.now ≡ text item) };
 
@@ -47,13 +46,6 @@ impl Item for Cap {
     }
 }
 
-/// Whether each item is above the one before it. One pass.
-pub fn rises<T: Ord>(items: &[T]) -> bool
-    ensures { IsTrue result ↔ IsStrictlySortedBy T.cmp items.now }
-{
-    items.is_sorted_by(|a, b| a.cmp(b).is_lt())
-}
-
 /// What stands between braces round the whole text.
 fn inner_of(text: &str) -> Option<&str>
     ensures some { IfSome result (λ inner. text.now ≡ 123 ∷ (inner.now ++ 125 ∷ [])) }
@@ -79,6 +71,8 @@ fn read_parts<T: Item>(alloc: Global, inner: &str) -> Result<Vec<T>, SetError>
 }
 
 /// The items that a text such as `{1.1,1.4}` spells, in their order.
+///
+/// `BadText` of a text that is no list of such items in braces with commas between them and no spaces, `Memory`.
 pub fn read_items<T: Item>(alloc: Global, text: &str) -> Result<Vec<T>, SetError>
     ensures ok { IfOk result (λ items. text.now ≡ braces T.text items.items) }
     ensures bad_text { IsErrOf result SetError.BadText → (items : List T) → text.now ≡ braces T.text items → ⊥ }

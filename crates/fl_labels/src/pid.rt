@@ -4,11 +4,14 @@ ghost use Rattle.std.specs.Prelude.{◌<◌, ◌^◌};
 use std::fmt;
 
 /// What a process is called: its node, the node's boot in which it was born, and its number in that boot, all from 1 on.
-/// Ordered by these three in turn.
+/// Ordered by these three in turn. Written `p1.1.1`.
 #[derive(Clone, Copy, Debug, PartialEq, Eq, PartialOrd, Ord, Hash)]
 pub struct Pid {
+    /// From 1 to 65535.
     pub node: u16,
+    /// From 1 to 4294967295.
     pub boot: u32,
+    /// From 1 to 4294967295.
     pub serial: u32,
     pub ghost node_in_range: { (0 < node) × (node < 2 ^ 16) },
     pub ghost boot_in_range: { (0 < boot) × (boot < 2 ^ 32) },

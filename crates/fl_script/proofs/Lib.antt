@@ -1,6 +1,5 @@
 pub mod CutLemmas
 pub mod LabelWord
-pub mod OneText
 pub mod OneWord
 pub mod OneLine
 pub mod OneReading

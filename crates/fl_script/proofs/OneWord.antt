@@ -14,19 +14,20 @@ use Rattle.fl_jobs.specs.declared.job.Side.{Side}
 use Rattle.fl_jobs.specs.declared.job.Side.TheVariants.{Secrecy, Integrity as IntegritySide}
 use Rattle.fl_jobs.specs.declared.job.TooLong.{TooLong}
 use Rattle.fl_script.specs.Cut.{Word}
-use Rattle.fl_script.proofs.OneText.{pid_text_injective, cap_text_injective, braces_injective}
+use Rattle.fl_labels.specs.ItemText.{no_comma-name_text}
+use Rattle.fl_labels.proofs.OneReading as one
 use Rattle.fl_labels.specs.Words.{IsNode, IsListing}
 use Rattle.fl_ops.specs.PolicyText.{policy_text}
 use Rattle.fl_script.specs.Words.{side_text, IsLabelWord}
 
 pub same_pid : (p q : Pid) (w : Word) → w ≡ pid_text p → w ≡ pid_text q → p ≡ q
-same_pid p q w s t = pid_text_injective p q (sym s ∙ t)
+same_pid p q w s t = one.pid_text_injective p q (sym s ∙ t)
 
 pub same_cap : (c d : Cap) (w : Word) → w ≡ cap_text c → w ≡ cap_text d → c ≡ d
-same_cap c d w s t = cap_text_injective c d (sym s ∙ t)
+same_cap c d w s t = one.cap_text_injective c d (sym s ∙ t)
 
 same_listing : (a b : SetBy name_cmp) (w : Word) → IsListing name_text a w → IsListing name_text b w → a ≡ b
-same_listing a b w s t = s.same ∙ ap of_list (braces_injective s.items t.items (sym s.spelled ∙ t.spelled)) ∙ sym t.same
+same_listing = one.same_listing name_text no_comma-name_text one.name_text_some one.name_text_injective
 
 pub same_node : (m n : ℕ) (w : Word) → IsNode m w → IsNode n w → m ≡ n
 same_node m n w s t =

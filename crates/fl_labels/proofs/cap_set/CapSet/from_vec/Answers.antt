@@ -1,0 +1,6 @@
+use Rattle.fl_labels.specs.CapOrder.{cap_total, cap_exact}
+use Rattle.fl_labels.proofs.Arrange.{arranged_set}
+use Rattle.fl_labels.proofs.cap_set.CapSet.from_vec.Goals as goal
+
+pub returns : goal.returns
+returns c = arranged_set cap_total cap_exact _ _ c.arrange.ensures

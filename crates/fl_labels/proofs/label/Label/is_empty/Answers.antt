@@ -1,0 +1,6 @@
+use Rattle.fl_labels.specs.NameOrder.{name_total, name_exact}
+use Rattle.fl_labels.proofs.SortedVec.{len_listed, empty_test}
+use Rattle.fl_labels.proofs.label.Label.is_empty.Goals as goal
+
+pub returns : goal.returns
+returns c = empty_test c.is_empty.result _ _ _ c.is_empty.ensures c.self.inside.tags.ok.0 (len_listed name_total name_exact _ _ c.self.invariant.rises c.self.view_is)
