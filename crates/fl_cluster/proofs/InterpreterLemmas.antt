@@ -1,21 +1,17 @@
 -- Lines are answered, one after another.
-use Rattle.std.proofs.Common.{◌<◌, ◌⊎◌, inl, inr, ◌≡◌, ◌+◌, ◌++◌, ◌∙◌, ◌||◌, ◌==◌, refl, sym, ap, List, [], ◌∷◌, ℕ, Bool, true, false, cond, length, subst, Option, None, Some, IfSome, arith}
-use Rattle.std.proofs.lemmas.List.{append_assoc, append-nil, length-append}
+use Rattle.std.proofs.Common.{◌≡◌, ◌+◌, ◌++◌, ◌∙◌, ◌||◌, refl, sym, ap, List, [], ◌∷◌, ℕ, Bool, true, false, subst, Option, arith}
+use Rattle.std.proofs.lemmas.List.{append-nil, length-append}
 use Rattle.std.proofs.lemmas.List.Concat.{flat_map-append}
 use Rattle.std.proofs.lemmas.List.Folds.{list_any-append}
-use Rattle.std.proofs.lemmas.List.Elements.{All-append, All-nil}
-use Rattle.std.proofs.KnownBytes.{Appends-trans, Appends-nil, Appends-kept, Consumes-nil, Consumes-trans, Consumes-kept, Consumes-whole}
-use Rattle.std.specs.Io.KnownBytes.{Appends, Keeps, Consumes, IsAtEnd}
+use Rattle.std.proofs.KnownBytes.{Appends-kept}
+use Rattle.std.specs.Io.KnownBytes.{Appends, Keeps}
 use Rattle.std.specs.List.{flat_map, list_any}
-use Rattle.std.specs.Str.Lines.{lines, strip_carriage_return}
 use Rattle.fl_sink.specs.Sink.{Passes, Cuts}
 use Rattle.fl_sink.proofs.SinkLemmas.{passes_then, cuts_then, cuts_passed, passes_none}
-use Rattle.fl_cluster.specs.State.{State, start}
+use Rattle.fl_cluster.specs.State.{State}
 use Rattle.fl_cluster.specs.Answer.{is_bad}
 use Rattle.fl_cluster.specs.AnswerText.{text_of}
-use Rattle.fl_cluster.specs.Output.{Run, WritesOutput, WritesFront}
-use Rattle.fl_cluster.specs.Served.{Served, HasNoFeed}
-use Rattle.fl_cluster.specs.Interpreter.{InterpreterState, Turned, TurnCut, Proceeds, Halts, fresh}
+use Rattle.fl_cluster.specs.Interpreter.{InterpreterState, Turned, TurnCut, Proceeds, Halts}
 use Rattle.fl_cluster.proofs.Rest.{Run-append}
 
 or_false : (x : Bool) → x || false ≡ x

@@ -4,3 +4,12 @@ pub mod InterpreterLemmas
 pub mod StreamLemmas
 pub mod ScriptLemmas
 pub mod NodeLemmas
+pub mod OneJob
+pub mod OneStep
+pub mod OneTurn
+pub mod Beginnings
+pub mod Puts
+pub mod Orderly
+pub mod SafeJob
+pub mod SafeTurn
+pub mod KeptTags

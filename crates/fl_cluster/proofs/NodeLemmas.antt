@@ -1,5 +1,5 @@
 -- What a node does with an order.
-use Rattle.std.proofs.Common.{◌≡◌, ◌≤◌, ◌<◌, ◌+◌, ◌∙◌, ◌&&◌, ◌||◌, not, refl, sym, ap, ℕ, Bool, true, false, List, [], Option, None, Some, Ok, Err, subst, arith, rules}
+use Rattle.std.proofs.Common.{◌≡◌, ◌≤◌, ◌<◌, ◌∙◌, ◌&&◌, ◌||◌, not, refl, sym, ap, ℕ, Bool, true, false, [], Ok, Err, subst, arith, rules}
 use Rattle.std.proofs.lemmas.Map.Views.{tells_apart}
 use Rattle.std.specs.Ordering.{eq_by_cmp}
 use Rattle.std.specs.List.{flat_map}

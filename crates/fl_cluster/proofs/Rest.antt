@@ -1,10 +1,7 @@
 -- Any run goes on to the end of the script: each further line that asks may want memory.
-use Rattle.std.proofs.Common.{◌≡◌, ◌≤◌, ◌<◌, ◌+◌, ◌++◌, ◌∙◌, ◌⊎◌, inl, inr, refl, sym, ap, List, [], ◌∷◌, ℕ, Bool, true, false, suc, length, slice_get, Option, Some, arith}
+use Rattle.std.proofs.Common.{◌≡◌, ◌+◌, ◌++◌, ◌∙◌, ◌⊎◌, inl, inr, refl, sym, ap, List, [], ◌∷◌, ℕ, suc, length, Option, arith}
 use Rattle.std.proofs.lemmas.List.{append_assoc}
 use Rattle.std.proofs.lemmas.List.Concat.{flat_map-append}
-use Rattle.std.proofs.lemmas.Str.{IsUtf8-from_is_utf8, is_utf8-from_IsUtf8}
-use Rattle.std.proofs.lemmas.Bool.{cases_lt, cases_eq, false≢true}
-use Rattle.std.specs.Str.{is_utf8}
 use Rattle.std.specs.List.{flat_map}
 use Rattle.fl_script.specs.Reading.{IsText, IsQuiet}
 use Rattle.fl_script.specs.declared.reading.Reading.TheVariants as reading

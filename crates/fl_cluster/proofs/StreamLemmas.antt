@@ -1,22 +1,13 @@
 -- Bytes are taken, some at a time.
-use Rattle.std.proofs.Common.{◌<◌, ◌⊎◌, inl, inr, ◌≡◌, ◌+◌, ◌++◌, ◌∙◌, ◌||◌, ◌==◌, refl, sym, ap, List, [], ◌∷◌, ℕ, Bool, true, false, cond, length, subst, Option, None, Some, IfSome, arith}
-use Rattle.std.proofs.lemmas.List.{append_assoc, append-nil, length-append}
-use Rattle.std.proofs.lemmas.List.Concat.{flat_map-append}
-use Rattle.std.proofs.lemmas.List.Folds.{list_any-append}
+use Rattle.std.proofs.Common.{◌≡◌, ◌++◌, ◌∙◌, ◌==◌, refl, sym, ap, List, [], ◌∷◌, ℕ, false, subst, Option}
+use Rattle.std.proofs.lemmas.List.{append_assoc, append-nil}
 use Rattle.std.proofs.lemmas.List.Elements.{All-append, All-nil}
-use Rattle.std.proofs.KnownBytes.{Appends-trans, Appends-nil, Appends-kept, Consumes-nil, Consumes-trans, Consumes-kept, Consumes-whole}
-use Rattle.std.specs.Io.KnownBytes.{Appends, Keeps, Consumes, IsAtEnd}
-use Rattle.std.specs.List.{flat_map, list_any}
+use Rattle.std.specs.Io.KnownBytes.{Appends}
 use Rattle.std.specs.Str.Lines.{lines, strip_carriage_return}
-use Rattle.fl_sink.specs.Sink.{Passes, Cuts}
-use Rattle.fl_sink.proofs.SinkLemmas.{passes_then, cuts_then, cuts_passed, passes_none}
-use Rattle.fl_cluster.specs.State.{State, start}
-use Rattle.fl_cluster.specs.Answer.{is_bad}
-use Rattle.fl_cluster.specs.AnswerText.{text_of}
-use Rattle.fl_cluster.specs.Output.{Run, WritesOutput, WritesFront}
-use Rattle.fl_cluster.specs.Served.{Served, HasNoFeed}
-use Rattle.fl_cluster.specs.Interpreter.{InterpreterState, Turned, TurnCut, Proceeds, Halts, fresh}
-use Rattle.fl_cluster.specs.Stream.{StreamState, Advances, Stops, Ends, StopsAtEnd, fresh_stream}
+use Rattle.fl_cluster.specs.Output.{Run}
+use Rattle.fl_cluster.specs.Served.{HasNoFeed}
+use Rattle.fl_cluster.specs.Interpreter.{InterpreterState, Proceeds, Halts}
+use Rattle.fl_cluster.specs.Stream.{StreamState, Advances, Stops, Ends, StopsAtEnd}
 use Rattle.fl_cluster.proofs.InterpreterLemmas.{proceeds_none, proceeds_then, halts_then, halts_proceeds}
 use Rattle.fl_cluster.proofs.SplitLemmas.{lines-feed}
 

@@ -8,3 +8,7 @@ pub mod Output
 pub mod Served
 pub mod Interpreter
 pub mod Stream
+pub mod Beginning
+pub mod Moments
+pub mod Living
+pub mod LabelChange

@@ -4,7 +4,7 @@ use Rattle.std.specs.Coded.{Coded, code_by, coded×, coded_ℕ, coded_list}
 use Rattle.std.specs.List.{flat_map, list_any}
 use Rattle.std.specs.Str.Lines.{lines}
 use Rattle.std.specs.Io.KnownBytes.{Appends}
-use Rattle.fl_cluster.specs.State.{State, start}
+use Rattle.fl_cluster.specs.State.{State}
 use Rattle.fl_cluster.specs.Answer.{Answer, is_bad}
 use Rattle.fl_cluster.specs.AnswerText.{text_of}
 use Rattle.fl_cluster.specs.Output.{Run}

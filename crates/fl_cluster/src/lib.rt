@@ -4,6 +4,7 @@
 pub mod answers;
 pub mod fault;
 pub mod interpreter;
+pub mod laws;
 pub mod node;
 pub mod nodes;
 pub mod response;

@@ -1,4 +1,4 @@
-use Rattle.std.proofs.Common.{◌≡◌, refl, arith, rules}
+use Rattle.std.proofs.Common.{◌≡◌, refl, arith}
 use Rattle.fl_cluster.proofs.NodeLemmas.{is_last}
 use Rattle.fl_cluster.proofs.node.Node.next_name.Goals as goal
 

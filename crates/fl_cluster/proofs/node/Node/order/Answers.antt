@@ -1,5 +1,5 @@
 use Rattle.std.proofs.Common.{◌≡◌, ◌∙◌, ap, rules}
-use Rattle.fl_labels.specs.SetBy.{insert, remove}
+use Rattle.fl_labels.specs.SetBy.{remove}
 use Rattle.fl_monitor.specs.Gifts.{finished}
 use Rattle.fl_cluster.specs.NodeStep.{makes, spends}
 use Rattle.fl_cluster.proofs.NodeLemmas.{remove-insert, next_is_new}

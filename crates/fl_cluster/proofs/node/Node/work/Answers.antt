@@ -1,4 +1,4 @@
-use Rattle.std.proofs.Common.{◌≡◌, rules}
+use Rattle.std.proofs.Common.{◌≡◌}
 use Rattle.std.proofs.lemmas.Result.{IfOk-weaker, on_err_weaker}
 use Rattle.fl_cluster.specs.NodeStep.{replies, refuses, orders}
 use Rattle.fl_cluster.proofs.NodeLemmas.{same_registry, order_leaves, refusal_leaves}

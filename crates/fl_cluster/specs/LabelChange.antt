@@ -1,0 +1,51 @@
+-- Changes of labels, and what becomes of processes.
+use Rattle.std.specs.Prelude.{◌≡◌, ◌+◌, ℕ, List, length}
+use Rattle.std.specs.declared.option.Option.{Option}
+use Rattle.std.specs.declared.option.Option.TheVariants.{None, Some}
+use Rattle.std.specs.declared.result.Result.TheVariants.{Ok}
+use Rattle.fl_labels.specs.Name.{name_cmp}
+use Rattle.fl_labels.specs.SetBy.{SetBy}
+use Rattle.fl_labels.specs.declared.pid.Pid.{Pid}
+use Rattle.fl_ops.specs.declared.op.Op.{Op}
+use Rattle.fl_jobs.specs.declared.job.Side.{Side}
+use Rattle.fl_jobs.specs.declared.job.Act.TheVariants.{Relabel}
+use Rattle.fl_jobs.specs.declared.job.Job.TheVariants.{By}
+use Rattle.fl_jobs.specs.declared.answer.Reply.TheVariants.{Done}
+use Rattle.fl_rules.specs.Safety.{SafeChange}
+use Rattle.fl_monitor.specs.Process.{newborn, effective, side_of, with_side}
+use Rattle.fl_monitor.specs.declared.process.Process.{Process}
+use Rattle.fl_script.specs.Reading.{IsReading}
+use Rattle.fl_script.specs.declared.line.Line.TheVariants as lines
+use Rattle.fl_script.specs.declared.reading.Reading.TheVariants.{Means}
+use Rattle.fl_cluster.specs.State.{State, start}
+use Rattle.fl_cluster.specs.Answer.{Answer, replied}
+use Rattle.fl_cluster.specs.Turn.{Turn}
+use Rattle.fl_cluster.specs.Output.{Run}
+use Rattle.fl_cluster.specs.Living.{living, view_at}
+
+-- the line asks for the process's label of this side to become this one
+pub record AsksForLabel (bytes : List ℕ) (pid : Pid) (side : Side) (label : SetBy name_cmp) : Type 0 where
+  pub node : ℕ
+  pub reads : IsReading bytes (Means (lines.Job node (By pid (Relabel side (Ok label)))))
+
+-- the process had in effect what it takes to set this label, and nothing else of it changed
+pub record SetsSafely (old : State) (pid : Pid) (side : Side) (label : SetBy name_cmp) (new : State) : Type 0 where
+  pub process : Process
+  pub lived : living old.node pid ≡ Some process
+  pub safe : SafeChange (effective (view_at old.node) process) (side_of side process.labels) label
+  pub lives : living new.node pid ≡ Some (record process { labels = with_side side label process.labels })
+
+-- these lines, answered so, lead to a state where the next line, answered `ok`, sets the label safely
+pub record SetsSafelyAfter (before : List (List ℕ)) (answers : List Answer) (line : List ℕ) (pid : Pid) (side : Side) (label : SetBy name_cmp) : Type 0 where
+  pub old : State
+  pub new : State
+  pub run : Run 1 start before answers old
+  pub turn : Turn (1 + length before) old line (replied Done) new
+  pub sets : SetsSafely old pid side label new
+
+-- Under the registry V: a process that was not there is new, with nothing; one that was there is there still, and had in effect what its labels gained or lost.
+abbrev pub Follows : (Op → Type 0) → Option Process → Option Process → Type 0
+Follows V None None = Unit {0}
+Follows V None (Some new) = new ≡ newborn
+Follows V (Some old) None = ⊥
+Follows V (Some old) (Some new) = (side : Side) → SafeChange (effective V old) (side_of side old.labels) (side_of side new.labels)

@@ -1,0 +1,48 @@
+//! Laws of the runs of a script.
+ghost use Rattle.std.specs.Prelude.{◌≡◌, ◌+◌, ◌++◌, ◌∷◌, List, ℕ, length, take};
+ghost use Rattle.std.specs.Str.Lines.{lines};
+ghost use Rattle.fl_labels.specs.Name.{name_cmp};
+ghost use Rattle.fl_labels.specs.SetBy.{SetBy};
+ghost use Rattle.fl_labels.specs.declared.cap.Cap.TheVariants.{Plus, Minus};
+ghost use Rattle.fl_labels.specs.declared.name.Name.{Name};
+ghost use Rattle.fl_labels.specs.declared.pid.Pid.{Pid};
+ghost use Rattle.fl_jobs.specs.declared.answer.Reply.TheVariants.{Done};
+ghost use Rattle.fl_jobs.specs.declared.job.Side.{Side};
+ghost use Rattle.fl_cluster.specs.State.{State, start};
+ghost use Rattle.fl_cluster.specs.Answer.{Answer, replied};
+ghost use Rattle.fl_cluster.specs.Turn.{Turn};
+ghost use Rattle.fl_cluster.specs.Output.{IsAmple, Run};
+ghost use Rattle.fl_cluster.specs.Beginning.{Begins};
+ghost use Rattle.fl_cluster.specs.Moments.{RunWhile};
+ghost use Rattle.fl_cluster.specs.LabelChange.{AsksForLabel, Follows, SetsSafely, SetsSafelyAfter};
+ghost use Rattle.fl_cluster.specs.Living.{HasTag, Lacks, living, view_at};
+
+/// Where no answer is for want of memory, a script has one run.
+pub fn law_output()
+    ensures { (script : List ℕ) (a b : List Answer) (m n : State) → Run 1 start (lines script) a m → Run 1 start (lines script) b n → IsAmple a → IsAmple b → (a ≡ b) × (m ≡ n) }
+{}
+
+/// What the first lines are answered is a run of them alone, and, where memory is not wanted, the same whatever comes later.
+pub fn law_first_lines()
+    ensures begins { (first later : List (List ℕ)) (answers : List Answer) (end : State) → Run 1 start (first ++ later) answers end → Begins 1 start first later answers end }
+    ensures same { (first later other : List (List ℕ)) (a b : List Answer) (m n : State) → Run 1 start (first ++ later) a m → Run 1 start (first ++ other) b n → IsAmple a → IsAmple b → take (length first) a ≡ take (length first) b }
+{}
+
+/// A line that sets a label is answered `ok` only where the process had in effect what this takes, under the registry of that moment, and that
+/// label is then set. Whatever a line says and is answered, no label gains or loses what its process had not in effect.
+pub fn law_safe_labels()
+    ensures answered_ok { (number : ℕ) (old new : State) (line : List ℕ) (pid : Pid) (side : Side) (label : SetBy name_cmp) →
+        AsksForLabel line pid side label → Turn number old line (replied Done) new → SetsSafely old pid side label new }
+    ensures in_a_script { (first later : List (List ℕ)) (line : List ℕ) (front rest : List Answer) (end : State) (pid : Pid) (side : Side) (label : SetBy name_cmp) →
+        Run 1 start (first ++ (line ∷ later)) (front ++ (replied Done ∷ rest)) end → length front ≡ length first → AsksForLabel line pid side label → SetsSafelyAfter first front line pid side label }
+    ensures always { (before : List (List ℕ)) (answers : List Answer) (old new : State) (line : List ℕ) (answer : Answer) (pid : Pid) →
+        Run 1 start before answers old → Turn (1 + length before) old line answer new → Follows (view_at old.node) (living old.node pid) (living new.node pid) }
+{}
+
+/// A tag stays in the label of a process that never has its minus in effect, and out of that of one that never has its plus.
+pub fn law_kept_tags()
+    ensures kept { (before later : List (List ℕ)) (a b : List Answer) (mid end : State) (pid : Pid) (side : Side) (tag : Name) → Run 1 start before a mid →
+        RunWhile (Lacks pid (Minus tag)) (1 + length before) mid later b end → HasTag mid pid side tag → HasTag end pid side tag }
+    ensures kept_out { (before later : List (List ℕ)) (a b : List Answer) (mid end : State) (pid : Pid) (side : Side) (tag : Name) → Run 1 start before a mid →
+        RunWhile (Lacks pid (Plus tag)) (1 + length before) mid later b end → ¬ HasTag mid pid side tag → ¬ HasTag end pid side tag }
+{}

@@ -1,0 +1,61 @@
+//! Scripts, and what is to be written for them.
+
+/// A script, its output, and its status.
+pub struct Row {
+    pub script: &'static [u8],
+    pub output: &'static [u8],
+    pub status: u8,
+}
+
+pub const EMPTY_SCRIPT: Row = Row {
+    script: b"",
+    output: b"",
+    status: 0,
+};
+
+pub const FIRST_TAG: Row = Row {
+    script: b"1 proc\n1 tag p1.1.1 export\n1 label p1.1.1 S {1.1}\n",
+    output: b"p1.1.1\nok 1.1\nok\n",
+    status: 0,
+};
+
+pub const READ_AND_INTEGRITY_TAGS: Row = Row {
+    script: b"1 proc\n1 tag p1.1.1 export\n1 label p1.1.1 S {1.1}\n\
+1 proc\n1 label p1.1.2 S {1.1}\n1 label p1.1.2 S {}\n\
+1 tag p1.1.1 read\n1 tag p1.1.1 integrity\n1 label p1.1.2 S {1.1,1.2}\n\
+1 label p1.1.2 I {1.3}\n1 ask p1.1.2 -1.3\n",
+    output: b"p1.1.1\nok 1.1\nok\n\
+p1.1.2\nok\nrefused F3 -1.1\n\
+ok 1.2\nok 1.3\nrefused F3 +1.2\n\
+refused F3 +1.3\nyes\n",
+    status: 0,
+};
+
+pub const LABEL_RANGES: Row = Row {
+    script: b"1 proc\n1 label p1.1.1 S {}\n1 label p1.1.1 S {65535.4294967295}\n\
+1 label p1.1.1 S {1.4294967296}\n1 label p1.1.1 S {1.01}\n",
+    output: b"p1.1.1\nok\nrefused F3 +65535.4294967295\nrefused F19 4\nrefused F19 5\n",
+    status: 1,
+};
+
+pub const READ_TAG_ALONE: Row = Row {
+    script: b"1 proc\n1 tag p1.1.1 read\n1 label p1.1.1 I {1.1}\n\
+1 label p1.1.9 S {}\n1 label p1.1.1 S {1.1,1.1}\n1 text\n2 proc\n",
+    output: b"p1.1.1\nok 1.1\nok\nrefused F1 p1.1.9\nok\n1.1 tag read\nrefused F19 7\n",
+    status: 1,
+};
+
+/// Returns, comments, empty lines, spaces, and a last line that does not end.
+pub const FORMS_OF_LINES: Row = Row {
+    script: b"# a comment\n\n   # and one more\n  1   proc  \r\n1 tag p1.1.1 integrity\n\
+nonsense\n\x80\n1 proc\r\r\n1 ask p1.1.1 +1.1\n1 ask p1.1.1 ^1.1\n1 text",
+    output: b"p1.1.1\nok 1.1\nrefused F19 6\nrefused F19 7\nrefused F19 8\nyes\nnot-yet\n1.1 tag integrity\n",
+    status: 1,
+};
+
+/// A return that ends the last line belongs to its last word.
+pub const LAST_RETURN_STAYS: Row = Row {
+    script: b"1 proc\r\n1 proc\r",
+    output: b"p1.1.1\nrefused F19 2\n",
+    status: 1,
+};

@@ -1,0 +1,157 @@
+//! Tests of whole runs.
+use crate::rows::{
+    EMPTY_SCRIPT, FIRST_TAG, FORMS_OF_LINES, LABEL_RANGES, LAST_RETURN_STAYS,
+    READ_AND_INTEGRITY_TAGS, READ_TAG_ALONE, Row,
+};
+use crate::streams::{AskingReader, FailingReader, FailingWriter, FlushedWriter};
+use fl_cluster::fault::RunFault;
+use fl_cluster::run::run;
+use std::cell::Cell;
+use std::process::Abort;
+use std::test::Fail;
+
+/// The row as it stands, in pieces of all sizes, with each read and with each byte of writing failing once.
+fn check_row(rt: &(impl Abort + AllocGlobal), row: &Row) -> Result<(), Fail> {
+    let mut input = row.script;
+    let mut output = Vec::new(rt.alloc());
+    assert_eq!(rt; run(rt, &mut input, &mut output)?, row.status);
+    assert_eq!(rt; output.as_slice(), row.output);
+    for piece in 1..=row.script.len() {
+        check_pieces(rt, row, piece)?;
+    }
+    for room in 0..row.output.len() {
+        check_writes(rt, row, room, false)?;
+        check_writes(rt, row, room, true)?;
+    }
+    Ok(())
+}
+
+/// In pieces of any size the same is written. Where a read fails, a prefix of it is.
+fn check_pieces(rt: &(impl Abort + AllocGlobal), row: &Row, piece: usize) -> Result<(), Fail> {
+    let reads = row.script.len().div_ceil(piece.max(1)) + 1;
+    for fail_at in 1..=reads {
+        let mut input = FailingReader {
+            text: row.script,
+            piece,
+            reads: 0,
+            fail_at,
+        };
+        let mut output = Vec::new(rt.alloc());
+        assert_eq!(rt; run(rt, &mut input, &mut output), Err(RunFault::Read));
+        assert!(rt; row.output.starts_with(&output));
+    }
+    let mut input = FailingReader {
+        text: row.script,
+        piece,
+        reads: 0,
+        fail_at: 0,
+    };
+    let mut output = Vec::new(rt.alloc());
+    assert_eq!(rt; run(rt, &mut input, &mut output)?, row.status);
+    assert_eq!(rt; output.as_slice(), row.output);
+    Ok(())
+}
+
+/// Where the writer has so much room, just that much is written.
+fn check_writes(
+    rt: &(impl Abort + AllocGlobal),
+    row: &Row,
+    room: usize,
+    fails: bool,
+) -> Result<(), Fail> {
+    let mut input = row.script;
+    let mut output = FailingWriter {
+        taken: Vec::new(rt.alloc()),
+        room,
+        piece: 5,
+        fails,
+    };
+    assert_eq!(rt; run(rt, &mut input, &mut output), Err(RunFault::Write));
+    assert!(rt; row.output.starts_with(&output.taken));
+    assert_eq!(rt; output.taken.len(), room);
+    Ok(())
+}
+
+#[test]
+fn empty_script(rt: HostRuntime) -> Result<(), Fail> {
+    check_row(&rt, &EMPTY_SCRIPT)
+}
+
+#[test]
+fn first_tag(rt: HostRuntime) -> Result<(), Fail> {
+    check_row(&rt, &FIRST_TAG)
+}
+
+#[test]
+fn read_and_integrity_tags(rt: HostRuntime) -> Result<(), Fail> {
+    check_row(&rt, &READ_AND_INTEGRITY_TAGS)
+}
+
+#[test]
+fn label_ranges(rt: HostRuntime) -> Result<(), Fail> {
+    check_row(&rt, &LABEL_RANGES)
+}
+
+#[test]
+fn read_tag_alone(rt: HostRuntime) -> Result<(), Fail> {
+    check_row(&rt, &READ_TAG_ALONE)
+}
+
+#[test]
+fn forms_of_lines(rt: HostRuntime) -> Result<(), Fail> {
+    check_row(&rt, &FORMS_OF_LINES)
+}
+
+#[test]
+fn last_return_stays(rt: HostRuntime) -> Result<(), Fail> {
+    check_row(&rt, &LAST_RETURN_STAYS)
+}
+
+/// Who asks line by line sees each answer before it is asked for the next line.
+#[test]
+fn answers_before_it_reads_on(rt: HostRuntime) -> Result<(), Fail> {
+    let flushed = Cell::new(0);
+    let mut input = AskingReader {
+        lines: &[
+            b"1 proc\n",
+            b"1 tag p1.1.1 re",
+            b"ad\n# note\n1 ask p1.1.1 +1.1\n1 ask",
+            b" p1.1.1 *1.1\r\n",
+            b"2 proc\n1 text",
+        ],
+        answered: &[0, 7, 7, 18, 26, 40],
+        at: 0,
+        flushed: &flushed,
+    };
+    let mut output = FlushedWriter {
+        taken: Vec::new(rt.alloc()),
+        flushed: &flushed,
+    };
+    assert_eq!(rt; run(&rt, &mut input, &mut output)?, 1);
+    assert_eq!(rt;
+        output.taken.as_slice(),
+        b"p1.1.1\nok 1.1\nyes\nnot-yet\nrefused F19 6\n1.1 tag read\n".as_slice()
+    );
+    assert_eq!(rt; flushed.get(), output.taken.len());
+    Ok(())
+}
+
+/// A label of 256 tags may be asked for, and one of 257 may not, and tags that are listed twice count once.
+#[test]
+fn label_of_256_tags(rt: HostRuntime) -> Result<(), Fail> {
+    for (tags, answer) in [
+        (256, "p1.1.1\nrefused F3 +2.1\n"),
+        (257, "p1.1.1\nrefused F13\n"),
+    ] {
+        let mut script = format!(in rt.alloc(); "1 proc\n1 label p1.1.1 S {{2.1,2.1")?;
+        for seq in 2..=tags {
+            script.push_str(&format!(in rt.alloc(); ",2.{seq}")?)?;
+        }
+        script.push_str("}\n")?;
+        let mut output = Vec::new(rt.alloc());
+        let mut input = script.as_bytes();
+        assert_eq!(rt; run(&rt, &mut input, &mut output)?, 0);
+        assert_eq!(rt; output.as_slice(), answer.as_bytes());
+    }
+    Ok(())
+}
