@@ -1,5 +1,5 @@
 -- What a node does with an order.
-use Rattle.std.proofs.Common.{◌≡◌, ◌≤◌, ◌<◌, ◌∙◌, ◌&&◌, ◌||◌, not, refl, sym, ap, ℕ, Bool, true, false, [], Ok, Err, subst, arith, rules}
+use Rattle.std.proofs.Common.{inl, inr, ◌≡◌, ◌≤◌, ◌<◌, ◌∙◌, ◌&&◌, ◌||◌, not, refl, sym, ap, ℕ, Bool, true, false, [], Ok, Err, subst, arith, rules}
 use Rattle.std.proofs.lemmas.Map.Views.{tells_apart}
 use Rattle.std.specs.Ordering.{eq_by_cmp}
 use Rattle.std.specs.List.{flat_map}
@@ -54,7 +54,7 @@ effect_of_order V b Proc body pid after e = absurd (search (rules, e.2))
 effect_of_order V b (By p (Order order)) body pid after e = e.2.1
 effect_of_order V b (By p (Relabel side (Ok label))) body pid after e = absurd (search (rules, e.2.0))
 effect_of_order V b (By p (Relabel side (Err long))) body pid after e = absurd e.2
-effect_of_order V b (By p (Ask cap)) body pid after e = absurd (search (rules, e.2.1))
+effect_of_order V b (By p (Ask cap)) body pid after e = absurd (elim e.2.0 [ inl x ↦ absurd (search (rules, x.0)) | inr x ↦ absurd (search (rules, x.0)) ])
 
 pub order_leaves : (V : Op → Type 0) (b : bench.State) (job : Job) (body : Body) (pid : Pid) (after : bench.State) → Does V b job (Ok (outcome.Order body pid)) after → after ≡ b
 order_leaves V b job body pid after (passed checks effect) = effect_of_order V b job body pid after effect

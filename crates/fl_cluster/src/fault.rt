@@ -1,4 +1,5 @@
 //! What stops a run.
+use fl_sink::sink::WriteFault;
 use thiserror::Error;
 
 /// What stops a run outside a line's own answer.
@@ -13,4 +14,15 @@ pub enum RunFault {
     /// There was no memory to read into, or to keep a line that has not ended.
     #[error("memory fault")]
     Memory,
+}
+
+impl From<WriteFault> for RunFault {
+    ghost use Rattle.std.specs.Prelude.{◌≡◌};
+    ghost use Rattle.fl_cluster.specs.declared.fault.RunFault.{RunFault};
+
+    ghost from_gives = { λ _ e. e ≡ RunFault.Write };
+
+    fn from(_fault: WriteFault) -> Self {
+        RunFault::Write
+    }
 }

@@ -56,10 +56,8 @@ fn answer_line<W: Write>(
     ensures err { OnErr result (TurnCut number nodes.old line.now nodes.new (W.contents output.old) (W.contents output.new) sink.old) }
 {
     let response = respond(alloc, nodes, number, line);
-    match write_response(nodes, response, sink, output) {
-        Ok(()) => Ok(response.is_bad()),
-        Err(fault) => Err(fault),
-    }
+    write_response(nodes, response, sink, output)?;
+    Ok(response.is_bad())
 }
 
 /// Answers the lines of a script, one after another.
@@ -114,21 +112,17 @@ impl Interpreter {
         ensures ok { OnOk result (Proceeds self.old self.new (W.contents output.old) (W.contents output.new) (line.now ∷ [])) }
         ensures err { OnErr result (Halts self.old (W.contents output.old) (W.contents output.new) (line.now ∷ [])) }
     {
-        match answer_line(
+        let bad = answer_line(
             alloc,
             &mut self.nodes,
             self.number,
             line,
             &mut self.sink,
             output,
-        ) {
-            Ok(bad) => {
-                self.any_bad |= bad;
-                self.number += 1;
-                Ok(())
-            }
-            Err(fault) => Err(fault),
-        }
+        )?;
+        self.any_bad |= bad;
+        self.number += 1;
+        Ok(())
     }
 
     /// Writes the answers that wait, and flushes the writer.
@@ -139,10 +133,7 @@ impl Interpreter {
         ensures empty { OnOk result (self.new.pending ≡ []) }
         ensures err { OnErr result (Halts self.old (W.contents output.old) (W.contents output.new) []) }
     {
-        match self.sink.finish(output) {
-            Ok(()) => {}
-            Err(fault) => return Err(fault),
-        }
+        self.sink.finish(output)?;
         if output.flush().is_err() {
             return Err(WriteFault);
         }

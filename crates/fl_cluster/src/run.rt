@@ -6,7 +6,6 @@ ghost use Rattle.fl_cluster.specs.Output.{WritesOutput, WritesFront};
 
 use crate::fault::RunFault;
 use crate::stream::Stream;
-use fl_sink::sink::WriteFault;
 use std::alloc::{AllocGlobal, Global};
 use std::io::{Read, Write};
 
@@ -33,12 +32,12 @@ fn status_of(any_bad: bool) -> u8
 
 /// Reads a script of at most 16,777,216 bytes, by at most 16,777,217 reads, and writes the answers to its lines.
 ///
-/// Before each read but the first, all lines that have ended are answered, and the answers are written and flushed. A read of no bytes is
-/// the end of the script. The status is 1 where some line was none of the script, and else 0.
+/// Before each read but the first, all lines that have ended are answered, and the answers are written and flushed. A read
+/// of no bytes is the end of the script. The status is 1 where some line was none of the script, and else 0.
 ///
 /// At a fault a front of the output is written: `Read` where a read fails, the script is longer, or it would take more
-/// reads; `Write` where a write fails or takes no bytes, or a flush fails; `Memory` where a line that has not ended, or the 64 KiB that a
-/// read fills, has no room. Want of memory in a line's own work is that line's answer.
+/// reads; `Write` where a write fails or takes no bytes, or a flush fails; `Memory` where there is no room for the 64 KiB
+/// that a read fills, or for a line that has not ended. Want of memory in a line's own work is that line's answer.
 pub fn run<RT: AllocGlobal, R: Read, W: Write>(
     rt: &RT,
     input: &mut R,
@@ -54,10 +53,7 @@ pub fn run<RT: AllocGlobal, R: Read, W: Write>(
 {
     let alloc = rt.alloc();
     let mut stream = Stream::new(alloc);
-    let mut chunk = match zeros(alloc, CHUNK) {
-        Ok(chunk) => chunk,
-        Err(fault) => return Err(fault),
-    };
+    let mut chunk = zeros(alloc, CHUNK)?;
     let mut room = MOST_BYTES;
     for _turn in 0..16_777_217u32 {
         let count = match input.read(&mut chunk) {
@@ -65,23 +61,15 @@ pub fn run<RT: AllocGlobal, R: Read, W: Write>(
             Err(_) => return Err(RunFault::Read),
         };
         if count == 0 {
-            match stream.finish(alloc, output) {
-                Ok(any_bad) => return Ok(status_of(any_bad)),
-                Err(WriteFault) => return Err(RunFault::Write),
-            }
+            let any_bad = stream.finish(alloc, output)?;
+            return Ok(status_of(any_bad));
         }
         if count > room {
             return Err(RunFault::Read);
         }
         room -= count;
-        match stream.take(alloc, &chunk[..count], output) {
-            Ok(()) => {}
-            Err(fault) => return Err(fault),
-        }
-        match stream.send(output) {
-            Ok(()) => {}
-            Err(WriteFault) => return Err(RunFault::Write),
-        }
+        stream.take(alloc, &chunk[..count], output)?;
+        stream.send(output)?;
     }
     Err(RunFault::Read)
 }

@@ -13,7 +13,7 @@ use std::alloc::Global;
 use std::io::Write;
 use std::marker::Model;
 
-/// A interpreter, and the line that has not ended yet.
+/// An interpreter, and the line that has not ended yet.
 #[derive(Drop)]
 pub struct Stream {
     interpreter: Interpreter,
@@ -31,6 +31,7 @@ impl Model for Stream {
 }
 
 impl Stream {
+    /// A stream before the first byte. Takes no memory.
     pub fn new(alloc: Global) -> Stream
         ensures { result ≡ fresh_stream }
     {
@@ -40,7 +41,7 @@ impl Stream {
         }
     }
 
-    /// Answers the line that ends with these bytes and a line feed. It is copied only where some of it came before.
+    // Answers the line that ends with these bytes and a line feed. It is copied only where some of it came before.
     fn end_line<W: Write>(
         &mut self,
         alloc: Global,
@@ -57,27 +58,23 @@ impl Stream {
         ensures err { OnErr result (Stops self.old (W.contents output.old) (W.contents output.new) (line.now ++ 10 ∷ [])) }
     {
         if self.held.is_empty() {
-            match self.interpreter.answer(alloc, without_return(line), output) {
-                Ok(()) => {}
-                Err(WriteFault) => return Err(RunFault::Write),
-            }
+            self.interpreter
+                .answer(alloc, without_return(line), output)?;
             return Ok(());
         }
         if self.held.extend_from_slice(line).is_err() {
             return Err(RunFault::Memory);
         }
-        match self
-            .interpreter
-            .answer(alloc, without_return(&self.held), output)
-        {
-            Ok(()) => {}
-            Err(WriteFault) => return Err(RunFault::Write),
-        }
+        self.interpreter
+            .answer(alloc, without_return(&self.held), output)?;
         self.held.clear();
         Ok(())
     }
 
-    /// Answers the lines that end in these bytes, and keeps what follows the last of them.
+    /// Answers the lines that end in these bytes, and keeps what follows the last of them. The answers may wait to be written.
+    ///
+    /// `Write` where a write fails; `Memory` where there is no room for a part of a line. A front of what waited and of the
+    /// answers was written then, and the stream may not be used again. Each byte is looked at once, and copied at most once.
     pub fn take<W: Write>(
         &mut self,
         alloc: Global,
@@ -94,10 +91,7 @@ impl Stream {
     {
         let mut rest = bytes;
         while let Some((line, after)) = cut_line(rest) {
-            match self.end_line(alloc, line, output) {
-                Ok(()) => {}
-                Err(fault) => return Err(fault),
-            }
+            self.end_line(alloc, line, output)?;
             rest = after;
         }
         if self.held.extend_from_slice(rest).is_err() {
@@ -106,7 +100,8 @@ impl Stream {
         Ok(())
     }
 
-    /// Writes the answers so far, and flushes them.
+    /// Writes the answers that wait, and flushes the writer. At a fault a front of them was written, and the stream may not
+    /// be used again.
     pub fn send<W: Write>(&mut self, output: &mut W) -> Result<(), WriteFault>
         ensures ok { OnOk result (Advances self.old self.new (W.contents output.old) (W.contents output.new) []) }
         ensures same { OnOk result (self.new.interpreter.number ≡ self.old.interpreter.number) }
@@ -114,14 +109,10 @@ impl Stream {
         ensures empty { OnOk result (self.new.interpreter.pending ≡ []) }
         ensures err { OnErr result (Stops self.old (W.contents output.old) (W.contents output.new) []) }
     {
-        match self.interpreter.send(output) {
-            Ok(()) => {}
-            Err(fault) => return Err(fault),
-        }
-        Ok(())
+        self.interpreter.send(output)
     }
 
-    /// Answers the last line, where it did not end.
+    // Answers the last line, where it did not end. A return at its end is its last byte.
     fn answer_last<W: Write>(&mut self, alloc: Global, output: &mut W) -> Result<(), WriteFault>
         requires number { self.old.interpreter.number ≤ 16777217 }
         requires part { HasNoFeed self.old.held }
@@ -131,28 +122,19 @@ impl Stream {
         if self.held.is_empty() {
             return Ok(());
         }
-        match self.interpreter.answer(alloc, &self.held, output) {
-            Ok(()) => {}
-            Err(fault) => return Err(fault),
-        }
-        Ok(())
+        self.interpreter.answer(alloc, &self.held, output)
     }
 
-    /// Answers the last line, where it did not end, and writes all. Says whether some line was none of the script.
+    /// Answers the last line, where it did not end, and writes all. Says whether some line was none of the script. At a
+    /// fault a front of the answers was written.
     pub fn finish<W: Write>(&mut self, alloc: Global, output: &mut W) -> Result<bool, WriteFault>
         requires number { self.old.interpreter.number ≤ 16777217 }
         requires part { HasNoFeed self.old.held }
         ensures ok { IfOk result (λ bad. Ends self.old (W.contents output.old) (W.contents output.new) bad) }
         ensures err { OnErr result (StopsAtEnd self.old (W.contents output.old) (W.contents output.new)) }
     {
-        match self.answer_last(alloc, output) {
-            Ok(()) => {}
-            Err(fault) => return Err(fault),
-        }
-        match self.interpreter.send(output) {
-            Ok(()) => {}
-            Err(fault) => return Err(fault),
-        }
+        self.answer_last(alloc, output)?;
+        self.interpreter.send(output)?;
         Ok(self.interpreter.any_bad())
     }
 }

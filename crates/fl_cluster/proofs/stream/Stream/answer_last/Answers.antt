@@ -1,4 +1,5 @@
 use Rattle.std.proofs.Common.{◌≡◌, ◌<◌, length, rules}
+use Rattle.std.proofs.lemmas.Result.{on_ok_weaker, on_err_weaker}
 use Rattle.fl_cluster.proofs.SplitLemmas.{lines-last}
 use Rattle.fl_cluster.proofs.stream.Stream.answer_last.Goals as goal
 
@@ -6,10 +7,10 @@ pub returns-clause-ok : goal.returns-clause-ok
 returns-clause-ok g c =
     let some : 0 < length c.self.inside.held.items = search rules in
     let held : c.deref.result.now ≡ c.self.inside.held.items = search rules in
-    rw (← c.self.view_is) (rw (lines-last c.self.inside.held.items (rw (← c.self.view_is) at c.requires.part) some, ← held) c.in-Ok.ensures.ok)
+    on_ok_weaker c.answer.result (λ p. rw (← c.self.view_is) (rw (lines-last c.self.inside.held.items (rw (← c.self.view_is) at c.requires.part) some, ← held) p)) c.answer.ensures.ok
 
-pub returns-in-Err-clause-err : goal.returns-in-Err-clause-err
-returns-in-Err-clause-err g c =
+pub returns-clause-err : goal.returns-clause-err
+returns-clause-err g c =
     let some : 0 < length c.self.inside.held.items = search rules in
     let held : c.deref.result.now ≡ c.self.inside.held.items = search rules in
-    rw (← c.self.view_is) (rw (lines-last c.self.inside.held.items (rw (← c.self.view_is) at c.requires.part) some, ← held) c.in-Err.ensures.err)
+    on_err_weaker c.answer.result (λ p. rw (← c.self.view_is) (rw (lines-last c.self.inside.held.items (rw (← c.self.view_is) at c.requires.part) some, ← held) p)) c.answer.ensures.err

@@ -1,5 +1,6 @@
+use Rattle.fl_sink.proofs.SinkLemmas.{on_err_always}
 use Rattle.fl_cluster.proofs.StreamLemmas.{stops_end}
 use Rattle.fl_cluster.proofs.stream.Stream.finish.Goals as goal
 
-pub returns-in-Err-send-clause-err : goal.returns-in-Err-send-clause-err
-returns-in-Err-send-clause-err g c = stops_end _ (rw (← c.self.view_is) at c.in-Ok.ensures.ok) c.in-Err-send.ensures.err
+pub returns-in_err-send-clause-err : goal.returns-in_err-send-clause-err
+returns-in_err-send-clause-err g c = on_err_always _ (stops_end _ (rw (← c.self.view_is) at c.in_ok-answer_last.ensures.ok) c.in_err-send.ensures.err)
