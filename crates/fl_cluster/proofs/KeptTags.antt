@@ -61,12 +61,12 @@ module _ (V : Op → Type 0) (side : Side) (tag : Name) where
 module _ (pid : Pid) (side : Side) (tag : Name) where
   kept_once : (number : ℕ) (old : State) (line : List ℕ) (a : Answer) (new : State) → HasOrder old → Lacks pid (Minus tag) old → Turn number old line a new → HasTag old pid side tag → HasTag new pid side tag
   kept_once number old line a new h lacks turn t =
-      let k = kept_by (view_at old.node) side tag (living old.node pid) (living new.node pid) (follows_turn number old line a new pid h turn) lacks (record { process = t.process; lives = t.lives; tagged = t.tagged }) in
+      let k = kept_by (view_at old pid) side tag (living old pid) (living new pid) (follows_turn number old line a new pid h turn) lacks (record { process = t.process; lives = t.lives; tagged = t.tagged }) in
       record { process = k.process; lives = k.lives; tagged = k.tagged }
 
   out_once : (number : ℕ) (old : State) (line : List ℕ) (a : Answer) (new : State) → HasOrder old → Lacks pid (Plus tag) old → Turn number old line a new → ¬ HasTag old pid side tag → ¬ HasTag new pid side tag
   out_once number old line a new h lacks turn out t =
-      out_by (view_at old.node) side tag (living old.node pid) (living new.node pid) (follows_turn number old line a new pid h turn) lacks
+      out_by (view_at old pid) side tag (living old pid) (living new pid) (follows_turn number old line a new pid h turn) lacks
       (λ k. out (record { process = k.process; lives = k.lives; tagged = k.tagged }))
       (record { process = t.process; lives = t.lives; tagged = t.tagged })
 

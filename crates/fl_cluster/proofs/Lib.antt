@@ -3,13 +3,16 @@ pub mod Rest
 pub mod InterpreterLemmas
 pub mod StreamLemmas
 pub mod ScriptLemmas
+pub mod NodesTable
 pub mod NodeLemmas
 pub mod OneJob
 pub mod OneStep
 pub mod OneTurn
 pub mod Beginnings
 pub mod Puts
+pub mod NodePuts
 pub mod Orderly
 pub mod SafeJob
 pub mod SafeTurn
 pub mod KeptTags
+pub mod Equals

@@ -1,4 +1,4 @@
--- Where memory is not wanted, a line has one answer at its node.
+-- Where memory is not wanted, a job has one answer at its node.
 use Rattle.std.proofs.Common.{◌≡◌, ◌+◌, ◌≤◌, ◌∙◌, inl, inr, refl, sym, ap, subst, ℕ, Ok, Err, arith}
 use Rattle.std.proofs.lemmas.Bool.{cases_lt}
 use Rattle.fl_labels.specs.SetBy.{SetBy, In}
@@ -10,11 +10,10 @@ use Rattle.fl_ops.specs.declared.op.Op.{Op}
 use Rattle.fl_ops.specs.declared.op.Body.{Body}
 use Rattle.fl_jobs.specs.declared.job.Job.{Job}
 use Rattle.fl_jobs.specs.declared.answer.Outcome.TheVariants as outcome
-use Rattle.fl_script.specs.declared.line.Line.{Line}
 use Rattle.fl_cluster.specs.State.{NodeState}
 use Rattle.fl_cluster.specs.Answer.{Answer, replied, named, refused}
 use Rattle.fl_cluster.specs.LastName.{IsLast}
-use Rattle.fl_cluster.specs.NodeStep.{view_of, with_operation, IsNextName, Orders, makes, spends, Works, replies, refuses, orders, Acts, works, tells}
+use Rattle.fl_cluster.specs.NodeStep.{view_of, with_operation, IsNextName, Orders, makes, spends, Works, replies, refuses, orders}
 use Rattle.fl_cluster.proofs.OneJob.{one_result}
 
 -- one last name's number is no less than the other
@@ -58,7 +57,7 @@ one_order node body pid a b m n (spends h) (spends k) = (refl, refl)
 
 module _ (node : NodeState) (job : Job) where
   -- a reply and an order are no want of memory
-  one_work : (a b : Answer) (m n : NodeState) → Works node job a m → Works node job b n → Same a b m n
+  pub one_work : (a b : Answer) (m n : NodeState) → Works node job a m → Works node job b n → Same a b m n
   one_work a b m n (replies {reply = x} {after = c} h) (replies {reply = y} {after = d} k) =
       let e = one_result (view_of node) node.bench job (Ok (outcome.Reply x)) (Ok (outcome.Reply y)) c d h k (λ never. cc) (λ never. cc) in
       let same : x ≡ y = cc in
@@ -90,7 +89,3 @@ module _ (node : NodeState) (job : Job) where
       let same_body : other ≡ body = cc in
       let same_maker : maker ≡ pid = cc in
       one_order node body pid a b m n made (subst (λ p. Orders node body p b n) same_maker (subst (λ o. Orders node o maker b n) same_body given))
-
-pub one_act : (node : NodeState) (a b : Answer) (m n : NodeState) (l : Line) → Acts node l a m → Acts node l b n → Same a b m n
-one_act node a b m n l (works {job} h) (works k) = one_work node job a b m n h k
-one_act node a b m n l tells tells = (refl, refl)

@@ -1,10 +1,11 @@
 -- What becomes of the processes of a bench when it does a job.
-use Rattle.std.proofs.Common.{◌≡◌, ◌<◌, ◌∙◌, ◌⊎◌, inl, inr, refl, sym, ap, subst, Option, Some, None, Result, Ok, Err, arith}
+use Rattle.std.proofs.Common.{◌≡◌, ◌<◌, ◌∙◌, ◌⊎◌, inl, inr, refl, sym, ap, subst, Option, Some, None, ℕ, Result, Ok, Err, arith}
 use Rattle.std.specs.FinMap as map
 use Rattle.fl_labels.specs.Name.{name_cmp}
 use Rattle.fl_labels.specs.SetBy as set
 use Rattle.fl_labels.specs.SetBy.{SetBy}
 use Rattle.fl_labels.specs.Pid.{pid_cmp}
+use Rattle.fl_labels.specs.PidOrder.{pid_total, pid_exact}
 use Rattle.fl_labels.specs.declared.cap.Cap.{Cap}
 use Rattle.fl_labels.specs.declared.cap.Cap.TheVariants.{Plus, Minus, Use, Grow}
 use Rattle.fl_labels.specs.declared.pid.Pid.{Pid}
@@ -51,20 +52,20 @@ module _ (V : Op → Type 0) where
   follows_same (Some p) = λ side. safe_same _ _
 
   follows_put : (m : map.FinMap pid_cmp Process) (pid : Pid) (p new : Process) → map.get m pid ≡ Some p → Follows V (Some p) (Some new) → (q : Pid) → Follows V (map.get m q) (map.get (map.insert m pid new) q)
-  follows_put m pid p new e h q = by_place (get_put m pid new q)
+  follows_put m pid p new e h q = by_place (get_put pid_total pid_exact m pid new q)
     where
       by_place : ((q ≡ pid) × (map.get (map.insert m pid new) q ≡ Some new)) ⊎ (map.get (map.insert m pid new) q ≡ map.get m q) → Follows V (map.get m q) (map.get (map.insert m pid new) q)
       by_place (inl s) = subst (λ o. Follows V o (map.get (map.insert m pid new) q)) (sym (ap (map.get m) s.0 ∙ e)) (subst (Follows V (Some p)) (sym s.1) h)
       by_place (inr s) = subst (Follows V (map.get m q)) (sym s) (follows_same _)
 
   -- the next process takes no other's place
-  follows_born : (b : bench.State) (pid : Pid) → IsOrderly b → bench.IsNext b pid → (q : Pid) → Follows V (map.get b.processes q) (map.get (map.insert b.processes pid newborn) q)
-  follows_born b pid h e q = by_place (get_put b.processes pid newborn q) (map.get b.processes q) refl
+  follows_born : {number : ℕ} (b : bench.State) (pid : Pid) → IsOrderly number b → bench.IsNext b pid → (q : Pid) → Follows V (map.get b.processes q) (map.get (map.insert b.processes pid newborn) q)
+  follows_born b pid h e q = by_place (get_put pid_total pid_exact b.processes pid newborn q) (map.get b.processes q) refl
     where
       by_place : ((q ≡ pid) × (map.get (map.insert b.processes pid newborn) q ≡ Some newborn)) ⊎ (map.get (map.insert b.processes pid newborn) q ≡ map.get b.processes q) → (o : Option Process) → map.get b.processes q ≡ o → Follows V o (map.get (map.insert b.processes pid newborn) q)
       by_place (inl s) None f = subst (Follows V None) (sym s.1) refl
       by_place (inl s) (Some p) f =
-          let less : q.serial < b.next = h.below q p f in
+          let less : q.serial < b.next = (h.each q p f).below in
           let is : q.serial ≡ b.next = ap (λ x. x.serial) s.0 ∙ e.serial in
           absurd (omega (arith, less, is))
       by_place (inr s) o f = subst (Follows V o) (sym (s ∙ f)) (follows_same o)
@@ -79,7 +80,7 @@ module _ (V : Op → Type 0) where
   follows_performs b pid p (Relabel side (Err long)) x c e h f q = absurd f
   follows_performs b pid p (Ask question) x c e h f q = subst (λ (d : bench.State). Follows V (map.get b.processes q) (map.get d.processes q)) (sym f.1) (follows_same _)
 
-  pub follows_does : (b : bench.State) (job : Job) (r : Result Outcome Refusal) (c : bench.State) → IsOrderly b → Does V b job r c → (q : Pid) → Follows V (map.get b.processes q) (map.get c.processes q)
+  pub follows_does : {number : ℕ} (b : bench.State) (job : Job) (r : Result Outcome Refusal) (c : bench.State) → IsOrderly number b → Does V b job r c → (q : Pid) → Follows V (map.get b.processes q) (map.get c.processes q)
   follows_does b Proc r c h (passed s f) q = subst (λ (d : bench.State). Follows V (map.get b.processes q) (map.get d.processes q)) (sym f.3) (follows_born b f.0 h f.1 q)
   follows_does b (By pid act) r c h (passed {outcome = x} s f) q = follows_performs b pid f.0 act x c f.1 (passed_by b pid act f.0 f.1 s) f.2 q
   follows_does b job r c h (failed s) q = follows_same _
@@ -105,7 +106,7 @@ module _ (V : Op → Type 0) where
     process = f.0;
     lived = f.1;
     safe = passed_by b pid (Relabel side (Ok label)) f.0 f.1 s;
-    lives = ap (λ (d : bench.State). map.get d.processes pid) f.2.1 ∙ get_here b.processes pid _;
+    lives = ap (λ (d : bench.State). map.get d.processes pid) f.2.1 ∙ get_here pid_total b.processes pid _;
   }
   does_set b pid side label r x c (failed s) e = absurd (cc)
   does_set b pid side label r x c (no_room t) e = absurd (cc)

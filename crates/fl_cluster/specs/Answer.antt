@@ -1,13 +1,11 @@
 -- What is answered to a line.
 use Rattle.std.specs.Prelude.{ℕ, Bool, true, false}
-use Rattle.std.specs.declared.option.Option.{Option}
-use Rattle.std.specs.declared.option.Option.TheVariants.{None, Some}
 use Rattle.fl_labels.specs.SetBy as set
 use Rattle.fl_labels.specs.declared.name.Name.{Name}
 use Rattle.fl_ops.specs.OpOrder.{op_cmp}
 use Rattle.fl_jobs.specs.declared.answer.Refusal.{Refusal}
 use Rattle.fl_jobs.specs.declared.answer.Reply.{Reply}
-use Rattle.fl_cluster.specs.State.{State, NodeState}
+use Rattle.fl_cluster.specs.State.{State, node_at}
 use Rattle.fl_cluster.specs.declared.response.Response.{Response}
 use Rattle.fl_cluster.specs.declared.response.Response.TheVariants as response
 
@@ -20,17 +18,13 @@ pub data Answer : Type 0 where
   refused : Refusal → Answer
   bad_line : ℕ → Answer
 
--- the operations of the node, if there is one
-abbrev pub registry_of : Option NodeState → set.SetBy op_cmp
-registry_of None = set.empty
-registry_of (Some node) = node.registry
-
 -- what a response of the program says at this state
 abbrev pub shown : State → Response → Answer
 shown state response.Silence = silence
 shown state (response.Reply reply) = replied reply
 shown state (response.Named name) = named name
-shown state response.Text = text (registry_of state.node)
+shown state (response.Text node) = text (node_at state node).registry
+shown state (response.Union registry) = text registry
 shown state (response.Refused refusal) = refused refusal
 shown state (response.BadLine number) = bad_line number
 

@@ -17,31 +17,31 @@ use Rattle.fl_monitor.specs.declared.process.Process.{Process}
 use Rattle.fl_script.specs.Reading.{IsReading}
 use Rattle.fl_script.specs.declared.line.Line.TheVariants as lines
 use Rattle.fl_script.specs.declared.reading.Reading.TheVariants.{Means}
-use Rattle.fl_cluster.specs.State.{State, start}
+use Rattle.fl_cluster.specs.State.{State, NodeState, start, node_at}
 use Rattle.fl_cluster.specs.Answer.{Answer, replied}
 use Rattle.fl_cluster.specs.Turn.{Turn}
 use Rattle.fl_cluster.specs.Output.{Run}
-use Rattle.fl_cluster.specs.Living.{living, view_at}
+use Rattle.fl_cluster.specs.Living.{process_at}
+use Rattle.fl_cluster.specs.NodeStep.{view_of}
 
--- the line asks for the process's label of this side to become this one
-pub record AsksForLabel (bytes : List ℕ) (pid : Pid) (side : Side) (label : SetBy name_cmp) : Type 0 where
-  pub node : ℕ
+-- the line asks this node for the process's label of this side to become this one
+pub record AsksForLabel (bytes : List ℕ) (node : ℕ) (pid : Pid) (side : Side) (label : SetBy name_cmp) : Type 0 where
   pub reads : IsReading bytes (Means (lines.Job node (By pid (Relabel side (Ok label)))))
 
--- the process had in effect what it takes to set this label, and nothing else of it changed
-pub record SetsSafely (old : State) (pid : Pid) (side : Side) (label : SetBy name_cmp) (new : State) : Type 0 where
+-- at this node the process had in effect what it takes to set this label, and nothing else of it changed
+pub record SetsSafely (old : NodeState) (pid : Pid) (side : Side) (label : SetBy name_cmp) (new : NodeState) : Type 0 where
   pub process : Process
-  pub lived : living old.node pid ≡ Some process
-  pub safe : SafeChange (effective (view_at old.node) process) (side_of side process.labels) label
-  pub lives : living new.node pid ≡ Some (record process { labels = with_side side label process.labels })
+  pub lived : process_at old pid ≡ Some process
+  pub safe : SafeChange (effective (view_of old) process) (side_of side process.labels) label
+  pub lives : process_at new pid ≡ Some (record process { labels = with_side side label process.labels })
 
--- these lines, answered so, lead to a state where the next line, answered `ok`, sets the label safely
+-- these lines, answered so, lead to a state where the next line, answered `ok`, sets the label safely at the process's own node
 pub record SetsSafelyAfter (before : List (List ℕ)) (answers : List Answer) (line : List ℕ) (pid : Pid) (side : Side) (label : SetBy name_cmp) : Type 0 where
   pub old : State
   pub new : State
   pub run : Run 1 start before answers old
   pub turn : Turn (1 + length before) old line (replied Done) new
-  pub sets : SetsSafely old pid side label new
+  pub sets : SetsSafely (node_at old pid.node) pid side label (node_at new pid.node)
 
 -- Under the registry V: a process that was not there is new, with nothing; one that was there is there still, and had in effect what its labels gained or lost.
 abbrev pub Follows : (Op → Type 0) → Option Process → Option Process → Type 0

@@ -12,3 +12,4 @@ pub mod Beginning
 pub mod Moments
 pub mod Living
 pub mod LabelChange
+pub mod Equal

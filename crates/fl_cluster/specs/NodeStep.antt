@@ -1,4 +1,4 @@
--- What a node does with a line.
+-- What a node does with a job.
 use Rattle.std.specs.Prelude.{◌≡◌, ◌≢◌, ◌+◌, ℕ}
 use Rattle.std.specs.declared.result.Result.TheVariants.{Ok, Err}
 use Rattle.fl_labels.specs.declared.name.Name.{Name}
@@ -15,10 +15,8 @@ use Rattle.fl_jobs.specs.declared.answer.Outcome.TheVariants as outcome
 use Rattle.fl_monitor.specs.Bench as bench
 use Rattle.fl_monitor.specs.Gifts.{finished}
 use Rattle.fl_monitor.specs.Jobs.{Does}
-use Rattle.fl_script.specs.declared.line.Line.{Line}
-use Rattle.fl_script.specs.declared.line.Line.TheVariants as line
 use Rattle.fl_cluster.specs.State.{NodeState}
-use Rattle.fl_cluster.specs.Answer.{Answer, replied, named, text, refused}
+use Rattle.fl_cluster.specs.Answer.{Answer, replied, named, refused}
 use Rattle.fl_cluster.specs.LastName.{IsLast}
 
 -- the node's registry, as jobs look at it
@@ -46,8 +44,3 @@ pub data Works (node : NodeState) (job : Job) : Answer → NodeState → Type 0 
   replies : {reply : Reply} {after : bench.State} → Does (view_of node) node.bench job (Ok (outcome.Reply reply)) after → Works node job (replied reply) (record node { bench = after })
   refuses : {refusal : Refusal} {after : bench.State} → Does (view_of node) node.bench job (Err refusal) after → refusal ≢ Memory → Works node job (refused refusal) node
   orders : {body : Body} {pid : Pid} {after : bench.State} {answer : Answer} {new : NodeState} → Does (view_of node) node.bench job (Ok (outcome.Order body pid)) after → Orders node body pid answer new → Works node job answer new
-
--- the line is answered so at its node, and leaves it so
-pub data Acts (node : NodeState) : Line → Answer → NodeState → Type 0 where
-  works : {number : ℕ} {job : Job} {answer : Answer} {after : NodeState} → Works node job answer after → Acts node (line.Job number job) answer after
-  tells : {number : ℕ} → Acts node (line.Text number) (text node.registry) node

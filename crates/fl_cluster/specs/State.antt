@@ -1,8 +1,10 @@
 -- What the lines of a script have made.
-use Rattle.std.specs.Prelude.{ℕ, refl}
-use Rattle.std.specs.Coded.{Coded, code_by, coded×, coded_ℕ, coded_option}
+use Rattle.std.specs.Prelude.{ℕ, Bool, is_some, refl}
+use Rattle.std.specs.Coded.{Coded, code_by, coded×, coded_ℕ}
+use Rattle.std.specs.FinMap as map
+use Rattle.std.specs.Ordering.{nat_cmp}
 use Rattle.std.specs.declared.option.Option.{Option}
-use Rattle.std.specs.declared.option.Option.TheVariants.{None}
+use Rattle.std.specs.declared.option.Option.TheVariants.{None, Some}
 use Rattle.fl_labels.specs.SetBy as set
 use Rattle.fl_ops.specs.OpOrder.{op_cmp}
 use Rattle.fl_ops.specs.OpLaws.{coded_op}
@@ -14,9 +16,9 @@ pub record NodeState : Type 0 where
   pub registry : set.SetBy op_cmp
   pub bench : bench.State
 
--- the node that the first line to name one opened
+-- the nodes that are open, by their numbers
 pub record State : Type 0 where
-  pub node : Option NodeState
+  pub nodes : map.FinMap nat_cmp NodeState
 
 -- a node at its first opening: no operation, and one bench, with no process
 abbrev pub opened : ℕ → NodeState
@@ -24,7 +26,28 @@ opened number = record { number = number; registry = set.empty; bench = bench.op
 
 -- before the first line
 abbrev pub start : State
-start = record { node = None }
+start = record { nodes = map.empty }
+
+-- some line has named the node of this number
+abbrev pub is_open : State → ℕ → Bool
+is_open state number = is_some (map.get state.nodes number)
+
+-- the node that there is, or the one of this number at its first opening
+abbrev pub node_or_opened : ℕ → Option NodeState → NodeState
+node_or_opened number None = opened number
+node_or_opened number (Some node) = node
+
+-- the node of this number, as it opens where no line has named it
+abbrev pub node_at : State → ℕ → NodeState
+node_at state number = node_or_opened number (map.get state.nodes number)
+
+-- the node of this number is now this one
+abbrev pub with_node : State → ℕ → NodeState → State
+with_node state number node = record { nodes = map.insert state.nodes number node }
+
+-- the node of this number is open, and else all is as before
+abbrev pub with_open : State → ℕ → State
+with_open state number = with_node state number (node_at state number)
 
 -- states are stored as the tuples of their fields
 abbrev pub coded_node : Coded NodeState
@@ -35,4 +58,4 @@ coded_node =
     (λ _. refl)
 
 abbrev pub coded_state : Coded State
-coded_state = code_by (Option NodeState) (coded_option coded_node) (λ s. s.node) (λ n. record { node = n }) (λ _. refl)
+coded_state = code_by (map.FinMap nat_cmp NodeState) (map.code coded_ℕ coded_node) (λ s. s.nodes) (λ n. record { nodes = n }) (λ _. refl)

@@ -1,33 +1,28 @@
 -- What one line of a script does.
-use Rattle.std.specs.Prelude.{◌≡◌, ◌≢◌, ◌⊎◌, ℕ, List}
-use Rattle.std.specs.declared.option.Option.TheVariants.{Some}
+use Rattle.std.specs.Prelude.{◌≡◌, ◌⊎◌, ℕ, List}
+use Rattle.fl_labels.specs.SetBy as set
 use Rattle.fl_jobs.specs.declared.answer.Refusal.TheVariants.{Memory}
+use Rattle.fl_jobs.specs.declared.job.Job.{Job}
 use Rattle.fl_script.specs.declared.line.Line.{Line}
+use Rattle.fl_script.specs.declared.line.Line.TheVariants as line
 use Rattle.fl_script.specs.declared.reading.Reading.{Reading}
 use Rattle.fl_script.specs.declared.reading.Reading.TheVariants as reading
-use Rattle.fl_script.specs.Grammar.{node_of}
 use Rattle.fl_script.specs.Reading.{IsReading, IsAsking}
-use Rattle.fl_cluster.specs.State.{State, NodeState, opened, start}
-use Rattle.fl_cluster.specs.Answer.{Answer, silence, refused, bad_line}
-use Rattle.fl_cluster.specs.NodeStep.{Acts}
+use Rattle.fl_cluster.specs.State.{State, NodeState, node_at, with_node, with_open}
+use Rattle.fl_cluster.specs.Answer.{Answer, silence, text, refused, bad_line}
+use Rattle.fl_cluster.specs.NodeStep.{Works}
 
--- the line opens its node, is answered so there, and leaves all so
-pub record Opens (line : Line) (answer : Answer) (new : State) : Type 0 where
-  pub node : NodeState
-  pub acts : Acts (opened (node_of line)) line answer node
-  pub new_is : new ≡ record { node = Some node }
-
--- the line, the number-th, is answered so: at the node that it opens, at the node of all lines before, or nowhere
-pub data Answers (number : ℕ) : State → Line → Answer → State → Type 0 where
-  opens : {line : Line} {answer : Answer} {new : State} → Opens line answer new → Answers number start line answer new
-  stays : {node after : NodeState} {line : Line} {answer : Answer} → node.number ≡ node_of line → Acts node line answer after → Answers number (record { node = Some node }) line answer (record { node = Some after })
-  strays : {node : NodeState} {line : Line} → node.number ≢ node_of line → Answers number (record { node = Some node }) line (bad_line number) (record { node = Some node })
+-- The line is answered so, and leaves all so. A node that the line names is open from then on.
+pub data Answers (old : State) : Line → Answer → State → Type 0 where
+  works : {number : ℕ} {job : Job} {answer : Answer} {after : NodeState} → Works (node_at old number) job answer after → Answers old (line.Job number job) answer (with_node old number after)
+  tells : {number : ℕ} → Answers old (line.Text number) (text (node_at old number).registry) (with_open old number)
+  unites : {first second : ℕ} → Answers old (line.Union first second) (text (set.union (node_at old first).registry (node_at old second).registry)) (with_open (with_open old first) second)
 
 -- what says this is answered so
 abbrev pub AnswersReading : ℕ → State → Reading → Answer → State → Type 0
 AnswersReading number old reading.Quiet answer new = (answer ≡ silence) × (new ≡ old)
 AnswersReading number old reading.Bad answer new = (answer ≡ bad_line number) × (new ≡ old)
-AnswersReading number old (reading.Means line) answer new = Answers number old line answer new
+AnswersReading number old (reading.Means line) answer new = Answers old line answer new
 
 -- the number-th line says this, and is answered so
 pub record Understood (number : ℕ) (old : State) (bytes : List ℕ) (answer : Answer) (new : State) : Type 0 where

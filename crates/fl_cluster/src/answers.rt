@@ -19,20 +19,21 @@ use std::io::Write;
 /// Puts the text of what is answered to a line into the sink.
 pub fn write_response<W: Write>(
     nodes: &Nodes,
-    response: Response,
+    response: &Response,
     sink: &mut Sink,
     output: &mut W,
 ) -> Result<(), WriteFault>
-    ensures ok { OnOk result (Passes (W.contents output.old) (W.contents output.new) sink.old (text_of (shown nodes.now response)) sink.new) }
-    ensures err { OnErr result (Cuts (W.contents output.old) (W.contents output.new) sink.old (text_of (shown nodes.now response))) }
+    ensures ok { OnOk result (Passes (W.contents output.old) (W.contents output.new) sink.old (text_of (shown nodes.now response.now)) sink.new) }
+    ensures err { OnErr result (Cuts (W.contents output.old) (W.contents output.new) sink.old (text_of (shown nodes.now response.now))) }
 {
     match response {
         Response::Silence => sink.put_all(output, &[]),
-        Response::Reply(reply) => write_reply(reply, sink, output),
-        Response::Named(name) => write_name(b"ok ", name, sink, output),
-        Response::Text => nodes.write_text(sink, output),
-        Response::Refused(refusal) => write_refusal(refusal, sink, output),
-        Response::BadLine(number) => write_bad_line(number, sink, output),
+        Response::Reply(reply) => write_reply(*reply, sink, output),
+        Response::Named(name) => write_name(b"ok ", *name, sink, output),
+        Response::Text(node) => nodes.write_text(*node, sink, output),
+        Response::Union(registry) => registry.write_text(sink, output),
+        Response::Refused(refusal) => write_refusal(*refusal, sink, output),
+        Response::BadLine(number) => write_bad_line(*number, sink, output),
     }
 }
 

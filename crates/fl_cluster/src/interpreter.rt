@@ -29,7 +29,7 @@ fn understand(
     match read_line(alloc, line)? {
         Reading::Quiet => Ok(Response::Silence),
         Reading::Bad => Ok(Response::BadLine(number)),
-        Reading::Means(line) => nodes.answer(alloc, number, line),
+        Reading::Means(line) => nodes.answer(alloc, line),
     }
 }
 
@@ -56,7 +56,7 @@ fn answer_line<W: Write>(
     ensures err { OnErr result (TurnCut number nodes.old line.now nodes.new (W.contents output.old) (W.contents output.new) sink.old) }
 {
     let response = respond(alloc, nodes, number, line);
-    write_response(nodes, response, sink, output)?;
+    write_response(nodes, &response, sink, output)?;
     Ok(response.is_bad())
 }
 
@@ -85,7 +85,7 @@ impl Interpreter {
         ensures { result ≡ fresh }
     {
         Interpreter {
-            nodes: Nodes::new(),
+            nodes: Nodes::new(alloc),
             number: 1,
             any_bad: false,
             sink: Sink::new(alloc),

@@ -1,11 +1,9 @@
-//! A node, line by line.
-ghost use Rattle.std.specs.Prelude.{◌≡◌, ◌≢◌, ◌<◌, IfOk, MatchOption, OnErr, OnOk, Some};
-ghost use Rattle.fl_opset.specs.RegistryText.{registry_text};
-ghost use Rattle.fl_sink.specs.Sink.{Cuts, Passes};
-ghost use Rattle.fl_cluster.specs.State.{opened};
+//! A node, job by job.
+ghost use Rattle.std.specs.Prelude.{◌≡◌, ◌≢◌, ◌<◌, IfOk, MatchOption, OnErr};
+ghost use Rattle.fl_cluster.specs.State.{State, opened};
 ghost use Rattle.fl_cluster.specs.Answer.{shown};
 ghost use Rattle.fl_cluster.specs.LastName.{IsLast};
-ghost use Rattle.fl_cluster.specs.NodeStep.{Acts, IsNextName, Orders, Works};
+ghost use Rattle.fl_cluster.specs.NodeStep.{IsNextName, Orders, Works};
 
 use crate::response::Response;
 use fl_jobs::answer::{Outcome, Refusal};
@@ -15,10 +13,7 @@ use fl_labels::pid::Pid;
 use fl_monitor::bench::Bench;
 use fl_ops::op::{Body, Op};
 use fl_opset::set::OpSet;
-use fl_script::line::Line;
-use fl_sink::sink::{Sink, WriteFault};
 use std::alloc::{AllocError, Global};
-use std::io::Write;
 use std::marker::Model;
 
 // Want of memory stands apart from the other refusals.
@@ -66,26 +61,16 @@ impl Node {
         }
     }
 
-    /// Its number.
-    pub fn number(&self) -> u16
-        ensures { result ≡ self.now.number }
+    /// Its operations.
+    pub fn registry(&self) -> &OpSet
+        ensures { result.now ≡ self.now.registry }
     {
-        self.number
+        &self.registry
     }
 
-    /// Does what a line asks of this node. Want of memory leaves it.
-    pub fn act(&mut self, alloc: Global, line: Line) -> Result<Response, AllocError>
-        ensures ok { IfOk result (λ response. Acts self.old line (shown (record { node = Some self.new }) response) self.new) }
-        ensures err { OnErr result (self.new ≡ self.old) }
-    {
-        match line {
-            Line::Job { job, .. } => self.work(alloc, job),
-            Line::Text { .. } => Ok(Response::Text),
-        }
-    }
-
-    fn work(&mut self, alloc: Global, job: Job) -> Result<Response, AllocError>
-        ensures ok { IfOk result (λ response. Works self.old job (shown (record { node = Some self.new }) response) self.new) }
+    /// Does a job, and gives a new operation its name. Want of memory leaves the node.
+    pub fn work(&mut self, alloc: Global, job: Job) -> Result<Response, AllocError>
+        ensures ok { IfOk result (λ response. (state : State) → Works self.old job (shown state response) self.new) }
         ensures err { OnErr result (self.new ≡ self.old) }
     {
         match self.bench.job(alloc, &mut self.registry, job) {
@@ -97,7 +82,7 @@ impl Node {
 
     /// Gives the operation the next name, adds it, and gives its maker what it gives.
     fn order(&mut self, body: Body, pid: Pid) -> Result<Response, AllocError>
-        ensures ok { IfOk result (λ response. Orders self.old body pid (shown (record { node = Some self.new }) response) self.new) }
+        ensures ok { IfOk result (λ response. (state : State) → Orders self.old body pid (shown state response) self.new) }
         ensures err { OnErr result (self.new ≡ self.old) }
     {
         let Some(name) = self.next_name() else {
@@ -121,13 +106,5 @@ impl Node {
             node: self.number,
             seq,
         })
-    }
-
-    /// Puts the lines of the operations into the sink.
-    pub fn write_text<W: Write>(&self, sink: &mut Sink, output: &mut W) -> Result<(), WriteFault>
-        ensures ok { OnOk result (Passes (W.contents output.old) (W.contents output.new) sink.old (registry_text self.now.registry) sink.new) }
-        ensures err { OnErr result (Cuts (W.contents output.old) (W.contents output.new) sink.old (registry_text self.now.registry)) }
-    {
-        self.registry.write_text(sink, output)
     }
 }

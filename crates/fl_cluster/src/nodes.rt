@@ -1,91 +1,180 @@
 //! The nodes of a script, line by line.
-ghost use Rattle.std.specs.Prelude.{◌≡◌, ◌<◌, IfOk, OnErr, OnOk, Some};
+ghost use Rattle.std.specs.Prelude.{◌≡◌, ◌<◌, All, IfOk, MatchOption, OnErr, OnOk, false, not};
+ghost use Rattle.std.specs.FinMap as map;
+ghost use Rattle.fl_labels.specs.SetBy as set;
 ghost use Rattle.fl_opset.specs.RegistryText.{registry_text};
 ghost use Rattle.fl_sink.specs.Sink.{Cuts, Passes};
-ghost use Rattle.fl_script.specs.Grammar.{node_of};
-ghost use Rattle.fl_cluster.specs.State.{start};
-ghost use Rattle.fl_cluster.specs.Answer.{registry_of, shown};
-ghost use Rattle.fl_cluster.specs.Turn.{Answers, Opens};
+ghost use Rattle.fl_script.specs.Grammar.{nodes_of};
+ghost use Rattle.fl_cluster.specs.State.{is_open, node_at, start, with_open};
+ghost use Rattle.fl_cluster.specs.Answer.{shown};
+ghost use Rattle.fl_cluster.specs.Turn.{Answers};
 
 use crate::node::Node;
 use crate::response::Response;
+use fl_jobs::job::Job;
+use fl_opset::set::OpSet;
 use fl_script::line::Line;
 use fl_sink::sink::{Sink, WriteFault};
 use std::alloc::{AllocError, Global};
+use std::collections::BTreeMap;
 use std::io::Write;
 use std::marker::Model;
 
-// Answers the line of this number at the node of all lines before, or refuses it where it names another.
-fn answer_at(
-    alloc: Global,
-    node: &mut Node,
-    number: u64,
-    line: Line,
-) -> Result<Response, AllocError>
-    ensures ok { IfOk result (λ response. Answers number (record { node = Some node.old }) line (shown (record { node = Some node.new }) response) (record { node = Some node.new })) }
-    ensures err { OnErr result (node.new ≡ node.old) }
-{
-    if node.number() != line.node() {
-        return Ok(Response::BadLine(number));
-    }
-    node.act(alloc, line)
-}
-
-/// The nodes of a script: so far the one that the first line to name a node opened.
+/// The nodes of a script by their numbers. Each has its own registry, and is opened by the first line that names it.
 #[derive(Debug, Drop)]
 pub struct Nodes {
-    node: Option<Node>,
+    all: BTreeMap<u16, Node>,
 }
 
 impl Model for Nodes {
+    ghost use Rattle.std.specs.FinMap as map;
     ghost use Rattle.fl_cluster.specs.State.{State, coded_state};
 
     ghost Value = { State };
 
     ghost coded = { coded_state };
 
-    ghost view = { λ n. record { node = n.node } };
+    ghost view = { λ n. record { nodes = map.from_entries n.all.entries } };
 }
 
 impl Nodes {
     /// None, before the first line. Takes no memory.
-    pub fn new() -> Self
+    pub fn new(alloc: Global) -> Self
         ensures { result ≡ start }
     {
-        Nodes { node: None }
-    }
-
-    /// Answers the line of this number. Want of memory leaves all as it was: a node that the line would open is then not open.
-    pub fn answer(&mut self, alloc: Global, number: u64, line: Line) -> Result<Response, AllocError>
-        requires { 0 < node_of line }
-        ensures ok { IfOk result (λ response. Answers number self.old line (shown self.new response) self.new) }
-        ensures err { OnErr result (self.new ≡ self.old) }
-    {
-        match &mut self.node {
-            Some(node) => answer_at(alloc, node, number, line),
-            None => self.open(alloc, line),
+        Nodes {
+            all: BTreeMap::new(alloc),
         }
     }
 
-    // Opens the node that the line names, and has it do what the line asks.
-    fn open(&mut self, alloc: Global, line: Line) -> Result<Response, AllocError>
-        requires known { 0 < node_of line }
-        ensures ok { IfOk result (λ response. Opens line (shown self.new response) self.new) }
+    /// Answers a line. Want of memory leaves all as it was: a node that the line would open is then not open.
+    pub fn answer(&mut self, alloc: Global, line: Line) -> Result<Response, AllocError>
+        requires { All (λ node. 0 < node) (nodes_of line) }
+        ensures ok { IfOk result (λ response. Answers self.old line (shown self.new response) self.new) }
         ensures err { OnErr result (self.new ≡ self.old) }
     {
-        let mut node = Node::new(alloc, line.node());
-        let response = node.act(alloc, line)?;
-        self.node = Some(node);
+        match line {
+            Line::Job { node, job } => self.work(alloc, node, job),
+            Line::Text { node } => self.tell(alloc, node),
+            Line::Union { first, second } => self.unite(alloc, first, second),
+        }
+    }
+
+    // Has the node do the job, and opens it where it is not open.
+    fn work(&mut self, alloc: Global, number: u16, job: Job) -> Result<Response, AllocError>
+        requires { 0 < number }
+        ensures ok { IfOk result (λ response. Answers self.old (Line.Job number job) (shown self.new response) self.new) }
+        ensures err { OnErr result (self.new ≡ self.old) }
+    {
+        let Some(node) = self.all.get_mut(&number) else {
+            return self.open_at_work(alloc, number, job);
+        };
+        node.work(alloc, job)
+    }
+
+    // Opens a node by the first line that names it, which has it do a job.
+    fn open_at_work(&mut self, alloc: Global, number: u16, job: Job) -> Result<Response, AllocError>
+        requires known { 0 < number }
+        requires new { is_open self.old number ≡ false }
+        ensures ok { IfOk result (λ response. Answers self.old (Line.Job number job) (shown self.new response) self.new) }
+        ensures err { OnErr result (self.new ≡ self.old) }
+    {
+        let mut node = Node::new(alloc, number);
+        let response = node.work(alloc, job)?;
+        self.all.insert(number, node)?;
         Ok(response)
     }
 
-    /// Puts the lines of the node's operations into the sink, and nothing where there is no node.
-    pub fn write_text<W: Write>(&self, sink: &mut Sink, output: &mut W) -> Result<(), WriteFault>
-        ensures ok { OnOk result (Passes (W.contents output.old) (W.contents output.new) sink.old (registry_text (registry_of self.now.node)) sink.new) }
-        ensures err { OnErr result (Cuts (W.contents output.old) (W.contents output.new) sink.old (registry_text (registry_of self.now.node))) }
+    fn tell(&mut self, alloc: Global, number: u16) -> Result<Response, AllocError>
+        requires { 0 < number }
+        ensures ok { IfOk result (λ response. Answers self.old (Line.Text number) (shown self.new response) self.new) }
+        ensures err { OnErr result (self.new ≡ self.old) }
     {
-        match &self.node {
-            Some(node) => node.write_text(sink, output),
+        self.open(alloc, number)?;
+        Ok(Response::Text(number))
+    }
+
+    // Copies both registries into one set.
+    fn unite(&mut self, alloc: Global, first: u16, second: u16) -> Result<Response, AllocError>
+        requires first { 0 < first }
+        requires second { 0 < second }
+        ensures ok { IfOk result (λ response. Answers self.old (Line.Union first second) (shown self.new response) self.new) }
+        ensures err { OnErr result (self.new ≡ self.old) }
+    {
+        let mut all = OpSet::new(alloc);
+        self.merge_into(&mut all, first)?;
+        self.merge_into(&mut all, second)?;
+        self.open_both(alloc, first, second)?;
+        Ok(Response::Union(all))
+    }
+
+    // Adds the operations of the node to a set.
+    fn merge_into(&self, all: &mut OpSet, number: u16) -> Result<(), AllocError>
+        ensures { OnOk result (all.new ≡ set.union all.old (node_at self.now number).registry) }
+    {
+        match self.registry(number) {
+            Some(registry) => all.merge(registry),
+            None => Ok(()),
+        }
+    }
+
+    // The operations of the node, or none where it is not open.
+    fn registry(&self, number: u16) -> Option<&OpSet>
+        ensures { MatchOption result ((node_at self.now number).registry ≡ set.empty) (λ registry. registry.now ≡ (node_at self.now number).registry) }
+    {
+        let node = self.all.get(&number)?;
+        Some(node.registry())
+    }
+
+    // An error leaves both as they were.
+    fn open_both(&mut self, alloc: Global, first: u16, second: u16) -> Result<(), AllocError>
+        requires first { 0 < first }
+        requires second { 0 < second }
+        ensures ok { OnOk result (self.new ≡ with_open (with_open self.old first) second) }
+        ensures err { OnErr result (self.new ≡ self.old) }
+    {
+        let new = self.open(alloc, first)?;
+        if let Err(error) = self.open(alloc, second) {
+            if new {
+                self.close(first);
+            }
+            return Err(error);
+        }
+        Ok(())
+    }
+
+    // Opens the node where it is not open, and says whether it was not.
+    fn open(&mut self, alloc: Global, number: u16) -> Result<bool, AllocError>
+        requires { 0 < number }
+        ensures ok { OnOk result (self.new ≡ with_open self.old number) }
+        ensures new { IfOk result (λ new. new ≡ not (is_open self.old number)) }
+        ensures err { OnErr result (self.new ≡ self.old) }
+    {
+        if self.all.contains_key(&number) {
+            return Ok(false);
+        }
+        self.all.insert(number, Node::new(alloc, number))?;
+        Ok(true)
+    }
+
+    fn close(&mut self, number: u16)
+        ensures { self.new.nodes ≡ map.remove self.old.nodes number }
+    {
+        self.all.remove(&number);
+    }
+
+    /// Puts the lines of the node's operations into the sink, and nothing where it is not open.
+    pub fn write_text<W: Write>(
+        &self,
+        number: u16,
+        sink: &mut Sink,
+        output: &mut W,
+    ) -> Result<(), WriteFault>
+        ensures ok { OnOk result (Passes (W.contents output.old) (W.contents output.new) sink.old (registry_text (node_at self.now number).registry) sink.new) }
+        ensures err { OnErr result (Cuts (W.contents output.old) (W.contents output.new) sink.old (registry_text (node_at self.now number).registry)) }
+    {
+        match self.registry(number) {
+            Some(registry) => registry.write_text(sink, output),
             None => sink.put_all(output, &[]),
         }
     }

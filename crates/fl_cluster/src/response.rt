@@ -3,9 +3,10 @@ ghost use Rattle.std.specs.Prelude.{◌≡◌};
 
 use fl_jobs::answer::{Refusal, Reply};
 use fl_labels::name::Name;
+use fl_opset::set::OpSet;
 
 /// What is answered to a line.
-#[derive(Clone, Copy, Debug, PartialEq, Eq)]
+#[derive(Debug, Drop)]
 pub enum Response {
     /// Nothing: the line is empty or a comment.
     Silence,
@@ -13,8 +14,10 @@ pub enum Response {
     Reply(Reply),
     /// The name of the operation that the line made.
     Named(Name),
-    /// The lines of the node's operations, which are written from the node itself.
-    Text,
+    /// The lines of the operations of the node of this number, which are written from the node itself.
+    Text(u16),
+    /// The lines of these operations of two nodes.
+    Union(OpSet),
     /// The job was refused, and nothing changed.
     Refused(Refusal),
     /// The line of this number is none of the script, and nothing changed.
@@ -26,8 +29,8 @@ impl Response {
     ghost use Rattle.fl_cluster.specs.Answer.{is_bad, shown};
 
     /// Whether the line was none of the script.
-    pub fn is_bad(self) -> bool
-        ensures { (state : State) → result ≡ is_bad (shown state self) }
+    pub fn is_bad(&self) -> bool
+        ensures { (state : State) → result ≡ is_bad (shown state self.now) }
     {
         matches!(self, Response::BadLine(_))
     }

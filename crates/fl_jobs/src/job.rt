@@ -21,6 +21,8 @@ pub struct TooLong;
 pub enum Order {
     /// A new tag of this policy.
     Tag(Policy),
+    /// A new group.
+    Group,
 }
 
 /// What one process asks for by itself.

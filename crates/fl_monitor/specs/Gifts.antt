@@ -6,18 +6,19 @@ use Rattle.std.specs.FinMap as map
 use Rattle.fl_labels.specs.SetBy as set
 use Rattle.fl_labels.specs.declared.name.Name.{Name}
 use Rattle.fl_labels.specs.declared.cap.Cap.{Cap}
-use Rattle.fl_labels.specs.declared.cap.Cap.TheVariants.{Plus, Minus}
+use Rattle.fl_labels.specs.declared.cap.Cap.TheVariants.{Plus, Minus, Use, Grow}
 use Rattle.fl_labels.specs.Pid.{pid_cmp}
 use Rattle.fl_labels.specs.declared.pid.Pid.{Pid}
 use Rattle.fl_ops.specs.declared.op.Op.{Op}
 use Rattle.fl_ops.specs.declared.op.Body.{Body}
-use Rattle.fl_ops.specs.declared.op.Body.TheVariants.{MakeTag}
+use Rattle.fl_ops.specs.declared.op.Body.TheVariants.{MakeTag, MakeGroup}
 use Rattle.fl_monitor.specs.declared.process.Process.{Process}
 use Rattle.fl_monitor.specs.Bench.{State}
 
--- what an operation of this body and name gives its maker: of a tag, to add and to remove it
+-- what an operation of this body and name gives its maker: of a tag, to add and to remove it; of a group, to use and to grow it
 abbrev pub given_by : Body → Name → List Cap
 given_by (MakeTag policy) tag = Plus tag ∷ Minus tag ∷ []
+given_by MakeGroup group = Use group ∷ Grow group ∷ []
 
 -- the same, of the operation
 abbrev pub given : Op → List Cap

@@ -5,12 +5,12 @@ use Rattle.fl_labels.specs.SetBy.{In}
 use Rattle.fl_labels.specs.declared.cap.Cap.{Cap}
 use Rattle.fl_ops.specs.declared.op.Op.{Op}
 use Rattle.fl_ops.specs.declared.op.Body.{Body}
-use Rattle.fl_ops.specs.declared.op.Body.TheVariants.{MakeTag}
+use Rattle.fl_ops.specs.declared.op.Body.TheVariants.{MakeTag, MakeGroup}
 use Rattle.fl_ops.specs.Registry.{Eff}
 use Rattle.fl_jobs.specs.declared.job.Side.{Side}
 use Rattle.fl_jobs.specs.declared.job.Side.TheVariants.{Secrecy, Integrity}
 use Rattle.fl_jobs.specs.declared.job.Order.{Order}
-use Rattle.fl_jobs.specs.declared.job.Order.TheVariants.{Tag}
+use Rattle.fl_jobs.specs.declared.job.Order.TheVariants.{Tag, Group}
 use Rattle.fl_monitor.specs.declared.process.Labels.{Labels}
 use Rattle.fl_monitor.specs.declared.process.Process.{Process}
 
@@ -33,3 +33,4 @@ with_side Integrity label l = record l { integrity = label }
 -- what the operation does that the order asks for
 abbrev pub body_of : Order → Body
 body_of (Tag policy) = MakeTag policy
+body_of Group = MakeGroup

@@ -112,8 +112,8 @@ impl Bench {
         }
     }
 
-    /// Gives the maker of an operation what the operation gives: of a tag, to add and to remove it. Where that process does
-    /// not stand here, nothing. An error is a growth refused, and leaves the bench.
+    /// Gives the maker of an operation what the operation gives: of a tag, to add and to remove it; of a group, to
+    /// use and to grow it. Where that process does not stand here, nothing. An error is a growth refused, and leaves the bench.
     pub fn finish(&mut self, pid: Pid, op: &Op) -> Result<(), AllocError>
         ensures ok { OnOk result (self.new ≡ finished self.old pid op.now) }
         ensures err { OnErr result (self.new ≡ self.old) }

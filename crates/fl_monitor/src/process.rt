@@ -1,7 +1,6 @@
 // Processes, and what each does by itself.
 ghost use Rattle.std.specs.Prelude.{◌≡◌, ◌∷◌, [], OnOk, OnErr};
 ghost use Rattle.fl_labels.specs.SetBy as set;
-ghost use Rattle.fl_labels.specs.declared.cap.Cap.TheVariants.{Plus, Minus};
 ghost use Rattle.fl_ops.specs.Registry.{Listed};
 ghost use Rattle.fl_monitor.specs.Process.{newborn, effective, side_of, with_side, body_of};
 ghost use Rattle.fl_jobs.specs.declared.answer.Outcome.{Outcome};
@@ -16,7 +15,6 @@ use fl_jobs::job::{Act, Order, Side, TooLong};
 use fl_labels::cap::Cap;
 use fl_labels::cap_set::CapSet;
 use fl_labels::label::Label;
-use fl_labels::name::Name;
 use fl_labels::pid::Pid;
 use fl_ops::op::{Body, Op};
 use fl_rules::change::safe_change;
@@ -62,18 +60,19 @@ fn body_of_order(order: Order) -> Body
 {
     match order {
         Order::Tag(policy) => Body::MakeTag(policy),
+        Order::Group => Body::MakeGroup,
     }
 }
 
-// Gives both capabilities of a tag.
-fn give_tag(owned: &mut CapSet, tag: Name) -> Result<(), AllocError>
-    ensures ok { OnOk result (owned.new ≡ set.insert_all owned.old (Plus tag ∷ Minus tag ∷ [])) }
+// Gives both capabilities.
+fn give_both(owned: &mut CapSet, first: Cap, second: Cap) -> Result<(), AllocError>
+    ensures ok { OnOk result (owned.new ≡ set.insert_all owned.old (first ∷ second ∷ [])) }
     ensures err { OnErr result (owned.new ≡ owned.old) }
 {
-    let new = owned.insert(Cap::Minus(tag))?;
-    if let Err(error) = owned.insert(Cap::Plus(tag)) {
+    let new = owned.insert(second)?;
+    if let Err(error) = owned.insert(first) {
         if new {
-            owned.remove(Cap::Minus(tag));
+            owned.remove(second);
         }
         return Err(error);
     }
@@ -152,7 +151,8 @@ impl Process {
         ensures err { OnErr result (self.new ≡ self.old) }
     {
         match op.body {
-            Body::MakeTag(_) => give_tag(&mut self.owned, op.name),
+            Body::MakeTag(_) => give_both(&mut self.owned, Cap::Plus(op.name), Cap::Minus(op.name)),
+            Body::MakeGroup => give_both(&mut self.owned, Cap::Use(op.name), Cap::Grow(op.name)),
         }
     }
 }

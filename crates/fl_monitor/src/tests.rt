@@ -14,6 +14,8 @@ use std::test::Fail;
 
 const TAG: Name = Name { node: 1, seq: 1 };
 
+const GROUP: Name = Name { node: 1, seq: 2 };
+
 const MAKER: Pid = Pid {
     node: 1,
     boot: 1,
@@ -52,6 +54,34 @@ fn makes_a_tag(rt: HostRuntime) -> Result<(), Fail> {
         (OTHER, Cap::Minus(TAG), Reply::NotYet),
         (OTHER, Cap::Plus(TAG), Reply::Yes),
         (MAKER, Cap::Use(TAG), Reply::NotYet),
+    ] {
+        let answer = bench.job(alloc, &mut ops, Job::By(pid, Act::Ask(cap)));
+        assert!(rt; answer == Ok(Outcome::Reply(reply)));
+    }
+    Ok(())
+}
+
+#[test]
+fn makes_a_group(rt: HostRuntime) -> Result<(), Fail> {
+    let alloc = rt.alloc();
+    let group = Op {
+        name: GROUP,
+        body: Body::MakeGroup,
+    };
+    let mut ops = OpSet::new(alloc);
+    let mut bench = Bench::new(alloc, 1, 1, 2, 3);
+    bench.job(alloc, &mut ops, Job::Proc)?;
+    bench.job(alloc, &mut ops, Job::Proc)?;
+    let order = Job::By(MAKER, Act::Order(Order::Group));
+    assert!(rt; bench.job(alloc, &mut ops, order) == Ok(Outcome::Order(Body::MakeGroup, MAKER)));
+    ops.add(group)?;
+    bench.finish(MAKER, &group)?;
+    for (pid, cap, reply) in [
+        (MAKER, Cap::Use(GROUP), Reply::Yes),
+        (MAKER, Cap::Grow(GROUP), Reply::Yes),
+        (MAKER, Cap::Plus(GROUP), Reply::NotYet),
+        (OTHER, Cap::Use(GROUP), Reply::NotYet),
+        (OTHER, Cap::Grow(GROUP), Reply::NotYet),
     ] {
         let answer = bench.job(alloc, &mut ops, Job::By(pid, Act::Ask(cap)));
         assert!(rt; answer == Ok(Outcome::Reply(reply)));

@@ -8,7 +8,7 @@ use Rattle.fl_labels.specs.declared.name.Name.{Name}
 use Rattle.fl_labels.specs.Name.{name_cmp}
 use Rattle.fl_labels.specs.NameOrder.{name_exact}
 use Rattle.fl_ops.specs.declared.op.Body.{Body}
-use Rattle.fl_ops.specs.declared.op.Body.TheVariants.{MakeTag}
+use Rattle.fl_ops.specs.declared.op.Body.TheVariants.{MakeTag, MakeGroup}
 use Rattle.fl_ops.specs.declared.op.Op.{Op}
 use Rattle.fl_ops.specs.Bytes.{policy_byte, name_bytes, kind_byte, body_bytes, op_bytes}
 use Rattle.fl_ops.specs.OpOrder.{body_key, op_cmp}
@@ -65,6 +65,9 @@ same_front (x ∷ p) u v = ap (λ o. ordering_then o (slice_cmp nat_cmp (p ++ u)
 -- two bodies, behind one name
 body_first : (n : Name) (a b : Body) → slice_cmp nat_cmp (kind_byte a ∷ (name_bytes n ++ body_bytes a)) (kind_byte b ∷ (name_bytes n ++ body_bytes b)) ≡ slice_cmp nat_cmp (body_key a) (body_key b)
 body_first n (MakeTag p) (MakeTag q) = same_front (name_bytes n) (policy_byte p ∷ []) (policy_byte q ∷ [])
+body_first n MakeGroup MakeGroup = same_front (name_bytes n) [] []
+body_first n (MakeTag p) MakeGroup = refl
+body_first n MakeGroup (MakeTag q) = refl
 
 -- operations are ordered by name, and then by their bytes
 pub by_bytes : (a b : Op) → op_cmp a b ≡ ordering_then (name_cmp a.name b.name) (slice_cmp nat_cmp (op_bytes a) (op_bytes b))

@@ -1,5 +1,5 @@
 -- A name from its six bytes, and an operation from its fields.
-use Rattle.std.proofs.Common.{None, nat_lt, nat_le, slice_index, ◌≡◌, ◌≢◌, ℕ, ◌+◌, ◌-◌, ◌*◌, ◌<◌, ◌≤◌, true, Bool, ◌&&◌, List, [], ◌∷◌, ◌++◌, length, get_or, take, drop, sym, ap, subst, refl, ◌∙◌, arith, length-drop, get_or-drop}
+use Rattle.std.proofs.Common.{None, nat_le, slice_index, ◌≡◌, ◌≢◌, ℕ, ◌+◌, ◌-◌, ◌*◌, ◌<◌, ◌≤◌, true, Bool, ◌&&◌, List, [], ◌∷◌, ◌++◌, length, get_or, take, drop, sym, ap, subst, refl, ◌∙◌, arith, length-drop, get_or-drop}
 use Rattle.std.proofs.lemmas.List.{drop-drop}
 use lib.Seq.{take-add}
 use Rattle.std.specs.Int.{w16, w32, to_be_bytes, from_be_bytes}
@@ -60,26 +60,23 @@ one_byte x b h =
     omega (arith, leb-true 1 x parts.0, leb-true x 1 parts.1)
 
 -- the two bytes before the name
-front_bytes : (bs : List ℕ) → has_byte bs 0 1 1 ≡ true → has_byte bs 1 1 1 ≡ true → take 2 bs ≡ 1 ∷ 1 ∷ []
-front_bytes [] a b = absurd (false≢true a)
-front_bytes (x ∷ []) a b = absurd (false≢true b)
-front_bytes (x ∷ y ∷ bs) a b = λ i. one_byte x _ a i ∷ one_byte y _ b i ∷ []
-
-kind_is : (bs : List ℕ) → has_byte bs 1 1 1 ≡ true → slice_index bs 1 ≡ 1
-kind_is bs h = one_byte (slice_index bs 1) (nat_lt 1 (length bs)) h
+front_bytes : (bs : List ℕ) (kind : ℕ) → has_byte bs 0 1 1 ≡ true → has_byte bs 1 1 2 ≡ true → kind ≡ slice_index bs 1 → take 2 bs ≡ 1 ∷ kind ∷ []
+front_bytes [] kind a b e = absurd (false≢true a)
+front_bytes (x ∷ []) kind a b e = absurd (false≢true b)
+front_bytes (x ∷ y ∷ bs) kind a b e = λ i. one_byte x _ a i ∷ sym e i ∷ []
 
 -- what `decode` owes where it answers an operation
-pub op_found : (bs : List ℕ) (name : Name) (body : Body) (end : ℕ)
-    → has_byte bs 0 1 1 ≡ true → has_byte bs 1 1 1 ≡ true
+pub op_found : (bs : List ℕ) (kind : ℕ) (name : Name) (body : Body) (end : ℕ)
+    → has_byte bs 0 1 1 ≡ true → (has_byte bs 1 1 2 ≡ true) × (kind ≡ slice_index bs 1)
     → (has_name bs 2 ≡ true) × (take 6 (drop 2 bs) ≡ name_bytes name)
-    → (first_fault (body_fields bs 1 8) ≡ None) × (kind_byte body ≡ 1) × (end ≡ 8 + length (body_bytes body)) × (take (length (body_bytes body)) (drop 8 bs) ≡ body_bytes body)
+    → (first_fault (body_fields bs kind 8) ≡ None) × (kind_byte body ≡ kind) × (end ≡ 8 + length (body_bytes body)) × (take (length (body_bytes body)) (drop 8 bs) ≡ body_bytes body)
     → (op_fault bs ≡ None) × (end ≡ length (op_bytes (record { name = name; body = body }))) × (take end bs ≡ op_bytes (record { name = name; body = body }))
-op_found bs name body end format kind named rest =
+op_found bs kind name body end format found named rest =
     let m = length (body_bytes body) in
     let parts : take (2 + (6 + m)) bs ≡ take 2 bs ++ (take 6 (drop 2 bs) ++ take m (drop 8 bs)) =
     take-add 2 (6 + m) bs ∙ ap (λ l. take 2 bs ++ l) (take-add 6 m (drop 2 bs) ∙ ap (λ l. take 6 (drop 2 bs) ++ take m l) (drop-drop 6 2 bs)) in
     let same : end ≡ 2 + (6 + m) = omega (arith, rest.2) in (
-      rw (format, kind, named.0, kind_is bs kind, rest.0) refl,
+      rw (format, found.0, named.0, ← found.1, rest.0) refl,
       omega (arith, rest.2),
-      rw (same, parts, front_bytes bs format kind, named.1, rest.3, rest.1) refl,
+      rw (same, parts, front_bytes bs kind format found.0 found.1, named.1, rest.3, rest.1) refl,
     )

@@ -11,7 +11,7 @@ use Rattle.fl_labels.specs.NameOrder.{same_name}
 use Rattle.fl_ops.specs.declared.op.Policy.{Policy}
 use Rattle.fl_ops.specs.declared.op.Policy.TheVariants.{Export, Read, Integrity}
 use Rattle.fl_ops.specs.declared.op.Body.{Body}
-use Rattle.fl_ops.specs.declared.op.Body.TheVariants.{MakeTag}
+use Rattle.fl_ops.specs.declared.op.Body.TheVariants.{MakeTag, MakeGroup}
 use Rattle.fl_ops.specs.declared.op.Op.{Op}
 use Rattle.fl_ops.specs.Bytes.{name_bytes, policy_byte, kind_byte, body_bytes, op_bytes}
 use Rattle.fl_ops.specs.Grammar.{op_fields, has_byte, has_name, first_fault, op_fault}
@@ -52,10 +52,10 @@ policy_range Read = (lit≤ tt, lit≤ tt)
 policy_range Integrity = (lit≤ tt, lit≤ tt)
 
 -- the two bytes before the name, and the name
-head_there : (kind : ℕ) (n : Name) (rest : List ℕ) → 1 ≤ kind → kind ≤ 1 →
-    (has_byte (1 ∷ kind ∷ (name_bytes n ++ rest)) 0 1 1 ≡ true) × (has_byte (1 ∷ kind ∷ (name_bytes n ++ rest)) 1 1 1 ≡ true) × (has_name (1 ∷ kind ∷ (name_bytes n ++ rest)) 2 ≡ true)
+head_there : (kind : ℕ) (n : Name) (rest : List ℕ) → 1 ≤ kind → kind ≤ 2 →
+    (has_byte (1 ∷ kind ∷ (name_bytes n ++ rest)) 0 1 1 ≡ true) × (has_byte (1 ∷ kind ∷ (name_bytes n ++ rest)) 1 1 2 ≡ true) × (has_name (1 ∷ kind ∷ (name_bytes n ++ rest)) 2 ≡ true)
 head_there kind n rest low high =
-    (byte_there [] 1 (kind ∷ (name_bytes n ++ rest)) 1 1 (lit≤ tt) (lit≤ tt), byte_there (1 ∷ []) kind (name_bytes n ++ rest) 1 1 low high, name_there (1 ∷ kind ∷ []) n rest)
+    (byte_there [] 1 (kind ∷ (name_bytes n ++ rest)) 1 1 (lit≤ tt) (lit≤ tt), byte_there (1 ∷ []) kind (name_bytes n ++ rest) 1 2 low high, name_there (1 ∷ kind ∷ []) n rest)
 
 -- what an operation spells has no fault
 pub no_fault : (n : Name) (body : Body) (rest : List ℕ) → op_fault (op_bytes (record { name = n; body = body }) ++ rest) ≡ None
@@ -64,6 +64,9 @@ no_fault n (MakeTag p) rest =
     let h = head_there 1 n (policy_byte p ∷ rest) (lit≤ tt) (lit≤ tt) in
     let k : has_byte (1 ∷ 1 ∷ (name_bytes n ++ policy_byte p ∷ rest)) 8 1 3 ≡ true = byte_there (1 ∷ 1 ∷ name_bytes n) (policy_byte p) rest 1 3 r.0 r.1 in
     no_faults (op_fields (op_bytes (record { name = n; body = MakeTag p }) ++ rest) 0) (h.0, (h.1, (h.2, (k, tt))))
+no_fault n MakeGroup rest =
+    let h = head_there 2 n rest (lit≤ tt) (lit≤ tt) in
+    no_faults (op_fields (op_bytes (record { name = n; body = MakeGroup }) ++ rest) 0) (h.0, (h.1, (h.2, tt)))
 
 -- ---- one operation
 
@@ -83,6 +86,8 @@ policy_same p q e = absurd (cc)
 
 body_front : (a b : Body) (u v : List ℕ) → kind_byte a ≡ kind_byte b → body_bytes a ++ u ≡ body_bytes b ++ v → (a ≡ b) × (u ≡ v)
 body_front (MakeTag p) (MakeTag q) u v k e = (ap MakeTag (policy_same p q (ap (λ l. get_or l 0 0) e)), ap (drop 1) e)
+body_front MakeGroup MakeGroup u v k e = (refl, e)
+body_front a b u v k e = absurd (cc)
 
 -- no spelling begins another
 pub op_front : (a b : Op) (u v : List ℕ) → op_bytes a ++ u ≡ op_bytes b ++ v → (a ≡ b) × (u ≡ v)

@@ -6,12 +6,13 @@ use Rattle.fl_labels.specs.declared.cap.Cap.TheVariants.{Plus, Minus, Use, Grow}
 use Rattle.fl_labels.specs.Found.{Within}
 use Rattle.fl_ops.specs.declared.op.Op.{Op}
 use Rattle.fl_ops.specs.declared.op.Body.{Body}
-use Rattle.fl_ops.specs.declared.op.Body.TheVariants.{MakeTag}
+use Rattle.fl_ops.specs.declared.op.Body.TheVariants.{MakeTag, MakeGroup}
 use Rattle.fl_ops.specs.Registry.{Puts, Chain, here, into, Reach, Global, Eff, Dual}
 
 -- nothing is put into a group
 no_puts : (body : Body) (group : Name) (c : Cap) → ¬ Puts body group c
 no_puts (MakeTag p) group c h = h
+no_puts MakeGroup group c h = h
 
 chain_alone : {U : Op → Type 0} {a c : Cap} → Chain U a c → a ≡ c
 chain_alone here = refl

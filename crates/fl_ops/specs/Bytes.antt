@@ -5,7 +5,7 @@ use Rattle.fl_labels.specs.declared.name.Name.{Name}
 use Rattle.fl_ops.specs.declared.op.Policy.{Policy}
 use Rattle.fl_ops.specs.declared.op.Policy.TheVariants.{Export, Read, Integrity}
 use Rattle.fl_ops.specs.declared.op.Body.{Body}
-use Rattle.fl_ops.specs.declared.op.Body.TheVariants.{MakeTag}
+use Rattle.fl_ops.specs.declared.op.Body.TheVariants.{MakeTag, MakeGroup}
 use Rattle.fl_ops.specs.declared.op.Op.{Op}
 
 -- the node in two bytes, then the sequence number in four
@@ -19,10 +19,12 @@ policy_byte Integrity = 3
 
 abbrev pub kind_byte : Body → ℕ
 kind_byte (MakeTag p) = 1
+kind_byte MakeGroup = 2
 
 -- what follows the name
 abbrev pub body_bytes : Body → List ℕ
 body_bytes (MakeTag p) = policy_byte p ∷ []
+body_bytes MakeGroup = []
 
 -- the format, the kind, the name, and what the kind asks for
 abbrev pub op_bytes : Op → List ℕ

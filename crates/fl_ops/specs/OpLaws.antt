@@ -13,7 +13,7 @@ use Rattle.fl_ops.specs.contracts.op.Op as ops_row
 use Rattle.fl_ops.specs.declared.op.Policy.{Policy}
 use Rattle.fl_ops.specs.declared.op.Policy.TheVariants.{Export, Read, Integrity}
 use Rattle.fl_ops.specs.declared.op.Body.{Body}
-use Rattle.fl_ops.specs.declared.op.Body.TheVariants.{MakeTag}
+use Rattle.fl_ops.specs.declared.op.Body.TheVariants.{MakeTag, MakeGroup}
 use Rattle.fl_ops.specs.declared.op.Op.{Op}
 use Rattle.fl_ops.specs.Bytes.{policy_byte}
 use Rattle.fl_ops.specs.OpOrder.{body_key, op_cmp}
@@ -36,6 +36,8 @@ at i l = slice_index l i
 body_same : (a b : Body) → body_key a ≡ body_key b → a ≡ b
 unfolding at
 body_same (MakeTag p) (MakeTag q) e = ap MakeTag (policy_same p q (ap (at 1) e))
+body_same MakeGroup MakeGroup e = refl
+body_same a b e = absurd (cc)
 
 level : (o p : Ordering) → ordering_then o p ≡ Equal → (o ≡ Equal) × (p ≡ Equal)
 level Less p e = absurd (cc)

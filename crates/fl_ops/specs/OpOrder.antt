@@ -5,13 +5,14 @@ use Rattle.std.specs.Ordering.{nat_cmp, ordering_then}
 use Rattle.std.specs.Cmp.Lexicographic.{slice_cmp}
 use Rattle.fl_labels.specs.Name.{name_cmp}
 use Rattle.fl_ops.specs.declared.op.Body.{Body}
-use Rattle.fl_ops.specs.declared.op.Body.TheVariants.{MakeTag}
+use Rattle.fl_ops.specs.declared.op.Body.TheVariants.{MakeTag, MakeGroup}
 use Rattle.fl_ops.specs.declared.op.Op.{Op}
 use Rattle.fl_ops.specs.Bytes.{policy_byte}
 
 -- the numbers of a body, in the order of its bytes
 abbrev pub body_key : Body → List ℕ
 body_key (MakeTag p) = 1 ∷ policy_byte p ∷ []
+body_key MakeGroup = 2 ∷ []
 
 -- by name, and then as their bytes are
 abbrev pub op_cmp : Op → Op → Ordering

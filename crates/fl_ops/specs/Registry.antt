@@ -7,7 +7,7 @@ use Rattle.fl_labels.specs.declared.cap.Cap.{Cap}
 use Rattle.fl_labels.specs.declared.cap.Cap.TheVariants.{Plus, Minus, Use, Grow}
 use Rattle.fl_ops.specs.declared.op.Op.{Op}
 use Rattle.fl_ops.specs.declared.op.Body.{Body}
-use Rattle.fl_ops.specs.declared.op.Body.TheVariants.{MakeTag}
+use Rattle.fl_ops.specs.declared.op.Body.TheVariants.{MakeTag, MakeGroup}
 use Rattle.fl_ops.specs.declared.op.Policy.{Policy}
 use Rattle.fl_ops.specs.declared.op.Policy.TheVariants.{Export, Integrity}
 
@@ -15,9 +15,10 @@ use Rattle.fl_ops.specs.declared.op.Policy.TheVariants.{Export, Integrity}
 abbrev pub tag_op : Name → Policy → Op
 tag_op tag policy = record { name = tag; body = MakeTag policy }
 
--- the operation puts c into the group
+-- the operation puts c into the group; one that makes a tag or a group puts nothing
 abbrev pub Puts : Body → Name → Cap → Type 0
 Puts (MakeTag policy) group c = ⊥
+Puts MakeGroup group c = ⊥
 
 -- A chain leads from the first capability to the last: each but the last is the use of a group into which the registry puts the next one.
 pub data Chain (U : Op → Type 0) : Cap → Cap → Type 0 where

@@ -23,7 +23,7 @@ pub fn law_one_spelling()
     ensures one { (a b : Op) (x y : List ℕ) → op_bytes a ++ x ≡ op_bytes b ++ y → (a ≡ b) × (x ≡ y) }
 {}
 
-/// Without groups, what is reached from capabilities is these.
+/// As no operation puts a capability into a group, what is reached from capabilities is these.
 pub fn law_registry()
     ensures { (ops : List Op) (owned : SetBy cap_cmp) (c : Cap) → Reach (Listed ops) (In owned) c ↔ In owned c }
 {}

@@ -22,6 +22,8 @@ pub enum Policy {
 pub enum Body {
     /// Makes the tag of the operation's name.
     MakeTag(Policy),
+    /// Makes the group of the operation's name.
+    MakeGroup,
 }
 
 /// An entry of the tag registry. Ordered by name, then by its bytes.
@@ -62,6 +64,7 @@ impl Body {
     {
         match self {
             Body::MakeTag(_) => 1,
+            Body::MakeGroup => 2,
         }
     }
 }
@@ -73,6 +76,7 @@ impl Op {
     {
         match self.body {
             Body::MakeTag(_) => 9,
+            Body::MakeGroup => 8,
         }
     }
 }
@@ -83,6 +87,7 @@ fn cmp_bodies(a: &Body, b: &Body) -> Ordering
 {
     match (a, b) {
         (Body::MakeTag(p), Body::MakeTag(q)) => p.number().cmp(&q.number()),
+        _ => a.kind().cmp(&b.kind()),
     }
 }
 

@@ -1,5 +1,5 @@
 // Operations from bytes.
-ghost use Rattle.std.specs.Prelude.{◌≡◌, ◌<◌, ◌+◌, ◌^◌, MatchResult, true, false, slice_index, take, drop, length, Some, None, [], ◌∷◌};
+ghost use Rattle.std.specs.Prelude.{◌≡◌, ◌<◌, ◌≤◌, ◌+◌, ◌^◌, MatchResult, true, false, slice_index, take, drop, length, Some, None, [], ◌∷◌};
 ghost use Rattle.fl_ops.specs.Bytes.{kind_byte, body_bytes, name_bytes, policy_byte, op_bytes};
 ghost use Rattle.fl_ops.specs.Grammar.{body_fields, has_byte, has_name, first_fault, op_fault};
 
@@ -47,14 +47,19 @@ fn policy_at(bytes: &[u8], at: usize) -> Result<Policy, OpFault>
     })
 }
 
-// The body of an operation, which follows its name, and where it ends.
-fn body_at(bytes: &[u8]) -> Result<(Body, usize), OpFault>
+// The body of an operation of this kind, which follows its name, and where it ends.
+fn body_at(bytes: &[u8], kind: u8) -> Result<(Body, usize), OpFault>
+    requires low { 1 ≤ kind }
+    requires high { kind ≤ 2 }
     ensures { MatchResult result
-        (λ x. (first_fault (body_fields bytes.now 1 8) ≡ None) × (kind_byte x.0 ≡ 1)
+        (λ x. (first_fault (body_fields bytes.now kind 8) ≡ None) × (kind_byte x.0 ≡ kind)
         × (x.1 ≡ 8 + length (body_bytes x.0)) × (take (length (body_bytes x.0)) (drop 8 bytes.now) ≡ body_bytes x.0))
-        (λ f. first_fault (body_fields bytes.now 1 8) ≡ Some f.place) }
+        (λ f. first_fault (body_fields bytes.now kind 8) ≡ Some f.place) }
 {
-    Ok((Body::MakeTag(policy_at(bytes, 8)?), 9))
+    match kind {
+        1 => Ok((Body::MakeTag(policy_at(bytes, 8)?), 9)),
+        _ => Ok((Body::MakeGroup, 8)),
+    }
 }
 
 /// The operation that begins the bytes, and how many of them it takes; what follows it is not looked at. Where no operation
@@ -65,8 +70,8 @@ pub fn decode(bytes: &[u8]) -> Result<(Op, usize), OpFault>
         (λ f. op_fault bytes.now ≡ Some f.place) }
 {
     byte_at(bytes, 0, 1, 1)?;
-    byte_at(bytes, 1, 1, 1)?;
+    let kind = byte_at(bytes, 1, 1, 2)?;
     let name = name_at(bytes, 2)?;
-    let (body, end) = body_at(bytes)?;
+    let (body, end) = body_at(bytes, kind)?;
     Ok((Op { name, body }, end))
 }

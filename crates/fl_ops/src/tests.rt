@@ -9,10 +9,19 @@ use std::test::Fail;
 
 const EXPORT: [u8; 9] = [1, 1, 0, 1, 0, 0, 0, 1, 1];
 
+const GROUP: [u8; 8] = [1, 2, 0, 1, 0, 0, 0, 2];
+
 fn tag(name: Name, policy: Policy) -> Op {
     Op {
         name,
         body: Body::MakeTag(policy),
+    }
+}
+
+fn group(name: Name) -> Op {
+    Op {
+        name,
+        body: Body::MakeGroup,
     }
 }
 
@@ -42,6 +51,17 @@ fn spells_and_reads(rt: HostRuntime) -> Result<(), Fail> {
 }
 
 #[test]
+fn spells_and_reads_groups(rt: HostRuntime) -> Result<(), Fail> {
+    let op = group(Name { node: 1, seq: 2 });
+    assert_eq!(rt; encode(rt.alloc(), &op)?.as_slice(), GROUP.as_slice());
+    assert_eq!(rt; decode(&GROUP), Ok((op, 8)));
+    assert_eq!(rt; decode(&[1, 2, 0, 1, 0, 0, 0, 2, 1]), Ok((op, 8)));
+    assert_eq!(rt; op.length(), 8);
+    assert_eq!(rt; op.body.kind(), 2);
+    Ok(())
+}
+
+#[test]
 fn refuses_what_is_cut_off(rt: HostRuntime) {
     for (length, place) in [
         (0, 0),
@@ -55,6 +75,9 @@ fn refuses_what_is_cut_off(rt: HostRuntime) {
         (8, 8),
     ] {
         assert_eq!(rt; decode(&EXPORT[..length]), Err(OpFault { place }));
+        if length < GROUP.len() {
+            assert_eq!(rt; decode(&GROUP[..length]), Err(OpFault { place }));
+        }
     }
 }
 
@@ -64,7 +87,7 @@ fn refuses_what_is_out_of_range(rt: HostRuntime) {
         (0, 0, 0),
         (0, 2, 0),
         (1, 0, 1),
-        (1, 2, 1),
+        (1, 3, 1),
         (3, 0, 2),
         (7, 0, 2),
         (8, 0, 8),
@@ -84,6 +107,8 @@ fn orders(rt: HostRuntime) {
     assert!(rt; op < tag(Name { node: 2, seq: 1 }, Policy::Export));
     assert!(rt; op < tag(Name { node: 1, seq: 2 }, Policy::Integrity));
     assert!(rt; op != tag(Name { node: 1, seq: 2 }, Policy::Export));
+    assert!(rt; op < group(Name { node: 1, seq: 2 }));
+    assert!(rt; op > group(Name { node: 1, seq: 1 }));
     law_order();
     law_one_spelling();
     law_registry();

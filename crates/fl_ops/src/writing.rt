@@ -23,6 +23,7 @@ fn push_body(out: &mut Vec<u8>, body: &Body) -> Result<(), AllocError>
 {
     match body {
         Body::MakeTag(policy) => out.push(policy.number())?,
+        Body::MakeGroup => (),
     }
     Ok(())
 }

@@ -1,3 +1,5 @@
 pub mod Partition
 pub mod Names
 pub mod Written
+pub mod MergeLemmas
+pub mod Join

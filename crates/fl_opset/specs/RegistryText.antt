@@ -5,13 +5,14 @@ use Rattle.fl_labels.specs.SetBy.{SetBy, members}
 use Rattle.fl_labels.specs.Text.{name_text}
 use Rattle.fl_ops.specs.PolicyText.{policy_text}
 use Rattle.fl_ops.specs.declared.op.Body.{Body}
-use Rattle.fl_ops.specs.declared.op.Body.TheVariants.{MakeTag}
+use Rattle.fl_ops.specs.declared.op.Body.TheVariants.{MakeTag, MakeGroup}
 use Rattle.fl_ops.specs.declared.op.Op.{Op}
 use Rattle.fl_ops.specs.OpOrder.{op_cmp}
 
--- `tag export`
+-- `tag export`, `group`
 abbrev pub body_text : Body → List ℕ
 body_text (MakeTag p) = codes "tag " ++ policy_text p
+body_text MakeGroup = codes "group"
 
 -- `1.1 tag export`, and a line feed
 abbrev pub op_line : Op → List ℕ

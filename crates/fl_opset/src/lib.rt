@@ -1,6 +1,8 @@
 //! Sets of operations, and their text.
 #![tactic(auto)]
 
+pub mod laws;
+mod merging;
 mod search;
 pub mod set;
 #[cfg(test)]

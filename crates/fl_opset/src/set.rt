@@ -8,6 +8,7 @@ ghost use Rattle.fl_ops.specs.OpOrder.{op_cmp};
 ghost use Rattle.fl_sink.specs.Sink.{Cuts, Passes};
 ghost use Rattle.fl_opset.specs.RegistryText.{registry_text};
 
+use crate::merging::{all_below, merged};
 use crate::search::{has_other, last_seq, place_of};
 use crate::text::write_lines;
 use fl_labels::name::Name;
@@ -116,7 +117,22 @@ impl OpSet {
         }
     }
 
-    /// Puts the text of the members into a sink, a line for each, rising: `1.1 tag export`. Takes no memory but the sink's.
+    /// Adds the members of another set; operations of one name all stay. An error leaves the set.
+    ///
+    /// Where all of the other's are above all members, they are appended, and no member moves. Else both sets are walked once,
+    /// into a new vector.
+    pub fn merge(&mut self, other: &OpSet) -> Result<(), AllocError>
+        ensures ok { OnOk result (self.new ≡ set.union self.old other.now) }
+        ensures err { OnErr result (self.new ≡ self.old) }
+    {
+        if all_below(&self.ops, &other.ops) {
+            return self.ops.extend_from_slice(&other.ops);
+        }
+        self.ops = merged(*self.ops.allocator(), &self.ops, &other.ops)?;
+        Ok(())
+    }
+
+    /// Puts the text of the members into a sink, a line for each, rising: `1.1 tag export`, `1.2 group`. Takes no memory but the sink's.
     ///
     /// At a fault a front of what waited and the text was written, and the sink may not be used again.
     pub fn write_text<W: Write>(&self, sink: &mut Sink, output: &mut W) -> Result<(), WriteFault>

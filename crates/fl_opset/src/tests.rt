@@ -1,4 +1,5 @@
 // Tests of sets of operations.
+use crate::laws::{law_equal_text, law_join};
 use crate::set::OpSet;
 use fl_labels::name::Name;
 use fl_ops::op::{Body, Op, Policy};
@@ -9,6 +10,13 @@ fn tag(name: Name, policy: Policy) -> Op {
     Op {
         name,
         body: Body::MakeTag(policy),
+    }
+}
+
+fn group(name: Name) -> Op {
+    Op {
+        name,
+        body: Body::MakeGroup,
     }
 }
 
@@ -65,6 +73,71 @@ fn two_members_may_have_one_name(rt: HostRuntime) -> Result<(), Fail> {
 }
 
 #[test]
+fn clashing_sets_merge(rt: HostRuntime) -> Result<(), Fail> {
+    let name = Name { node: 1, seq: 1 };
+    let mut tags = OpSet::new(rt.alloc());
+    let mut groups = OpSet::new(rt.alloc());
+    tags.add(tag(name, Policy::Export))?;
+    groups.add(group(name))?;
+    let mut both = OpSet::new(rt.alloc());
+    both.merge(&groups)?;
+    both.merge(&tags)?;
+    tags.merge(&groups)?;
+    for ops in [&tags, &both] {
+        assert_eq!(rt;
+            ops.as_slice(),
+            [tag(name, Policy::Export), group(name)].as_slice()
+        );
+        let mut output = Vec::new(rt.alloc());
+        ops.text(&mut output)?;
+        assert_eq!(rt;
+            output.as_slice(),
+            b"1.1 tag export\n1.1 group\n".as_slice()
+        );
+    }
+    law_join();
+    law_equal_text();
+    Ok(())
+}
+
+#[test]
+fn woven_sets_merge(rt: HostRuntime) -> Result<(), Fail> {
+    let ops = [
+        tag(Name { node: 1, seq: 1 }, Policy::Export),
+        group(Name { node: 1, seq: 2 }),
+        tag(Name { node: 1, seq: 10 }, Policy::Read),
+        group(Name { node: 2, seq: 1 }),
+        tag(Name { node: 3, seq: 1 }, Policy::Integrity),
+        group(Name { node: 3, seq: 2 }),
+    ];
+    for (first, second) in [
+        (0b010101, 0b101010),
+        (0b011011, 0b101110),
+        (0b000111, 0b111000),
+        (0b111111, 0),
+    ] {
+        let mut a = OpSet::new(rt.alloc());
+        let mut b = OpSet::new(rt.alloc());
+        for (k, op) in ops.iter().enumerate() {
+            if first >> k & 1 == 1 {
+                a.add(*op)?;
+            }
+            if second >> k & 1 == 1 {
+                b.add(*op)?;
+            }
+        }
+        let mut c = OpSet::new(rt.alloc());
+        c.merge(&b)?;
+        c.merge(&a)?;
+        a.merge(&b)?;
+        a.merge(&c)?;
+        assert_eq!(rt; c.as_slice(), ops.as_slice());
+        assert_eq!(rt; a.as_slice(), ops.as_slice());
+    }
+    Ok(())
+}
+
+#[test]
 fn writes_its_text(rt: HostRuntime) -> Result<(), Fail> {
     let mut ops = OpSet::new(rt.alloc());
     let mut output = Vec::new(rt.alloc());
@@ -79,8 +152,9 @@ fn writes_its_text(rt: HostRuntime) -> Result<(), Fail> {
     ))?;
     ops.add(tag(Name { node: 1, seq: 1 }, Policy::Export))?;
     ops.add(tag(Name { node: 1, seq: 10 }, Policy::Read))?;
+    ops.add(group(Name { node: 1, seq: 2 }))?;
     ops.text(&mut output)?;
-    let text = b"1.1 tag export\n1.10 tag read\n65535.4294967295 tag integrity\n";
+    let text = b"1.1 tag export\n1.2 group\n1.10 tag read\n65535.4294967295 tag integrity\n";
     assert_eq!(rt; output.as_slice(), text.as_slice());
     output.clear();
     let mut sink = Sink::new(rt.alloc());

@@ -22,6 +22,7 @@ fn write_line<W: Write>(op: &Op, sink: &mut Sink, output: &mut W) -> Result<(), 
             output,
             &[node, b".", seq, b" tag ", policy.text().as_bytes(), b"\n"],
         ),
+        Body::MakeGroup => sink.put_all(output, &[node, b".", seq, b" group\n"]),
     }
 }
 

@@ -1,10 +1,13 @@
 -- Words stand for one value.
-use Rattle.std.proofs.Common.{◌≡◌, ◌<◌, ◌^◌, ◌∙◌, ap, refl, sym, ℕ, arith, rules}
-use Rattle.std.proofs.lemmas.Fmt.{decimal_injective}
+use Rattle.std.proofs.Common.{◌≡◌, ◌<◌, ◌^◌, ◌∙◌, ap, refl, subst, sym, ℕ, codes, arith, rules}
+use Rattle.std.proofs.lemmas.Fmt.{decimal_injective, digits_decimal}
+use Rattle.std.proofs.lemmas.Str.Parse.{digit_from_value}
+use Rattle.std.specs.Str.Parse.{AllDigits}
+use Rattle.fl_labels.specs.ItemText.{own}
 use Rattle.std.specs.declared.result.Result.{Result}
 use Rattle.std.specs.declared.result.Result.TheVariants.{Ok, Err}
 use Rattle.fl_labels.specs.Name.{name_cmp}
-use Rattle.fl_labels.specs.SetBy.{SetBy}
+use Rattle.fl_labels.specs.SetBy.{SetBy, of_list}
 use Rattle.fl_labels.specs.Text.{name_text, pid_text, cap_text}
 use Rattle.fl_labels.specs.declared.pid.Pid.{Pid}
 use Rattle.fl_labels.specs.declared.cap.Cap.{Cap}
@@ -14,26 +17,33 @@ use Rattle.fl_jobs.specs.declared.job.Side.{Side}
 use Rattle.fl_jobs.specs.declared.job.Side.TheVariants.{Secrecy, Integrity as IntegritySide}
 use Rattle.fl_jobs.specs.declared.job.TooLong.{TooLong}
 use Rattle.fl_script.specs.Cut.{Word}
-use Rattle.fl_labels.specs.ItemText.{no_comma-name_text}
-use Rattle.fl_labels.proofs.OneReading as one
+use Rattle.fl_script.proofs.OneText.{pid_text_injective, cap_text_injective, braces_injective}
 use Rattle.fl_labels.specs.Words.{IsNode, IsListing}
 use Rattle.fl_ops.specs.PolicyText.{policy_text}
 use Rattle.fl_script.specs.Words.{side_text, IsLabelWord}
 
 pub same_pid : (p q : Pid) (w : Word) → w ≡ pid_text p → w ≡ pid_text q → p ≡ q
-same_pid p q w s t = one.pid_text_injective p q (sym s ∙ t)
+same_pid p q w s t = pid_text_injective p q (sym s ∙ t)
 
 pub same_cap : (c d : Cap) (w : Word) → w ≡ cap_text c → w ≡ cap_text d → c ≡ d
-same_cap c d w s t = one.cap_text_injective c d (sym s ∙ t)
+same_cap c d w s t = cap_text_injective c d (sym s ∙ t)
 
 same_listing : (a b : SetBy name_cmp) (w : Word) → IsListing name_text a w → IsListing name_text b w → a ≡ b
-same_listing = one.same_listing name_text no_comma-name_text one.name_text_some one.name_text_injective
+same_listing a b w s t = s.same ∙ ap of_list (braces_injective s.items t.items (sym s.spelled ∙ t.spelled)) ∙ sym t.same
 
 pub same_node : (m n : ℕ) (w : Word) → IsNode m w → IsNode n w → m ≡ n
 same_node m n w s t =
     let a : m < 2 ^ 16 = s.in_range in
     let b : n < 2 ^ 16 = t.in_range in
     decimal_injective m n (omega arith) (omega arith) (sym s.written ∙ t.written)
+
+-- no node has the word `union`
+pub no_node : (n : ℕ) (w : Word) → IsNode n w → w ≡ codes "union" → ⊥
+no_node n w s e =
+    let small : n < 2 ^ 16 = s.in_range in
+    let digits : AllDigits 10 (codes "union") = subst (AllDigits 10) (sym s.written ∙ e) (digits_decimal own n (omega arith)) in
+    let first = digit_from_value 117 digits.0 in
+    absurd (omega (arith, first.0))
 
 pub same_policy : (a b : Policy) (w : Word) → w ≡ policy_text a → w ≡ policy_text b → a ≡ b
 same_policy Export Export w s t = refl

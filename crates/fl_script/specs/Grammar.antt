@@ -2,7 +2,7 @@
 use Rattle.std.specs.Prelude.{◌≡◌, ℕ, List, [], ◌∷◌, codes}
 use Rattle.fl_labels.specs.Text.{pid_text, cap_text}
 use Rattle.fl_labels.specs.Words.{IsNode}
-use Rattle.fl_jobs.specs.declared.job.Order.TheVariants.{Tag}
+use Rattle.fl_jobs.specs.declared.job.Order.TheVariants.{Tag, Group}
 use Rattle.fl_jobs.specs.declared.job.Act.TheVariants.{Order as Orders, Relabel, Ask}
 use Rattle.fl_jobs.specs.declared.job.Job.{Job}
 use Rattle.fl_jobs.specs.declared.job.Job.TheVariants.{Proc, By}
@@ -10,7 +10,7 @@ use Rattle.fl_script.specs.Cut.{Word}
 use Rattle.fl_ops.specs.PolicyText.{policy_text}
 use Rattle.fl_script.specs.Words.{side_text, IsLabelWord}
 use Rattle.fl_script.specs.declared.line.Line.{Line}
-use Rattle.fl_script.specs.declared.line.Line.TheVariants.{Job as OfJob, Text}
+use Rattle.fl_script.specs.declared.line.Line.TheVariants.{Job as OfJob, Text, Union}
 
 -- the word is this one
 abbrev pub Is : List ℕ → Word → Type 0
@@ -27,6 +27,7 @@ Matches (p ∷ ps) [] = ⊥
 abbrev pub job_forms : Job → List (Word → Type 0)
 job_forms Proc = Is (codes "proc") ∷ []
 job_forms (By p (Orders (Tag policy))) = Is (codes "tag") ∷ Is (pid_text p) ∷ Is (policy_text policy) ∷ []
+job_forms (By p (Orders Group)) = Is (codes "group") ∷ Is (pid_text p) ∷ []
 job_forms (By p (Relabel side label)) = Is (codes "label") ∷ Is (pid_text p) ∷ Is (side_text side) ∷ IsLabelWord label ∷ []
 job_forms (By p (Ask cap)) = Is (codes "ask") ∷ Is (pid_text p) ∷ Is (cap_text cap) ∷ []
 
@@ -34,6 +35,7 @@ job_forms (By p (Ask cap)) = Is (codes "ask") ∷ Is (pid_text p) ∷ Is (cap_te
 abbrev pub forms : Line → List (Word → Type 0)
 forms (OfJob n job) = IsNode n ∷ job_forms job
 forms (Text n) = IsNode n ∷ Is (codes "text") ∷ []
+forms (Union n m) = Is (codes "union") ∷ IsNode n ∷ IsNode m ∷ []
 
 -- the words after the node spell the job
 abbrev pub SpellsJob : Job → List Word → Type 0
@@ -43,7 +45,8 @@ SpellsJob job words = Matches (job_forms job) words
 abbrev pub Spells : Line → List Word → Type 0
 Spells line words = Matches (forms line) words
 
--- the line's node
-abbrev pub node_of : Line → ℕ
-node_of (OfJob node job) = node
-node_of (Text node) = node
+-- the nodes that the line names, in their order
+abbrev pub nodes_of : Line → List ℕ
+nodes_of (OfJob node job) = node ∷ []
+nodes_of (Text node) = node ∷ []
+nodes_of (Union first second) = first ∷ second ∷ []

@@ -24,6 +24,14 @@ fn tag_job(rest: &[&str]) -> Option<Job>
     Some(Job::By(pid, Act::Order(Order::Tag(policy))))
 }
 
+fn group_job(rest: &[&str]) -> Option<Job>
+    ensures { Finds result (λ j. SpellsJob j (codes "group" ∷ map (λ w. w.now) rest.now)) }
+{
+    let [pid] = rest else { return None };
+    let pid = read_pid(pid)?;
+    Some(Job::By(pid, Act::Order(Order::Group)))
+}
+
 fn label_job(alloc: Global, rest: &[&str]) -> Result<Option<Job>, AllocError>
     ensures { IfOk result (λ r. Finds r (λ j. SpellsJob j (codes "label" ∷ map (λ w. w.now) rest.now))) }
 {
@@ -60,6 +68,7 @@ pub fn job_from_words(alloc: Global, verb: &str, rest: &[&str]) -> Result<Option
     match verb {
         "proc" => Ok(proc_job(rest)),
         "tag" => Ok(tag_job(rest)),
+        "group" => Ok(group_job(rest)),
         "label" => label_job(alloc, rest),
         "ask" => Ok(ask_job(rest)),
         _ => Ok(None),

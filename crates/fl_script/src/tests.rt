@@ -20,6 +20,10 @@ fn each_form(rt: HostRuntime) -> Result<(), Fail> {
             "Job { node: 1, job: By(Pid { node: 1, boot: 1, serial: 1 }, Order(Tag(Integrity))) }",
         ),
         (
+            "2 group p2.1.1",
+            "Job { node: 2, job: By(Pid { node: 2, boot: 1, serial: 1 }, Order(Group)) }",
+        ),
+        (
             "1 label p1.1.1 S {1.4,1.1,1.4}",
             "Job { node: 1, job: By(Pid { node: 1, boot: 1, serial: 1 }, Relabel(Secrecy, Ok(Label { tags: [Name { node: 1, seq: 1 }, Name { node: 1, seq: 4 }] }))) }",
         ),
@@ -32,6 +36,11 @@ fn each_form(rt: HostRuntime) -> Result<(), Fail> {
             "Job { node: 1, job: By(Pid { node: 1, boot: 1, serial: 1 }, Ask(Use(Name { node: 1, seq: 5 }))) }",
         ),
         ("7 text", "Text { node: 7 }"),
+        ("union 2 1", "Union { first: 2, second: 1 }"),
+        (
+            " union  65535 65535",
+            "Union { first: 65535, second: 65535 }",
+        ),
     ] {
         let Reading::Means(read) = read_line(alloc, line.as_bytes())? else {
             assert!(rt; false, "{line}");
@@ -63,12 +72,21 @@ fn no_form(rt: HostRuntime) -> Result<(), Fail> {
         "1 tag p1.01.1 read",
         "1 tag P1.1.1 read",
         "1 tag p1.1.1 read # note",
+        "1 group",
+        "1 group p1.1.1 read",
         "1 label p1.1.1 s {}",
         "1 label p1.1.1 S {1.1",
         "1 label p1.1.1 S {1.1, 1.2}",
         "1 ask p1.1.1 1.5",
         "1 ask p1.1.1 +1.0",
         "1 text 1",
+        "union",
+        "union 1",
+        "union 1 0",
+        "union 1 2 3",
+        "union text",
+        "1 union 2",
+        "Union 1 2",
         "a b c d e f g h i",
     ] {
         assert!(rt;

@@ -41,7 +41,26 @@ pub const LABEL_RANGES: Row = Row {
 pub const READ_TAG_ALONE: Row = Row {
     script: b"1 proc\n1 tag p1.1.1 read\n1 label p1.1.1 I {1.1}\n\
 1 label p1.1.9 S {}\n1 label p1.1.1 S {1.1,1.1}\n1 text\n2 proc\n",
-    output: b"p1.1.1\nok 1.1\nok\nrefused F1 p1.1.9\nok\n1.1 tag read\nrefused F19 7\n",
+    output: b"p1.1.1\nok 1.1\nok\nrefused F1 p1.1.9\nok\n1.1 tag read\np2.1.1\n",
+    status: 0,
+};
+
+pub const UNION_OF_REGISTRIES: Row = Row {
+    script: b"1 proc\n1 tag p1.1.1 export\n2 proc\n2 group p2.1.1\n\
+union 1 2\nunion 2 1\nunion 1 1\n",
+    output: b"p1.1.1\nok 1.1\np2.1.1\nok 2.1\n\
+1.1 tag export\n2.1 group\n1.1 tag export\n2.1 group\n1.1 tag export\n",
+    status: 0,
+};
+
+/// A node knows its own processes and operations alone, and a union changes none.
+pub const NODES_APART: Row = Row {
+    script: b"union 3 3\n2 proc\n2 group p2.1.1\n2 ask p2.1.1 *2.1\n2 ask p2.1.1 ^2.1\n2 ask p2.1.1 +2.1\n\
+1 ask p2.1.1 *2.1\n1 proc\n1 ask p1.1.1 *2.1\nunion 1 2\n1 text\n1 tag p1.1.1 read\n\
+union 0 1\nunion 1\n2 group p2.1.1\n2 text\n",
+    output: b"p2.1.1\nok 2.1\nyes\nyes\nnot-yet\n\
+refused F1 p2.1.1\np1.1.1\nnot-yet\n2.1 group\nok 1.1\n\
+refused F19 13\nrefused F19 14\nok 2.2\n2.1 group\n2.2 group\n",
     status: 1,
 };
 

@@ -1,7 +1,7 @@
 //! Tests of whole runs.
 use crate::rows::{
-    EMPTY_SCRIPT, FIRST_TAG, FORMS_OF_LINES, LABEL_RANGES, LAST_RETURN_STAYS,
-    READ_AND_INTEGRITY_TAGS, READ_TAG_ALONE, Row,
+    EMPTY_SCRIPT, FIRST_TAG, FORMS_OF_LINES, LABEL_RANGES, LAST_RETURN_STAYS, NODES_APART,
+    READ_AND_INTEGRITY_TAGS, READ_TAG_ALONE, Row, UNION_OF_REGISTRIES,
 };
 use crate::streams::{AskingReader, FailingReader, FailingWriter, FlushedWriter};
 use fl_cluster::fault::RunFault;
@@ -98,6 +98,16 @@ fn read_tag_alone(rt: HostRuntime) -> Result<(), Fail> {
 }
 
 #[test]
+fn union_of_registries(rt: HostRuntime) -> Result<(), Fail> {
+    check_row(&rt, &UNION_OF_REGISTRIES)
+}
+
+#[test]
+fn nodes_apart(rt: HostRuntime) -> Result<(), Fail> {
+    check_row(&rt, &NODES_APART)
+}
+
+#[test]
 fn forms_of_lines(rt: HostRuntime) -> Result<(), Fail> {
     check_row(&rt, &FORMS_OF_LINES)
 }
@@ -119,7 +129,7 @@ fn answers_before_it_reads_on(rt: HostRuntime) -> Result<(), Fail> {
             b" p1.1.1 *1.1\r\n",
             b"2 proc\n1 text",
         ],
-        answered: &[0, 7, 7, 18, 26, 40],
+        answered: &[0, 7, 7, 18, 26, 33],
         at: 0,
         flushed: &flushed,
     };
@@ -127,10 +137,10 @@ fn answers_before_it_reads_on(rt: HostRuntime) -> Result<(), Fail> {
         taken: Vec::new(rt.alloc()),
         flushed: &flushed,
     };
-    assert_eq!(rt; run(&rt, &mut input, &mut output)?, 1);
+    assert_eq!(rt; run(&rt, &mut input, &mut output)?, 0);
     assert_eq!(rt;
         output.taken.as_slice(),
-        b"p1.1.1\nok 1.1\nyes\nnot-yet\nrefused F19 6\n1.1 tag read\n".as_slice()
+        b"p1.1.1\nok 1.1\nyes\nnot-yet\np2.1.1\n1.1 tag read\n".as_slice()
     );
     assert_eq!(rt; flushed.get(), output.taken.len());
     Ok(())

@@ -6,7 +6,7 @@ use Rattle.fl_cluster.proofs.NodeLemmas.{remove-insert, next_is_new}
 use Rattle.fl_cluster.proofs.node.Node.order.Goals as goal
 
 pub returns-in_default-clause-ok : goal.returns-in_default-clause-ok
-returns-in_default-clause-ok c = spends c.in_default.ensures
+returns-in_default-clause-ok c = λ state. spends c.in_default.ensures
 
 pub returns-then-is_err-clause-err : goal.returns-then-is_err-clause-err
 returns-then-is_err-clause-err c =
@@ -18,4 +18,4 @@ returns-then-is_err-clause-err c =
 pub returns-clause-ok : goal.returns-clause-ok
 returns-clause-ok c =
     let bench : c.finish.new.self ≡ finished c.self.inside.bench c.args.pid (record { name = c.in-Some.name; body = c.args.body }) = search rules in
-    rw (← c.self.view_is, c.in_ok-add.ensures.ok, bench) (makes (rw (← c.self.view_is) at c.in-Some.ensures))
+    rw (← c.self.view_is, c.in_ok-add.ensures.ok, bench) (λ state. makes (rw (← c.self.view_is) at c.in-Some.ensures))

@@ -7,14 +7,14 @@ use Rattle.fl_cluster.proofs.node.Node.work.Goals as goal
 pub returns-in-Ok-Reply-clause-ok : goal.returns-in-Ok-Reply-clause-ok
 returns-in-Ok-Reply-clause-ok c =
     let registry : c.job.new.view ≡ c.self.inside.registry = same_registry _ _ c.in-Ok-Reply.ensures.same in
-    rw (← c.self.view_is, registry) (replies (rw c.in-Ok-Reply.field-0-is at c.in-Ok-Reply.ensures.does))
+    rw (← c.self.view_is, registry) (λ state. replies (rw c.in-Ok-Reply.field-0-is at c.in-Ok-Reply.ensures.does))
 
 pub returns-in-Ok-Order-clause-ok : goal.returns-in-Ok-Order-clause-ok
 returns-in-Ok-Order-clause-ok c =
     let registry : c.job.new.view ≡ c.self.inside.registry = same_registry _ _ c.in-Ok-Order.ensures.same in
     let does = rw c.in-Ok-Order.field-0-is at c.in-Ok-Order.ensures.does in
     let bench : c.job.new.self ≡ c.self.inside.bench = order_leaves _ _ _ _ _ _ does in
-    rw (← c.self.view_is) (IfOk-weaker c.order.result _ _ (λ response p. orders does p) (rw (registry, bench) at c.order.ensures.ok))
+    rw (← c.self.view_is) (IfOk-weaker c.order.result _ _ (λ response p state. orders does (p state)) (rw (registry, bench) at c.order.ensures.ok))
 
 pub returns-in-Ok-Order-clause-err : goal.returns-in-Ok-Order-clause-err
 returns-in-Ok-Order-clause-err c =
@@ -27,7 +27,7 @@ pub returns-in-Err-clause-ok : goal.returns-in-Err-clause-ok
 returns-in-Err-clause-ok c =
     let registry : c.job.new.view ≡ c.self.inside.registry = same_registry _ _ c.in-Err.ensures.same in
     let bench : c.job.new.self ≡ c.self.inside.bench = refusal_leaves _ _ _ _ _ c.in-Err.ensures.does in
-    rw (← c.self.view_is, registry, bench) (IfOk-weaker c.refused.result _ _ (λ response p. rw p.0 (refuses c.in-Err.ensures.does p.1)) c.refused.ensures.ok)
+    rw (← c.self.view_is, registry, bench) (IfOk-weaker c.refused.result _ _ (λ response p state. rw p.0 (refuses c.in-Err.ensures.does p.1)) c.refused.ensures.ok)
 
 pub returns-in-Err-clause-err : goal.returns-in-Err-clause-err
 returns-in-Err-clause-err c =

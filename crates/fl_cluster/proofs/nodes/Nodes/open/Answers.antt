@@ -1,5 +1,20 @@
-use Rattle.std.proofs.Common.{refl}
+use Rattle.std.proofs.Common.{◌∙◌, sym, ap, not}
+use Rattle.fl_cluster.proofs.NodesTable.{is_open-held, put_node, with_open-closed, with_open-open}
 use Rattle.fl_cluster.proofs.nodes.Nodes.open.Goals as goal
 
+pub returns-then-contains_key-clause-ok : goal.returns-then-contains_key-clause-ok
+returns-then-contains_key-clause-ok c =
+    sym (with_open-open c.args.self.now c.args.number (sym (is_open-held c.self.inside.all.entries c.args.self.now c.args.number c.self.view_is) ∙ sym c.if-contains_key.ensures))
+
+pub returns-then-contains_key-clause-new : goal.returns-then-contains_key-clause-new
+returns-then-contains_key-clause-new c =
+    ap not (c.if-contains_key.ensures ∙ is_open-held c.self.inside.all.entries c.args.self.now c.args.number c.self.view_is)
+
 pub returns-clause-ok : goal.returns-clause-ok
-returns-clause-ok c = record { node = c.act.new.self; acts = rw (c.new-node.ensures, c.node.ensures) at c.in_ok-response.ensures.ok; new_is = refl }
+returns-clause-ok c =
+    put_node c.self.inside.all.entries c.insert.new.self.entries c.args.self.now c.args.number _ c.self.view_is (rw c.new.ensures at c.in_ok-insert.ensures.updates.0)
+    ∙ with_open-closed c.args.self.now c.args.number (sym (is_open-held c.self.inside.all.entries c.args.self.now c.args.number c.self.view_is) ∙ sym c.if-contains_key.ensures)
+
+pub returns-clause-new : goal.returns-clause-new
+returns-clause-new c =
+    ap not (c.if-contains_key.ensures ∙ is_open-held c.self.inside.all.entries c.args.self.now c.args.number c.self.view_is)

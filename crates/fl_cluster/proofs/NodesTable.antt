@@ -1,0 +1,138 @@
+-- Nodes by their numbers.
+use Rattle.std.proofs.Common.{◌≡◌, ◌∙◌, refl, sym, ap, subst, ℕ, List, Option, Some, None, is_some, cond, Bool, true, false, not, ◌||◌, Result}
+use Rattle.std.proofs.lemmas.Result.{IfOk-weaker, on_err_weaker}
+use Rattle.std.specs.BTreeMap.{is_at}
+use Rattle.std.specs.Cmp.{Equal-is}
+use Rattle.std.specs.FinMap as map
+use Rattle.std.specs.FinMap.{nat_cmp-IsAntisymmetric}
+use Rattle.std.specs.Map.{lookup, set_value}
+use Rattle.std.specs.Ordering.{nat_cmp, eq_by_cmp, is_eq}
+use Rattle.std.specs.Prelude.{IfOk, OnErr}
+use Rattle.std.specs.declared.alloc.AllocError.{AllocError}
+use Rattle.std.proofs.lemmas.Cmp.{nat_cmp_total, tied_itself}
+use Rattle.fl_labels.specs.SetBy as set
+use Rattle.fl_ops.specs.OpOrder.{op_cmp}
+use Rattle.fl_ops.specs.OpLaws.{op_total, op_exact}
+use Rattle.fl_jobs.specs.declared.job.Job.{Job}
+use Rattle.fl_monitor.proofs.Table.{get_held, one_gone, one_put, put_same, put_through}
+use Rattle.fl_script.specs.declared.line.Line.TheVariants as line
+use Rattle.fl_cluster.specs.State.{State, NodeState, opened, is_open, node_at, node_or_opened, with_node, with_open}
+use Rattle.fl_cluster.specs.Answer.{shown, text}
+use Rattle.fl_cluster.specs.NodeStep.{Works}
+use Rattle.fl_cluster.specs.Turn.{Answers, works, tells, unites}
+use Rattle.fl_cluster.specs.declared.response.Response.{Response}
+
+abbrev Entries : Type 0
+Entries = List (ℕ × NodeState)
+
+abbrev of_entries : Entries → State
+of_entries es = record { nodes = map.from_entries es }
+
+the_map : (es : Entries) (s : State) → of_entries es ≡ s → map.from_entries es ≡ s.nodes
+the_map es s e = ap (λ (t : State). t.nodes) e
+
+pub held : (es : Entries) (s : State) (n : ℕ) → of_entries es ≡ s → lookup (is_at (nat_cmp n)) es ≡ map.get s.nodes n
+held es s n e = get_held nat_cmp_total nat_cmp-IsAntisymmetric es s.nodes n (the_map es s e)
+
+-- a node was put into the place of its number
+pub put_node : (es fs : Entries) (s : State) (n : ℕ) (x : NodeState) → of_entries es ≡ s → ((q : ℕ) → lookup (is_at (nat_cmp q)) fs ≡ cond (is_at (nat_cmp n) q) (Some x) (lookup (is_at (nat_cmp q)) es)) → of_entries fs ≡ with_node s n x
+put_node es fs s n x e h = ap (λ (m : map.FinMap nat_cmp NodeState). record { nodes = m }) (one_put nat_cmp_total nat_cmp-IsAntisymmetric es fs s.nodes n x (the_map es s e) h)
+
+-- a node that is there was changed
+pub node_through : (es fs : Entries) (s : State) (n : ℕ) (x w : NodeState) → of_entries es ≡ s → lookup (is_at (nat_cmp n)) es ≡ Some x → fs ≡ set_value (is_at (nat_cmp n)) es w → of_entries fs ≡ with_node s n w
+node_through es fs s n x w e there f = ap (λ (m : map.FinMap nat_cmp NodeState). record { nodes = m }) (put_through nat_cmp_total nat_cmp-IsAntisymmetric es fs s.nodes n x w (the_map es s e) there f)
+
+-- and one was taken out
+pub gone_node : (es fs : Entries) (s : State) (n : ℕ) → of_entries es ≡ s → ((q : ℕ) → lookup (is_at (nat_cmp q)) fs ≡ cond (is_at (nat_cmp n) q) None (lookup (is_at (nat_cmp q)) es)) → map.from_entries fs ≡ map.remove s.nodes n
+gone_node es fs s n e h = one_gone nat_cmp_total nat_cmp-IsAntisymmetric es fs s.nodes n (the_map es s e) h
+
+pub node_at-Some : (s : State) (n : ℕ) (x : NodeState) → map.get s.nodes n ≡ Some x → node_at s n ≡ x
+node_at-Some s n x e = ap (node_or_opened n) e
+
+pub node_at-None : (s : State) (n : ℕ) → map.get s.nodes n ≡ None → node_at s n ≡ opened n
+node_at-None s n e = ap (node_or_opened n) e
+
+-- a node that was put is there
+pub node_at-with_node : (s : State) (n : ℕ) (x : NodeState) → node_at (with_node s n x) n ≡ x
+node_at-with_node s n x = ap (node_or_opened n) (map.get-insert nat_cmp_total s.nodes n x n ∙ ap (λ r. cond (is_eq r) (Some x) (map.get s.nodes n)) (tied_itself nat_cmp_total n))
+
+-- to put what is there changes nothing
+pub with_node-same : (s : State) (n : ℕ) (x : NodeState) → map.get s.nodes n ≡ Some x → with_node s n x ≡ s
+with_node-same s n x e = ap (λ (m : map.FinMap nat_cmp NodeState). record { nodes = m }) (put_same nat_cmp_total nat_cmp-IsAntisymmetric s.nodes n x e)
+
+remove-insert : (m : map.FinMap nat_cmp NodeState) (n : ℕ) (x : NodeState) → map.get m n ≡ None → map.remove (map.insert m n x) n ≡ m
+remove-insert m n x e = map.same_map nat_cmp_total nat_cmp-IsAntisymmetric _ _ (λ q.
+    map.get-remove nat_cmp_total (map.insert m n x) n q ∙ ap (cond (eq_by_cmp nat_cmp q n) None) (map.get-insert nat_cmp_total m n x q) ∙ by_place q (eq_by_cmp nat_cmp q n) refl)
+  where
+    by_place : (q : ℕ) (b : Bool) → eq_by_cmp nat_cmp q n ≡ b → cond b None (cond b (Some x) (map.get m q)) ≡ map.get m q
+    by_place q true f = sym e ∙ ap (map.get m) (sym (nat_cmp-IsAntisymmetric q n ((Equal-is (nat_cmp q n)).0 f)))
+    by_place q false f = refl
+
+none_of : {X : Type 0} (o : Option X) → is_some o ≡ false → o ≡ None
+none_of None e = refl
+none_of (Some x) e = absurd (cc)
+
+-- where the node is open, to open it changes nothing
+pub with_open-open : (s : State) (n : ℕ) → is_open s n ≡ true → with_open s n ≡ s
+with_open-open s n e = by_found (map.get s.nodes n) refl e
+  where
+    by_found : (o : Option NodeState) → map.get s.nodes n ≡ o → is_some o ≡ true → with_open s n ≡ s
+    by_found None f e = absurd (cc)
+    by_found (Some x) f e = ap (with_node s n) (node_at-Some s n x f) ∙ with_node-same s n x f
+
+pub node_at-closed : (s : State) (n : ℕ) → is_open s n ≡ false → node_at s n ≡ opened n
+node_at-closed s n e = node_at-None s n (none_of (map.get s.nodes n) e)
+
+-- where it is not, it is there as it opens
+pub with_open-closed : (s : State) (n : ℕ) → is_open s n ≡ false → with_node s n (opened n) ≡ with_open s n
+with_open-closed s n e = ap (with_node s n) (sym (node_at-closed s n e))
+
+-- whether a look at the entries finds the node
+pub is_open-held : (es : Entries) (s : State) (n : ℕ) → of_entries es ≡ s → is_some (lookup (is_at (nat_cmp n)) es) ≡ is_open s n
+is_open-held es s n e = ap is_some (held es s n e)
+
+-- a node that was not open is taken out again
+pub taken_back : (s t u : State) (n : ℕ) (new : Bool) → new ≡ not (is_open s n) → new ≡ true → t ≡ with_open s n → u.nodes ≡ map.remove t.nodes n → u ≡ s
+taken_back s t u n new is was opens closes = ap (λ (m : map.FinMap nat_cmp NodeState). record { nodes = m }) (closes ∙ ap (λ (x : State). map.remove x.nodes n) opens ∙ remove-insert s.nodes n (node_at s n) (none_of (map.get s.nodes n) (closed (is_open s n) (sym is ∙ was))))
+  where
+    closed : (b : Bool) → not b ≡ true → b ≡ false
+    closed true e = absurd (cc)
+    closed false e = refl
+
+-- one that was open is there still
+pub left_open : (s t u : State) (n : ℕ) (new : Bool) → new ≡ not (is_open s n) → new ≡ false → t ≡ with_open s n → u ≡ t → u ≡ s
+left_open s t u n new is was opens same = same ∙ opens ∙ with_open-open s n (unclosed (is_open s n) (sym is ∙ was))
+  where
+    unclosed : (b : Bool) → not b ≡ false → b ≡ true
+    unclosed true e = refl
+    unclosed false e = absurd (cc)
+
+or_false : (b : Bool) → (b || false) ≡ b
+or_false true = refl
+or_false false = refl
+
+pub union-empty : (s : set.SetBy op_cmp) → set.union s set.empty ≡ s
+union-empty s = set.same_set op_total op_exact _ _ (λ q. set.contains-union op_total s set.empty q ∙ ap (λ b. set.contains s q || b) (set.contains-empty op_cmp q) ∙ or_false (set.contains s q))
+
+pub empty-union : (s : set.SetBy op_cmp) → set.union set.empty s ≡ s
+empty-union s = set.same_set op_total op_exact _ _ (λ q. set.contains-union op_total set.empty s q ∙ ap (λ b. b || set.contains s q) (set.contains-empty op_cmp q))
+
+-- a node that is told of is as it was
+pub told : (s new : State) (n : ℕ) → new ≡ with_open s n → Answers s (line.Text n) (text (node_at new n).registry) new
+told s new n e = subst (λ (t : State). Answers s (line.Text n) (text (node_at t n).registry) t) (sym e) (subst (λ (x : NodeState). Answers s (line.Text n) (text x.registry) (with_open s n)) (sym (node_at-with_node s n (node_at s n))) tells)
+
+-- both registries were merged into an empty set
+pub united : (s new : State) (first second : ℕ) (none one both : set.SetBy op_cmp) → none ≡ set.empty → one ≡ set.union none (node_at s first).registry → both ≡ set.union one (node_at s second).registry → new ≡ with_open (with_open s first) second → Answers s (line.Union first second) (text both) new
+united s new first second none one both nothing h k e =
+    let is : set.union (node_at s first).registry (node_at s second).registry ≡ both = sym (k ∙ ap (λ a. set.union a (node_at s second).registry) (h ∙ ap (λ a. set.union a (node_at s first).registry) nothing ∙ empty-union (node_at s first).registry)) in
+    subst (λ (t : State). Answers s (line.Union first second) (text both) t) (sym e) (subst (λ a. Answers s (line.Union first second) (text a) (with_open (with_open s first) second)) is unites)
+
+-- a node did a job
+pub worked_so : (s new : State) (n : ℕ) (job : Job) (node after : NodeState) (response : Response) → node_at s n ≡ node → new ≡ with_node s n after → ((state : State) → Works node job (shown state response) after) → Answers s (line.Job n job) (shown new response) new
+worked_so s new n job node after response here e p = subst (λ (t : State). Answers s (line.Job n job) (shown t response) t) (sym e) (works (subst (λ (x : NodeState). Works x job (shown (with_node s n after) response) after) (sym here) (p (with_node s n after))))
+
+pub worked : (s new : State) (n : ℕ) (job : Job) (node after : NodeState) (result : Result Response AllocError) → node_at s n ≡ node → new ≡ with_node s n after → IfOk result (λ response. (state : State) → Works node job (shown state response) after) → IfOk result (λ response. Answers s (line.Job n job) (shown new response) new)
+worked s new n job node after result here e h = IfOk-weaker result _ _ (λ response. worked_so s new n job node after response here e) h
+
+pub not_worked : (s new : State) (n : ℕ) (node after : NodeState) (result : Result Response AllocError) → map.get s.nodes n ≡ Some node → new ≡ with_node s n after → OnErr result (after ≡ node) → OnErr result (new ≡ s)
+not_worked s new n node after result there e h = on_err_weaker result (λ same. e ∙ ap (with_node s n) same ∙ with_node-same s n node there) h
