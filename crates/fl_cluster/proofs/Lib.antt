@@ -3,7 +3,6 @@ pub mod Rest
 pub mod InterpreterLemmas
 pub mod StreamLemmas
 pub mod ScriptLemmas
-pub mod NodesTable
 pub mod NodeLemmas
 pub mod OneJob
 pub mod OneStep
@@ -11,6 +10,7 @@ pub mod OneTurn
 pub mod Beginnings
 pub mod Puts
 pub mod NodePuts
+pub mod NodesTable
 pub mod Orderly
 pub mod SafeJob
 pub mod SafeTurn

@@ -6,16 +6,17 @@ use Rattle.std.specs.Cmp.{Equal-is}
 use Rattle.std.specs.FinMap as map
 use Rattle.std.specs.FinMap.{nat_cmp-IsAntisymmetric}
 use Rattle.std.specs.Map.{lookup, set_value}
-use Rattle.std.specs.Ordering.{nat_cmp, eq_by_cmp, is_eq}
+use Rattle.std.specs.Ordering.{nat_cmp, eq_by_cmp}
 use Rattle.std.specs.Prelude.{IfOk, OnErr}
 use Rattle.std.specs.declared.alloc.AllocError.{AllocError}
-use Rattle.std.proofs.lemmas.Cmp.{nat_cmp_total, tied_itself}
+use Rattle.std.proofs.lemmas.Cmp.{nat_cmp_total}
 use Rattle.fl_labels.specs.SetBy as set
 use Rattle.fl_ops.specs.OpOrder.{op_cmp}
 use Rattle.fl_ops.specs.OpLaws.{op_total, op_exact}
 use Rattle.fl_jobs.specs.declared.job.Job.{Job}
 use Rattle.fl_monitor.proofs.Table.{get_held, one_gone, one_put, put_same, put_through}
 use Rattle.fl_script.specs.declared.line.Line.TheVariants as line
+use Rattle.fl_cluster.proofs.NodePuts.{node_here}
 use Rattle.fl_cluster.specs.State.{State, NodeState, opened, is_open, node_at, node_or_opened, with_node, with_open}
 use Rattle.fl_cluster.specs.Answer.{shown, text}
 use Rattle.fl_cluster.specs.NodeStep.{Works}
@@ -51,10 +52,6 @@ node_at-Some s n x e = ap (node_or_opened n) e
 
 pub node_at-None : (s : State) (n : ℕ) → map.get s.nodes n ≡ None → node_at s n ≡ opened n
 node_at-None s n e = ap (node_or_opened n) e
-
--- a node that was put is there
-pub node_at-with_node : (s : State) (n : ℕ) (x : NodeState) → node_at (with_node s n x) n ≡ x
-node_at-with_node s n x = ap (node_or_opened n) (map.get-insert nat_cmp_total s.nodes n x n ∙ ap (λ r. cond (is_eq r) (Some x) (map.get s.nodes n)) (tied_itself nat_cmp_total n))
 
 -- to put what is there changes nothing
 pub with_node-same : (s : State) (n : ℕ) (x : NodeState) → map.get s.nodes n ≡ Some x → with_node s n x ≡ s
@@ -119,7 +116,7 @@ empty-union s = set.same_set op_total op_exact _ _ (λ q. set.contains-union op_
 
 -- a node that is told of is as it was
 pub told : (s new : State) (n : ℕ) → new ≡ with_open s n → Answers s (line.Text n) (text (node_at new n).registry) new
-told s new n e = subst (λ (t : State). Answers s (line.Text n) (text (node_at t n).registry) t) (sym e) (subst (λ (x : NodeState). Answers s (line.Text n) (text x.registry) (with_open s n)) (sym (node_at-with_node s n (node_at s n))) tells)
+told s new n e = subst (λ (t : State). Answers s (line.Text n) (text (node_at t n).registry) t) (sym e) (subst (λ (x : NodeState). Answers s (line.Text n) (text x.registry) (with_open s n)) (sym (node_here s n (node_at s n))) tells)
 
 -- both registries were merged into an empty set
 pub united : (s new : State) (first second : ℕ) (none one both : set.SetBy op_cmp) → none ≡ set.empty → one ≡ set.union none (node_at s first).registry → both ≡ set.union one (node_at s second).registry → new ≡ with_open (with_open s first) second → Answers s (line.Union first second) (text both) new

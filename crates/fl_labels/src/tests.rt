@@ -100,7 +100,7 @@ fn process_identifiers(rt: HostRuntime) -> Result<(), Fail> {
         "",
         "p",
         "1.1.1",
-        "P1.1.1",
+        "P7.1.1",
         "p1",
         "p1.1",
         "p1.1.",

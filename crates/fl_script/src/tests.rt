@@ -70,7 +70,7 @@ fn no_form(rt: HostRuntime) -> Result<(), Fail> {
         "1 tag p1.1.1",
         "1 tag p1.1.1 Read",
         "1 tag p1.01.1 read",
-        "1 tag P1.1.1 read",
+        "1 tag P7.1.1 read",
         "1 tag p1.1.1 read # note",
         "1 group",
         "1 group p1.1.1 read",
