@@ -2,6 +2,7 @@
 #![tactic(auto)]
 
 use clap::{ArgMatches, Command};
+use fl_cluster::fault::RunFault;
 use fl_cluster::run::run;
 use std::process::ExitCode;
 use std::{env, io};
@@ -20,30 +21,29 @@ fn parsed<'a>(rt: &HostRuntime, words: &'a [String]) -> Result<ArgMatches<'a>, c
 }
 
 /// Whether the program may run. If not, the parser's text was printed.
-fn may_run(rt: &HostRuntime) -> bool {
-    let Ok(words) = env::args(rt) else {
-        return false;
-    };
-    let words: Vec<String> = match words.collect(rt.alloc()) {
-        Ok(words) => words,
-        Err(_) => return false,
-    };
+fn may_run(rt: &HostRuntime) -> Result<bool, RunFault> {
+    let words = env::args(rt).map_err(|_| RunFault::Memory)?;
+    let words: Vec<String> = words.collect(rt.alloc()).map_err(|_| RunFault::Memory)?;
     match parsed(rt, &words) {
-        Ok(_) => true,
+        Ok(_) => Ok(true),
         Err(error) => {
             let _ = error.print(rt);
-            false
+            Ok(false)
         }
     }
 }
 
-fn main(rt: HostRuntime) -> ExitCode {
-    if !may_run(&rt) {
-        return ExitCode::from(BAD_WORDS);
+fn answered(rt: &HostRuntime) -> Result<u8, RunFault> {
+    if !may_run(rt)? {
+        return Ok(BAD_WORDS);
     }
     let mut input = rt.reader();
-    let mut output = io::writer(&rt);
-    match run(&rt, &mut input, &mut output) {
+    let mut output = io::writer(rt);
+    run(rt, &mut input, &mut output)
+}
+
+fn main(rt: HostRuntime) -> ExitCode {
+    match answered(&rt) {
         Ok(status) => ExitCode::from(status),
         Err(fault) => {
             let _ = eprintln!(rt; "flume-tags: {fault}");
