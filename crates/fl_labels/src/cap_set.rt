@@ -1,5 +1,5 @@
 // Sets of capabilities.
-ghost use Rattle.std.specs.Prelude.{◌≡◌, IfOk, OnOk, OnErr, IsErrOf, IsTrue, ◌↔◌, not};
+ghost use Rattle.std.specs.Prelude.{◌≡◌, IfOk, IfErr, OnOk, OnErr, IsErrOf, IsTrue, ◌↔◌, not};
 ghost use Rattle.fl_labels.specs.Cap.{cap_cmp};
 ghost use Rattle.fl_labels.specs.Found.{Found};
 ghost use Rattle.fl_labels.specs.Text.{cap_text};
@@ -9,6 +9,7 @@ ghost use Rattle.fl_labels.specs.SetBy as set;
 use crate::cap::Cap;
 use crate::error::SetError;
 use crate::list::read_items;
+use crate::roomy::RoomyCapSet;
 use crate::sorted::{arrange, first_outside};
 use std::alloc::{AllocError, Global};
 use std::fmt;
@@ -18,7 +19,7 @@ use std::slice::Iter;
 /// A set of capabilities, kept as a rising vector.
 #[derive(Debug, Drop)]
 pub struct CapSet {
-    caps: Vec<Cap>,
+    pub(crate) caps: Vec<Cap>,
 }
 
 impl Model for CapSet {
@@ -165,5 +166,18 @@ impl CapSet {
     {
         let caps = Vec::from_slice(alloc, &self.caps)?;
         Ok(CapSet { caps })
+    }
+
+    /// The same set with room for two more. An error says that there was not enough memory, and gives the set back.
+    pub fn with_room(self) -> Result<RoomyCapSet, CapSet>
+        ensures ok { IfOk result (λ roomy. roomy ≡ self) }
+        ensures err { IfErr result (λ caps. caps ≡ self) }
+    {
+        let mut caps = self.caps;
+        if caps.reserve(2).is_ok() {
+            Ok(RoomyCapSet { caps })
+        } else {
+            Err(CapSet { caps })
+        }
     }
 }

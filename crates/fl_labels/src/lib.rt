@@ -9,6 +9,7 @@ pub mod laws;
 pub mod list;
 pub mod name;
 pub mod pid;
+pub mod roomy;
 pub mod sorted;
 #[cfg(test)]
 mod tests;

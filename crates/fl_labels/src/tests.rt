@@ -293,3 +293,19 @@ fn sorted_slices(rt: HostRuntime) -> Result<(), Fail> {
     assert_eq!(rt; caps.len(), 1);
     Ok(())
 }
+
+#[test]
+fn caps_with_room(rt: HostRuntime) -> Result<(), Fail> {
+    let alloc = rt.alloc();
+    let tag = Name { node: 1, seq: 2 };
+    let mut owned = CapSet::new(alloc);
+    owned.insert(Cap::Minus(tag))?;
+    let roomy = owned.with_room()?;
+    assert_eq!(rt; roomy.as_slice(), [Cap::Minus(tag)].as_slice());
+    let owned = roomy.with_both(Cap::Use(tag), Cap::Plus(tag));
+    let members = [Cap::Plus(tag), Cap::Minus(tag), Cap::Use(tag)];
+    assert_eq!(rt; owned.as_slice(), members.as_slice());
+    let owned = owned.with_room()?.without_room();
+    assert_eq!(rt; owned.as_slice(), members.as_slice());
+    Ok(())
+}

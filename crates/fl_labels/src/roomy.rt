@@ -1,0 +1,75 @@
+// Sets of capabilities with room for more.
+ghost use Rattle.std.specs.Prelude.{◌≡◌, ◌∷◌, [], ◌+◌, ◌<◌, ◌≤◌};
+ghost use Rattle.std.specs.Vec.{vec_len, vec_capacity};
+ghost use Rattle.std.specs.List.Sorted.{IsStrictlySortedBy};
+ghost use Rattle.fl_labels.specs.Cap.{cap_cmp};
+ghost use Rattle.fl_labels.specs.SetBy as set;
+
+use crate::cap::Cap;
+use crate::cap_set::CapSet;
+use std::marker::Model;
+
+/// A set of capabilities with room for two more, made by `CapSet::with_room`.
+#[derive(Debug, Drop)]
+pub struct RoomyCapSet {
+    pub(crate) caps: Vec<Cap>,
+}
+
+impl Model for RoomyCapSet {
+    ghost use Rattle.std.specs.Prelude.{◌+◌, ◌≤◌};
+    ghost use Rattle.std.specs.Vec.{vec_len, vec_capacity};
+    ghost use Rattle.fl_labels.specs.SetBy as set;
+    ghost use Rattle.fl_labels.specs.Cap.{cap_cmp};
+    ghost use Rattle.fl_labels.specs.CapOrder.{coded_cap};
+    ghost use Rattle.std.specs.List.Sorted.{IsStrictlySortedBy};
+
+    ghost Value = { set.SetBy cap_cmp };
+
+    ghost coded = { set.code coded_cap };
+
+    ghost view = { λ a. set.of_list a.caps.items };
+
+    ghost invariant = { λ a. IsStrictlySortedBy cap_cmp a.caps.items × (vec_len a.caps + 2 ≤ vec_capacity a.caps) };
+}
+
+// Adds a capability in the room that there is.
+fn put(caps: &mut Vec<Cap>, cap: Cap)
+    requires rises { IsStrictlySortedBy cap_cmp caps.old.items }
+    requires room { vec_len caps.old < vec_capacity caps.old }
+    ensures rises { IsStrictlySortedBy cap_cmp caps.new.items }
+    ensures members { set.of_list {R = cap_cmp} caps.new.items ≡ set.insert (set.of_list caps.old.items) cap }
+    ensures len { vec_len caps.new ≤ vec_len caps.old + 1 }
+    ensures capacity { vec_capacity caps.new ≡ vec_capacity caps.old }
+{
+    if let Err(place) = caps.binary_search(&cap) {
+        let Ok(()) = caps.insert(place, cap) else {
+            unreachable!("there is room");
+        };
+    }
+}
+
+impl RoomyCapSet {
+    /// The members, rising.
+    pub fn as_slice(&self) -> &[Cap]
+        ensures { result.now ≡ set.members self.now }
+    {
+        &self.caps
+    }
+
+    /// With both capabilities, in the room that is there: takes no memory. Moves the capabilities above them.
+    pub fn with_both(self, first: Cap, second: Cap) -> CapSet
+        ensures { result ≡ set.insert_all self (first ∷ second ∷ []) }
+    {
+        let mut caps = self.caps;
+        put(&mut caps, second);
+        put(&mut caps, first);
+        CapSet { caps }
+    }
+
+    /// The same set, whose room is no longer kept for anything.
+    pub fn without_room(self) -> CapSet
+        ensures { result ≡ self }
+    {
+        CapSet { caps: self.caps }
+    }
+}
