@@ -7,10 +7,12 @@ use Rattle.std.proofs.lemmas.Bool.{cases_order, lt-ltb, le-ltb, ne_eqb}
 use Rattle.fl_labels.specs.declared.name.Name.{Name}
 use Rattle.fl_labels.specs.Name.{name_cmp}
 use Rattle.fl_labels.specs.NameOrder.{name_exact}
+use Rattle.fl_labels.specs.declared.cap.Cap.{Cap}
+use Rattle.fl_labels.specs.Cap.{cap_name, cap_rank}
 use Rattle.fl_ops.specs.declared.op.Body.{Body}
-use Rattle.fl_ops.specs.declared.op.Body.TheVariants.{MakeTag, MakeGroup}
+use Rattle.fl_ops.specs.declared.op.Body.TheVariants.{MakeTag, MakeGroup, Put}
 use Rattle.fl_ops.specs.declared.op.Op.{Op}
-use Rattle.fl_ops.specs.Bytes.{policy_byte, name_bytes, kind_byte, body_bytes, op_bytes}
+use Rattle.fl_ops.specs.Bytes.{policy_byte, name_bytes, cap_bytes, kind_byte, body_bytes, op_bytes}
 use Rattle.fl_ops.specs.OpOrder.{body_key, op_cmp}
 
 cmp_less : (a b : ℕ) → a < b → nat_cmp a b ≡ Less
@@ -58,6 +60,16 @@ four_bytes a b o h k =
     ∙ sym (then_then (nat_cmp (a / 65536) (b / 65536)) d3 (ordering_then d4 o)) ∙ ap (λ p. ordering_then p (ordering_then d4 o)) (sym middle)
     ∙ sym (then_then (nat_cmp (a / 256) (b / 256)) d4 o) ∙ ap (λ p. ordering_then p o) (sym low)
 
+-- a name's bytes
+name_first : (n m : Name) (u v : List ℕ) → slice_cmp nat_cmp (name_bytes n ++ u) (name_bytes m ++ v) ≡ slice_cmp nat_cmp (n.node ∷ n.seq ∷ u) (m.node ∷ m.seq ∷ v)
+name_first n m u v =
+    two_bytes n.node m.node _ n.node_in_range.1 m.node_in_range.1
+    ∙ ap (ordering_then (nat_cmp n.node m.node)) (four_bytes n.seq m.seq (slice_cmp nat_cmp u v) n.seq_in_range.1 m.seq_in_range.1)
+
+-- a capability's bytes
+cap_first : (c d : Cap) (u v : List ℕ) → slice_cmp nat_cmp (cap_bytes c ++ u) (cap_bytes d ++ v) ≡ slice_cmp nat_cmp (cap_rank c ∷ (cap_name c).node ∷ (cap_name c).seq ∷ u) (cap_rank d ∷ (cap_name d).node ∷ (cap_name d).seq ∷ v)
+cap_first c d u v = ap (ordering_then (nat_cmp (cap_rank c) (cap_rank d))) (name_first (cap_name c) (cap_name d) u v)
+
 same_front : (p u v : List ℕ) → slice_cmp nat_cmp (p ++ u) (p ++ v) ≡ slice_cmp nat_cmp u v
 same_front [] u v = refl
 same_front (x ∷ p) u v = ap (λ o. ordering_then o (slice_cmp nat_cmp (p ++ u) (p ++ v))) (tied_itself nat_cmp_total x) ∙ same_front p u v
@@ -66,8 +78,18 @@ same_front (x ∷ p) u v = ap (λ o. ordering_then o (slice_cmp nat_cmp (p ++ u)
 body_first : (n : Name) (a b : Body) → slice_cmp nat_cmp (kind_byte a ∷ (name_bytes n ++ body_bytes a)) (kind_byte b ∷ (name_bytes n ++ body_bytes b)) ≡ slice_cmp nat_cmp (body_key a) (body_key b)
 body_first n (MakeTag p) (MakeTag q) = same_front (name_bytes n) (policy_byte p ∷ []) (policy_byte q ∷ [])
 body_first n MakeGroup MakeGroup = same_front (name_bytes n) [] []
+body_first n (Put g c) (Put h d) =
+    same_front (name_bytes n) (body_bytes (Put g c)) (body_bytes (Put h d)) ∙ name_first g h (cap_bytes c) (cap_bytes d)
+    ∙ ap (λ o. ordering_then (nat_cmp g.node h.node) (ordering_then (nat_cmp g.seq h.seq) o)) (ends c d)
+  where
+    ends : (c d : Cap) → slice_cmp nat_cmp (cap_bytes c) (cap_bytes d) ≡ slice_cmp nat_cmp (cap_rank c ∷ (cap_name c).node ∷ (cap_name c).seq ∷ []) (cap_rank d ∷ (cap_name d).node ∷ (cap_name d).seq ∷ [])
+    ends c d = cap_first c d [] []
 body_first n (MakeTag p) MakeGroup = refl
+body_first n (MakeTag p) (Put h d) = refl
 body_first n MakeGroup (MakeTag q) = refl
+body_first n MakeGroup (Put h d) = refl
+body_first n (Put g c) (MakeTag q) = refl
+body_first n (Put g c) MakeGroup = refl
 
 -- operations are ordered by name, and then by their bytes
 pub by_bytes : (a b : Op) → op_cmp a b ≡ ordering_then (name_cmp a.name b.name) (slice_cmp nat_cmp (op_bytes a) (op_bytes b))

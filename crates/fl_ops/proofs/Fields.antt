@@ -6,9 +6,11 @@ use Rattle.std.specs.Int.{w16, w32, to_be_bytes, from_be_bytes}
 use Rattle.std.proofs.lemmas.Nat.{be_bytes_2, be_bytes_4}
 use Rattle.std.proofs.lemmas.Bool.{le-leb, lt-ltb, and_parts, leb-true, false≢true}
 use Rattle.fl_labels.specs.declared.name.Name.{Name}
+use Rattle.fl_labels.specs.declared.cap.Cap.{Cap}
 use Rattle.fl_ops.specs.declared.op.Body.{Body}
-use Rattle.fl_ops.specs.Bytes.{name_bytes, kind_byte, body_bytes, op_bytes}
-use Rattle.fl_ops.specs.Grammar.{has_name, has_byte, body_fields, first_fault, op_fault}
+use Rattle.fl_ops.specs.declared.op.Body.TheVariants.{Put}
+use Rattle.fl_ops.specs.Bytes.{name_bytes, cap_bytes, kind_byte, body_bytes, op_bytes}
+use Rattle.fl_ops.specs.Grammar.{has_name, has_byte, body_fields, cap_fields, first_fault, op_fault}
 
 -- each cell is a byte
 abbrev pub IsBytes : List ℕ → Type 0
@@ -54,20 +56,32 @@ name_found bs at field node seq fits within is p q some_node some_seq =
       cells (drop at bs) node seq long (λ i. subst (λ n. n < 256) (sym (get_or-drop at bs i 0)) (fits (at + i))) numbers.0 numbers.1,
     )
 
+-- what `body_at` owes where it answers a put
+pub put_found : (bs : List ℕ) (kind : ℕ) (group : Name) (cap : Cap) → kind ≡ 3
+    → (has_name bs 8 ≡ true) × (take 6 (drop 8 bs) ≡ name_bytes group)
+    → (first_fault (cap_fields bs 14) ≡ None) × (take 7 (drop 14 bs) ≡ cap_bytes cap)
+    → (first_fault (body_fields bs kind 8) ≡ None) × (kind_byte (Put group cap) ≡ kind) × (21 ≡ 8 + length (body_bytes (Put group cap))) × (take 13 (drop 8 bs) ≡ body_bytes (Put group cap))
+put_found bs kind group cap is named held = (
+  rw (is, named.0, held.0) refl,
+  sym is,
+  refl,
+  take-add 6 7 (drop 8 bs) ∙ ap (λ l. take 6 (drop 8 bs) ++ take 7 l) (drop-drop 6 8 bs) ∙ (λ i. named.1 i ++ held.1 i),
+)
+
 one_byte : (x : ℕ) (b : Bool) → (b && (nat_le 1 x && nat_le x 1)) ≡ true → x ≡ 1
 one_byte x b h =
     let parts = and_parts (nat_le 1 x) (nat_le x 1) (and_parts b (nat_le 1 x && nat_le x 1) h).1 in
     omega (arith, leb-true 1 x parts.0, leb-true x 1 parts.1)
 
 -- the two bytes before the name
-front_bytes : (bs : List ℕ) (kind : ℕ) → has_byte bs 0 1 1 ≡ true → has_byte bs 1 1 2 ≡ true → kind ≡ slice_index bs 1 → take 2 bs ≡ 1 ∷ kind ∷ []
+front_bytes : (bs : List ℕ) (kind : ℕ) → has_byte bs 0 1 1 ≡ true → has_byte bs 1 1 3 ≡ true → kind ≡ slice_index bs 1 → take 2 bs ≡ 1 ∷ kind ∷ []
 front_bytes [] kind a b e = absurd (false≢true a)
 front_bytes (x ∷ []) kind a b e = absurd (false≢true b)
 front_bytes (x ∷ y ∷ bs) kind a b e = λ i. one_byte x _ a i ∷ sym e i ∷ []
 
 -- what `decode` owes where it answers an operation
 pub op_found : (bs : List ℕ) (kind : ℕ) (name : Name) (body : Body) (end : ℕ)
-    → has_byte bs 0 1 1 ≡ true → (has_byte bs 1 1 2 ≡ true) × (kind ≡ slice_index bs 1)
+    → has_byte bs 0 1 1 ≡ true → (has_byte bs 1 1 3 ≡ true) × (kind ≡ slice_index bs 1)
     → (has_name bs 2 ≡ true) × (take 6 (drop 2 bs) ≡ name_bytes name)
     → (first_fault (body_fields bs kind 8) ≡ None) × (kind_byte body ≡ kind) × (end ≡ 8 + length (body_bytes body)) × (take (length (body_bytes body)) (drop 8 bs) ≡ body_bytes body)
     → (op_fault bs ≡ None) × (end ≡ length (op_bytes (record { name = name; body = body }))) × (take end bs ≡ op_bytes (record { name = name; body = body }))

@@ -1,5 +1,5 @@
 -- What an operation spells has no fault, and is spelled by no other.
-use Rattle.std.proofs.Common.{◌≡◌, ℕ, ◌+◌, ◌≤◌, Bool, true, ◌&&◌, List, [], ◌∷◌, ◌++◌, length, get_or, take, drop, slice_index, nat_lt, sym, ap, refl, ◌∙◌, lit≤, arith, length-append, None}
+use Rattle.std.proofs.Common.{◌≡◌, ℕ, ◌+◌, ◌≤◌, Bool, true, ◌&&◌, List, [], ◌∷◌, ◌++◌, length, get_or, take, drop, slice_index, nat_lt, sym, ap, refl, ◌∙◌, lit≤, append_assoc, arith, length-append, None}
 use Rattle.std.specs.List.{AllByRecursion}
 use Rattle.std.specs.Int.{w16, w32, to_be_bytes, from_be_bytes}
 use Rattle.std.proofs.lemmas.Nat.{from_be_bytes-to_be_bytes_2, from_be_bytes-to_be_bytes_4}
@@ -7,13 +7,17 @@ use Rattle.std.proofs.lemmas.Bool.{le-leb, lt-ltb}
 use Rattle.std.proofs.lemmas.List.{drop-drop}
 use Rattle.std.proofs.Math.Seq.{drop-append_seam, get_or-append_seam}
 use Rattle.fl_labels.specs.declared.name.Name.{Name}
+use Rattle.fl_labels.specs.declared.cap.Cap.{Cap}
+use Rattle.fl_labels.specs.declared.cap.Cap.TheVariants.{Plus, Minus, Use, Grow}
+use Rattle.fl_labels.specs.Cap.{cap_name, cap_rank}
 use Rattle.fl_labels.specs.NameOrder.{same_name}
 use Rattle.fl_ops.specs.declared.op.Policy.{Policy}
 use Rattle.fl_ops.specs.declared.op.Policy.TheVariants.{Export, Read, Integrity}
 use Rattle.fl_ops.specs.declared.op.Body.{Body}
-use Rattle.fl_ops.specs.declared.op.Body.TheVariants.{MakeTag, MakeGroup}
+use Rattle.fl_ops.specs.declared.op.Body.TheVariants.{MakeTag, MakeGroup, Put}
 use Rattle.fl_ops.specs.declared.op.Op.{Op}
-use Rattle.fl_ops.specs.Bytes.{name_bytes, policy_byte, kind_byte, body_bytes, op_bytes}
+use Rattle.fl_ops.specs.Bytes.{name_bytes, cap_bytes, policy_byte, kind_byte, body_bytes, op_bytes}
+use Rattle.fl_ops.specs.OpLaws.{cap_same}
 use Rattle.fl_ops.specs.Grammar.{op_fields, has_byte, has_name, first_fault, op_fault}
 
 node_back : (n : Name) → from_be_bytes w16 (to_be_bytes w16 n.node) ≡ n.node
@@ -46,16 +50,32 @@ no_faults : (fs : List (ℕ × Bool)) → AllByRecursion (λ f. f.1 ≡ true) fs
 no_faults [] h = refl
 no_faults (f ∷ fs) h = rw h.0 (no_faults fs h.1)
 
+rank_range : (c : Cap) → (1 ≤ cap_rank c) × (cap_rank c ≤ 4)
+rank_range (Plus n) = (lit≤ tt, lit≤ tt)
+rank_range (Minus n) = (lit≤ tt, lit≤ tt)
+rank_range (Use n) = (lit≤ tt, lit≤ tt)
+rank_range (Grow n) = (lit≤ tt, lit≤ tt)
+
 policy_range : (p : Policy) → (1 ≤ policy_byte p) × (policy_byte p ≤ 3)
 policy_range Export = (lit≤ tt, lit≤ tt)
 policy_range Read = (lit≤ tt, lit≤ tt)
 policy_range Integrity = (lit≤ tt, lit≤ tt)
 
+-- a capability in its place
+cap_there : (front : List ℕ) (c : Cap) (rest : List ℕ) → (has_byte (front ++ (cap_bytes c ++ rest)) (length front) 1 4 ≡ true) × (has_name (front ++ (cap_bytes c ++ rest)) (length front + 1) ≡ true)
+cap_there front c rest =
+    let r = rank_range c in (
+      byte_there front (cap_rank c) (name_bytes (cap_name c) ++ rest) 1 4 r.0 r.1,
+      let one : (front ++ cap_rank c ∷ []) ++ (name_bytes (cap_name c) ++ rest) ≡ front ++ (cap_bytes c ++ rest) = append_assoc front (cap_rank c ∷ []) (name_bytes (cap_name c) ++ rest) in
+          let long : length (front ++ cap_rank c ∷ []) ≡ length front + 1 = length-append front (cap_rank c ∷ []) in
+          ap (λ l. has_name l (length front + 1)) (sym one) ∙ ap (has_name ((front ++ cap_rank c ∷ []) ++ (name_bytes (cap_name c) ++ rest))) (sym long) ∙ name_there (front ++ cap_rank c ∷ []) (cap_name c) rest,
+    )
+
 -- the two bytes before the name, and the name
-head_there : (kind : ℕ) (n : Name) (rest : List ℕ) → 1 ≤ kind → kind ≤ 2 →
-    (has_byte (1 ∷ kind ∷ (name_bytes n ++ rest)) 0 1 1 ≡ true) × (has_byte (1 ∷ kind ∷ (name_bytes n ++ rest)) 1 1 2 ≡ true) × (has_name (1 ∷ kind ∷ (name_bytes n ++ rest)) 2 ≡ true)
+head_there : (kind : ℕ) (n : Name) (rest : List ℕ) → 1 ≤ kind → kind ≤ 3 →
+    (has_byte (1 ∷ kind ∷ (name_bytes n ++ rest)) 0 1 1 ≡ true) × (has_byte (1 ∷ kind ∷ (name_bytes n ++ rest)) 1 1 3 ≡ true) × (has_name (1 ∷ kind ∷ (name_bytes n ++ rest)) 2 ≡ true)
 head_there kind n rest low high =
-    (byte_there [] 1 (kind ∷ (name_bytes n ++ rest)) 1 1 (lit≤ tt) (lit≤ tt), byte_there (1 ∷ []) kind (name_bytes n ++ rest) 1 2 low high, name_there (1 ∷ kind ∷ []) n rest)
+    (byte_there [] 1 (kind ∷ (name_bytes n ++ rest)) 1 1 (lit≤ tt) (lit≤ tt), byte_there (1 ∷ []) kind (name_bytes n ++ rest) 1 3 low high, name_there (1 ∷ kind ∷ []) n rest)
 
 -- what an operation spells has no fault
 pub no_fault : (n : Name) (body : Body) (rest : List ℕ) → op_fault (op_bytes (record { name = n; body = body }) ++ rest) ≡ None
@@ -67,6 +87,11 @@ no_fault n (MakeTag p) rest =
 no_fault n MakeGroup rest =
     let h = head_there 2 n rest (lit≤ tt) (lit≤ tt) in
     no_faults (op_fields (op_bytes (record { name = n; body = MakeGroup }) ++ rest) 0) (h.0, (h.1, (h.2, tt)))
+no_fault n (Put g c) rest =
+    let h = head_there 3 n (name_bytes g ++ (cap_bytes c ++ rest)) (lit≤ tt) (lit≤ tt) in
+    let m = name_there (1 ∷ 3 ∷ name_bytes n) g (cap_bytes c ++ rest) in
+    let k = cap_there (1 ∷ 3 ∷ (name_bytes n ++ name_bytes g)) c rest in
+    no_faults (op_fields (op_bytes (record { name = n; body = Put g c }) ++ rest) 0) (h.0, (h.1, (h.2, (m, (k.0, (k.1, tt))))))
 
 -- ---- one operation
 
@@ -78,6 +103,11 @@ name_front n m u v e = (
   ap (drop 6) e,
 )
 
+cap_front : (a b : Cap) (u v : List ℕ) → cap_bytes a ++ u ≡ cap_bytes b ++ v → (a ≡ b) × (u ≡ v)
+cap_front a b u v e =
+    let rest = name_front (cap_name a) (cap_name b) u v (ap (drop 1) e) in
+    (cap_same a b (ap (λ l. get_or l 0 0) e) rest.0, rest.1)
+
 policy_same : (p q : Policy) → policy_byte p ≡ policy_byte q → p ≡ q
 policy_same Export Export e = refl
 policy_same Read Read e = refl
@@ -87,6 +117,10 @@ policy_same p q e = absurd (cc)
 body_front : (a b : Body) (u v : List ℕ) → kind_byte a ≡ kind_byte b → body_bytes a ++ u ≡ body_bytes b ++ v → (a ≡ b) × (u ≡ v)
 body_front (MakeTag p) (MakeTag q) u v k e = (ap MakeTag (policy_same p q (ap (λ l. get_or l 0 0) e)), ap (drop 1) e)
 body_front MakeGroup MakeGroup u v k e = (refl, e)
+body_front (Put g c) (Put h d) u v k e =
+    let first = name_front g h (cap_bytes c ++ u) (cap_bytes d ++ v) e in
+    let second = cap_front c d u v first.1 in
+    (λ x. Put (first.0 x) (second.0 x), second.1)
 body_front a b u v k e = absurd (cc)
 
 -- no spelling begins another

@@ -1,41 +1,49 @@
 -- What is reached through a registry.
-use Rattle.std.proofs.Common.{◌≡◌, ◌↔◌, ◌⊎◌, inl, inr, refl, subst}
-use Rattle.fl_labels.specs.declared.name.Name.{Name}
+use Rattle.std.proofs.Common.{inl, inr, refl, subst}
 use Rattle.fl_labels.specs.declared.cap.Cap.{Cap}
 use Rattle.fl_labels.specs.declared.cap.Cap.TheVariants.{Plus, Minus, Use, Grow}
 use Rattle.fl_labels.specs.Found.{Within}
 use Rattle.fl_ops.specs.declared.op.Op.{Op}
-use Rattle.fl_ops.specs.declared.op.Body.{Body}
-use Rattle.fl_ops.specs.declared.op.Body.TheVariants.{MakeTag, MakeGroup}
-use Rattle.fl_ops.specs.Registry.{Puts, Chain, here, into, Reach, Global, Eff, Dual}
+use Rattle.fl_ops.specs.Registry.{Chain, here, into, Reach, From, IsClosed, Global, Eff, Dual}
 
--- nothing is put into a group
-no_puts : (body : Body) (group : Name) (c : Cap) → ¬ Puts body group c
-no_puts (MakeTag p) group c h = h
-no_puts MakeGroup group c h = h
+-- one chain goes on where another ends
+pub chain_on : {U : Op → Type 0} {a b c : Cap} → Chain U a b → Chain U b c → Chain U a c
+chain_on here on = on
+chain_on (into h puts rest) on = into h puts (chain_on rest on)
 
-chain_alone : {U : Op → Type 0} {a c : Cap} → Chain U a c → a ≡ c
-chain_alone here = refl
-chain_alone (into h puts rest) = absurd (no_puts _ _ _ puts)
+-- what is closed under puts has the end of a chain with its start
+pub chain_kept : {U : Op → Type 0} {P : Cap → Type 0} {a c : Cap} → IsClosed U P → Chain U a c → P a → P c
+chain_kept closed here h = h
+chain_kept closed (into h puts rest) start = chain_kept closed rest (closed.step _ _ _ h puts start)
 
--- a root is reached
-pub root_reached : {U : Op → Type 0} {roots : Cap → Type 0} (c : Cap) → roots c → Reach U roots c
-root_reached c h = (c, h, here)
+module _ {U : Op → Type 0} {roots : Cap → Type 0} where
+  -- a root is reached
+  pub root_reached : Within roots (Reach U roots)
+  root_reached c h = (c, h, here)
 
--- and, with no puts, nothing else
-pub reach_alone : {U : Op → Type 0} {roots : Cap → Type 0} (c : Cap) → Reach U roots c → roots c
-reach_alone {roots} c h = subst roots (chain_alone h.2) h.1
+  -- and what a chain leads to from what is reached
+  pub reach_on : {a c : Cap} → Reach U roots a → Chain U a c → Reach U roots c
+  reach_on h on = (h.0, h.1, chain_on h.2 on)
 
-pub reach_is : {U : Op → Type 0} {roots : Cap → Type 0} (c : Cap) → Reach U roots c ↔ roots c
-reach_is c = (reach_alone c, root_reached c)
+  pub reach_closed : IsClosed U (Reach U roots)
+  reach_closed = record { step = λ op group c h puts used. reach_on used (into h puts here) }
 
--- so what is in effect is what is owned, or everybody's
-pub eff_alone : {U : Op → Type 0} {owned : Cap → Type 0} (c : Cap) → Eff U owned c → owned c ⊎ Global U c
-eff_alone c (inl h) = inl (reach_alone c h)
-eff_alone c (inr h) = inr h
+  -- no more is reached than a closed set with the roots has
+  pub reach_least : {P : Cap → Type 0} → Within roots P → IsClosed U P → Within (Reach U roots) P
+  reach_least rooted closed c h = chain_kept closed h.2 (rooted _ h.1)
 
-pub owned_eff : {U : Op → Type 0} {owned : Cap → Type 0} (c : Cap) → owned c → Eff U owned c
-owned_eff c h = inl (root_reached c h)
+  pub reach_again : Within (Reach U (Reach U roots)) (Reach U roots)
+  reach_again c h = reach_on h.1 h.2
+
+  pub owned_eff : (c : Cap) → roots c → Eff U roots c
+  owned_eff c h = inl (root_reached c h)
+
+-- what is reached from one root is at the end of a chain from it
+pub from_chain : {U : Op → Type 0} {root : Cap} (c : Cap) → Reach U (From root) c → Chain U root c
+from_chain {U} c h = subst (λ a. Chain U a c) h.1 h.2
+
+pub chain_from : {U : Op → Type 0} {root : Cap} (c : Cap) → Chain U root c → Reach U (From root) c
+chain_from {root} c h = (root, refl, h)
 
 -- more operations and more roots reach no less
 module _ {U V : Op → Type 0} (more : Within U V) where

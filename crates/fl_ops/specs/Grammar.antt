@@ -16,17 +16,22 @@ abbrev pub has_name : List ℕ → ℕ → Bool
 has_name bytes at = nat_le (at + 6) (length bytes)
     && (nat_lt 0 (from_be_bytes w16 (take 2 (drop at bytes))) && nat_lt 0 (from_be_bytes w32 (take 4 (drop (at + 2) bytes))))
 
--- what follows the name, by the kind: the policy of a tag, and nothing for a group
+-- a capability: its kind, and its name
+abbrev pub cap_fields : List ℕ → ℕ → List (ℕ × Bool)
+cap_fields bytes at = (at, has_byte bytes at 1 4) ∷ (at + 1, has_name bytes (at + 1)) ∷ []
+
+-- what follows the name, by the kind: the policy of a tag, nothing for a group, and the group and the capability of a put
 abbrev pub body_fields : List ℕ → ℕ → ℕ → List (ℕ × Bool)
 body_fields bytes kind at =
     if kind == 1 then (at, has_byte bytes at 1 3) ∷ []
-    else []
+    else (if kind == 2 then []
+    else ((at, has_name bytes at) ∷ cap_fields bytes (at + 6)))
 
 -- those of an operation that begins at a place
 abbrev pub op_fields : List ℕ → ℕ → List (ℕ × Bool)
 op_fields bytes at =
     (at, has_byte bytes at 1 1)
-    ∷ (at + 1, has_byte bytes (at + 1) 1 2)
+    ∷ (at + 1, has_byte bytes (at + 1) 1 3)
     ∷ (at + 2, has_name bytes (at + 2))
     ∷ body_fields bytes (slice_index bytes (at + 1)) (at + 8)
 

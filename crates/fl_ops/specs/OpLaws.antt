@@ -8,12 +8,15 @@ use Rattle.std.specs.declared.cmp.Ordering.{Ordering}
 use Rattle.std.specs.declared.cmp.Ordering.TheVariants.{Less, Equal, Greater}
 use Rattle.std.specs.Coded.{Coded}
 use Rattle.std.proofs.lemmas.Cmp.{then_total, on_total, nat_list_cmp_total}
-use Rattle.fl_labels.specs.NameOrder.{name_total, name_exact}
+use Rattle.fl_labels.specs.declared.cap.Cap.{Cap}
+use Rattle.fl_labels.specs.declared.cap.Cap.TheVariants.{Plus, Minus, Use, Grow}
+use Rattle.fl_labels.specs.Cap.{cap_name, cap_rank}
+use Rattle.fl_labels.specs.NameOrder.{name_total, name_exact, same_name}
 use Rattle.fl_ops.specs.contracts.op.Op as ops_row
 use Rattle.fl_ops.specs.declared.op.Policy.{Policy}
 use Rattle.fl_ops.specs.declared.op.Policy.TheVariants.{Export, Read, Integrity}
 use Rattle.fl_ops.specs.declared.op.Body.{Body}
-use Rattle.fl_ops.specs.declared.op.Body.TheVariants.{MakeTag, MakeGroup}
+use Rattle.fl_ops.specs.declared.op.Body.TheVariants.{MakeTag, MakeGroup, Put}
 use Rattle.fl_ops.specs.declared.op.Op.{Op}
 use Rattle.fl_ops.specs.Bytes.{policy_byte}
 use Rattle.fl_ops.specs.OpOrder.{body_key, op_cmp}
@@ -23,6 +26,14 @@ coded_op = (ops_row.the_row).coded
 
 pub op_total : IsTotalOrder op_cmp
 op_total = then_total (on_total (λ o. o.name) name_total) (on_total (λ o. body_key o.body) nat_list_cmp_total)
+
+-- capabilities of one kind and one name are equal
+pub cap_same : (a b : Cap) → cap_rank a ≡ cap_rank b → cap_name a ≡ cap_name b → a ≡ b
+cap_same (Plus a) (Plus b) e k = ap Plus k
+cap_same (Minus a) (Minus b) e k = ap Minus k
+cap_same (Use a) (Use b) e k = ap Use k
+cap_same (Grow a) (Grow b) e k = ap Grow k
+cap_same a b e k = absurd (cc)
 
 policy_same : (p q : Policy) → policy_byte p ≡ policy_byte q → p ≡ q
 policy_same Export Export e = refl
@@ -37,6 +48,10 @@ body_same : (a b : Body) → body_key a ≡ body_key b → a ≡ b
 unfolding at
 body_same (MakeTag p) (MakeTag q) e = ap MakeTag (policy_same p q (ap (at 1) e))
 body_same MakeGroup MakeGroup e = refl
+body_same (Put g c) (Put h d) e =
+    let group = same_name g h (ap (at 1) e) (ap (at 2) e) in
+    let cap = cap_same c d (ap (at 3) e) (same_name (cap_name c) (cap_name d) (ap (at 4) e) (ap (at 5) e)) in
+    λ i. Put (group i) (cap i)
 body_same a b e = absurd (cc)
 
 level : (o p : Ordering) → ordering_then o p ≡ Equal → (o ≡ Equal) × (p ≡ Equal)

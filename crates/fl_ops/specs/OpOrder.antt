@@ -4,8 +4,9 @@ use Rattle.std.specs.declared.cmp.Ordering.{Ordering}
 use Rattle.std.specs.Ordering.{nat_cmp, ordering_then}
 use Rattle.std.specs.Cmp.Lexicographic.{slice_cmp}
 use Rattle.fl_labels.specs.Name.{name_cmp}
+use Rattle.fl_labels.specs.Cap.{cap_name, cap_rank}
 use Rattle.fl_ops.specs.declared.op.Body.{Body}
-use Rattle.fl_ops.specs.declared.op.Body.TheVariants.{MakeTag, MakeGroup}
+use Rattle.fl_ops.specs.declared.op.Body.TheVariants.{MakeTag, MakeGroup, Put}
 use Rattle.fl_ops.specs.declared.op.Op.{Op}
 use Rattle.fl_ops.specs.Bytes.{policy_byte}
 
@@ -13,6 +14,7 @@ use Rattle.fl_ops.specs.Bytes.{policy_byte}
 abbrev pub body_key : Body → List ℕ
 body_key (MakeTag p) = 1 ∷ policy_byte p ∷ []
 body_key MakeGroup = 2 ∷ []
+body_key (Put g c) = 3 ∷ g.node ∷ g.seq ∷ cap_rank c ∷ (cap_name c).node ∷ (cap_name c).seq ∷ []
 
 -- by name, and then as their bytes are
 abbrev pub op_cmp : Op → Op → Ordering

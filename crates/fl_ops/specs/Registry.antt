@@ -1,13 +1,13 @@
 -- Registries, and what they give to those who own capabilities. A registry is a set of operations, said as a predicate: the members of
 -- a finite set, the items of a list and a union of both are then all registries.
-use Rattle.std.specs.Prelude.{◌⊎◌, List}
+use Rattle.std.specs.Prelude.{◌≡◌, ◌⊎◌, List, Bool, true}
 use Rattle.std.specs.List.{Contains}
 use Rattle.fl_labels.specs.declared.name.Name.{Name}
 use Rattle.fl_labels.specs.declared.cap.Cap.{Cap}
 use Rattle.fl_labels.specs.declared.cap.Cap.TheVariants.{Plus, Minus, Use, Grow}
 use Rattle.fl_ops.specs.declared.op.Op.{Op}
 use Rattle.fl_ops.specs.declared.op.Body.{Body}
-use Rattle.fl_ops.specs.declared.op.Body.TheVariants.{MakeTag, MakeGroup}
+use Rattle.fl_ops.specs.declared.op.Body.TheVariants.{MakeTag, MakeGroup, Put}
 use Rattle.fl_ops.specs.declared.op.Policy.{Policy}
 use Rattle.fl_ops.specs.declared.op.Policy.TheVariants.{Export, Integrity}
 
@@ -15,10 +15,11 @@ use Rattle.fl_ops.specs.declared.op.Policy.TheVariants.{Export, Integrity}
 abbrev pub tag_op : Name → Policy → Op
 tag_op tag policy = record { name = tag; body = MakeTag policy }
 
--- the operation puts c into the group; one that makes a tag or a group puts nothing
+-- the operation puts c into the group
 abbrev pub Puts : Body → Name → Cap → Type 0
 Puts (MakeTag policy) group c = ⊥
 Puts MakeGroup group c = ⊥
+Puts (Put into what) group c = (into ≡ group) × (what ≡ c)
 
 -- A chain leads from the first capability to the last: each but the last is the use of a group into which the registry puts the next one.
 pub data Chain (U : Op → Type 0) : Cap → Cap → Type 0 where
@@ -28,6 +29,18 @@ pub data Chain (U : Op → Type 0) : Cap → Cap → Type 0 where
 -- a chain leads to c from some root
 abbrev pub Reach : (Op → Type 0) → (Cap → Type 0) → Cap → Type 0
 Reach U roots c = (a : Cap) × roots a × Chain U a c
+
+-- the root alone
+abbrev pub From : Cap → Cap → Type 0
+From root c = c ≡ root
+
+-- those that a test tells
+abbrev pub Among : (Cap → Bool) → Cap → Type 0
+Among chosen c = chosen c ≡ true
+
+-- with the use of a group, all that the registry puts into the group
+pub record IsClosed (U : Op → Type 0) (P : Cap → Type 0) : Type 0 where
+  pub step : (op : Op) (group : Name) (c : Cap) → U op → Puts op.body group c → P (Use group) → P c
 
 -- everybody may add an export tag, and remove an integrity tag
 abbrev pub Global : (Op → Type 0) → Cap → Type 0

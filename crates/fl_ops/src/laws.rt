@@ -1,16 +1,15 @@
 // Laws of operations, their bytes and registries.
-ghost use Rattle.std.specs.Prelude.{◌≡◌, ◌++◌, ◌↔◌, List, ℕ, None};
+ghost use Rattle.std.specs.Prelude.{◌≡◌, ◌++◌, List, ℕ, Bool, None};
 ghost use Rattle.std.specs.Ordering.{nat_cmp, ordering_then};
 ghost use Rattle.std.specs.Cmp.Lexicographic.{slice_cmp};
 ghost use Rattle.fl_labels.specs.declared.cap.Cap.{Cap};
-ghost use Rattle.fl_labels.specs.Cap.{cap_cmp};
 ghost use Rattle.fl_labels.specs.Name.{name_cmp};
-ghost use Rattle.fl_labels.specs.SetBy.{SetBy, In};
+ghost use Rattle.fl_labels.specs.Found.{Within};
 ghost use Rattle.fl_ops.specs.declared.op.Op.{Op};
 ghost use Rattle.fl_ops.specs.Bytes.{op_bytes};
 ghost use Rattle.fl_ops.specs.Grammar.{op_fault};
 ghost use Rattle.fl_ops.specs.OpOrder.{op_cmp};
-ghost use Rattle.fl_ops.specs.Registry.{Listed, Reach};
+ghost use Rattle.fl_ops.specs.Registry.{Listed, Among, IsClosed, Reach};
 
 /// Operations are ordered by name, and then by their bytes.
 pub fn law_order()
@@ -23,7 +22,14 @@ pub fn law_one_spelling()
     ensures one { (a b : Op) (x y : List ℕ) → op_bytes a ++ x ≡ op_bytes b ++ y → (a ≡ b) × (x ≡ y) }
 {}
 
-/// As no operation puts a capability into a group, what is reached from capabilities is these.
-pub fn law_registry()
-    ensures { (ops : List Op) (owned : SetBy cap_cmp) (c : Cap) → Reach (Listed ops) (In owned) c ↔ In owned c }
+/// What is reached through a registry is the least set that holds what is owned and, with the use of a group, all that the
+/// registry puts into the group. So more operations and more that is owned reach no less, and what is reached reaches no more.
+pub fn law_reach()
+    ensures roots { (ops : List Op) (owned : Cap → Bool) → Within (Among owned) (Reach (Listed ops) (Among owned)) }
+    ensures closed { (ops : List Op) (owned : Cap → Bool) → IsClosed (Listed ops) (Reach (Listed ops) (Among owned)) }
+    ensures least { (ops : List Op) (owned kept : Cap → Bool) → Within (Among owned) (Among kept) → IsClosed (Listed ops) (Among kept)
+        → Within (Reach (Listed ops) (Among owned)) (Among kept) }
+    ensures grows { (ops more : List Op) (owned held : Cap → Bool) → Within (Listed ops) (Listed more) → Within (Among owned) (Among held)
+        → Within (Reach (Listed ops) (Among owned)) (Reach (Listed more) (Among held)) }
+    ensures composes { (ops : List Op) (owned : Cap → Bool) → Within (Reach (Listed ops) (Reach (Listed ops) (Among owned))) (Reach (Listed ops) (Among owned)) }
 {}

@@ -1,12 +1,15 @@
 // Operations and their order.
 ghost use Rattle.std.specs.Prelude.{◌≡◌, refl, length};
-ghost use Rattle.std.specs.Ordering.{nat_cmp, as_partial_cmp, eq_by_cmp};
+ghost use Rattle.std.specs.Ordering.{nat_cmp, ordering_then, as_partial_cmp, eq_by_cmp};
 ghost use Rattle.std.specs.Cmp.Lexicographic.{slice_cmp};
+ghost use Rattle.fl_labels.specs.Cap.{cap_name, cap_rank};
+ghost use Rattle.fl_labels.specs.Name.{name_cmp};
 ghost use Rattle.fl_ops.specs.Bytes.{policy_byte, kind_byte, op_bytes};
 ghost use Rattle.fl_ops.specs.PolicyText.{policy_text};
 ghost use Rattle.fl_ops.specs.OpOrder.{body_key, op_cmp};
 
-use fl_labels::name::Name;
+use fl_labels::cap::Cap;
+use fl_labels::name::{Group, Name};
 use std::cmp::Ordering;
 
 /// Which capability of a new tag everyone gets: to add it, none, or to remove it.
@@ -24,6 +27,8 @@ pub enum Body {
     MakeTag(Policy),
     /// Makes the group of the operation's name.
     MakeGroup,
+    /// Puts the capability into the group: who may use the group has it.
+    Put(Group, Cap),
 }
 
 /// An entry of the tag registry. Ordered by name, then by its bytes.
@@ -65,6 +70,7 @@ impl Body {
         match self {
             Body::MakeTag(_) => 1,
             Body::MakeGroup => 2,
+            Body::Put(_, _) => 3,
         }
     }
 }
@@ -77,8 +83,16 @@ impl Op {
         match self.body {
             Body::MakeTag(_) => 9,
             Body::MakeGroup => 8,
+            Body::Put(_, _) => 21,
         }
     }
+}
+
+// As the bytes of the capabilities: by kind, and then by name.
+fn cmp_caps(a: Cap, b: Cap) -> Ordering
+    ensures { result ≡ ordering_then (nat_cmp (cap_rank a) (cap_rank b)) (name_cmp (cap_name a) (cap_name b)) }
+{
+    a.rank().cmp(&b.rank()).then(a.name().cmp(&b.name()))
 }
 
 // As the bytes of the bodies.
@@ -87,6 +101,7 @@ fn cmp_bodies(a: &Body, b: &Body) -> Ordering
 {
     match (a, b) {
         (Body::MakeTag(p), Body::MakeTag(q)) => p.number().cmp(&q.number()),
+        (Body::Put(g, c), Body::Put(h, d)) => g.cmp(h).then(cmp_caps(*c, *d)),
         _ => a.kind().cmp(&b.kind()),
     }
 }

@@ -1,10 +1,11 @@
 // Operations from bytes.
 ghost use Rattle.std.specs.Prelude.{◌≡◌, ◌<◌, ◌≤◌, ◌+◌, ◌^◌, MatchResult, true, false, slice_index, take, drop, length, Some, None, [], ◌∷◌};
-ghost use Rattle.fl_ops.specs.Bytes.{kind_byte, body_bytes, name_bytes, policy_byte, op_bytes};
-ghost use Rattle.fl_ops.specs.Grammar.{body_fields, has_byte, has_name, first_fault, op_fault};
+ghost use Rattle.fl_ops.specs.Bytes.{kind_byte, body_bytes, name_bytes, cap_bytes, policy_byte, op_bytes};
+ghost use Rattle.fl_ops.specs.Grammar.{body_fields, cap_fields, has_byte, has_name, first_fault, op_fault};
 
 use crate::fault::OpFault;
 use crate::op::{Body, Op, Policy};
+use fl_labels::cap::Cap;
 use fl_labels::name::Name;
 
 fn byte_at(bytes: &[u8], at: usize, low: u8, high: u8) -> Result<u8, OpFault>
@@ -35,6 +36,22 @@ fn name_at(bytes: &[u8], at: usize) -> Result<Name, OpFault>
     Ok(Name { node, seq })
 }
 
+fn cap_at(bytes: &[u8], at: usize) -> Result<Cap, OpFault>
+    requires { at < 2 ^ 31 }
+    ensures { MatchResult result
+        (λ c. (first_fault (cap_fields bytes.now at) ≡ None) × (take 7 (drop at bytes.now) ≡ cap_bytes c))
+        (λ f. first_fault (cap_fields bytes.now at) ≡ Some f.place) }
+{
+    let kind = byte_at(bytes, at, 1, 4)?;
+    let name = name_at(bytes, at + 1)?;
+    Ok(match kind {
+        1 => Cap::Plus(name),
+        2 => Cap::Minus(name),
+        3 => Cap::Use(name),
+        _ => Cap::Grow(name),
+    })
+}
+
 fn policy_at(bytes: &[u8], at: usize) -> Result<Policy, OpFault>
     ensures { MatchResult result
         (λ p. (has_byte bytes.now at 1 3 ≡ true) × (take 1 (drop at bytes.now) ≡ policy_byte p ∷ []))
@@ -50,7 +67,7 @@ fn policy_at(bytes: &[u8], at: usize) -> Result<Policy, OpFault>
 // The body of an operation of this kind, which follows its name, and where it ends.
 fn body_at(bytes: &[u8], kind: u8) -> Result<(Body, usize), OpFault>
     requires low { 1 ≤ kind }
-    requires high { kind ≤ 2 }
+    requires high { kind ≤ 3 }
     ensures { MatchResult result
         (λ x. (first_fault (body_fields bytes.now kind 8) ≡ None) × (kind_byte x.0 ≡ kind)
         × (x.1 ≡ 8 + length (body_bytes x.0)) × (take (length (body_bytes x.0)) (drop 8 bytes.now) ≡ body_bytes x.0))
@@ -58,7 +75,8 @@ fn body_at(bytes: &[u8], kind: u8) -> Result<(Body, usize), OpFault>
 {
     match kind {
         1 => Ok((Body::MakeTag(policy_at(bytes, 8)?), 9)),
-        _ => Ok((Body::MakeGroup, 8)),
+        2 => Ok((Body::MakeGroup, 8)),
+        _ => Ok((Body::Put(name_at(bytes, 8)?, cap_at(bytes, 14)?), 21)),
     }
 }
 
@@ -70,7 +88,7 @@ pub fn decode(bytes: &[u8]) -> Result<(Op, usize), OpFault>
         (λ f. op_fault bytes.now ≡ Some f.place) }
 {
     byte_at(bytes, 0, 1, 1)?;
-    let kind = byte_at(bytes, 1, 1, 2)?;
+    let kind = byte_at(bytes, 1, 1, 3)?;
     let name = name_at(bytes, 2)?;
     let (body, end) = body_at(bytes, kind)?;
     Ok((Op { name, body }, end))

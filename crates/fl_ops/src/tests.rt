@@ -1,15 +1,20 @@
 // Tests of operations and their bytes.
 use crate::fault::OpFault;
-use crate::laws::{law_one_spelling, law_order, law_registry};
+use crate::laws::{law_one_spelling, law_order, law_reach};
 use crate::op::{Body, Op, Policy};
 use crate::reading::decode;
 use crate::writing::{encode, push_op};
-use fl_labels::name::Name;
+use fl_labels::cap::Cap;
+use fl_labels::name::{Group, Name};
 use std::test::Fail;
 
 const EXPORT: [u8; 9] = [1, 1, 0, 1, 0, 0, 0, 1, 1];
 
 const GROUP: [u8; 8] = [1, 2, 0, 1, 0, 0, 0, 2];
+
+const PUT: [u8; 21] = [
+    1, 3, 0, 1, 0, 0, 0, 6, 0, 1, 0, 0, 0, 4, 3, 0, 1, 0, 0, 0, 5,
+];
 
 fn tag(name: Name, policy: Policy) -> Op {
     Op {
@@ -22,6 +27,13 @@ fn group(name: Name) -> Op {
     Op {
         name,
         body: Body::MakeGroup,
+    }
+}
+
+fn put(name: Name, into: Group, cap: Cap) -> Op {
+    Op {
+        name,
+        body: Body::Put(into, cap),
     }
 }
 
@@ -62,6 +74,65 @@ fn spells_and_reads_groups(rt: HostRuntime) -> Result<(), Fail> {
 }
 
 #[test]
+fn spells_and_reads_puts(rt: HostRuntime) -> Result<(), Fail> {
+    let name = Name { node: 1, seq: 6 };
+    let into = Name { node: 1, seq: 4 };
+    let what = Name { node: 1, seq: 5 };
+    let op = put(name, into, Cap::Use(what));
+    assert_eq!(rt; encode(rt.alloc(), &op)?.as_slice(), PUT.as_slice());
+    assert_eq!(rt; op.length(), 21);
+    assert_eq!(rt; op.body.kind(), 3);
+    for (kind, cap) in [
+        (1, Cap::Plus(what)),
+        (2, Cap::Minus(what)),
+        (3, Cap::Use(what)),
+        (4, Cap::Grow(what)),
+    ] {
+        let op = put(name, into, cap);
+        let mut bytes = PUT;
+        bytes[14] = kind;
+        assert_eq!(rt; encode(rt.alloc(), &op)?.as_slice(), bytes.as_slice());
+        assert_eq!(rt; decode(&bytes), Ok((op, 21)));
+    }
+    Ok(())
+}
+
+#[test]
+fn refuses_puts_that_are_cut_off(rt: HostRuntime) {
+    for length in 0..PUT.len() {
+        let place = match length {
+            0 | 1 => length,
+            2..=7 => 2,
+            8..=13 => 8,
+            14 => 14,
+            _ => 15,
+        };
+        assert_eq!(rt; decode(&PUT[..length]), Err(OpFault { place }));
+    }
+}
+
+#[test]
+fn refuses_puts_that_are_out_of_range(rt: HostRuntime) {
+    for (place, byte, fault) in [(0, 2, 0), (1, 0, 1), (1, 4, 1), (3, 0, 2), (7, 0, 2)] {
+        let mut bytes = PUT;
+        bytes[place] = byte;
+        assert_eq!(rt; decode(&bytes), Err(OpFault { place: fault }));
+    }
+    for (place, byte, fault) in [
+        (9, 0, 8),
+        (13, 0, 8),
+        (14, 0, 14),
+        (14, 5, 14),
+        (16, 0, 15),
+        (20, 0, 15),
+    ] {
+        let mut bytes = PUT;
+        bytes[place] = byte;
+        assert_eq!(rt; decode(&bytes), Err(OpFault { place: fault }));
+    }
+}
+
+#[test]
 fn refuses_what_is_cut_off(rt: HostRuntime) {
     for (length, place) in [
         (0, 0),
@@ -87,7 +158,7 @@ fn refuses_what_is_out_of_range(rt: HostRuntime) {
         (0, 0, 0),
         (0, 2, 0),
         (1, 0, 1),
-        (1, 3, 1),
+        (1, 4, 1),
         (3, 0, 2),
         (7, 0, 2),
         (8, 0, 8),
@@ -109,7 +180,28 @@ fn orders(rt: HostRuntime) {
     assert!(rt; op != tag(Name { node: 1, seq: 2 }, Policy::Export));
     assert!(rt; op < group(Name { node: 1, seq: 2 }));
     assert!(rt; op > group(Name { node: 1, seq: 1 }));
+}
+
+#[test]
+fn orders_puts(rt: HostRuntime) {
+    let one = Name { node: 1, seq: 1 };
+    let two = Name { node: 1, seq: 2 };
+    let op = put(two, one, Cap::Minus(two));
+    assert!(rt; op == op);
+    assert!(rt; op > tag(two, Policy::Integrity));
+    assert!(rt; op > group(two));
+    assert!(rt; op < tag(Name { node: 1, seq: 3 }, Policy::Export));
+    assert!(rt; op < put(two, two, Cap::Plus(one)));
+    assert!(rt; op < put(two, one, Cap::Use(one)));
+    assert!(rt; op > put(two, one, Cap::Plus(Name { node: 9, seq: 9 })));
+    assert!(rt; op > put(two, one, Cap::Minus(one)));
+    assert!(rt; op < put(two, one, Cap::Minus(Name { node: 2, seq: 1 })));
+    assert!(rt; op != put(two, one, Cap::Grow(two)));
+}
+
+#[test]
+fn has_laws(_rt: HostRuntime) {
     law_order();
     law_one_spelling();
-    law_registry();
+    law_reach();
 }

@@ -1,9 +1,10 @@
 // Operations to bytes.
 ghost use Rattle.std.specs.Prelude.{◌≡◌, ◌+◌, ◌<◌, ◌≤◌, ◌++◌, length, IfOk, OnOk, OnErr};
 ghost use Rattle.std.specs.Vec.{vec_len, vec_capacity};
-ghost use Rattle.fl_ops.specs.Bytes.{name_bytes, body_bytes, op_bytes};
+ghost use Rattle.fl_ops.specs.Bytes.{name_bytes, cap_bytes, body_bytes, op_bytes};
 
 use crate::op::{Body, Op};
+use fl_labels::cap::Cap;
 use fl_labels::name::Name;
 use std::alloc::{AllocError, Global};
 
@@ -17,6 +18,15 @@ fn push_name(out: &mut Vec<u8>, name: Name) -> Result<(), AllocError>
     out.extend_from_slice(&name.seq.to_be_bytes())
 }
 
+fn push_cap(out: &mut Vec<u8>, cap: Cap) -> Result<(), AllocError>
+    ensures ok { OnOk result (out.new.items ≡ out.old.items ++ cap_bytes cap) }
+    ensures len { OnOk result (vec_len out.new ≡ vec_len out.old + 7) }
+    ensures full { OnErr result (vec_capacity out.old < vec_len out.old + 7) }
+{
+    out.push(cap.rank())?;
+    push_name(out, cap.name())
+}
+
 fn push_body(out: &mut Vec<u8>, body: &Body) -> Result<(), AllocError>
     ensures ok { OnOk result (out.new.items ≡ out.old.items ++ body_bytes body.now) }
     ensures full { OnErr result (vec_capacity out.old < vec_len out.old + length (body_bytes body.now)) }
@@ -24,6 +34,10 @@ fn push_body(out: &mut Vec<u8>, body: &Body) -> Result<(), AllocError>
     match body {
         Body::MakeTag(policy) => out.push(policy.number())?,
         Body::MakeGroup => (),
+        Body::Put(group, cap) => {
+            push_name(out, *group)?;
+            push_cap(out, *cap)?;
+        }
     }
     Ok(())
 }
