@@ -1,7 +1,8 @@
 // Tests of sets of operations.
 use crate::laws::{law_equal_text, law_join};
 use crate::set::OpSet;
-use fl_labels::name::Name;
+use fl_labels::cap::Cap;
+use fl_labels::name::{Group, Name};
 use fl_ops::op::{Body, Op, Policy};
 use fl_sink::sink::Sink;
 use std::test::Fail;
@@ -17,6 +18,13 @@ fn group(name: Name) -> Op {
     Op {
         name,
         body: Body::MakeGroup,
+    }
+}
+
+fn put(name: Name, into: Group, cap: Cap) -> Op {
+    Op {
+        name,
+        body: Body::Put(into, cap),
     }
 }
 
@@ -160,6 +168,30 @@ fn writes_its_text(rt: HostRuntime) -> Result<(), Fail> {
     let mut sink = Sink::new(rt.alloc());
     ops.write_text(&mut sink, &mut output)?;
     sink.finish(&mut output)?;
+    assert_eq!(rt; output.as_slice(), text.as_slice());
+    Ok(())
+}
+
+#[test]
+fn writes_puts(rt: HostRuntime) -> Result<(), Fail> {
+    let mut ops = OpSet::new(rt.alloc());
+    let into = Name { node: 1, seq: 4 };
+    let what = Name { node: 1, seq: 5 };
+    let far = Name {
+        node: 65535,
+        seq: 4294967295,
+    };
+    ops.add(put(Name { node: 1, seq: 7 }, into, Cap::Plus(far)))?;
+    ops.add(put(Name { node: 1, seq: 7 }, into, Cap::Minus(what)))?;
+    ops.add(put(far, far, Cap::Grow(into)))?;
+    ops.add(put(Name { node: 1, seq: 6 }, into, Cap::Use(what)))?;
+    let mut output = Vec::new(rt.alloc());
+    ops.text(&mut output)?;
+    let text = b"1.6 put 1.4 *1.5
+1.7 put 1.4 +65535.4294967295
+1.7 put 1.4 -1.5
+65535.4294967295 put 65535.4294967295 ^1.4
+";
     assert_eq!(rt; output.as_slice(), text.as_slice());
     Ok(())
 }

@@ -1,28 +1,88 @@
 // The text of a registry.
-ghost use Rattle.std.specs.Prelude.{◌≡◌, OnErr, OnOk};
+ghost use Rattle.std.specs.Prelude.{◌≡◌, ◌∷◌, ◌++◌, [], OnErr, OnOk};
 ghost use Rattle.std.specs.List.{flat_map};
+ghost use Rattle.fl_labels.specs.Text.{name_text, cap_sign};
 ghost use Rattle.fl_sink.specs.Sink.{Cuts, Passes};
-ghost use Rattle.fl_opset.specs.RegistryText.{op_line};
+ghost use Rattle.fl_opset.specs.RegistryText.{op_line, put_line};
 
+use fl_labels::cap::Cap;
+use fl_labels::name::{Group, Name};
 use fl_ops::op::{Body, Op};
 use fl_sink::sink::{Sink, WriteFault};
 use itoa::Buffer;
 use std::io::Write;
 
+fn sign_of(cap: Cap) -> &'static [u8]
+    ensures { result.now ≡ cap_sign cap ∷ [] }
+{
+    match cap {
+        Cap::Plus(_) => b"+",
+        Cap::Minus(_) => b"-",
+        Cap::Use(_) => b"*",
+        Cap::Grow(_) => b"^",
+    }
+}
+
+// The name, the two words, and a line feed.
+fn write_words<W: Write>(
+    name: Name,
+    first: &[u8],
+    second: &[u8],
+    sink: &mut Sink,
+    output: &mut W,
+) -> Result<(), WriteFault>
+    ensures ok { OnOk result (Passes (W.contents output.old) (W.contents output.new) sink.old (name_text name ++ (first.now ++ (second.now ++ 10 ∷ []))) sink.new) }
+    ensures err { OnErr result (Cuts (W.contents output.old) (W.contents output.new) sink.old (name_text name ++ (first.now ++ (second.now ++ 10 ∷ [])))) }
+{
+    let mut node = Buffer::new();
+    let mut seq = Buffer::new();
+    let node = node.format(name.node).as_bytes();
+    let seq = seq.format(name.seq).as_bytes();
+    sink.put_all(output, &[node, b".", seq, first, second, b"\n"])
+}
+
+// `1.6 put 1.4 *1.5`, and a line feed.
+fn write_put<W: Write>(
+    name: Name,
+    group: Group,
+    cap: Cap,
+    sink: &mut Sink,
+    output: &mut W,
+) -> Result<(), WriteFault>
+    ensures ok { OnOk result (Passes (W.contents output.old) (W.contents output.new) sink.old (put_line name group cap) sink.new) }
+    ensures err { OnErr result (Cuts (W.contents output.old) (W.contents output.new) sink.old (put_line name group cap)) }
+{
+    let (mut node, mut seq) = (Buffer::new(), Buffer::new());
+    let (mut group_node, mut group_seq) = (Buffer::new(), Buffer::new());
+    let (mut cap_node, mut cap_seq) = (Buffer::new(), Buffer::new());
+    let pieces = [
+        node.format(name.node).as_bytes(),
+        b".",
+        seq.format(name.seq).as_bytes(),
+        b" put ",
+        group_node.format(group.node).as_bytes(),
+        b".",
+        group_seq.format(group.seq).as_bytes(),
+        b" ",
+        sign_of(cap),
+        cap_node.format(cap.name().node).as_bytes(),
+        b".",
+        cap_seq.format(cap.name().seq).as_bytes(),
+        b"\n",
+    ];
+    sink.put_all(output, &pieces)
+}
+
 fn write_line<W: Write>(op: &Op, sink: &mut Sink, output: &mut W) -> Result<(), WriteFault>
     ensures ok { OnOk result (Passes (W.contents output.old) (W.contents output.new) sink.old (op_line op.now) sink.new) }
     ensures err { OnErr result (Cuts (W.contents output.old) (W.contents output.new) sink.old (op_line op.now)) }
 {
-    let mut node = Buffer::new();
-    let mut seq = Buffer::new();
-    let node = node.format(op.name.node).as_bytes();
-    let seq = seq.format(op.name.seq).as_bytes();
     match op.body {
-        Body::MakeTag(policy) => sink.put_all(
-            output,
-            &[node, b".", seq, b" tag ", policy.text().as_bytes(), b"\n"],
-        ),
-        Body::MakeGroup => sink.put_all(output, &[node, b".", seq, b" group\n"]),
+        Body::MakeTag(policy) => {
+            write_words(op.name, b" tag ", policy.text().as_bytes(), sink, output)
+        }
+        Body::MakeGroup => write_words(op.name, b" group", b"", sink, output),
+        Body::Put(group, cap) => write_put(op.name, group, cap, sink, output),
     }
 }
 
