@@ -1,1 +1,5 @@
+pub mod Duals
+pub mod Endpoints
+pub mod Losses
+pub mod Messages
 pub mod Walks

@@ -1,2 +1,6 @@
+pub mod Endpoint
+pub mod Labels
+pub mod Message
+pub mod Pair
 pub mod Safety
 pub mod Walk

@@ -1,63 +1,17 @@
 // When a label may become another.
-ghost use Rattle.std.specs.Prelude.{◌≡◌, [], MatchOption};
+ghost use Rattle.std.specs.Prelude.{MatchOption};
 ghost use Rattle.std.specs.List.Sorted.{IsStrictlySortedBy};
 ghost use Rattle.fl_labels.specs.Cap.{cap_cmp};
 ghost use Rattle.fl_labels.specs.Name.{name_cmp};
 ghost use Rattle.fl_labels.specs.Found.{Found, IsLeastOutside};
 ghost use Rattle.fl_rules.specs.Safety.{Takes, SafeChange};
-ghost use Rattle.fl_rules.specs.Walk.{Turns, Splits};
+ghost use Rattle.fl_rules.specs.Walk.{Turns};
 
 use crate::has::Has;
+use crate::walk::split_change;
 use fl_labels::cap::Cap;
 use fl_labels::label::Label;
 use fl_labels::name::Name;
-use std::cmp::Ordering;
-
-// What comes first on the way from one list of tags to another, and what is left of the way.
-#[derive(Clone, Copy)]
-struct Step<'a> {
-    cap: Option<Cap>,
-    from: &'a [Name],
-    to: &'a [Name],
-}
-
-// The first step from one list to the other, or none where both are empty.
-fn split_change<'a>(from: &'a [Name], to: &'a [Name]) -> Option<Step<'a>>
-    requires from_rises { IsStrictlySortedBy name_cmp from.now }
-    requires to_rises { IsStrictlySortedBy name_cmp to.now }
-    ensures { MatchOption result ((from.now ≡ []) × (to.now ≡ [])) (λ step. Splits from.now to.now step.cap step.from.now step.to.now) }
-{
-    match (from.split_first(), to.split_first()) {
-        (None, None) => None,
-        (Some((lost, from)), None) => Some(Step {
-            cap: Some(Cap::Minus(*lost)),
-            from,
-            to,
-        }),
-        (None, Some((gained, to))) => Some(Step {
-            cap: Some(Cap::Plus(*gained)),
-            from,
-            to,
-        }),
-        (Some((lost, others)), Some((gained, rest))) => Some(match lost.cmp(gained) {
-            Ordering::Less => Step {
-                cap: Some(Cap::Minus(*lost)),
-                from: others,
-                to,
-            },
-            Ordering::Equal => Step {
-                cap: None,
-                from: others,
-                to: rest,
-            },
-            Ordering::Greater => Step {
-                cap: Some(Cap::Plus(*gained)),
-                from,
-                to: rest,
-            },
-        }),
-    }
-}
 
 // The least capability that the way from one list to the other takes and that is not in effect.
 fn first_wanting<H: Has>(has: &mut H, from: &[Name], to: &[Name]) -> Option<Cap>

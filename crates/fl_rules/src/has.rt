@@ -1,6 +1,10 @@
 // Who has capabilities in effect.
+ghost use Rattle.fl_labels.specs.Found.{Tells};
+ghost use Rattle.fl_rules.specs.Safety.{Dual};
+
 use fl_labels::cap::Cap;
 use fl_labels::cap_set::CapSet;
+use fl_labels::name::Name;
 
 /// Someone with a set of capabilities in effect, which asking does not change.
 pub trait Has {
@@ -27,6 +31,14 @@ pub trait Has {
 
     // no question changes what is in effect
     ghost keeps_effective: { (a b : Self) → keeps a b → (cap : Cap) → effective b cap ↔ effective a cap };
+}
+
+/// Whether the tag may be both added and removed. At most two questions.
+pub(crate) fn has_both<H: Has>(has: &mut H, tag: Name) -> bool
+    ensures answer { Tells result (Dual (H.effective has.old) tag) }
+    ensures same { H.keeps has.old has.new }
+{
+    has.has(Cap::Plus(tag)) && has.has(Cap::Minus(tag))
 }
 
 /// The owner of a set, with nothing else in effect.

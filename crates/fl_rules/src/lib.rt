@@ -2,6 +2,12 @@
 #![tactic(auto)]
 
 pub mod change;
+pub mod emission;
+pub mod endpoint;
 pub mod has;
+pub mod labels;
+pub mod laws;
+pub mod pair;
 #[cfg(test)]
 mod tests;
+mod walk;

@@ -1,7 +1,7 @@
 use Rattle.std.proofs.Common.{sym, ◌∙◌}
 use Rattle.fl_rules.proofs.Walks.{lost_alone, gained_alone, lost_first, gained_first, both_first}
-use Rattle.fl_rules.proofs.change.split_change.Goals as goal
-use Rattle.fl_rules.proofs.change.split_change.Goals.{in-Less, in-Equal, in-Greater}
+use Rattle.fl_rules.proofs.walk.split_change.Goals as goal
+use Rattle.fl_rules.proofs.walk.split_change.Goals.{in-Less, in-Equal, in-Greater}
 
 pub returns-in-None-Some : goal.returns-in-None-Some
 returns-in-None-Some c = gained_alone _ _ _ _ c.in-None-Some.ensures'.cases.0 c.in-None-Some.ensures.cases c.requires.to_rises c.requires.from_rises
