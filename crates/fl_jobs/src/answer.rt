@@ -9,6 +9,8 @@ use fl_ops::op::Body;
 pub enum Refusal {
     /// There is no such process on this node.
     NoProcess(Pid),
+    /// An operation of the process is under way.
+    Busy,
     /// The least capability that is needed and not in effect.
     MissingCap(Cap),
     /// The next number of its kind would be above 4,294,967,295.

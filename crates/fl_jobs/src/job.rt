@@ -2,6 +2,7 @@
 
 use fl_labels::cap::Cap;
 use fl_labels::label::Label;
+use fl_labels::name::Name;
 use fl_labels::pid::Pid;
 use fl_ops::op::Policy;
 
@@ -23,6 +24,8 @@ pub enum Order {
     Tag(Policy),
     /// A new group.
     Group,
+    /// Into this group the capability is put.
+    Put(Name, Cap),
 }
 
 /// What one process asks for by itself.
@@ -41,4 +44,6 @@ pub enum Job {
     /// A new process, with nothing.
     Proc,
     By(Pid, Act),
+    /// Whether the first capability, the root, reaches the second.
+    Member(Cap, Cap),
 }

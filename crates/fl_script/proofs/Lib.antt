@@ -1,6 +1,8 @@
 pub mod CutLemmas
 pub mod LabelWord
 pub mod OneText
+pub mod Agreement
+pub mod JobKinds
 pub mod OneWord
 pub mod UnionWords
 pub mod OneLine

@@ -1,11 +1,11 @@
 -- The lines of the script, each by the words that spell it.
 use Rattle.std.specs.Prelude.{◌≡◌, ℕ, List, [], ◌∷◌, codes}
-use Rattle.fl_labels.specs.Text.{pid_text, cap_text}
+use Rattle.fl_labels.specs.Text.{name_text, pid_text, cap_text}
 use Rattle.fl_labels.specs.Words.{IsNode}
-use Rattle.fl_jobs.specs.declared.job.Order.TheVariants.{Tag, Group}
+use Rattle.fl_jobs.specs.declared.job.Order.TheVariants.{Tag, Group, Put}
 use Rattle.fl_jobs.specs.declared.job.Act.TheVariants.{Order as Orders, Relabel, Ask}
 use Rattle.fl_jobs.specs.declared.job.Job.{Job}
-use Rattle.fl_jobs.specs.declared.job.Job.TheVariants.{Proc, By}
+use Rattle.fl_jobs.specs.declared.job.Job.TheVariants.{Proc, By, Member}
 use Rattle.fl_script.specs.Cut.{Word}
 use Rattle.fl_ops.specs.PolicyText.{policy_text}
 use Rattle.fl_script.specs.Words.{side_text, IsLabelWord}
@@ -28,8 +28,10 @@ abbrev pub job_forms : Job → List (Word → Type 0)
 job_forms Proc = Is (codes "proc") ∷ []
 job_forms (By p (Orders (Tag policy))) = Is (codes "tag") ∷ Is (pid_text p) ∷ Is (policy_text policy) ∷ []
 job_forms (By p (Orders Group)) = Is (codes "group") ∷ Is (pid_text p) ∷ []
+job_forms (By p (Orders (Put group cap))) = Is (codes "put") ∷ Is (pid_text p) ∷ Is (name_text group) ∷ Is (cap_text cap) ∷ []
 job_forms (By p (Relabel side label)) = Is (codes "label") ∷ Is (pid_text p) ∷ Is (side_text side) ∷ IsLabelWord label ∷ []
 job_forms (By p (Ask cap)) = Is (codes "ask") ∷ Is (pid_text p) ∷ Is (cap_text cap) ∷ []
+job_forms (Member root cap) = Is (codes "member") ∷ Is (cap_text root) ∷ Is (cap_text cap) ∷ []
 
 -- the table of the lines
 abbrev pub forms : Line → List (Word → Type 0)

@@ -5,7 +5,7 @@ ghost use Rattle.fl_script.specs.Grammar.{SpellsJob};
 
 use crate::words::{label_from_word, policy_from_word, side_from_word};
 use fl_jobs::job::{Act, Job, Order};
-use fl_labels::text::{read_cap, read_pid};
+use fl_labels::text::{read_cap, read_name, read_pid};
 use std::alloc::{AllocError, Global};
 
 fn proc_job(rest: &[&str]) -> Option<Job>
@@ -30,6 +30,16 @@ fn group_job(rest: &[&str]) -> Option<Job>
     let [pid] = rest else { return None };
     let pid = read_pid(pid)?;
     Some(Job::By(pid, Act::Order(Order::Group)))
+}
+
+fn put_job(rest: &[&str]) -> Option<Job>
+    ensures { Finds result (λ j. SpellsJob j (codes "put" ∷ map (λ w. w.now) rest.now)) }
+{
+    let [pid, group, cap] = rest else { return None };
+    let pid = read_pid(pid)?;
+    let group = read_name(group)?;
+    let cap = read_cap(cap)?;
+    Some(Job::By(pid, Act::Order(Order::Put(group, cap))))
 }
 
 fn label_job(alloc: Global, rest: &[&str]) -> Result<Option<Job>, AllocError>
@@ -59,6 +69,15 @@ fn ask_job(rest: &[&str]) -> Option<Job>
     Some(Job::By(pid, Act::Ask(cap)))
 }
 
+fn member_job(rest: &[&str]) -> Option<Job>
+    ensures { Finds result (λ j. SpellsJob j (codes "member" ∷ map (λ w. w.now) rest.now)) }
+{
+    let [root, cap] = rest else { return None };
+    let root = read_cap(root)?;
+    let cap = read_cap(cap)?;
+    Some(Job::Member(root, cap))
+}
+
 /// The job that a verb and the words after it spell, or none where they spell no job.
 /// Takes memory for a label alone.
 pub fn job_from_words(alloc: Global, verb: &str, rest: &[&str]) -> Result<Option<Job>, AllocError>
@@ -69,8 +88,10 @@ pub fn job_from_words(alloc: Global, verb: &str, rest: &[&str]) -> Result<Option
         "proc" => Ok(proc_job(rest)),
         "tag" => Ok(tag_job(rest)),
         "group" => Ok(group_job(rest)),
+        "put" => Ok(put_job(rest)),
         "label" => label_job(alloc, rest),
         "ask" => Ok(ask_job(rest)),
+        "member" => Ok(member_job(rest)),
         _ => Ok(None),
     }
 }

@@ -1,0 +1,33 @@
+-- The kinds of jobs: one for each line of their table.
+use Rattle.std.specs.declared.result.Result.{Result}
+use Rattle.fl_labels.specs.Name.{name_cmp}
+use Rattle.fl_labels.specs.SetBy.{SetBy}
+use Rattle.fl_labels.specs.declared.cap.Cap.{Cap}
+use Rattle.fl_labels.specs.declared.name.Name.{Name}
+use Rattle.fl_labels.specs.declared.pid.Pid.{Pid}
+use Rattle.fl_ops.specs.declared.op.Policy.{Policy}
+use Rattle.fl_jobs.specs.declared.job.Side.{Side}
+use Rattle.fl_jobs.specs.declared.job.TooLong.{TooLong}
+use Rattle.fl_jobs.specs.declared.job.Order.TheVariants.{Tag, Group, Put}
+use Rattle.fl_jobs.specs.declared.job.Act.TheVariants.{Order as Orders, Relabel, Ask}
+use Rattle.fl_jobs.specs.declared.job.Job.{Job}
+use Rattle.fl_jobs.specs.declared.job.Job.TheVariants.{Proc, By, Member}
+
+-- a job by its kind alone, so that two jobs are told apart in one step
+pub data Kind : Job → Type 0 where
+  proc : Kind Proc
+  tag : (p : Pid) (policy : Policy) → Kind (By p (Orders (Tag policy)))
+  group : (p : Pid) → Kind (By p (Orders Group))
+  put : (p : Pid) (group : Name) (cap : Cap) → Kind (By p (Orders (Put group cap)))
+  relabel : (p : Pid) (side : Side) (label : Result (SetBy name_cmp) TooLong) → Kind (By p (Relabel side label))
+  ask : (p : Pid) (cap : Cap) → Kind (By p (Ask cap))
+  member : (root cap : Cap) → Kind (Member root cap)
+
+pub kind_of : (job : Job) → Kind job
+kind_of Proc = proc
+kind_of (By p (Orders (Tag x))) = tag p x
+kind_of (By p (Orders Group)) = group p
+kind_of (By p (Orders (Put into c))) = put p into c
+kind_of (By p (Relabel x l)) = relabel p x l
+kind_of (By p (Ask c)) = ask p c
+kind_of (Member r c) = member r c
