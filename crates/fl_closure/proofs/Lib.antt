@@ -1,0 +1,7 @@
+mod Members
+mod Meeting
+mod Putting
+mod Giving
+mod Searching
+mod Ending
+pub mod Uses

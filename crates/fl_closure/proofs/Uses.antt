@@ -1,0 +1,52 @@
+-- Owners of no use of a group reach what they own, and nothing else.
+use Rattle.std.specs.Prelude.{◌≡◌, true, false, List, [], ◌∷◌, ◌++◌, ℕ, ◌+◌, ◌<◌, ◌≤◌, length, get_or, take}
+use Rattle.std.proofs.Common.{inl, inr, sym, ap, subst, ◌∙◌}
+use Rattle.std.proofs.lemmas.Bool.{false≢true}
+use Rattle.std.proofs.lemmas.List.{take_more}
+use Rattle.fl_labels.specs.Found.{Tells}
+use Rattle.fl_labels.specs.SetBy.{SetBy, In, members}
+use Rattle.fl_labels.specs.Cap.{cap_cmp}
+use Rattle.fl_labels.specs.CapOrder.{cap_total, cap_exact}
+use Rattle.fl_labels.specs.declared.cap.Cap.{Cap}
+use Rattle.fl_labels.specs.declared.cap.Cap.TheVariants.{Use}
+use Rattle.fl_labels.specs.declared.name.Name.{Name}
+use Rattle.fl_ops.specs.declared.op.Op.{Op}
+use Rattle.fl_ops.specs.Registry.{Chain, here, into, Global, Eff}
+use Rattle.fl_closure.specs.Met.{Has}
+use Rattle.fl_closure.proofs.Members.{has_all, has_at, has_split, has_one, in_has}
+
+-- no use of a group is one of these
+abbrev pub NoUse : List Cap → Type 0
+NoUse caps = (group : Name) → Has caps (Use group) → ⊥
+
+pub no_use_yet : (caps : List Cap) → NoUse (take 0 caps)
+no_use_yet [] group h = h
+no_use_yet (c ∷ caps) group h = h
+
+pub no_use_more : (caps : List Cap) (i : ℕ) (c : Cap) → i < length caps → c ≡ get_or caps i c → NoUse (take i caps) → ((group : Name) → c ≡ Use group → ⊥) → NoUse (take (i + 1) caps)
+no_use_more caps i c within at front this group h =
+    let split = has_split (take i caps) (c ∷ []) (Use group) (subst (λ xs. Has xs (Use group)) (take_more caps i c within ∙ ap (λ x. take i caps ++ x ∷ []) (sym at)) h) in
+    elim split [ inl m ↦ front group m | inr m ↦ this group (has_one m) ]
+
+pub no_use_told : (caps : List Cap) (i : ℕ) → length caps ≤ i → NoUse (take i caps) → Tells false ((group : Name) × Has caps (Use group))
+no_use_told caps i whole front = record {
+  holds = λ never. absurd (false≢true never);
+  fails = λ _ h. front h.0 (has_all caps i (Use h.0) whole h.1);
+}
+
+pub use_told : (caps : List Cap) (i : ℕ) (c : Cap) (group : Name) → i < length caps → c ≡ get_or caps i c → c ≡ Use group → Tells true ((group : Name) × Has caps (Use group))
+use_told caps i c group within at is = record {
+  holds = λ _. (group, subst (Has caps) (sym at ∙ is) (has_at caps i c within));
+  fails = λ never. absurd (false≢true (sym never));
+}
+
+-- a chain from what is no use of a group stays there
+alone : {U : Op → Type 0} (owned : SetBy cap_cmp) {a c : Cap} → Chain U a c → In owned a → NoUse (members owned) → In owned c
+alone owned here h none = h
+alone owned (into {group} u p rest) h none = absurd (none group (in_has cap_total cap_exact owned (Use group) h))
+
+pub told_alone : {U : Op → Type 0} (owned : SetBy cap_cmp) (c : Cap) → NoUse (members owned) → (In owned c → ⊥) → (Global U c → ⊥) → Tells false (Eff U (In owned) c)
+told_alone owned c none not_owned not_global = record {
+  holds = λ never. absurd (false≢true never);
+  fails = λ _ e. elim e [ inl r ↦ not_owned (alone owned r.2 r.1 none) | inr g ↦ not_global g ];
+}

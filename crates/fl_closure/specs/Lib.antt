@@ -1,0 +1,4 @@
+pub mod Met
+pub mod Rows
+pub mod Search
+pub mod Globals
