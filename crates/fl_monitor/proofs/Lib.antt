@@ -1,6 +1,14 @@
 pub mod Looks
+pub mod Hand
 pub mod Table
-pub mod Sets
 pub mod Given
 pub mod ActLemmas
 pub mod JobLemmas
+pub mod Orders
+pub mod Puts
+pub mod Steps
+pub mod Changes
+pub mod Orderly
+pub mod Following
+pub mod OneCheck
+pub mod OneResult

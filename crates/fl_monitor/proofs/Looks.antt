@@ -1,16 +1,15 @@
--- What a set of operations tells of its registry.
-use Rattle.std.proofs.Common.{◌≡◌, inl, inr, Bool, true, false, sym, ◌∙◌}
+-- What the members of a set tell of its registry.
+use Rattle.std.proofs.Common.{◌↔◌, sym, ◌∙◌, Bool, Result, Ok, Err, IfOk, OnErr}
 use Rattle.std.specs.Cmp.{Equal-is, eq_by_cmp_equiv}
-use Rattle.std.proofs.lemmas.Bool.{false≢true}
 use Rattle.std.proofs.lemmas.Map.Views.{Contains-from_any, list_any-from_Contains}
 use Rattle.fl_labels.specs.Cap.{cap_cmp}
 use Rattle.fl_labels.specs.Found.{Within, Tells}
-use Rattle.fl_labels.specs.SetBy.{SetBy, In, contains, members, contains-members}
+use Rattle.fl_labels.specs.SetBy.{SetBy, In, members, contains-members}
 use Rattle.fl_labels.specs.declared.cap.Cap.{Cap}
 use Rattle.fl_ops.specs.OpOrder.{op_cmp}
 use Rattle.fl_ops.specs.OpLaws.{op_total, op_exact}
-use Rattle.fl_ops.specs.Registry.{Eff, Global, Listed}
-use Rattle.fl_ops.proofs.Reaching.{eff_alone, owned_eff, global_more}
+use Rattle.fl_ops.specs.Registry.{Reach, From, Eff, Global, Listed}
+use Rattle.fl_ops.proofs.Reaching.{eff_more, global_more, reach_more}
 
 listed : (s : SetBy op_cmp) → Within (In s) (Listed (members s))
 listed s op h = Contains-from_any (λ x y e. op_exact x y ((Equal-is (op_cmp x y)).0 e)) op (members s) (sym (contains-members s op) ∙ h)
@@ -18,18 +17,32 @@ listed s op h = Contains-from_any (λ x y e. op_exact x y ((Equal-is (op_cmp x y
 unlisted : (s : SetBy op_cmp) → Within (Listed (members s)) (In s)
 unlisted s op h = contains-members s op ∙ list_any-from_Contains (eq_by_cmp_equiv op_total) op (members s) h
 
-module _ (s : SetBy op_cmp) (owned : SetBy cap_cmp) (c : Cap) (r : Bool) (is : r ≡ contains owned c) where
-  pub told_owned : r ≡ true → Tells r (Eff (Listed (members s)) (In owned) c)
-  told_owned h = record {
-    holds = λ _. owned_eff c (sym is ∙ h);
-    fails = λ e _. false≢true (sym e ∙ h);
-  }
+told : {P Q : Type 0} (b : Bool) → (P → Q) → (Q → P) → Tells b P → Tells b Q
+told b to from t = record { holds = λ e. to (t.holds e); fails = λ e h. t.fails e (from h) }
 
-  pub told_global : r ≡ false → (q : Bool) → Tells q (Global (In s) c) → Tells q (Eff (Listed (members s)) (In owned) c)
-  told_global h q t = record {
-    holds = λ e. inr (global_more (listed s) c (t.holds e));
-    fails = λ e eff. elim (eff_alone c eff) [
-      | inl o ↦ false≢true (sym h ∙ is ∙ o)
-      | inr g ↦ t.fails e (global_more (unlisted s) c g)
-    ];
-  }
+module _ (s : SetBy op_cmp) where
+  module _ (owned : SetBy cap_cmp) (c : Cap) where
+    to_listed : Eff (In s) (In owned) c → Eff (Listed (members s)) (In owned) c
+    to_listed h = eff_more (listed s) (λ c h. h) c h
+
+    from_listed : Eff (Listed (members s)) (In owned) c → Eff (In s) (In owned) c
+    from_listed h = eff_more (unlisted s) (λ c h. h) c h
+
+    pub told_effective : {E : Type 0} (r : Result Bool E) → IfOk r (λ yes. Tells yes (Eff (In s) (In owned) c)) → IfOk r (λ yes. Tells yes (Eff (Listed (members s)) (In owned) c))
+    told_effective (Ok b) t = told b to_listed from_listed t
+    told_effective (Err e) t = t
+
+    pub searched : {E : Type 0} (r : Result Bool E) → OnErr r ((¬ In owned c) × (¬ Global (In s) c)) → OnErr r ((¬ In owned c) × (¬ Global (Listed (members s)) c))
+    searched (Ok b) h = h
+    searched (Err e) h = (h.0, λ g. h.1 (global_more (unlisted s) c g))
+
+  pub told_reached : {E : Type 0} (root c : Cap) (r : Result Bool E) → IfOk r (λ yes. Tells yes (Reach (In s) (From root) c)) → IfOk r (λ yes. Tells yes (Reach (Listed (members s)) (From root) c))
+  told_reached root c (Ok b) t = told b (reach_more (listed s) (λ c h. h) c) (reach_more (unlisted s) (λ c h. h) c) t
+  told_reached root c (Err e) t = t
+
+  pub told_all_reached : {E : Type 0} (owned : SetBy cap_cmp) (r : Result (SetBy cap_cmp) E) → IfOk r (λ reached. (c : Cap) → In reached c ↔ Reach (In s) (In owned) c) → IfOk r (λ reached. (c : Cap) → In reached c ↔ Reach (Listed (members s)) (In owned) c)
+  told_all_reached owned (Ok reached) h = λ c. (λ m. reach_more (listed s) (λ c h. h) c ((h c).0 m), λ e. (h c).1 (reach_more (unlisted s) (λ c h. h) c e))
+  told_all_reached owned (Err e) h = h
+
+  pub told_global : (c : Cap) (b : Bool) → Tells b (Global (In s) c) → Tells b (Global (Listed (members s)) c)
+  told_global c b t = told b (global_more (listed s) c) (global_more (unlisted s) c) t

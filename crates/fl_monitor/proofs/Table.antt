@@ -1,7 +1,7 @@
 -- Entries of an ordered map as a finite map.
 use Rattle.std.proofs.Common.{◌≡◌, Bool, true, false, cond, List, [], ◌∷◌, refl, sym, ap, ◌∙◌, Some, None, Ordering}
-use Rattle.std.specs.Cmp.{IsTotalOrder, eq_by_cmp_equiv, Equal-is}
-use Rattle.std.specs.Ordering.{eq_by_cmp}
+use Rattle.std.specs.Cmp.{IsTotalOrder, eq_by_cmp_equiv, Equal-is, tied_itself}
+use Rattle.std.specs.Ordering.{eq_by_cmp, is_eq}
 use Rattle.std.specs.FinMap as map
 use Rattle.std.specs.FinMap.{IsAntisymmetric, find, get-from_entries, get-insert, get-remove, same_map}
 use Rattle.std.specs.BTreeMap.{is_at}
@@ -36,6 +36,18 @@ module _ {K X : Type 0} {R : K → K → Ordering} (o : IsTotalOrder R) (exact :
       go : (q : K) (b : Bool) → eq_by_cmp R q k ≡ b → cond b (Some x) (map.get m q) ≡ map.get m q
       go q true h = sym e ∙ ap (map.get m) (sym (exact q k ((Equal-is (R q k)).0 h)))
       go q false h = refl
+
+  -- what was put is there
+  pub get_put : (m : map.FinMap R X) (k : K) (x : X) → map.get (map.insert m k x) k ≡ Some x
+  get_put m k x = get-insert o m k x k ∙ ap (λ b. cond b (Some x) (map.get m k)) (ap is_eq (tied_itself o k))
+
+  -- to put twice is to put the second
+  pub put_over : (m : map.FinMap R X) (k : K) (x y : X) → map.insert (map.insert m k x) k y ≡ map.insert m k y
+  put_over m k x y = same_map o exact _ _ (λ q. get-insert o (map.insert m k x) k y q ∙ ap (cond (eq_by_cmp R q k) (Some y)) (get-insert o m k x q) ∙ twice (eq_by_cmp R q k) q ∙ sym (get-insert o m k y q))
+    where
+      twice : (b : Bool) (q : K) → cond b (Some y) (cond b (Some x) (map.get m q)) ≡ cond b (Some y) (map.get m q)
+      twice true q = refl
+      twice false q = refl
 
   -- a value written over that of a key
   written : (es : List (K × X)) (k : K) (x w : X) (q : K) → lookup (is_at (R k)) es ≡ Some x → lookup (is_at (R q)) (set_value (is_at (R k)) es w) ≡ cond (is_at (R k) q) (Some w) (lookup (is_at (R q)) es)

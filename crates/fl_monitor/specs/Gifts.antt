@@ -11,7 +11,9 @@ use Rattle.fl_labels.specs.Pid.{pid_cmp}
 use Rattle.fl_labels.specs.declared.pid.Pid.{Pid}
 use Rattle.fl_ops.specs.declared.op.Op.{Op}
 use Rattle.fl_ops.specs.declared.op.Body.{Body}
-use Rattle.fl_ops.specs.declared.op.Body.TheVariants.{MakeTag, MakeGroup}
+use Rattle.fl_ops.specs.declared.op.Body.TheVariants.{MakeTag, MakeGroup, Put}
+use Rattle.fl_monitor.specs.declared.process.Holding.{Holding}
+use Rattle.fl_monitor.specs.declared.process.Holding.TheVariants.{Idle, Ordering}
 use Rattle.fl_monitor.specs.declared.process.Process.{Process}
 use Rattle.fl_monitor.specs.Bench.{State}
 
@@ -19,16 +21,30 @@ use Rattle.fl_monitor.specs.Bench.{State}
 abbrev pub given_by : Body → Name → List Cap
 given_by (MakeTag policy) tag = Plus tag ∷ Minus tag ∷ []
 given_by MakeGroup group = Use group ∷ Grow group ∷ []
+given_by (Put group c) name = []
 
 -- the same, of the operation
 abbrev pub given : Op → List Cap
 given op = given_by op.body op.name
 
--- the process that stands as pid, if one does, owns these too
+-- with these too, where an operation was under way, which is over
+abbrev pub settled : Holding → List Cap → Holding
+settled (Idle owned) caps = Idle owned
+settled (Ordering owned) caps = Idle (set.insert_all owned caps)
+
+-- the process that stands as pid, if one does, is settled
 abbrev pub receives : map.FinMap pid_cmp Process → Pid → List Cap → Option Process → map.FinMap pid_cmp Process
 receives m pid caps None = m
-receives m pid caps (Some p) = map.insert m pid (record p { owned = set.insert_all p.owned caps })
+receives m pid caps (Some p) = map.insert m pid (record p { owned = settled p.owned caps })
+
+-- the operation of pid that is under way is over, and gives these
+abbrev pub settles : State → Pid → List Cap → State
+settles b pid caps = record b { processes = receives b.processes pid caps (map.get b.processes pid) }
 
 -- with what the operation gives to its maker pid
 abbrev pub finished : State → Pid → Op → State
-finished b pid op = record b { processes = receives b.processes pid (given op) (map.get b.processes pid) }
+finished b pid op = settles b pid (given op)
+
+-- with no operation of pid under way, and nothing given
+abbrev pub cancelled : State → Pid → State
+cancelled b pid = settles b pid []

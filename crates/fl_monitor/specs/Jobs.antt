@@ -1,34 +1,55 @@
 -- What a bench does with a job: the checks of each, in their order, and what it leaves and answers where none fails.
-use Rattle.std.specs.Prelude.{◌≡◌, ◌⊎◌, nat_lt}
+use Rattle.std.specs.Prelude.{◌≡◌, ◌≢◌, ◌⊎◌, false, nat_lt}
 use Rattle.std.specs.declared.option.Option.TheVariants.{None, Some}
 use Rattle.std.specs.declared.result.Result.{Result}
 use Rattle.std.specs.declared.result.Result.TheVariants.{Ok, Err}
 use Rattle.std.specs.FinMap as map
 use Rattle.fl_labels.specs.Cap.{cap_cmp}
+use Rattle.fl_labels.specs.Name.{name_cmp}
+use Rattle.fl_labels.specs.SetBy.{SetBy, In}
+use Rattle.fl_labels.specs.declared.cap.Cap.{Cap}
 use Rattle.fl_labels.specs.declared.pid.Pid.{Pid}
 use Rattle.fl_ops.specs.declared.op.Op.{Op}
+use Rattle.fl_ops.specs.Registry.{Reach, From, Global}
+use Rattle.fl_jobs.specs.declared.job.Order as orders
+use Rattle.fl_jobs.specs.declared.job.Order.TheVariants.{Tag, Group, Put}
 use Rattle.fl_jobs.specs.declared.job.Act.{Act}
 use Rattle.fl_jobs.specs.declared.job.Act.TheVariants.{Order, Relabel, Ask}
 use Rattle.fl_jobs.specs.declared.job.Job.{Job}
-use Rattle.fl_jobs.specs.declared.job.Job.TheVariants.{Proc, By}
+use Rattle.fl_jobs.specs.declared.job.Job.TheVariants.{Proc, By, Member}
 use Rattle.fl_jobs.specs.declared.answer.Refusal.{Refusal}
-use Rattle.fl_jobs.specs.declared.answer.Refusal.TheVariants.{NoProcess, MissingCap, NamesSpent, LabelTooLong, Memory}
+use Rattle.fl_jobs.specs.declared.answer.Refusal.TheVariants.{NoProcess, MissingCap, NamesSpent, LabelTooLong, Memory, Busy}
 use Rattle.fl_jobs.specs.declared.answer.Reply.TheVariants.{Made, Done, Yes, NotYet}
 use Rattle.fl_jobs.specs.declared.answer.Outcome.{Outcome}
 use Rattle.fl_rules.specs.Safety.{Takes}
-use Rattle.fl_monitor.specs.Checks.{Check, no_check, fails, refuse_if, demand, with}
-use Rattle.fl_monitor.specs.Process.{newborn, effective, side_of, with_side, body_of}
+use Rattle.fl_monitor.specs.Checks.{Check, no_check, fails, refuse_if, demand, with, ◌then◌}
+use Rattle.fl_monitor.specs.Process.{newborn, owns, is_busy, ordering, effective, side_of, with_side, body_of, PutTakes}
+use Rattle.fl_monitor.specs.Hand.{AtHand, Lacks}
 use Rattle.fl_monitor.specs.Bench.{State, has_at, IsNext, born}
 use Rattle.fl_monitor.specs.declared.process.Process.{Process}
 
 -- ---- the checks of each job, in their order
 
+-- of an order of who has E in effect
+abbrev pub order_checks : (Cap → Type 0) → orders.Order → Check
+order_checks E (Tag policy) = no_check
+order_checks E Group = no_check
+order_checks E (Put group c) = demand cap_cmp (PutTakes group c) E MissingCap
+
+-- of the change of one label into another, by who has E in effect
+abbrev pub change_check : (Cap → Type 0) → SetBy name_cmp → SetBy name_cmp → Check
+change_check E from to = demand cap_cmp (Takes from to) E MissingCap
+
 -- of an act of the process p
 abbrev pub checks_of : (Op → Type 0) → Process → Act → Check
-checks_of V p (Order order) = no_check
+checks_of V p (Order order) = order_checks (effective V p) order
 checks_of V p (Relabel side (Err e)) = fails LabelTooLong
-checks_of V p (Relabel side (Ok label)) = demand cap_cmp (Takes (side_of side p.labels) label) (effective V p) MissingCap
+checks_of V p (Relabel side (Ok label)) = change_check (effective V p) (side_of side p.labels) label
 checks_of V p (Ask c) = no_check
+
+-- of an act of the process p, of which no operation may be under way
+abbrev pub act_checks : (Op → Type 0) → Process → Act → Check
+act_checks V p act = refuse_if (is_busy p) Busy then checks_of V p act
 
 -- the next serial is no greater than the greatest that a process can have
 abbrev pub serials_left : State → Check
@@ -37,7 +58,8 @@ serials_left b = refuse_if (nat_lt 4294967295 b.next) NamesSpent
 -- who asks stands at the bench
 abbrev pub checks : (Op → Type 0) → State → Job → Check
 checks V b Proc = serials_left b
-checks V b (By pid act) = with (map.get b.processes pid) (NoProcess pid) (λ p. checks_of V p act)
+checks V b (By pid act) = with (map.get b.processes pid) (NoProcess pid) (λ p. act_checks V p act)
+checks V b (Member root c) = no_check
 
 -- ---- what a job leaves and answers
 
@@ -47,7 +69,7 @@ Answers outcome P = ((outcome ≡ Outcome.Reply Yes) × P) ⊎ ((outcome ≡ Out
 
 -- an act of the process p, which stands at the bench b as pid
 abbrev pub Performs : (Op → Type 0) → State → Pid → Process → Act → Outcome → State → Type 0
-Performs V b pid p (Order order) outcome b' = (outcome ≡ Outcome.Order (body_of order) pid) × (b' ≡ b)
+Performs V b pid p (Order order) outcome b' = (outcome ≡ Outcome.Order (body_of order) pid) × (b' ≡ has_at b pid (ordering p))
 Performs V b pid p (Relabel side (Err e)) outcome b' = ⊥
 Performs V b pid p (Relabel side (Ok label)) outcome b' = (outcome ≡ Outcome.Reply Done) × (b' ≡ has_at b pid (record p { labels = with_side side label p.labels }))
 Performs V b pid p (Ask c) outcome b' = Answers outcome (effective V p c) × (b' ≡ b)
@@ -56,16 +78,26 @@ Performs V b pid p (Ask c) outcome b' = Answers outcome (effective V p c) × (b'
 abbrev pub Effect : (Op → Type 0) → State → Job → Outcome → State → Type 0
 Effect V b Proc outcome b' = (pid : Pid) × IsNext b pid × (outcome ≡ Outcome.Reply (Made pid)) × (b' ≡ born b pid newborn)
 Effect V b (By pid act) outcome b' = (p : Process) × (map.get b.processes pid ≡ Some p) × Performs V b pid p act outcome b'
+Effect V b (Member root c) outcome b' = Answers outcome (Reach V (From root) c) × (b' ≡ b)
+
+-- ---- when a job may want memory
+
+-- an act of the process p
+abbrev pub ActTakesMemory : (Op → Type 0) → Process → Act → Type 0
+ActTakesMemory V p (Order order) = Unit {0}
+ActTakesMemory V p (Relabel side (Err e)) = ⊥
+ActTakesMemory V p (Relabel side (Ok label)) = Lacks (Takes (side_of side p.labels) label) (AtHand V (owns p))
+ActTakesMemory V p (Ask c) = (¬ In (owns p) c) × (¬ Global V c)
+
+abbrev pub TakesMemory : (Op → Type 0) → State → Job → Type 0
+TakesMemory V b Proc = serials_left b None
+TakesMemory V b (By pid act) = (p : Process) × (map.get b.processes pid ≡ Some p) × (is_busy p ≡ false) × ActTakesMemory V p act
+TakesMemory V b (Member root c) = root ≢ c
 
 -- ---- a job
-
--- it may want memory
-abbrev pub TakesMemory : Job → Type 0
-TakesMemory Proc = Unit {0}
-TakesMemory (By pid act) = ⊥
 
 -- Under the registry V, the job may have this result at the bench b, and leaves b'.
 pub data Does (V : Op → Type 0) (b : State) (job : Job) : Result Outcome Refusal → State → Type 0 where
   passed : {outcome : Outcome} {b' : State} → checks V b job None → Effect V b job outcome b' → Does V b job (Ok outcome) b'
   failed : {f : Refusal} → checks V b job (Some f) → Does V b job (Err f) b
-  no_room : TakesMemory job → Does V b job (Err Memory) b
+  no_room : TakesMemory V b job → Does V b job (Err Memory) b

@@ -1,7 +1,9 @@
 pub mod Checks
 pub mod Process
+pub mod Hand
 pub mod Bench
 pub mod Jobs
 pub mod Gifts
 pub mod Acts
-pub mod Keeps
+pub mod Orderly
+pub mod Following

@@ -1,21 +1,22 @@
 // Benches: processes that work under one view.
 ghost use Rattle.std.specs.Option.{option_copied};
-ghost use Rattle.std.specs.Prelude.{◌≡◌, ◌≤◌, ◌<◌, OnOk, OnErr};
+ghost use Rattle.std.specs.Prelude.{◌≡◌, ◌≢◌, ◌≤◌, ◌<◌};
 ghost use Rattle.std.specs.FinMap as map;
-ghost use Rattle.fl_ops.specs.Registry.{Listed};
+ghost use Rattle.fl_ops.specs.Registry.{Reach, From, Listed};
 ghost use Rattle.fl_monitor.specs.Bench.{opened};
 ghost use Rattle.fl_monitor.specs.Jobs.{Does};
-ghost use Rattle.fl_monitor.specs.Acts.{Births};
-ghost use Rattle.fl_monitor.specs.Gifts.{finished};
+ghost use Rattle.fl_monitor.specs.Acts.{Births, Told};
+ghost use Rattle.fl_monitor.specs.Gifts.{finished, cancelled};
 
-use crate::process::Process;
+use crate::process::{Process, reply_of};
 use crate::processes::Processes;
 use crate::view::View;
 use fl_jobs::answer::{Outcome, Refusal, Reply};
 use fl_jobs::job::Job;
+use fl_labels::cap::Cap;
 use fl_labels::pid::Pid;
 use fl_ops::op::Op;
-use std::alloc::{AllocError, Global};
+use std::alloc::Global;
 use std::marker::Model;
 
 /// One of a node's benches: its processes, and the serial of the next.
@@ -90,13 +91,17 @@ impl Bench {
     /// which they are looked for:
     ///
     /// - `NoProcess`: who asks does not stand here.
+    /// - `Busy`: an operation of who asks is under way: it was ordered, and neither finished nor cancelled.
     /// - `LabelTooLong`: the label that is asked for has more than 256 tags.
-    /// - `MissingCap`: the least capability that the change of a label takes and that is not in effect for who asks.
+    /// - `MissingCap`: the least capability that the job takes and that is not in effect for who asks. The change of a label
+    ///   takes one for each tag that it gains or loses, and a put the right to grow the group, and the capability itself.
     /// - `NamesSpent`: the next process would get a serial above 4,294,967,295.
-    /// - `Memory`: a new process found no room. No other job takes memory.
+    /// - `Memory`: there was not enough for a new process, for an order, for the change of a label, or to search for a
+    ///   capability that is neither owned nor everybody's.
     ///
-    /// An order becomes the body of an operation and its maker, and leaves the bench. A change of a label asks the view one
-    /// question at most for each tag that the label gains or loses.
+    /// An order becomes the body of an operation and its maker, whose operation is then under way, to be finished or cancelled:
+    /// there is room for what it gives. The change of a label asks the view once for all that is in effect, and then walks along
+    /// both labels; any other job asks it two questions at most.
     pub fn job<V: View>(
         &mut self,
         alloc: Global,
@@ -108,16 +113,36 @@ impl Bench {
     {
         match job {
             Job::Proc => self.proc(alloc),
-            Job::By(pid, act) => self.processes.act(view, pid, act),
+            Job::By(pid, act) => self.processes.act(alloc, view, pid, act),
+            Job::Member(root, cap) => member(alloc, view, root, cap),
         }
     }
 
-    /// Gives the maker of an operation what the operation gives: of a tag, to add and to remove it; of a group, to
-    /// use and to grow it. Where that process does not stand here, nothing. An error is a growth refused, and leaves the bench.
-    pub fn finish(&mut self, pid: Pid, op: &Op) -> Result<(), AllocError>
-        ensures ok { OnOk result (self.new ≡ finished self.old pid op.now) }
-        ensures err { OnErr result (self.new ≡ self.old) }
+    /// Ends the operation of its maker that is under way, and gives what it gives: of a tag, to add and to remove it; of a
+    /// group, to use and to grow it; of a put, nothing. Where no operation of that process is under way, or it does not stand
+    /// here, nothing changes. Takes no memory.
+    pub fn finish(&mut self, pid: Pid, op: &Op)
+        ensures { self.new ≡ finished self.old pid op.now }
     {
-        self.processes.give(pid, op)
+        self.processes.finish(pid, op)
     }
+
+    /// Ends the operation of the process that is under way, and gives nothing: the bench is as before the order. Where there is
+    /// none, nothing changes. Takes no memory.
+    pub fn cancel(&mut self, pid: Pid)
+        ensures { self.new ≡ cancelled self.old pid }
+    {
+        self.processes.cancel(pid)
+    }
+}
+
+// The reply to whether the capability is reached from the root.
+fn member<V: View>(alloc: Global, view: &mut V, root: Cap, cap: Cap) -> Result<Outcome, Refusal>
+    ensures told { Told (Reach (Listed (V.list view.old)) (From root) cap) (root ≢ cap) result }
+    ensures same { V.list view.new ≡ V.list view.old }
+{
+    let Ok(yes) = view.reaches(alloc, root, cap) else {
+        return Err(Refusal::Memory);
+    };
+    Ok(Outcome::Reply(reply_of(yes)))
 }

@@ -2,9 +2,12 @@
 #![tactic(auto)]
 
 pub mod bench;
-mod effective;
+mod held;
+pub mod laws;
 pub mod process;
 mod processes;
 #[cfg(test)]
 mod tests;
+#[cfg(test)]
+mod tests_change;
 pub mod view;

@@ -1,14 +1,23 @@
 // Processes, and what each does by itself.
-ghost use Rattle.std.specs.Prelude.{◌≡◌, ◌∷◌, [], OnOk, OnErr};
+ghost use Rattle.std.specs.Prelude.{◌≡◌, ⊤, [], false, cond, OnOk, OnErr, MatchOption};
+ghost use Rattle.std.specs.Ordering.{is_gt};
+ghost use Rattle.fl_labels.specs.Cap.{cap_cmp};
 ghost use Rattle.fl_labels.specs.SetBy as set;
-ghost use Rattle.fl_ops.specs.Registry.{Listed};
-ghost use Rattle.fl_monitor.specs.Process.{newborn, effective, side_of, with_side, body_of};
-ghost use Rattle.fl_jobs.specs.declared.answer.Outcome.{Outcome};
-ghost use Rattle.fl_monitor.specs.Jobs.{Answers};
-ghost use Rattle.fl_monitor.specs.Acts.{Acts, Relabels};
-ghost use Rattle.fl_monitor.specs.Gifts.{given};
+ghost use Rattle.fl_labels.specs.SetBy.{In};
+ghost use Rattle.fl_labels.specs.Found.{IsLeastOutside};
+ghost use Rattle.fl_rules.specs.Safety.{Takes, SafeChange};
+ghost use Rattle.fl_ops.specs.Registry.{Eff, Global as IsGlobal, Listed};
+ghost use Rattle.fl_jobs.specs.declared.answer.Refusal.TheVariants.{MissingCap};
+ghost use Rattle.fl_jobs.specs.declared.answer.Reply.TheVariants.{Yes, NotYet};
+ghost use Rattle.fl_monitor.specs.declared.process.Holding.TheVariants.{Ordering};
+ghost use Rattle.fl_monitor.specs.Process.{newborn, held, side_of, with_side, body_of, OneOf};
+ghost use Rattle.fl_monitor.specs.Checks.{demand};
+ghost use Rattle.fl_monitor.specs.Jobs.{order_checks, change_check};
+ghost use Rattle.fl_monitor.specs.Hand.{AtHand, Lacks};
+ghost use Rattle.fl_monitor.specs.Acts.{Checked, Required, Told, Relabels, Acts};
+ghost use Rattle.fl_monitor.specs.Gifts.{given, settled};
 
-use crate::effective::Effective;
+use crate::held::Held;
 use crate::view::View;
 use fl_jobs::answer::{Outcome, Refusal, Reply};
 use fl_jobs::job::{Act, Order, Side, TooLong};
@@ -16,9 +25,11 @@ use fl_labels::cap::Cap;
 use fl_labels::cap_set::CapSet;
 use fl_labels::label::Label;
 use fl_labels::pid::Pid;
+use fl_labels::roomy::RoomyCapSet;
 use fl_ops::op::{Body, Op};
 use fl_rules::change::safe_change;
 use std::alloc::{AllocError, Global};
+use std::mem::replace;
 
 /// The two labels of a process.
 #[derive(Debug, Drop)]
@@ -27,11 +38,53 @@ pub struct Labels {
     pub integrity: Label,
 }
 
+/// The capabilities that a process owns.
+#[derive(Debug, Drop)]
+pub enum Holding {
+    /// No operation of the process is under way.
+    Idle(CapSet),
+    /// One is, and there is room for what it gives.
+    Ordering(RoomyCapSet),
+}
+
 /// A process: its labels, and the capabilities that it owns.
 #[derive(Debug, Drop)]
 pub struct Process {
     pub labels: Labels,
-    pub owned: CapSet,
+    pub owned: Holding,
+}
+
+// The least capability that the change of a label takes and that is neither one of these nor everybody's.
+fn first_lacking<V: View>(view: &mut V, caps: &CapSet, from: &Label, to: &Label) -> Option<Cap>
+    ensures found { MatchOption result (SafeChange (AtHand (Listed (V.list view.old)) caps.now) from.now to.now) (IsLeastOutside cap_cmp (Takes from.now to.now) (AtHand (Listed (V.list view.old)) caps.now)) }
+    ensures same { V.list view.new ≡ V.list view.old }
+{
+    let mut held = Held { view, caps };
+    safe_change(&mut held, from, to)
+}
+
+// Whether the owner of these capabilities may turn the one label into the other, or else which is missing. What is owned or
+// everybody's is looked at first, which takes no memory, and all that is reached only where that does not do.
+fn check_change<V: View>(
+    alloc: Global,
+    view: &mut V,
+    owned: &CapSet,
+    from: &Label,
+    to: &Label,
+) -> Result<(), Refusal>
+    ensures checked { Checked (change_check (Eff (Listed (V.list view.old)) (In owned.now)) from.now to.now) (Lacks (Takes from.now to.now) (AtHand (Listed (V.list view.old)) owned.now)) result }
+    ensures same { V.list view.new ≡ V.list view.old }
+{
+    if first_lacking(view, owned, from, to).is_none() {
+        return Ok(());
+    }
+    let Ok(reached) = view.reached(alloc, owned) else {
+        return Err(Refusal::Memory);
+    };
+    match first_lacking(view, &reached, from, to) {
+        None => Ok(()),
+        Some(cap) => Err(Refusal::MissingCap(cap)),
+    }
 }
 
 impl Labels {
@@ -52,6 +105,79 @@ impl Labels {
             Side::Integrity => self.integrity = label,
         }
     }
+
+    // A label of too many tags is refused before anything is asked.
+    fn relabel<V: View>(
+        &mut self,
+        alloc: Global,
+        view: &mut V,
+        owned: &CapSet,
+        side: Side,
+        label: Result<Label, TooLong>,
+    ) -> Result<Outcome, Refusal>
+        ensures relabels { Relabels (Listed (V.list view.old)) owned.now self.old side label result self.new }
+        ensures same { V.list view.new ≡ V.list view.old }
+    {
+        let Ok(label) = label else {
+            return Err(Refusal::LabelTooLong);
+        };
+        check_change(alloc, view, owned, self.side(side), &label)?;
+        self.set_side(side, label);
+        Ok(Outcome::Reply(Reply::Done))
+    }
+}
+
+impl Holding {
+    // What is held, which leaves nothing.
+    fn take(&mut self, alloc: Global) -> Self
+        ensures { result ≡ self.old }
+    {
+        replace(self, Holding::Idle(CapSet::new(alloc)))
+    }
+
+    // With an operation under way, or as before where there is no room for what it may give.
+    fn begun(self) -> (Self, Result<(), AllocError>)
+        ensures ok { OnOk result.1 (result.0 ≡ Ordering (held self)) }
+        ensures err { OnErr result.1 (result.0 ≡ self) }
+    {
+        match self {
+            Holding::Idle(owned) => match owned.with_room() {
+                Ok(owned) => (Holding::Ordering(owned), Ok(())),
+                Err(owned) => (Holding::Idle(owned), Err(AllocError)),
+            },
+            ordering => (ordering, Ok(())),
+        }
+    }
+
+    // The same, in place.
+    fn begin(&mut self, alloc: Global) -> Result<(), AllocError>
+        ensures ok { OnOk result (self.new ≡ Ordering (held self.old)) }
+        ensures err { OnErr result (self.new ≡ self.old) }
+    {
+        let (begun, result) = self.take(alloc).begun();
+        *self = begun;
+        result
+    }
+
+    // With what the operation gives, where one was under way.
+    fn finished(self, op: &Op) -> Self
+        ensures { result ≡ settled self (given op.now) }
+    {
+        match self {
+            Holding::Idle(owned) => Holding::Idle(owned),
+            Holding::Ordering(owned) => Holding::Idle(receive(owned, op)),
+        }
+    }
+
+    // With no operation under way.
+    fn cancelled(self) -> Self
+        ensures { result ≡ settled self [] }
+    {
+        match self {
+            Holding::Idle(owned) => Holding::Idle(owned),
+            Holding::Ordering(owned) => Holding::Idle(owned.without_room()),
+        }
+    }
 }
 
 // What an order asks to be made.
@@ -61,22 +187,86 @@ fn body_of_order(order: Order) -> Body
     match order {
         Order::Tag(policy) => Body::MakeTag(policy),
         Order::Group => Body::MakeGroup,
+        Order::Put(group, cap) => Body::Put(group, cap),
     }
 }
 
-// Gives both capabilities.
-fn give_both(owned: &mut CapSet, first: Cap, second: Cap) -> Result<(), AllocError>
-    ensures ok { OnOk result (owned.new ≡ set.insert_all owned.old (first ∷ second ∷ [])) }
-    ensures err { OnErr result (owned.new ≡ owned.old) }
+// With what the operation gives its maker.
+fn receive(owned: RoomyCapSet, op: &Op) -> CapSet
+    ensures { result ≡ set.insert_all owned (given op.now) }
 {
-    let new = owned.insert(second)?;
-    if let Err(error) = owned.insert(first) {
-        if new {
-            owned.remove(second);
-        }
-        return Err(error);
+    match op.body {
+        Body::MakeTag(_) => owned.with_both(Cap::Plus(op.name), Cap::Minus(op.name)),
+        Body::MakeGroup => owned.with_both(Cap::Use(op.name), Cap::Grow(op.name)),
+        Body::Put(_, _) => owned.without_room(),
     }
-    Ok(())
+}
+
+/// What is answered to a question.
+pub(crate) fn reply_of(yes: bool) -> Reply
+    ensures { result ≡ cond yes Yes NotYet }
+{
+    if yes { Reply::Yes } else { Reply::NotYet }
+}
+
+// Whether a capability is in effect, or else that it is missing.
+fn require<V: View>(alloc: Global, view: &mut V, owned: &CapSet, cap: Cap) -> Result<(), Refusal>
+    ensures required { Required (Eff (Listed (V.list view.old)) (In owned.now)) cap result }
+    ensures same { V.list view.new ≡ V.list view.old }
+{
+    match view.effective(alloc, owned, cap) {
+        Ok(true) => Ok(()),
+        Ok(false) => Err(Refusal::MissingCap(cap)),
+        Err(_) => Err(Refusal::Memory),
+    }
+}
+
+// Whether both capabilities are in effect, or else which is missing. The lesser is asked for first.
+fn require_both<V: View>(
+    alloc: Global,
+    view: &mut V,
+    owned: &CapSet,
+    lesser: Cap,
+    greater: Cap,
+) -> Result<(), Refusal>
+    requires in_order { is_gt (cap_cmp lesser greater) ≡ false }
+    ensures checked { Checked (demand cap_cmp (OneOf lesser greater) (Eff (Listed (V.list view.old)) (In owned.now)) MissingCap) ⊤ result }
+    ensures same { V.list view.new ≡ V.list view.old }
+{
+    require(alloc, view, owned, lesser)?;
+    require(alloc, view, owned, greater)
+}
+
+// Whether the owner of these capabilities may give this order.
+fn check_order<V: View>(
+    alloc: Global,
+    view: &mut V,
+    owned: &CapSet,
+    order: Order,
+) -> Result<(), Refusal>
+    ensures checked { Checked (order_checks (Eff (Listed (V.list view.old)) (In owned.now)) order) ⊤ result }
+    ensures same { V.list view.new ≡ V.list view.old }
+{
+    let Order::Put(group, cap) = order else {
+        return Ok(());
+    };
+    let grow = Cap::Grow(group);
+    if cap < grow {
+        require_both(alloc, view, owned, cap, grow)
+    } else {
+        require_both(alloc, view, owned, grow, cap)
+    }
+}
+
+// The reply to whether the capability is in effect.
+fn ask<V: View>(alloc: Global, view: &mut V, owned: &CapSet, cap: Cap) -> Result<Outcome, Refusal>
+    ensures told { Told (Eff (Listed (V.list view.old)) (In owned.now) cap) ((¬ In owned.now cap) × (¬ IsGlobal (Listed (V.list view.old)) cap)) result }
+    ensures same { V.list view.new ≡ V.list view.old }
+{
+    let Ok(yes) = view.effective(alloc, owned, cap) else {
+        return Err(Refusal::Memory);
+    };
+    Ok(Outcome::Reply(reply_of(yes)))
 }
 
 impl Process {
@@ -89,48 +279,14 @@ impl Process {
                 secrecy: Label::new(alloc),
                 integrity: Label::new(alloc),
             },
-            owned: CapSet::new(alloc),
+            owned: Holding::Idle(CapSet::new(alloc)),
         }
     }
 
-    // A label of too many tags is refused before anything is asked.
-    fn relabel<V: View>(
-        &mut self,
-        view: &mut V,
-        side: Side,
-        label: Result<Label, TooLong>,
-    ) -> Result<Outcome, Refusal>
-        ensures relabels { Relabels (Listed (V.list view.old)) self.old side label result self.new }
-        ensures same { V.list view.new ≡ V.list view.old }
-    {
-        let Ok(label) = label else {
-            return Err(Refusal::LabelTooLong);
-        };
-        let mut effective = Effective {
-            view,
-            owned: &self.owned,
-        };
-        if let Some(cap) = safe_change(&mut effective, self.labels.side(side), &label) {
-            return Err(Refusal::MissingCap(cap));
-        }
-        self.labels.set_side(side, label);
-        Ok(Outcome::Reply(Reply::Done))
-    }
-
-    fn ask<V: View>(&self, view: &mut V, cap: Cap) -> Reply
-        ensures reply { Answers (Outcome.Reply result) (effective (Listed (V.list view.old)) self.now cap) }
-        ensures same { V.list view.new ≡ V.list view.old }
-    {
-        if view.effective(&self.owned, cap) {
-            Reply::Yes
-        } else {
-            Reply::NotYet
-        }
-    }
-
-    /// Does what the process asks for by itself.
+    /// Does what the process asks for by itself, unless an operation of it is under way.
     pub(crate) fn act<V: View>(
         &mut self,
+        alloc: Global,
         view: &mut V,
         pid: Pid,
         act: Act,
@@ -138,21 +294,33 @@ impl Process {
         ensures acts { Acts (Listed (V.list view.old)) pid self.old act result self.new }
         ensures same { V.list view.new ≡ V.list view.old }
     {
+        let Holding::Idle(owned) = &self.owned else {
+            return Err(Refusal::Busy);
+        };
         match act {
-            Act::Order(order) => Ok(Outcome::Order(body_of_order(order), pid)),
-            Act::Relabel(side, label) => self.relabel(view, side, label),
-            Act::Ask(cap) => Ok(Outcome::Reply(self.ask(view, cap))),
+            Act::Order(order) => {
+                check_order(alloc, view, owned, order)?;
+                let Ok(()) = self.owned.begin(alloc) else {
+                    return Err(Refusal::Memory);
+                };
+                Ok(Outcome::Order(body_of_order(order), pid))
+            }
+            Act::Relabel(side, label) => self.labels.relabel(alloc, view, owned, side, label),
+            Act::Ask(cap) => ask(alloc, view, owned, cap),
         }
     }
 
-    /// Gives what the operation gives its maker. An error leaves the process.
-    pub(crate) fn give(&mut self, op: &Op) -> Result<(), AllocError>
-        ensures ok { OnOk result (self.new ≡ record self.old { owned = set.insert_all self.old.owned (given op.now) }) }
-        ensures err { OnErr result (self.new ≡ self.old) }
+    /// With what the operation gives, where one was under way. Takes no memory.
+    pub(crate) fn finish(&mut self, alloc: Global, op: &Op)
+        ensures { self.new ≡ record self.old { owned = settled self.old.owned (given op.now) } }
     {
-        match op.body {
-            Body::MakeTag(_) => give_both(&mut self.owned, Cap::Plus(op.name), Cap::Minus(op.name)),
-            Body::MakeGroup => give_both(&mut self.owned, Cap::Use(op.name), Cap::Grow(op.name)),
-        }
+        self.owned = self.owned.take(alloc).finished(op);
+    }
+
+    /// With no operation under way. Takes no memory.
+    pub(crate) fn cancel(&mut self, alloc: Global)
+        ensures { self.new ≡ record self.old { owned = settled self.old.owned [] } }
+    {
+        self.owned = self.owned.take(alloc).cancelled();
     }
 }

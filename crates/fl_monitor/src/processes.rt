@@ -1,6 +1,6 @@
 // The processes of one bench.
 ghost use Rattle.std.specs.Option.{option_copied};
-ghost use Rattle.std.specs.Prelude.{◌≡◌, OnOk, OnErr};
+ghost use Rattle.std.specs.Prelude.{◌≡◌, [], OnOk, OnErr};
 ghost use Rattle.std.specs.FinMap as map;
 ghost use Rattle.fl_ops.specs.Registry.{Listed};
 ghost use Rattle.fl_monitor.specs.Acts.{ActsAt};
@@ -19,6 +19,7 @@ use std::marker::Model;
 /// Processes by what they are called.
 #[derive(Debug, Drop)]
 pub struct Processes {
+    alloc: Global,
     all: BTreeMap<Pid, Process>,
 }
 
@@ -42,6 +43,7 @@ impl Processes {
         ensures { result ≡ map.empty }
     {
         Processes {
+            alloc,
             all: BTreeMap::new(alloc),
         }
     }
@@ -63,24 +65,39 @@ impl Processes {
     }
 
     /// Does what one process asks for by itself.
-    pub fn act<V: View>(&mut self, view: &mut V, pid: Pid, act: Act) -> Result<Outcome, Refusal>
+    pub fn act<V: View>(
+        &mut self,
+        alloc: Global,
+        view: &mut V,
+        pid: Pid,
+        act: Act,
+    ) -> Result<Outcome, Refusal>
         ensures acts { ActsAt (Listed (V.list view.old)) self.old pid act result self.new }
         ensures same { V.list view.new ≡ V.list view.old }
     {
         let Some(process) = self.all.get_mut(&pid) else {
             return Err(Refusal::NoProcess(pid));
         };
-        process.act(view, pid, act)
+        process.act(alloc, view, pid, act)
     }
 
-    /// Gives a process what the operation gives its maker, if there is that process. An error leaves them.
-    pub fn give(&mut self, pid: Pid, op: &Op) -> Result<(), AllocError>
-        ensures ok { OnOk result (self.new ≡ receives self.old pid (given op.now) (map.get self.old pid)) }
-        ensures err { OnErr result (self.new ≡ self.old) }
+    /// Gives a process what the operation gives its maker, if there is that process and its operation is under way.
+    pub fn finish(&mut self, pid: Pid, op: &Op)
+        ensures { self.new ≡ receives self.old pid (given op.now) (map.get self.old pid) }
     {
         let Some(process) = self.all.get_mut(&pid) else {
-            return Ok(());
+            return;
         };
-        process.give(op)
+        process.finish(self.alloc, op);
+    }
+
+    /// Takes it that the process, if there is that process, has no operation under way.
+    pub fn cancel(&mut self, pid: Pid)
+        ensures { self.new ≡ receives self.old pid [] (map.get self.old pid) }
+    {
+        let Some(process) = self.all.get_mut(&pid) else {
+            return;
+        };
+        process.cancel(self.alloc);
     }
 }

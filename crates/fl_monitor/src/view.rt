@@ -1,61 +1,65 @@
 // Looks at published operations.
-ghost use Rattle.std.specs.Prelude.{◌≡◌};
-ghost use Rattle.fl_labels.specs.Found.{Tells};
-ghost use Rattle.fl_labels.specs.SetBy.{In};
-ghost use Rattle.fl_ops.specs.Registry as spec;
-ghost use Rattle.fl_ops.specs.Registry.{Global};
-
+use fl_closure::index::Index;
 use fl_labels::cap::Cap;
 use fl_labels::cap_set::CapSet;
-use fl_labels::name::Name;
-use fl_ops::op::{Body, Op, Policy};
-use fl_opset::set::OpSet;
+use std::alloc::{AllocError, Global};
 
-/// A list of operations, which questions do not change, and of which effective capabilities can be asked.
+/// A list of operations, which questions do not change. The answers to some questions are searched for, which takes memory.
 pub trait View {
-    ghost use Rattle.std.specs.Prelude.{◌≡◌, List};
+    ghost use Rattle.std.specs.Prelude.{◌≡◌, ◌≢◌, ◌↔◌, List, IfOk, OnErr};
     ghost use Rattle.fl_labels.specs.Found.{Tells};
     ghost use Rattle.fl_labels.specs.SetBy.{In};
+    ghost use Rattle.fl_labels.specs.declared.cap.Cap.{Cap};
     ghost use Rattle.fl_ops.specs.declared.op.Op.{Op};
-    ghost use Rattle.fl_ops.specs.Registry.{Eff, Listed};
+    ghost use Rattle.fl_ops.specs.Registry.{Reach, From, Global as IsGlobal, Eff, Listed};
 
     // the operations
     ghost list: { Self → List Op };
 
-    /// Whether the owner of these capabilities has this one in effect.
-    fn effective(&mut self, owned: &CapSet, cap: Cap) -> bool
-        ensures answer { Tells result (Eff (Listed (list self.old)) (In owned.now) cap) }
+    /// Whether the owner of these capabilities has this one in effect. An error says that there was not enough memory for a
+    /// search: none for a capability that is owned, or everybody's.
+    fn effective(&mut self, alloc: Global, owned: &CapSet, cap: Cap) -> Result<bool, AllocError>
+        ensures answer { IfOk result (λ yes. Tells yes (Eff (Listed (list self.old)) (In owned.now) cap)) }
+        ensures err { OnErr result ((¬ In owned.now cap) × (¬ IsGlobal (Listed (list self.old)) cap)) }
+        ensures same { list self.new ≡ list self.old };
+
+    /// Whether the capability is reached from the root. An error says that there was not enough memory for a search: none for
+    /// the root itself.
+    fn reaches(&mut self, alloc: Global, root: Cap, cap: Cap) -> Result<bool, AllocError>
+        ensures answer { IfOk result (λ yes. Tells yes (Reach (Listed (list self.old)) (From root) cap)) }
+        ensures err { OnErr result (root ≢ cap) }
+        ensures same { list self.new ≡ list self.old };
+
+    /// All that the owner of these capabilities reaches. An error says that there was not enough memory.
+    fn reached(&mut self, alloc: Global, owned: &CapSet) -> Result<CapSet, AllocError>
+        ensures answer { IfOk result (λ reached. (cap : Cap) → In reached cap ↔ Reach (Listed (list self.old)) (In owned.now) cap) }
+        ensures same { list self.new ≡ list self.old };
+
+    /// Whether everybody has the capability. Takes no memory.
+    fn global(&mut self, cap: Cap) -> bool
+        ensures answer { Tells result (IsGlobal (Listed (list self.old)) cap) }
         ensures same { list self.new ≡ list self.old };
 }
 
-/// All of its members. No operation puts a capability into a group, so what is in effect is owned, or everybody's. Two
-/// binary searches.
-impl View for OpSet {
+/// All of its operations.
+impl View for Index {
     ghost use Rattle.fl_labels.specs.SetBy.{members};
 
     ghost list = { members };
 
-    fn effective(&mut self, owned: &CapSet, cap: Cap) -> bool {
-        owned.contains(cap) || is_global(self, cap)
+    fn effective(&mut self, alloc: Global, owned: &CapSet, cap: Cap) -> Result<bool, AllocError> {
+        Index::effective(self, alloc, owned, cap)
     }
-}
 
-// Whether everybody has the capability.
-fn is_global(ops: &OpSet, cap: Cap) -> bool
-    ensures { Tells result (Global (In ops.now) cap) }
-{
-    match cap {
-        Cap::Plus(tag) => ops.contains(&tag_op(tag, Policy::Export)),
-        Cap::Minus(tag) => ops.contains(&tag_op(tag, Policy::Integrity)),
-        Cap::Use(_) | Cap::Grow(_) => false,
+    fn reaches(&mut self, alloc: Global, root: Cap, cap: Cap) -> Result<bool, AllocError> {
+        Index::reaches(self, alloc, root, cap)
     }
-}
 
-fn tag_op(name: Name, policy: Policy) -> Op
-    ensures { result ≡ spec.tag_op name policy }
-{
-    Op {
-        name,
-        body: Body::MakeTag(policy),
+    fn reached(&mut self, alloc: Global, owned: &CapSet) -> Result<CapSet, AllocError> {
+        Index::reached(self, alloc, owned)
+    }
+
+    fn global(&mut self, cap: Cap) -> bool {
+        Index::global(self, cap)
     }
 }

@@ -6,7 +6,7 @@ pub returns-in_default : goal.returns-in_default
 returns-in_default c = spent_births _ c.args.self.now c.self.view_is c.in_default.ensures
 
 pub returns-in_default-insert : goal.returns-in_default-insert
-returns-in_default-insert c = full_births _ c.args.self.now c.self.view_is _ c.in_default-insert.ensures.err
+returns-in_default-insert c = full_births _ c.args.self.now c.self.view_is _ c.in-Ok.ensures.0 c.in_default-insert.ensures.err
 
 pub returns : goal.returns
 returns c = made_births _ c.args.self.now c.self.view_is _ _ _ _ c.in-Ok.ensures.0 (record { node = refl; boot = refl; serial = c.in-Ok.ensures.1 }) c.new.ensures c.in-Ok-insert.ensures.ok c.from.ensures

@@ -1,0 +1,103 @@
+-- A job that is not refused for want of memory has one result.
+use Rattle.std.proofs.Common.{◌≡◌, ◌≢◌, ◌∙◌, inl, inr, refl, sym, ap, subst, Option, Some, None, Result, Ok, Err}
+use Rattle.std.specs.FinMap as map
+use Rattle.fl_labels.specs.CapOrder.{cap_total, cap_exact}
+use Rattle.fl_labels.specs.PidOrder.{same_pid}
+use Rattle.fl_labels.specs.declared.cap.Cap.{Cap}
+use Rattle.fl_labels.specs.declared.pid.Pid.{Pid}
+use Rattle.fl_ops.specs.declared.op.Op.{Op}
+use Rattle.fl_jobs.specs.declared.job.Order as orders
+use Rattle.fl_jobs.specs.declared.job.Order.TheVariants.{Tag, Group, Put}
+use Rattle.fl_jobs.specs.declared.job.Act.{Act}
+use Rattle.fl_jobs.specs.declared.job.Act.TheVariants.{Order, Relabel, Ask}
+use Rattle.fl_jobs.specs.declared.job.Job.{Job}
+use Rattle.fl_jobs.specs.declared.job.Job.TheVariants.{Proc, By, Member}
+use Rattle.fl_jobs.specs.declared.answer.Refusal.{Refusal}
+use Rattle.fl_jobs.specs.declared.answer.Refusal.TheVariants.{NoProcess, MissingCap, Busy, Memory}
+use Rattle.fl_jobs.specs.declared.answer.Reply.TheVariants.{Made}
+use Rattle.fl_jobs.specs.declared.answer.Outcome.{Outcome}
+use Rattle.fl_monitor.specs.Checks.{refuse_if}
+use Rattle.fl_monitor.specs.Process.{newborn, is_busy, effective}
+use Rattle.fl_monitor.specs.Bench.{State, IsNext, born}
+use Rattle.fl_monitor.specs.Jobs.{order_checks, checks_of, act_checks, checks, Answers, Performs, Effect, Does, passed, failed, no_room}
+use Rattle.fl_monitor.specs.declared.process.Process.{Process}
+use Rattle.fl_monitor.proofs.OneCheck.{OneVerdict, one_said, one_then, one_demand, one_with}
+
+-- ---- each job has one verdict
+
+one_order_check : (E : Cap → Type 0) (order : orders.Order) → OneVerdict (order_checks E order)
+one_order_check E (Tag policy) = one_said
+one_order_check E Group = one_said
+one_order_check E (Put group c) = one_demand cap_total cap_exact _ _ MissingCap
+
+module _ (V : Op → Type 0) where
+  one_check_of : (p : Process) (act : Act) → OneVerdict (checks_of V p act)
+  one_check_of p (Order order) = one_order_check (effective V p) order
+  one_check_of p (Relabel side (Ok label)) = one_demand cap_total cap_exact _ _ MissingCap
+  one_check_of p (Relabel side (Err long)) = one_said
+  one_check_of p (Ask c) = one_said
+
+  one_check : (b : State) (job : Job) → OneVerdict (checks V b job)
+  one_check b Proc = one_said
+  one_check b (By pid act) = one_with (map.get b.processes pid) (NoProcess pid) (λ p. act_checks V p act) (λ p. one_then (refuse_if (is_busy p) Busy) (checks_of V p act) one_said (one_check_of p act))
+  one_check b (Member root c) = one_said
+
+-- ---- each job that passes has one end
+
+-- the same result, and the same bench
+abbrev Same : {A : Type 0} → A → A → State → State → Type 0
+Same x y c d = (x ≡ y) × (c ≡ d)
+
+-- one outcome, and one bench
+abbrev OneEnd : (Outcome → State → Type 0) → Type 0
+OneEnd Ends = (x y : Outcome) (c d : State) → Ends x c → Ends y d → Same x y c d
+
+-- an end that says both
+one_end : {outcome : Outcome} {after : State} → OneEnd (λ x c. (x ≡ outcome) × (c ≡ after))
+one_end x y c d h k = (h.0 ∙ sym k.0, h.1 ∙ sym k.1)
+
+one_answer : {P : Type 0} {after : State} → OneEnd (λ x c. Answers x P × (c ≡ after))
+one_answer x y c d (inl h, e) (inl k, f) = (h.0 ∙ sym k.0, e ∙ sym f)
+one_answer x y c d (inl h, e) (inr k, f) = absurd (k.1 h.1)
+one_answer x y c d (inr h, e) (inl k, f) = absurd (h.1 k.1)
+one_answer x y c d (inr h, e) (inr k, f) = (h.0 ∙ sym k.0, e ∙ sym f)
+
+module _ (V : Op → Type 0) (b : State) where
+  one_next : (p q : Pid) → IsNext b p → IsNext b q → p ≡ q
+  one_next p q h k = same_pid p q (h.node ∙ sym k.node) (h.boot ∙ sym k.boot) (h.serial ∙ sym k.serial)
+
+  one_performs : (pid : Pid) (p : Process) (act : Act) → OneEnd (Performs V b pid p act)
+  one_performs pid p (Order order) = one_end
+  one_performs pid p (Relabel side (Ok label)) = one_end
+  one_performs pid p (Relabel side (Err long)) = λ x y c d h k. absurd h
+  one_performs pid p (Ask c) = one_answer
+
+  one_effect : (job : Job) → OneEnd (Effect V b job)
+  one_effect Proc x y c d h k =
+      let e : h.0 ≡ k.0 = one_next h.0 k.0 h.1 k.1 in
+      (h.2 ∙ ap (λ p. Outcome.Reply (Made p)) e ∙ sym k.2, h.3 ∙ ap (λ p. born b p newborn) e ∙ sym k.3)
+  one_effect (By pid act) x y c d h k =
+      let e : k.0 ≡ h.0 = one_found (map.get b.processes pid) h.0 k.0 h.1 k.1 in
+      one_performs pid h.0 act x y c d h.2 (subst (λ p. Performs V b pid p act y d) e k.2)
+    where
+      one_found : (o : Option Process) (p q : Process) → o ≡ Some p → o ≡ Some q → q ≡ p
+      one_found o p q h k = cc
+  one_effect (Member root cap) x y c d h k = one_answer x y c d h k
+
+  -- ---- a job
+
+  pub one_result : (job : Job) (r s : Result Outcome Refusal) (c d : State) → Does V b job r c → Does V b job s d → r ≢ Err Memory → s ≢ Err Memory → Same r s c d
+  one_result job r s c d (passed {outcome = x} h f) (passed {outcome = y} k g) p q =
+      let e = one_effect job x y c d f g in
+      (ap Ok e.0, e.1)
+  one_result job r s c d (failed {f} h) (failed {f = g} k) p q =
+      let e : Some f ≡ Some g = one_check V b job (Some f) (Some g) h k in
+      (ap Err (cc), refl)
+  one_result job r s c d (passed h f) (failed {f = g} k) p q =
+      let e : None ≡ Some g = one_check V b job None (Some g) h k in
+      absurd (cc)
+  one_result job r s c d (failed {f} h) (passed k g) p q =
+      let e : Some f ≡ None = one_check V b job (Some f) None h k in
+      absurd (cc)
+  one_result job r s c d (no_room t) k p q = absurd (p refl)
+  one_result job r s c d h (no_room t) p q = absurd (q refl)

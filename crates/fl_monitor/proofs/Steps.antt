@@ -1,0 +1,115 @@
+-- What a job comes to at a bench, job by job: it is refused, replied to, or orders an operation.
+use Rattle.std.proofs.Common.{◌≡◌, inl, inr, refl, sym, subst, Bool, true, false, Some, None, Result, Ok, Err}
+use Rattle.std.specs.FinMap as map
+use Rattle.fl_labels.specs.Name.{name_cmp}
+use Rattle.fl_labels.specs.SetBy.{SetBy}
+use Rattle.fl_labels.specs.declared.cap.Cap.{Cap}
+use Rattle.fl_labels.specs.declared.cap.Cap.TheVariants.{Plus, Minus, Use, Grow}
+use Rattle.fl_labels.specs.declared.pid.Pid.{Pid}
+use Rattle.fl_ops.specs.declared.op.Op.{Op}
+use Rattle.fl_ops.specs.declared.op.Body.{Body}
+use Rattle.fl_jobs.specs.declared.job.Side.{Side}
+use Rattle.fl_jobs.specs.declared.job.Side.TheVariants.{Secrecy, Integrity}
+use Rattle.fl_jobs.specs.declared.job.Order as order
+use Rattle.fl_jobs.specs.declared.job.Act.{Act}
+use Rattle.fl_jobs.specs.declared.job.Act.TheVariants.{Order, Relabel, Ask}
+use Rattle.fl_jobs.specs.declared.job.Job.{Job}
+use Rattle.fl_jobs.specs.declared.job.Job.TheVariants.{Proc, By, Member}
+use Rattle.fl_jobs.specs.declared.answer.Refusal.{Refusal}
+use Rattle.fl_jobs.specs.declared.answer.Refusal.TheVariants.{NoProcess, Busy}
+use Rattle.fl_jobs.specs.declared.answer.Reply.{Reply}
+use Rattle.fl_jobs.specs.declared.answer.Outcome.{Outcome}
+use Rattle.fl_rules.specs.Safety.{SafeChange}
+use Rattle.fl_monitor.specs.Checks.{refuse_if, with}
+use Rattle.fl_monitor.specs.Process.{newborn, is_busy, ordering, effective, side_of, with_side, body_of}
+use Rattle.fl_monitor.specs.Bench.{State, has_at, IsNext, born}
+use Rattle.fl_monitor.specs.Jobs.{order_checks, checks_of, act_checks, checks, Answers, Performs, Effect, Does, passed, failed, no_room}
+use Rattle.fl_monitor.specs.Following.{Follows}
+use Rattle.fl_monitor.specs.declared.process.Process.{Process}
+
+-- ---- what a step is
+
+-- the bench has its processes still, of which one may have changed
+pub data Keeps (V : Op → Type 0) (b after : State) : Type 0 where
+  stays : after ≡ b → Keeps V b after
+  turns : (pid : Pid) (old new : Process) → map.get b.processes pid ≡ Some old → Follows V (Some old) (Some new) → after ≡ has_at b pid new → Keeps V b after
+
+-- or has them still and a new one
+pub data Changes (V : Op → Type 0) (b after : State) : Type 0 where
+  keeps : Keeps V b after → Changes V b after
+  bears : (pid : Pid) → IsNext b pid → after ≡ born b pid newborn → Changes V b after
+
+-- the job is the order of an idle process that stands as pid, and may ask for it
+pub record IsOrder (V : Op → Type 0) (b : State) (job : Job) (body : Body) (pid : Pid) (after : State) : Type 0 where
+  pub process : Process
+  pub lived : map.get b.processes pid ≡ Some process
+  pub idle : is_busy process ≡ false
+  pub order : order.Order
+  pub asked : job ≡ By pid (Order order)
+  pub allowed : order_checks (effective V process) order None
+  pub body_is : body ≡ body_of order
+  pub leaves : after ≡ has_at b pid (ordering process)
+
+pub data Step (V : Op → Type 0) (b : State) (job : Job) : Result Outcome Refusal → State → Type 0 where
+  refuses : {f : Refusal} → Step V b job (Err f) b
+  replies : {reply : Reply} {after : State} → Changes V b after → Step V b job (Ok (Outcome.Reply reply)) after
+  orders : {body : Body} {pid : Pid} {after : State} → IsOrder V b job body pid after → Step V b job (Ok (Outcome.Order body pid)) after
+
+-- ---- labels
+
+-- to leave a label takes nothing
+safe_same : (E : Cap → Type 0) (s : SetBy name_cmp) → SafeChange E s s
+safe_same E s (Plus tag) h = let m = h.here in let n = h.not_there in absurd (cc)
+safe_same E s (Minus tag) h = let m = h.here in let n = h.not_there in absurd (cc)
+safe_same E s (Use group) h = absurd h
+safe_same E s (Grow group) h = absurd h
+
+module _ (V : Op → Type 0) where
+  -- a process that has its labels still
+  pub same_labels : (old new : Process) → new.labels ≡ old.labels → Follows V (Some old) (Some new)
+  same_labels old new e side = subst (λ l. SafeChange (effective V old) (side_of side old.labels) (side_of side l)) (sym e) (safe_same _ _)
+
+  -- a label that is set leaves the other one
+  set_label : (p : Process) (side : Side) (label : SetBy name_cmp) → SafeChange (effective V p) (side_of side p.labels) label → Follows V (Some p) (Some (record p { labels = with_side side label p.labels }))
+  set_label p Secrecy label h Secrecy = h
+  set_label p Integrity label h Integrity = h
+  set_label p Secrecy label h Integrity = safe_same _ _
+  set_label p Integrity label h Secrecy = safe_same _ _
+
+  -- ---- the step of each job
+
+  module _ (b : State) where
+    replied : {job : Job} {x : Outcome} {reply : Reply} {after : State} → x ≡ Outcome.Reply reply → Changes V b after → Step V b job (Ok x) after
+    replied {job} {after} e h = subst (λ x. Step V b job (Ok x) after) (sym e) (replies h)
+
+    answered : {job : Job} {x : Outcome} {P : Type 0} {after : State} → Answers x P → after ≡ b → Step V b job (Ok x) after
+    answered (inl h) e = replied h.0 (keeps (stays e))
+    answered (inr h) e = replied h.0 (keeps (stays e))
+
+    act_step : (pid : Pid) (p : Process) (act : Act) (x : Outcome) (after : State) → map.get b.processes pid ≡ Some p → is_busy p ≡ false → checks_of V p act None → Performs V b pid p act x after → Step V b (By pid act) (Ok x) after
+    act_step pid p (Order order) x after e idle h f =
+        subst (λ x. Step V b (By pid (Order order)) (Ok x) after) (sym f.0)
+        (orders (record { process = p; lived = e; idle = idle; order = order; asked = refl; allowed = h; body_is = refl; leaves = f.1 }))
+    act_step pid p (Relabel side (Ok label)) x after e idle h f = replied f.0 (keeps (turns pid p _ e (set_label p side label h) f.1))
+    act_step pid p (Relabel side (Err long)) x after e idle h f = absurd f
+    act_step pid p (Ask c) x after e idle h f = answered f.0 f.1
+
+    -- what the process that asks has passed
+    pub passed_by : (pid : Pid) (act : Act) (p : Process) → map.get b.processes pid ≡ Some p → checks V b (By pid act) None → act_checks V p act None
+    passed_by pid act p e h = subst (λ o. with o (NoProcess pid) (λ p. act_checks V p act) None) e h
+
+    is_idle : (busy : Bool) → refuse_if busy Busy None → busy ≡ false
+    is_idle true h = absurd (cc)
+    is_idle false h = refl
+
+    job_step : (job : Job) (x : Outcome) (after : State) → checks V b job None → Effect V b job x after → Step V b job (Ok x) after
+    job_step Proc x after h f = replied f.2 (bears f.0 f.1 f.3)
+    job_step (By pid act) x after h f =
+        let both = passed_by pid act f.0 f.1 h in
+        act_step pid f.0 act x after f.1 (is_idle (is_busy f.0) both.0) both.1 f.2
+    job_step (Member root c) x after h f = answered f.0 f.1
+
+    pub does_step : {job : Job} {r : Result Outcome Refusal} {after : State} → Does V b job r after → Step V b job r after
+    does_step {job} {after} (passed {outcome} h f) = job_step job outcome after h f
+    does_step (failed h) = refuses
+    does_step (no_room t) = refuses

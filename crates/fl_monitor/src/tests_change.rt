@@ -1,0 +1,79 @@
+// Tests of label changes by what is reached through groups.
+use crate::bench::Bench;
+use crate::view::View;
+use fl_closure::index::Index;
+use fl_jobs::answer::{Outcome, Refusal, Reply};
+use fl_jobs::job::{Act, Job, Order, Side};
+use fl_labels::cap::Cap;
+use fl_labels::label::Label;
+use fl_labels::name::Name;
+use fl_labels::pid::Pid;
+use fl_ops::op::{Body, Op, Policy};
+use std::alloc::Global;
+use std::test::Fail;
+
+const GROUP: Name = Name { node: 1, seq: 1 };
+
+const TAG: Name = Name { node: 1, seq: 2 };
+
+const OTHER: Name = Name { node: 1, seq: 3 };
+
+const EXPORT: Name = Name { node: 1, seq: 4 };
+
+const OWNER: Pid = Pid {
+    node: 1,
+    boot: 1,
+    serial: 1,
+};
+
+fn op(seq: u32, body: Body) -> Op {
+    Op {
+        name: Name { node: 1, seq },
+        body,
+    }
+}
+
+// A bench with the owner of a group, into which another has put to add and to remove the tag, and to add the other one.
+fn opened(alloc: Global, ops: &mut Index) -> Result<Bench, Fail> {
+    let mut bench = Bench::new(alloc, 1, 1, 1, 1);
+    bench.job(alloc, ops, Job::Proc)?;
+    bench.job(alloc, ops, Job::By(OWNER, Act::Order(Order::Group)))?;
+    bench.finish(OWNER, &op(1, Body::MakeGroup));
+    for op in [
+        op(2, Body::MakeTag(Policy::Read)),
+        op(3, Body::MakeTag(Policy::Read)),
+        op(4, Body::MakeTag(Policy::Export)),
+        op(5, Body::Put(GROUP, Cap::Plus(TAG))),
+        op(6, Body::Put(GROUP, Cap::Minus(TAG))),
+        op(7, Body::Put(GROUP, Cap::Plus(OTHER))),
+    ] {
+        ops.absorb(&op)?;
+    }
+    Ok(bench)
+}
+
+#[test]
+fn changes_by_a_group(rt: HostRuntime) -> Result<(), Fail> {
+    let alloc = rt.alloc();
+    let mut ops = Index::new(alloc);
+    let mut bench = opened(alloc, &mut ops)?;
+    let done = Ok(Outcome::Reply(Reply::Done));
+    for (label, answer) in [
+        ("{1.2,1.4}", done),
+        ("{1.3,1.4}", done),
+        ("{1.2,1.4}", Err(Refusal::MissingCap(Cap::Minus(OTHER)))),
+        ("{1.3}", Err(Refusal::MissingCap(Cap::Minus(EXPORT)))),
+        (
+            "{1.3,1.4,1.9}",
+            Err(Refusal::MissingCap(Cap::Plus(Name { node: 1, seq: 9 }))),
+        ),
+    ] {
+        let label = Label::from_text(alloc, label)?;
+        let relabel = Act::Relabel(Side::Secrecy, Ok(label));
+        assert!(rt; bench.job(alloc, &mut ops, Job::By(OWNER, relabel)) == answer);
+    }
+    let process = bench.process(OWNER);
+    assert!(rt; process.is_some_and(|process| process.labels.secrecy.contains(OTHER)));
+    assert!(rt; process.is_some_and(|process| !process.labels.secrecy.contains(TAG)));
+    Ok(())
+}
