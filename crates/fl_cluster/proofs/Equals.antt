@@ -1,41 +1,45 @@
--- What equal nodes tell equal processes.
-use Rattle.std.proofs.Common.{◌≡◌, ◌∙◌, ◌↔◌, inl, inr, refl, sym, subst, Some, None, Result, Ok}
+-- What equal nodes tell.
+use Rattle.std.proofs.Common.{◌≡◌, ◌≢◌, ◌↔◌, inl, inr, refl, sym, subst, Option, Some, None, Result, Err}
 use Rattle.std.specs.FinMap as map
 use Rattle.fl_labels.specs.SetBy.{In, members}
 use Rattle.fl_labels.specs.CapOrder.{cap_total, cap_exact}
 use Rattle.fl_labels.specs.declared.cap.Cap.{Cap}
 use Rattle.fl_labels.specs.declared.pid.Pid.{Pid}
-use Rattle.fl_ops.specs.Registry.{Eff, Listed}
+use Rattle.fl_ops.specs.Registry.{Eff, From, Listed, Reach}
 use Rattle.fl_ops.specs.declared.op.Op.{Op}
-use Rattle.fl_ops.specs.declared.op.Body.{Body}
 use Rattle.fl_ops.specs.OpLaws.{op_total, op_exact}
-use Rattle.fl_jobs.specs.declared.job.Act.TheVariants.{Ask}
-use Rattle.fl_jobs.specs.declared.job.Job.TheVariants.{By}
+use Rattle.fl_jobs.specs.declared.job.Order as orders
+use Rattle.fl_jobs.specs.declared.job.Act.TheVariants.{Ask, Order}
+use Rattle.fl_jobs.specs.declared.job.Job.{Job}
+use Rattle.fl_jobs.specs.declared.job.Job.TheVariants.{By, Member}
 use Rattle.fl_jobs.specs.declared.answer.Refusal.{Refusal}
-use Rattle.fl_jobs.specs.declared.answer.Refusal.TheVariants.{NoProcess}
+use Rattle.fl_jobs.specs.declared.answer.Refusal.TheVariants.{Busy, Memory, NoProcess}
 use Rattle.fl_jobs.specs.declared.answer.Outcome.{Outcome}
-use Rattle.fl_jobs.specs.declared.answer.Outcome.TheVariants as outcome
 use Rattle.fl_opset.proofs.Join.{same_members}
-use Rattle.fl_monitor.specs.Checks.{with}
-use Rattle.fl_monitor.specs.Process.{effective}
+use Rattle.fl_monitor.specs.Checks.{◌then◌, no_check, refuse_if, with}
+use Rattle.fl_monitor.specs.Process.{effective, is_busy, owns}
 use Rattle.fl_monitor.specs.Bench as bench
-use Rattle.fl_monitor.specs.Jobs.{Answers, checks_of, Does, passed, failed, no_room}
+use Rattle.fl_monitor.specs.Jobs.{Answers, act_checks, checks, Does, passed, failed, no_room}
 use Rattle.fl_monitor.specs.declared.process.Process.{Process}
+use Rattle.fl_monitor.proofs.Orders.{order_at}
 use Rattle.fl_cluster.specs.State.{NodeState}
 use Rattle.fl_cluster.specs.Answer.{Answer}
-use Rattle.fl_cluster.specs.NodeStep.{view_of, Works, replies, refuses, orders}
+use Rattle.fl_cluster.specs.NodeStep.{view_of, AnswersResult, Works, replies, refuses, makes, spends}
 use Rattle.fl_cluster.specs.Living.{process_at}
 use Rattle.fl_cluster.specs.Equal.{SameMembers}
-use Rattle.fl_cluster.proofs.Puts.{none_some}
+use Rattle.fl_cluster.proofs.OneStep.{ample}
+
+same_registry : (a b : NodeState) → SameMembers a.registry b.registry → a.registry ≡ b.registry
+same_registry a b e = same_members op_total op_exact a.registry b.registry e
 
 -- what is in effect stays so at an equal node, for a process that owns the same
-in_effect : (a b : NodeState) (p q : Process) (cap : Cap) → a.registry ≡ b.registry → p.owned ≡ q.owned → effective (view_of a) p cap → effective (view_of b) q cap
-in_effect a b p q cap e f h = subst (λ o. Eff (Listed (members b.registry)) (In o) cap) f (subst (λ r. Eff (Listed (members r)) (In p.owned) cap) e h)
+in_effect : (a b : NodeState) (p q : Process) (cap : Cap) → a.registry ≡ b.registry → owns p ≡ owns q → effective (view_of a) p cap → effective (view_of b) q cap
+in_effect a b p q cap e f h = subst (λ o. Eff (Listed (members b.registry)) (In o) cap) f (subst (λ r. Eff (Listed (members r)) (In (owns p)) cap) e h)
 
-pub same_effect : (a b : NodeState) (p q : Process) (cap : Cap) → SameMembers a.registry b.registry → SameMembers p.owned q.owned → effective (view_of a) p cap ↔ effective (view_of b) q cap
+pub same_effect : (a b : NodeState) (p q : Process) (cap : Cap) → SameMembers a.registry b.registry → SameMembers (owns p) (owns q) → effective (view_of a) p cap ↔ effective (view_of b) q cap
 same_effect a b p q cap e f =
-    let r : a.registry ≡ b.registry = same_members op_total op_exact a.registry b.registry e in
-    let o : p.owned ≡ q.owned = same_members cap_total cap_exact p.owned q.owned f in
+    let r = same_registry a b e in
+    let o : owns p ≡ owns q = same_members cap_total cap_exact (owns p) (owns q) f in
     (in_effect a b p q cap r o, in_effect b a q p cap (sym r) (sym o))
 
 -- a question has the answer of its fact
@@ -43,46 +47,49 @@ same_answer : {P Q : Type 0} (x : Outcome) → P ↔ Q → Answers x P → Answe
 same_answer x e (inl h) = inl (h.0, e.0 h.1)
 same_answer x e (inr h) = inr (h.0, λ k. h.1 (e.1 k))
 
-never_order : {P : Type 0} (x : Outcome) (body : Body) (maker : Pid) → Answers x P → x ≡ outcome.Order body maker → ⊥
-never_order x body maker (inl h) e = let is = h.0 in cc
-never_order x body maker (inr h) e = let is = h.0 in cc
+-- ---- a node that is asked again
 
-module _ (V : Op → Type 0) (b : bench.State) (pid : Pid) (p : Process) (cap : Cap) (here : map.get b.processes pid ≡ Some p) where
-  -- the question was answered
-  record Told (r : Result Outcome Refusal) : Type 0 where
-    what : Outcome
-    is : r ≡ Ok what
-    answers : Answers what (effective V p cap)
+module _ (V W : Op → Type 0) (b d : bench.State) (cap : Cap) where
+  module _ (pid other : Pid) (p q : Process) (here : map.get b.processes pid ≡ Some p) (there : map.get d.processes other ≡ Some q) where
+    -- the check looks at nothing that is in effect
+    same_check : is_busy p ≡ is_busy q → (v : Option Refusal) → checks V b (By pid (Ask cap)) v → checks W d (By other (Ask cap)) v
+    same_check busy v h =
+        let asked : act_checks V p (Ask cap) v = subst (λ o. with o (NoProcess pid) (λ p. act_checks V p (Ask cap)) v) here h in
+        subst (λ o. with o (NoProcess other) (λ p. act_checks W p (Ask cap)) v) (sym there) (subst (λ busy. (refuse_if busy Busy then no_check) v) busy asked)
 
-  passes : with (map.get b.processes pid) (NoProcess pid) (λ p. checks_of V p (Ask cap)) None
-  passes = subst (λ o. with o (NoProcess pid) (λ p. checks_of V p (Ask cap)) None) (sym here) refl
+    the_one : (o : Option Process) (p x : Process) → o ≡ Some p → o ≡ Some x → x ≡ p
+    the_one o p x e f = cc
 
-  never_fails : (f : Refusal) → with (map.get b.processes pid) (NoProcess pid) (λ p. checks_of V p (Ask cap)) (Some f) → ⊥
-  never_fails f h = none_some refl (sym (subst (λ o. with o (NoProcess pid) (λ p. checks_of V p (Ask cap)) (Some f)) here h))
+    ask_again : is_busy p ≡ is_busy q → effective V p cap ↔ effective W q cap → {r : Result Outcome Refusal} {after : bench.State} → Does V b (By pid (Ask cap)) r after → r ≢ Err Memory → Does W d (By other (Ask cap)) r d
+    ask_again busy alike (passed {outcome} s f) more =
+        let told : Answers outcome (effective V p cap) = subst (λ x. Answers outcome (effective V x cap)) (the_one _ p f.0 here f.1) f.2.0 in
+        passed (same_check busy None s) (q, there, (same_answer outcome alike told, refl))
+    ask_again busy alike (failed {f} s) more = failed (same_check busy (Some f) s)
+    ask_again busy alike (no_room t) more = absurd (more refl)
 
-  told : (r : Result Outcome Refusal) (c : bench.State) → Does V b (By pid (Ask cap)) r c → Told r
-  told r c (passed {outcome = x} s f) =
-      let same : f.0 ≡ p = some_same (sym f.1 ∙ here) in
-      record { what = x; is = refl; answers = subst (λ q. Answers x (effective V q cap)) same f.2.0 }
-    where
-      some_same : {q k : Process} → Some q ≡ Some k → q ≡ k
-      some_same e = cc
-  told r c (failed {f} s) = absurd (never_fails f s)
-  told r c (no_room t) = absurd t
+  member_again : (root : Cap) → Reach V (From root) cap ↔ Reach W (From root) cap → {r : Result Outcome Refusal} {after : bench.State} → Does V b (Member root cap) r after → r ≢ Err Memory → Does W d (Member root cap) r d
+  member_again root alike (passed {outcome} s f) more = passed s (same_answer outcome alike f.0, refl)
+  member_again root alike (failed s) more = failed s
+  member_again root alike (no_room t) more = absurd (more refl)
 
-  tells : (x : Outcome) → Answers x (effective V p cap) → Does V b (By pid (Ask cap)) (Ok x) b
-  tells x h = passed passes (p, here, (h, refl))
+-- what leaves the bench, and is no order, is answered with what the result was answered with elsewhere
+answer_again : (a b : NodeState) (job : Job) {r : Result Outcome Refusal} {after : bench.State} {answer : Answer} {m : NodeState} → ((pid : Pid) (order : orders.Order) → job ≡ By pid (Order order) → ⊥) → Does (view_of b) b.bench job r b.bench → AnswersResult a r after answer m → Works b job answer b
+answer_again a b job never d replies = record { result = _; after = b.bench; does = d; answered = replies }
+answer_again a b job never d (refuses more) = record { result = _; after = b.bench; does = d; answered = refuses more }
+answer_again a b job never d (makes next) = let o = order_at d in absurd (never _ o.order o.asked)
+answer_again a b job never d (spends last) = let o = order_at d in absurd (never _ o.order o.asked)
 
 -- equal processes at equal nodes are answered alike
-pub same_reply : (a b m : NodeState) (pid other : Pid) (p q : Process) (cap : Cap) (answer : Answer) → SameMembers a.registry b.registry → SameMembers p.owned q.owned → process_at a pid ≡ Some p → process_at b other ≡ Some q → Works a (By pid (Ask cap)) answer m → Works b (By other (Ask cap)) answer b
-same_reply a b m pid other p q cap answer e f here there (replies {reply} {after} k) =
-    let t = told (view_of a) a.bench pid p cap here _ after k in
-    let same : t.what ≡ outcome.Reply reply = let is = t.is in cc in
-    replies (tells (view_of b) b.bench other q cap there (outcome.Reply reply) (subst (λ x. Answers x (effective (view_of b) q cap)) same (same_answer t.what (same_effect a b p q cap e f) t.answers)))
-same_reply a b m pid other p q cap answer e f here there (refuses {refusal} {after} k more) =
-    let t = told (view_of a) a.bench pid p cap here _ after k in
-    let is = t.is in
-    absurd (cc)
-same_reply a b m pid other p q cap answer e f here there (orders {body} {pid = maker} {after} k given) =
-    let t = told (view_of a) a.bench pid p cap here _ after k in
-    absurd (never_order t.what body maker t.answers (let is = t.is in cc))
+pub same_reply : (a b m : NodeState) (pid other : Pid) (p q : Process) (cap : Cap) (answer : Answer) → SameMembers a.registry b.registry → SameMembers (owns p) (owns q) → is_busy p ≡ is_busy q →
+    process_at a pid ≡ Some p → process_at b other ≡ Some q → Works a (By pid (Ask cap)) answer m → Works b (By other (Ask cap)) answer b
+same_reply a b m pid other p q cap answer e f busy here there w =
+    answer_again a b (By other (Ask cap)) (λ maker order is. cc)
+    (ask_again (view_of a) (view_of b) a.bench b.bench cap pid other p q here there busy (same_effect a b p q cap e f) w.does (ample w.answered)) w.answered
+
+-- and equal nodes tell the same of groups
+pub same_member : (a b m : NodeState) (root cap : Cap) (answer : Answer) → SameMembers a.registry b.registry → Works a (Member root cap) answer m → Works b (Member root cap) answer b
+same_member a b m root cap answer e w =
+    let r = same_registry a b e in
+    let alike : Reach (view_of a) (From root) cap ↔ Reach (view_of b) (From root) cap =
+    (subst (λ s. Reach (Listed (members s)) (From root) cap) r, subst (λ s. Reach (Listed (members s)) (From root) cap) (sym r)) in
+    answer_again a b (Member root cap) (λ maker order is. cc) (member_again (view_of a) (view_of b) a.bench b.bench cap root alike w.does (ample w.answered)) w.answered

@@ -15,7 +15,7 @@ use Rattle.fl_cluster.specs.State.{State}
 use Rattle.fl_cluster.specs.Answer.{Answer}
 use Rattle.fl_cluster.specs.Turn.{Turn}
 use Rattle.fl_cluster.specs.Moments.{RunWhile}
-use Rattle.fl_cluster.specs.LabelChange.{Follows}
+use Rattle.fl_monitor.specs.Following.{Follows}
 use Rattle.fl_cluster.specs.Living.{living, view_at, Lacks, HasTag}
 use Rattle.fl_cluster.proofs.Orderly.{HasOrder, turn_order}
 use Rattle.fl_cluster.proofs.SafeTurn.{follows_turn}

@@ -4,15 +4,14 @@ pub mod InterpreterLemmas
 pub mod StreamLemmas
 pub mod ScriptLemmas
 pub mod NodeLemmas
-pub mod OneJob
 pub mod OneStep
 pub mod OneTurn
 pub mod Beginnings
-pub mod Puts
 pub mod NodePuts
 pub mod NodesTable
+pub mod Idle
 pub mod Orderly
-pub mod SafeJob
+pub mod NeverBusy
 pub mod SafeTurn
 pub mod KeptTags
 pub mod Equals

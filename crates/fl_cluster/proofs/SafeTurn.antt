@@ -1,15 +1,21 @@
 -- What becomes of the processes of a state when a line is answered.
-use Rattle.std.proofs.Common.{◌≡◌, inl, inr, refl, sym, ap, subst, List, ℕ, Ok}
+use Rattle.std.proofs.Common.{◌≡◌, inl, inr, refl, sym, ap, subst, List, ℕ, Result, Ok}
 use Rattle.std.specs.FinMap as map
 use Rattle.fl_labels.specs.Name.{name_cmp}
 use Rattle.fl_labels.specs.SetBy.{SetBy}
 use Rattle.fl_labels.specs.declared.pid.Pid.{Pid}
-use Rattle.fl_ops.specs.declared.op.Body.{Body}
 use Rattle.fl_jobs.specs.declared.job.Side.{Side}
 use Rattle.fl_jobs.specs.declared.job.Act.TheVariants.{Relabel}
 use Rattle.fl_jobs.specs.declared.job.Job.{Job}
 use Rattle.fl_jobs.specs.declared.job.Job.TheVariants.{By}
 use Rattle.fl_jobs.specs.declared.answer.Reply.TheVariants.{Done}
+use Rattle.fl_jobs.specs.declared.answer.Outcome.{Outcome}
+use Rattle.fl_jobs.specs.declared.answer.Refusal.{Refusal}
+use Rattle.fl_monitor.specs.Bench as bench
+use Rattle.fl_monitor.specs.Following.{Follows}
+use Rattle.fl_monitor.specs.Jobs.{Does}
+use Rattle.fl_monitor.specs.Orderly.{IsOrderly}
+use Rattle.fl_monitor.proofs.Following.{follows_same, follows_does, follows_finished, Set, does_set, set_is_no_order}
 use Rattle.fl_script.specs.declared.line.Line.{Line}
 use Rattle.fl_script.specs.declared.line.Line.TheVariants as line
 use Rattle.fl_script.specs.declared.reading.Reading.{Reading}
@@ -17,27 +23,26 @@ use Rattle.fl_script.specs.declared.reading.Reading.TheVariants as reading
 use Rattle.fl_script.proofs.OneReading.{one_reading}
 use Rattle.fl_cluster.specs.State.{State, NodeState, node_at, with_node}
 use Rattle.fl_cluster.specs.Answer.{Answer, replied}
-use Rattle.fl_cluster.specs.NodeStep.{view_of, Orders, makes, spends, Works, replies, refuses, orders}
+use Rattle.fl_cluster.specs.NodeStep.{view_of, AnswersResult, replies, refuses, makes, spends, Works}
 use Rattle.fl_cluster.specs.Turn.{Answers, works, tells, unites, AnswersReading, Turn}
-use Rattle.fl_cluster.specs.LabelChange.{Follows, SetsSafely, AsksForLabel}
+use Rattle.fl_cluster.specs.LabelChange.{SetsSafely, AsksForLabel}
 use Rattle.fl_cluster.specs.Living.{living, view_at}
-use Rattle.fl_cluster.proofs.Orderly.{IsOrderly, HasOrder}
+use Rattle.fl_cluster.proofs.Orderly.{HasOrder}
 use Rattle.fl_cluster.proofs.NodePuts.{node_here, node_put, node_open, node_open_both}
-use Rattle.fl_cluster.proofs.SafeJob.{follows_same, follows_does, follows_gift, Set, does_set, set_is_no_order}
 
 module _ (node : NodeState) (q : Pid) where
   -- what becomes of q at the node
   abbrev To : NodeState → Type 0
   To m = Follows (view_of node) (map.get node.bench.processes q) (map.get m.bench.processes q)
 
-  follows_order : (body : Body) (pid : Pid) (a : Answer) (m : NodeState) → Orders node body pid a m → To m
-  follows_order body pid a m (makes {name} k) = follows_gift (view_of node) node.bench pid (record { name = name; body = body }) q
-  follows_order body pid a m (spends k) = follows_same _ _
+  follows_result : (job : Job) (r : Result Outcome Refusal) (after : bench.State) (a : Answer) (m : NodeState) {number : ℕ} → IsOrderly number node.bench → Does (view_of node) node.bench job r after → AnswersResult node r after a m → To m
+  follows_result job r after a m h d replies = follows_does (view_of node) h d q
+  follows_result job r after a m h d (refuses more) = follows_same _ _
+  follows_result job r after a m h d (makes next) = follows_finished (view_of node) d _ q
+  follows_result job r after a m h d (spends last) = follows_same _ _
 
   follows_work : (job : Job) (a : Answer) (m : NodeState) {number : ℕ} → IsOrderly number node.bench → Works node job a m → To m
-  follows_work job a m h (replies {after} k) = follows_does (view_of node) node.bench job _ after h k q
-  follows_work job a m h (refuses k more) = follows_same _ _
-  follows_work job a m h (orders {body} {pid} k given) = follows_order body pid a m given
+  follows_work job a m h w = follows_result job w.result w.after a m h w.does w.answered
 
 -- what becomes of q
 abbrev From : State → Pid → State → Type 0
@@ -57,7 +62,7 @@ follows_put old number after q h = elim (node_put old number after q.node) [
 ]
 
 follows_answer : {old : State} {l : Line} {a : Answer} {m : State} (q : Pid) → HasOrder old → Answers old l a m → From old q m
-follows_answer {old} {a = a} q h (works {number} {job} {after} k) = follows_put old number after q (follows_work (node_at old number) q job a after (h.bench_is number) k)
+follows_answer {old} {a = a} q h (works {number} {job} {after} k) = follows_put old number after q (follows_work (node_at old number) q job a after (h.bench_is number).orderly k)
 follows_answer {old} q h (tells {number}) = follows_node old _ q (node_open old number q.node)
 follows_answer {old} q h (unites {first} {second}) = follows_node old _ q (node_open_both old first second q.node)
 
@@ -80,10 +85,14 @@ module _ (pid : Pid) (side : Side) (label : SetBy name_cmp) where
   abbrev Setting : Job
   Setting = By pid (Relabel side (Ok label))
 
+  result_set : (node : NodeState) (r : Result Outcome Refusal) (after : bench.State) (a : Answer) (m : NodeState) → Does (view_of node) node.bench Setting r after → AnswersResult node r after a m → a ≡ replied Done → Set (view_of node) node.bench pid side label m.bench
+  result_set node r after a m d replies e = does_set d
+  result_set node r after a m d (refuses more) e = absurd (cc)
+  result_set node r after a m d (makes next) e = absurd (set_is_no_order d)
+  result_set node r after a m d (spends last) e = absurd (set_is_no_order d)
+
   work_set : (node : NodeState) (a : Answer) (m : NodeState) → Works node Setting a m → a ≡ replied Done → Set (view_of node) node.bench pid side label m.bench
-  work_set node a m (replies {after} k) e = does_set (view_of node) node.bench pid side label _ _ after k refl
-  work_set node a m (refuses k more) e = absurd (cc)
-  work_set node a m (orders {body} {pid = maker} {after} k given) e = absurd (set_is_no_order (view_of node) node.bench pid side label body maker _ after k refl)
+  work_set node a m w e = result_set node w.result w.after a m w.does w.answered e
 
   answer_set : {old : State} {l : Line} {a : Answer} {m : State} (asked : ℕ) → Answers old l a m → l ≡ line.Job asked Setting → a ≡ replied Done → SetsSafely (node_at old asked) pid side label (node_at m asked)
   answer_set {old} {a = a} asked (works {number} {job} {after} k) is e =
@@ -109,5 +118,5 @@ module _ (pid : Pid) (side : Side) (label : SetBy name_cmp) where
   -- in what a script has made, only the process's own node can have set it
   pub own_set : (asked : ℕ) (old m : State) → HasOrder old → SetsSafely (node_at old asked) pid side label (node_at m asked) → SetsSafely (node_at old pid.node) pid side label (node_at m pid.node)
   own_set asked old m h s =
-      let own : pid.node ≡ asked = ((h.bench_is asked).each pid s.process s.lived).own in
+      let own : pid.node ≡ asked = ((h.bench_is asked).orderly.each pid s.process s.lived).own in
       subst (λ n. SetsSafely (node_at old n) pid side label (node_at m n)) (sym own) s

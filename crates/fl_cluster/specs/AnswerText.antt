@@ -4,7 +4,7 @@ use Rattle.std.specs.Fmt.{decimal}
 use Rattle.fl_labels.specs.Text.{name_text, pid_text, cap_text}
 use Rattle.fl_opset.specs.RegistryText.{registry_text}
 use Rattle.fl_jobs.specs.declared.answer.Refusal.{Refusal}
-use Rattle.fl_jobs.specs.declared.answer.Refusal.TheVariants.{NoProcess, MissingCap, NamesSpent, LabelTooLong, Memory}
+use Rattle.fl_jobs.specs.declared.answer.Refusal.TheVariants.{NoProcess, MissingCap, NamesSpent, LabelTooLong, Memory, Busy}
 use Rattle.fl_jobs.specs.declared.answer.Reply.{Reply}
 use Rattle.fl_jobs.specs.declared.answer.Reply.TheVariants.{Made, Done, Yes, NotYet}
 use Rattle.fl_cluster.specs.Answer.{Answer, silence, replied, named, text, refused, bad_line}
@@ -22,6 +22,7 @@ refusal_text (MissingCap cap) = codes "F3 " ++ cap_text cap
 refusal_text NamesSpent = codes "F12"
 refusal_text LabelTooLong = codes "F13"
 refusal_text Memory = codes "F14"
+refusal_text Busy = codes "F24"
 
 abbrev pub refused_text : Refusal → List ℕ
 refused_text refusal = codes "refused " ++ (refusal_text refusal ++ codes "\n")

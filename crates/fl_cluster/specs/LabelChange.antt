@@ -1,18 +1,16 @@
--- Changes of labels, and what becomes of processes.
+-- Changes of labels.
 use Rattle.std.specs.Prelude.{◌≡◌, ◌+◌, ℕ, List, length}
-use Rattle.std.specs.declared.option.Option.{Option}
-use Rattle.std.specs.declared.option.Option.TheVariants.{None, Some}
+use Rattle.std.specs.declared.option.Option.TheVariants.{Some}
 use Rattle.std.specs.declared.result.Result.TheVariants.{Ok}
 use Rattle.fl_labels.specs.Name.{name_cmp}
 use Rattle.fl_labels.specs.SetBy.{SetBy}
 use Rattle.fl_labels.specs.declared.pid.Pid.{Pid}
-use Rattle.fl_ops.specs.declared.op.Op.{Op}
 use Rattle.fl_jobs.specs.declared.job.Side.{Side}
 use Rattle.fl_jobs.specs.declared.job.Act.TheVariants.{Relabel}
 use Rattle.fl_jobs.specs.declared.job.Job.TheVariants.{By}
 use Rattle.fl_jobs.specs.declared.answer.Reply.TheVariants.{Done}
 use Rattle.fl_rules.specs.Safety.{SafeChange}
-use Rattle.fl_monitor.specs.Process.{newborn, effective, side_of, with_side}
+use Rattle.fl_monitor.specs.Process.{effective, side_of, with_side}
 use Rattle.fl_monitor.specs.declared.process.Process.{Process}
 use Rattle.fl_script.specs.Reading.{IsReading}
 use Rattle.fl_script.specs.declared.line.Line.TheVariants as lines
@@ -42,10 +40,3 @@ pub record SetsSafelyAfter (before : List (List ℕ)) (answers : List Answer) (l
   pub run : Run 1 start before answers old
   pub turn : Turn (1 + length before) old line (replied Done) new
   pub sets : SetsSafely (node_at old pid.node) pid side label (node_at new pid.node)
-
--- Under the registry V: a process that was not there is new, with nothing; one that was there is there still, and had in effect what its labels gained or lost.
-abbrev pub Follows : (Op → Type 0) → Option Process → Option Process → Type 0
-Follows V None None = Unit {0}
-Follows V None (Some new) = new ≡ newborn
-Follows V (Some old) None = ⊥
-Follows V (Some old) (Some new) = (side : Side) → SafeChange (effective V old) (side_of side old.labels) (side_of side new.labels)

@@ -1,5 +1,6 @@
 -- What a node does with a job.
 use Rattle.std.specs.Prelude.{◌≡◌, ◌≢◌, ◌+◌, ℕ}
+use Rattle.std.specs.declared.result.Result.{Result}
 use Rattle.std.specs.declared.result.Result.TheVariants.{Ok, Err}
 use Rattle.fl_labels.specs.declared.name.Name.{Name}
 use Rattle.fl_labels.specs.declared.pid.Pid.{Pid}
@@ -11,9 +12,10 @@ use Rattle.fl_jobs.specs.declared.job.Job.{Job}
 use Rattle.fl_jobs.specs.declared.answer.Refusal.{Refusal}
 use Rattle.fl_jobs.specs.declared.answer.Refusal.TheVariants.{NamesSpent, Memory}
 use Rattle.fl_jobs.specs.declared.answer.Reply.{Reply}
+use Rattle.fl_jobs.specs.declared.answer.Outcome.{Outcome}
 use Rattle.fl_jobs.specs.declared.answer.Outcome.TheVariants as outcome
 use Rattle.fl_monitor.specs.Bench as bench
-use Rattle.fl_monitor.specs.Gifts.{finished}
+use Rattle.fl_monitor.specs.Gifts.{finished, cancelled}
 use Rattle.fl_monitor.specs.Jobs.{Does}
 use Rattle.fl_cluster.specs.State.{NodeState}
 use Rattle.fl_cluster.specs.Answer.{Answer, replied, named, refused}
@@ -23,9 +25,13 @@ use Rattle.fl_cluster.specs.LastName.{IsLast}
 abbrev pub view_of : NodeState → Op → Type 0
 view_of node = Listed (set.members node.registry)
 
--- the operation stands in the registry, and its maker has what it gives
+-- the operation of pid that was under way stands in the registry, and its maker has what it gives
 abbrev pub with_operation : NodeState → Pid → Op → NodeState
 with_operation node pid op = record node { registry = set.insert node.registry op; bench = finished node.bench pid op }
+
+-- no operation of pid is under way
+abbrev pub without_order : NodeState → Pid → NodeState
+without_order node pid = record node { bench = cancelled node.bench pid }
 
 -- the name follows the node's last one
 pub record IsNextName (node : NodeState) (name : Name) : Type 0 where
@@ -34,13 +40,16 @@ pub record IsNextName (node : NodeState) (name : Name) : Type 0 where
   pub node_is : name.node ≡ node.number
   pub seq_is : name.seq ≡ last + 1
 
--- the order of an operation is answered so at the node, and leaves it so
-pub data Orders (node : NodeState) (body : Body) (pid : Pid) : Answer → NodeState → Type 0 where
-  makes : {name : Name} → IsNextName node name → Orders node body pid (named name) (with_operation node pid (record { name = name; body = body }))
-  spends : IsLast node.registry node.number 4294967295 → Orders node body pid (refused NamesSpent) node
+-- The bench's result of a job, which leaves the bench as after, is answered so, and leaves the node so. The operation of an order gets the next name, or finds none left.
+pub data AnswersResult (node : NodeState) : Result Outcome Refusal → bench.State → Answer → NodeState → Type 0 where
+  replies : {reply : Reply} {after : bench.State} → AnswersResult node (Ok (outcome.Reply reply)) after (replied reply) (record node { bench = after })
+  refuses : {refusal : Refusal} {after : bench.State} → refusal ≢ Memory → AnswersResult node (Err refusal) after (refused refusal) node
+  makes : {body : Body} {pid : Pid} {after : bench.State} {name : Name} → IsNextName node name → AnswersResult node (Ok (outcome.Order body pid)) after (named name) (with_operation (record node { bench = after }) pid (record { name = name; body = body }))
+  spends : {body : Body} {pid : Pid} {after : bench.State} → IsLast node.registry node.number 4294967295 → AnswersResult node (Ok (outcome.Order body pid)) after (refused NamesSpent) node
 
 -- the job is answered so at the node, and leaves it so
-pub data Works (node : NodeState) (job : Job) : Answer → NodeState → Type 0 where
-  replies : {reply : Reply} {after : bench.State} → Does (view_of node) node.bench job (Ok (outcome.Reply reply)) after → Works node job (replied reply) (record node { bench = after })
-  refuses : {refusal : Refusal} {after : bench.State} → Does (view_of node) node.bench job (Err refusal) after → refusal ≢ Memory → Works node job (refused refusal) node
-  orders : {body : Body} {pid : Pid} {after : bench.State} {answer : Answer} {new : NodeState} → Does (view_of node) node.bench job (Ok (outcome.Order body pid)) after → Orders node body pid answer new → Works node job answer new
+pub record Works (node : NodeState) (job : Job) (answer : Answer) (new : NodeState) : Type 0 where
+  pub result : Result Outcome Refusal
+  pub after : bench.State
+  pub does : Does (view_of node) node.bench job result after
+  pub answered : AnswersResult node result after answer new

@@ -74,6 +74,7 @@ fn write_refusal<W: Write>(
         Refusal::NamesSpent => sink.put_all(output, &[b"refused F12\n"]),
         Refusal::LabelTooLong => sink.put_all(output, &[b"refused F13\n"]),
         Refusal::Memory => sink.put_all(output, &[b"refused F14\n"]),
+        Refusal::Busy => sink.put_all(output, &[b"refused F24\n"]),
     }
 }
 

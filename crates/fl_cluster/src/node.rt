@@ -1,11 +1,13 @@
 //! A node, job by job.
-ghost use Rattle.std.specs.Prelude.{◌≡◌, ◌≢◌, ◌<◌, IfOk, MatchOption, OnErr};
+ghost use Rattle.std.specs.Prelude.{◌≡◌, ◌≢◌, ◌<◌, IfOk, MatchOption, OnErr, OnOk, Ok};
+ghost use Rattle.fl_jobs.specs.declared.answer.Outcome.TheVariants as outcome;
 ghost use Rattle.fl_cluster.specs.State.{State, opened};
 ghost use Rattle.fl_cluster.specs.Answer.{shown};
 ghost use Rattle.fl_cluster.specs.LastName.{IsLast};
-ghost use Rattle.fl_cluster.specs.NodeStep.{IsNextName, Orders, Works};
+ghost use Rattle.fl_cluster.specs.NodeStep.{AnswersResult, IsNextName, Works, with_operation, without_order};
 
 use crate::response::Response;
+use fl_closure::index::Index;
 use fl_jobs::answer::{Outcome, Refusal};
 use fl_jobs::job::Job;
 use fl_labels::name::Name;
@@ -27,11 +29,11 @@ fn refused(refusal: Refusal) -> Result<Response, AllocError>
     }
 }
 
-/// A node: its operations, and one bench with its processes.
+/// A node: its operations with what they put into each group, and one bench with its processes.
 #[derive(Debug, Drop)]
 pub struct Node {
     number: u16,
-    registry: OpSet,
+    index: Index,
     bench: Bench,
 }
 
@@ -43,7 +45,7 @@ impl Model for Node {
 
     ghost coded = { coded_node };
 
-    ghost view = { λ n. record { number = n.number; registry = n.registry; bench = n.bench } };
+    ghost view = { λ n. record { number = n.number; registry = n.index; bench = n.bench } };
 
     ghost invariant = { λ n. 0 < n.number };
 }
@@ -56,7 +58,7 @@ impl Node {
     {
         Node {
             number,
-            registry: OpSet::new(alloc),
+            index: Index::new(alloc),
             bench: Bench::new(alloc, number, 1, 1, 1),
         }
     }
@@ -65,7 +67,7 @@ impl Node {
     pub fn registry(&self) -> &OpSet
         ensures { result.now ≡ self.now.registry }
     {
-        &self.registry
+        self.index.ops()
     }
 
     /// Does a job, and gives a new operation its name. Want of memory leaves the node.
@@ -73,35 +75,44 @@ impl Node {
         ensures ok { IfOk result (λ response. (state : State) → Works self.old job (shown state response) self.new) }
         ensures err { OnErr result (self.new ≡ self.old) }
     {
-        match self.bench.job(alloc, &mut self.registry, job) {
+        match self.bench.job(alloc, &mut self.index, job) {
             Ok(Outcome::Reply(reply)) => Ok(Response::Reply(reply)),
             Ok(Outcome::Order(body, pid)) => self.order(body, pid),
             Err(refusal) => refused(refusal),
         }
     }
 
-    /// Gives the operation the next name, adds it, and gives its maker what it gives.
+    // Gives the operation that is under way the next name, and makes it. Where no name is left, or no memory, the operation is cancelled.
     fn order(&mut self, body: Body, pid: Pid) -> Result<Response, AllocError>
-        ensures ok { IfOk result (λ response. (state : State) → Orders self.old body pid (shown state response) self.new) }
-        ensures err { OnErr result (self.new ≡ self.old) }
+        ensures ok { IfOk result (λ response. (state : State) → AnswersResult (without_order self.old pid) (Ok (outcome.Order body pid)) self.old.bench (shown state response) self.new) }
+        ensures err { OnErr result (self.new ≡ without_order self.old pid) }
     {
         let Some(name) = self.next_name() else {
+            self.bench.cancel(pid);
             return Ok(Response::Refused(Refusal::NamesSpent));
         };
-        let op = Op { name, body };
-        self.registry.add(op)?;
-        if self.bench.finish(pid, &op).is_err() {
-            self.registry.remove(&op);
-            return Err(AllocError);
-        }
+        self.make(Op { name, body }, pid)?;
         Ok(Response::Named(name))
+    }
+
+    // Adds the operation that is under way, and gives its maker what it gives. Where there is no memory, it is cancelled.
+    fn make(&mut self, op: Op, pid: Pid) -> Result<(), AllocError>
+        ensures ok { OnOk result (self.new ≡ with_operation self.old pid op) }
+        ensures err { OnErr result (self.new ≡ without_order self.old pid) }
+    {
+        let absorbed = self.index.absorb(&op);
+        match absorbed {
+            Ok(()) => self.bench.finish(pid, &op),
+            Err(AllocError) => self.bench.cancel(pid),
+        }
+        absorbed
     }
 
     /// The name of the next operation, or none where no sequence number is left.
     fn next_name(&self) -> Option<Name>
         ensures { MatchOption result (IsLast self.now.registry self.now.number 4294967295) (λ name. IsNextName self.now name) }
     {
-        let seq = self.registry.last_of(self.number).checked_add(1)?;
+        let seq = self.index.ops().last_of(self.number).checked_add(1)?;
         Some(Name {
             node: self.number,
             seq,

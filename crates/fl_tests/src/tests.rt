@@ -1,11 +1,13 @@
 //! Tests of whole runs.
 use crate::rows::{
-    EMPTY_SCRIPT, FIRST_TAG, FORMS_OF_LINES, LABEL_RANGES, LAST_RETURN_STAYS, NODES_APART,
-    READ_AND_INTEGRITY_TAGS, READ_TAG_ALONE, Row, UNION_OF_REGISTRIES,
+    CYCLE_OF_GROUPS, EMPTY_SCRIPT, FIRST_TAG, FORMS_OF_LINES, GROUP_LENDS, LABEL_RANGES,
+    LAST_RETURN_STAYS, NODES_APART, READ_AND_INTEGRITY_TAGS, READ_TAG_ALONE, Row,
+    UNION_OF_REGISTRIES,
 };
 use crate::streams::{AskingReader, FailingReader, FailingWriter, FlushedWriter};
 use fl_cluster::fault::RunFault;
 use fl_cluster::run::run;
+use std::alloc::Global;
 use std::cell::Cell;
 use std::process::Abort;
 use std::test::Fail;
@@ -98,6 +100,16 @@ fn read_tag_alone(rt: HostRuntime) -> Result<(), Fail> {
 }
 
 #[test]
+fn cycle_of_groups(rt: HostRuntime) -> Result<(), Fail> {
+    check_row(&rt, &CYCLE_OF_GROUPS)
+}
+
+#[test]
+fn group_lends(rt: HostRuntime) -> Result<(), Fail> {
+    check_row(&rt, &GROUP_LENDS)
+}
+
+#[test]
 fn union_of_registries(rt: HostRuntime) -> Result<(), Fail> {
     check_row(&rt, &UNION_OF_REGISTRIES)
 }
@@ -162,6 +174,41 @@ fn label_of_256_tags(rt: HostRuntime) -> Result<(), Fail> {
         let mut input = script.as_bytes();
         assert_eq!(rt; run(&rt, &mut input, &mut output)?, 0);
         assert_eq!(rt; output.as_slice(), answer.as_bytes());
+    }
+    Ok(())
+}
+
+/// A hundred groups, each of which holds the use of the next: the first reaches the last, and the last not the first.
+#[test]
+fn chain_of_hundred_groups(rt: HostRuntime) -> Result<(), Fail> {
+    let alloc = rt.alloc();
+    let mut script = format!(in alloc; "1 proc\n")?;
+    let mut output = format!(in alloc; "p1.1.1\n")?;
+    make_groups(alloc, &mut script, &mut output)?;
+    put_groups(alloc, &mut script, &mut output)?;
+    script.push_str("1 member *1.1 *1.100\n1 member *1.100 *1.1\n")?;
+    output.push_str("yes\nnot-yet\n")?;
+    let mut written = Vec::new(alloc);
+    let mut input = script.as_bytes();
+    assert_eq!(rt; run(&rt, &mut input, &mut written)?, 0);
+    assert_eq!(rt; written.as_slice(), output.as_bytes());
+    Ok(())
+}
+
+/// A hundred groups are made.
+fn make_groups(alloc: Global, script: &mut String, output: &mut String) -> Result<(), Fail> {
+    for group in 1..=100u32 {
+        script.push_str("1 group p1.1.1\n")?;
+        output.push_str(&format!(in alloc; "ok 1.{group}\n")?)?;
+    }
+    Ok(())
+}
+
+/// The use of each of a hundred groups but the first is put into the one before.
+fn put_groups(alloc: Global, script: &mut String, output: &mut String) -> Result<(), Fail> {
+    for group in 1..100u32 {
+        script.push_str(&format!(in alloc; "1 put p1.1.1 1.{group} *1.{}\n", group + 1)?)?;
+        output.push_str(&format!(in alloc; "ok 1.{}\n", group + 100)?)?;
     }
     Ok(())
 }
