@@ -26,11 +26,14 @@ const OWNER: Pid = Pid {
     serial: 1,
 };
 
-fn op(seq: u32, body: Body) -> Op {
-    Op {
-        name: Name { node: 1, seq },
-        body,
-    }
+const FIRST_PUT: Name = Name { node: 1, seq: 5 };
+
+const SECOND_PUT: Name = Name { node: 1, seq: 6 };
+
+const THIRD_PUT: Name = Name { node: 1, seq: 7 };
+
+fn op(name: Name, body: Body) -> Op {
+    Op { name, body }
 }
 
 // A bench with the owner of a group, into which another has put to add and to remove the tag, and to add the other one.
@@ -38,14 +41,14 @@ fn opened(alloc: Global, ops: &mut Index) -> Result<Bench, Fail> {
     let mut bench = Bench::new(alloc, 1, 1, 1, 1);
     bench.job(alloc, ops, Job::Proc)?;
     bench.job(alloc, ops, Job::By(OWNER, Act::Order(Order::Group)))?;
-    bench.finish(OWNER, &op(1, Body::MakeGroup));
+    bench.finish(OWNER, &op(GROUP, Body::MakeGroup));
     for op in [
-        op(2, Body::MakeTag(Policy::Read)),
-        op(3, Body::MakeTag(Policy::Read)),
-        op(4, Body::MakeTag(Policy::Export)),
-        op(5, Body::Put(GROUP, Cap::Plus(TAG))),
-        op(6, Body::Put(GROUP, Cap::Minus(TAG))),
-        op(7, Body::Put(GROUP, Cap::Plus(OTHER))),
+        op(TAG, Body::MakeTag(Policy::Read)),
+        op(OTHER, Body::MakeTag(Policy::Read)),
+        op(EXPORT, Body::MakeTag(Policy::Export)),
+        op(FIRST_PUT, Body::Put(GROUP, Cap::Plus(TAG))),
+        op(SECOND_PUT, Body::Put(GROUP, Cap::Minus(TAG))),
+        op(THIRD_PUT, Body::Put(GROUP, Cap::Plus(OTHER))),
     ] {
         ops.absorb(&op)?;
     }
