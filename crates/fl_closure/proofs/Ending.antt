@@ -16,7 +16,7 @@ use Rattle.fl_labels.specs.declared.name.Name.{Name}
 use Rattle.fl_labels.specs.declared.cap.Cap.{Cap}
 use Rattle.fl_ops.specs.declared.op.Op.{Op}
 use Rattle.fl_ops.specs.declared.op.Body.{Body}
-use Rattle.fl_ops.specs.declared.op.Body.TheVariants.{MakeTag, MakeGroup, Put}
+use Rattle.fl_ops.specs.declared.op.Body.TheVariants.{MakeTag, MakeGroup, Put, MakeLogin}
 use Rattle.fl_ops.specs.OpOrder.{op_cmp}
 use Rattle.fl_ops.specs.OpLaws.{op_total, op_exact}
 use Rattle.fl_ops.specs.Registry.{Puts, Chain, here, into, Reach, From, Global, Eff}
@@ -35,6 +35,7 @@ abbrev put_by : Body → List Cap → List Cap
 put_by (Put group c) rest = c ∷ rest
 put_by (MakeTag policy) rest = rest
 put_by MakeGroup rest = rest
+put_by (MakeLogin c digest) rest = rest
 
 abbrev all_put : List Op → List Cap
 all_put [] = []
@@ -48,11 +49,13 @@ by_body : (body : Body) (rest : List Cap) (group : Name) (c : Cap) → Puts body
 by_body (Put into_it what) rest group c p = inl p.1
 by_body (MakeTag policy) rest group c p = absurd p
 by_body MakeGroup rest group c p = absurd p
+by_body (MakeLogin d digest) rest group c p = absurd p
 
 by_rest : (body : Body) (rest : List Cap) (c : Cap) → Has rest c → Has (put_by body rest) c
 by_rest (Put into_it what) rest c h = inr h
 by_rest (MakeTag policy) rest c h = h
 by_rest MakeGroup rest c h = h
+by_rest (MakeLogin d digest) rest c h = h
 
 put_there : (ops : List Op) (op : Op) (group : Name) (c : Cap) → Has ops op → Puts op.body group c → Has (all_put ops) c
 put_there [] op group c h p = absurd h

@@ -18,7 +18,7 @@ use Rattle.fl_labels.specs.declared.cap.Cap.{Cap}
 use Rattle.fl_labels.proofs.Rising.{insert_member}
 use Rattle.fl_ops.specs.declared.op.Op.{Op}
 use Rattle.fl_ops.specs.declared.op.Body.{Body}
-use Rattle.fl_ops.specs.declared.op.Body.TheVariants.{MakeTag, MakeGroup, Put}
+use Rattle.fl_ops.specs.declared.op.Body.TheVariants.{MakeTag, MakeGroup, Put, MakeLogin}
 use Rattle.fl_ops.specs.OpOrder.{op_cmp}
 use Rattle.fl_ops.specs.OpLaws.{op_total, op_exact}
 use Rattle.fl_ops.specs.Registry.{Puts}
@@ -167,6 +167,7 @@ module _ (s after : SetBy op_cmp) (op : Op) (rows : Rows) (i : IsIndexed s rows)
 pub no_puts : (body : Body) → ((group : Name) (c : Cap) → body ≡ Put group c → ⊥) → (group : Name) (c : Cap) → Puts body group c → ⊥
 no_puts (MakeTag policy) never group c p = p
 no_puts MakeGroup never group c p = p
+no_puts (MakeLogin d digest) never group c p = p
 no_puts (Put into_it what) never group c p = never into_it what refl
 
 pub at_err : {A E P : Type 0} (r : Result A E) (b : Bool) → b ≡ is_err r → b ≡ true → OnErr r P → P

@@ -28,7 +28,8 @@ pub fn global_by(op: &Op) -> Option<Cap>
     match op.body {
         Body::MakeTag(Policy::Export) => Some(Cap::Plus(op.name)),
         Body::MakeTag(Policy::Integrity) => Some(Cap::Minus(op.name)),
-        Body::MakeTag(Policy::Read) | Body::MakeGroup | Body::Put(_, _) => None,
+        Body::MakeTag(Policy::Read) | Body::MakeGroup | Body::Put(_, _) | Body::MakeLogin(_, _) =>
+            None,
     }
 }
 

@@ -198,7 +198,7 @@ fn receive(owned: RoomyCapSet, op: &Op) -> CapSet
     match op.body {
         Body::MakeTag(_) => owned.with_both(Cap::Plus(op.name), Cap::Minus(op.name)),
         Body::MakeGroup => owned.with_both(Cap::Use(op.name), Cap::Grow(op.name)),
-        Body::Put(_, _) => owned.without_room(),
+        Body::Put(_, _) | Body::MakeLogin(_, _) => owned.without_room(),
     }
 }
 

@@ -10,7 +10,7 @@ use Rattle.fl_labels.specs.NameOrder.{name_exact}
 use Rattle.fl_labels.specs.declared.cap.Cap.{Cap}
 use Rattle.fl_labels.specs.Cap.{cap_name, cap_rank}
 use Rattle.fl_ops.specs.declared.op.Body.{Body}
-use Rattle.fl_ops.specs.declared.op.Body.TheVariants.{MakeTag, MakeGroup, Put}
+use Rattle.fl_ops.specs.declared.op.Body.TheVariants.{MakeTag, MakeGroup, Put, MakeLogin}
 use Rattle.fl_ops.specs.declared.op.Op.{Op}
 use Rattle.fl_ops.specs.Bytes.{policy_byte, name_bytes, cap_bytes, kind_byte, body_bytes, op_bytes}
 use Rattle.fl_ops.specs.OpOrder.{body_key, op_cmp}
@@ -84,12 +84,19 @@ body_first n (Put g c) (Put h d) =
   where
     ends : (c d : Cap) → slice_cmp nat_cmp (cap_bytes c) (cap_bytes d) ≡ slice_cmp nat_cmp (cap_rank c ∷ (cap_name c).node ∷ (cap_name c).seq ∷ []) (cap_rank d ∷ (cap_name d).node ∷ (cap_name d).seq ∷ [])
     ends c d = cap_first c d [] []
+body_first n (MakeLogin c x) (MakeLogin d y) = same_front (name_bytes n) (cap_bytes c ++ x.bytes) (cap_bytes d ++ y.bytes) ∙ cap_first c d x.bytes y.bytes
 body_first n (MakeTag p) MakeGroup = refl
 body_first n (MakeTag p) (Put h d) = refl
+body_first n (MakeTag p) (MakeLogin d y) = refl
 body_first n MakeGroup (MakeTag q) = refl
 body_first n MakeGroup (Put h d) = refl
+body_first n MakeGroup (MakeLogin d y) = refl
 body_first n (Put g c) (MakeTag q) = refl
 body_first n (Put g c) MakeGroup = refl
+body_first n (Put g c) (MakeLogin d y) = refl
+body_first n (MakeLogin c x) (MakeTag q) = refl
+body_first n (MakeLogin c x) MakeGroup = refl
+body_first n (MakeLogin c x) (Put h d) = refl
 
 -- operations are ordered by name, and then by their bytes
 pub by_bytes : (a b : Op) → op_cmp a b ≡ ordering_then (name_cmp a.name b.name) (slice_cmp nat_cmp (op_bytes a) (op_bytes b))

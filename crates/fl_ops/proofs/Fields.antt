@@ -1,5 +1,5 @@
 -- A name from its six bytes, and an operation from its fields.
-use Rattle.std.proofs.Common.{None, nat_le, slice_index, ◌≡◌, ◌≢◌, ℕ, ◌+◌, ◌-◌, ◌*◌, ◌<◌, ◌≤◌, true, Bool, ◌&&◌, List, [], ◌∷◌, ◌++◌, length, get_or, take, drop, sym, ap, subst, refl, ◌∙◌, arith, length-drop, get_or-drop}
+use Rattle.std.proofs.Common.{None, nat_le, slice_index, ◌≡◌, ◌≢◌, ℕ, ◌+◌, ◌-◌, ◌*◌, ◌<◌, ◌≤◌, true, Bool, ◌&&◌, List, [], ◌∷◌, ◌++◌, length, get_or, take, drop, sym, ap, subst, refl, ◌∙◌, arith, length-drop, length-append, get_or-drop}
 use Rattle.std.proofs.lemmas.List.{drop-drop}
 use lib.Seq.{take-add}
 use Rattle.std.specs.Int.{w16, w32, to_be_bytes, from_be_bytes}
@@ -7,10 +7,11 @@ use Rattle.std.proofs.lemmas.Nat.{be_bytes_2, be_bytes_4}
 use Rattle.std.proofs.lemmas.Bool.{le-leb, lt-ltb, and_parts, leb-true, false≢true}
 use Rattle.fl_labels.specs.declared.name.Name.{Name}
 use Rattle.fl_labels.specs.declared.cap.Cap.{Cap}
+use Rattle.fl_ops.specs.declared.digest.Digest.{Digest}
 use Rattle.fl_ops.specs.declared.op.Body.{Body}
-use Rattle.fl_ops.specs.declared.op.Body.TheVariants.{Put}
+use Rattle.fl_ops.specs.declared.op.Body.TheVariants.{Put, MakeLogin}
 use Rattle.fl_ops.specs.Bytes.{name_bytes, cap_bytes, kind_byte, body_bytes, op_bytes}
-use Rattle.fl_ops.specs.Grammar.{has_name, has_byte, body_fields, cap_fields, first_fault, op_fault}
+use Rattle.fl_ops.specs.Grammar.{has_name, has_byte, has_digest, body_fields, cap_fields, first_fault, op_fault}
 
 -- each cell is a byte
 abbrev pub IsBytes : List ℕ → Type 0
@@ -56,6 +57,12 @@ name_found bs at field node seq fits within is p q some_node some_seq =
       cells (drop at bs) node seq long (λ i. subst (λ n. n < 256) (sym (get_or-drop at bs i 0)) (fits (at + i))) numbers.0 numbers.1,
     )
 
+-- one more field that is there
+fields_then : (fs : List (ℕ × Bool)) (at : ℕ) (there : Bool) → first_fault fs ≡ None → there ≡ true → first_fault (fs ++ (at, there) ∷ []) ≡ None
+fields_then [] at there none is = rw is refl
+fields_then ((place, true) ∷ fs) at there none is = fields_then fs at there none is
+fields_then (field ∷ fs) at there none is = absurd (cc)
+
 -- what `body_at` owes where it answers a put
 pub put_found : (bs : List ℕ) (kind : ℕ) (group : Name) (cap : Cap) → kind ≡ 3
     → (has_name bs 8 ≡ true) × (take 6 (drop 8 bs) ≡ name_bytes group)
@@ -68,20 +75,34 @@ put_found bs kind group cap is named held = (
   take-add 6 7 (drop 8 bs) ∙ ap (λ l. take 6 (drop 8 bs) ++ take 7 l) (drop-drop 6 8 bs) ∙ (λ i. named.1 i ++ held.1 i),
 )
 
+-- what `body_at` owes where it answers a login
+pub login_found : (bs : List ℕ) (kind : ℕ) (cap : Cap) (digest : Digest) → kind ≡ 4
+    → (first_fault (cap_fields bs 8) ≡ None) × (take 7 (drop 8 bs) ≡ cap_bytes cap)
+    → (has_digest bs 15 ≡ true) × (take 32 (drop 15 bs) ≡ digest.bytes)
+    → (first_fault (body_fields bs kind 8) ≡ None) × (kind_byte (MakeLogin cap digest) ≡ kind) × (47 ≡ 8 + length (body_bytes (MakeLogin cap digest)))
+    × (take (length (body_bytes (MakeLogin cap digest))) (drop 8 bs) ≡ body_bytes (MakeLogin cap digest))
+login_found bs kind cap digest is held hashed =
+    let long : length (body_bytes (MakeLogin cap digest)) ≡ 7 + 32 = length-append (cap_bytes cap) digest.bytes ∙ ap (λ n. 7 + n) digest.sized in (
+      rw is (fields_then (cap_fields bs 8) 15 (has_digest bs 15) held.0 hashed.0),
+      sym is,
+      sym (ap (λ n. 8 + n) long),
+      ap (λ n. take n (drop 8 bs)) long ∙ take-add 7 32 (drop 8 bs) ∙ ap (λ l. take 7 (drop 8 bs) ++ take 32 l) (drop-drop 7 8 bs) ∙ (λ i. held.1 i ++ hashed.1 i),
+    )
+
 one_byte : (x : ℕ) (b : Bool) → (b && (nat_le 1 x && nat_le x 1)) ≡ true → x ≡ 1
 one_byte x b h =
     let parts = and_parts (nat_le 1 x) (nat_le x 1) (and_parts b (nat_le 1 x && nat_le x 1) h).1 in
     omega (arith, leb-true 1 x parts.0, leb-true x 1 parts.1)
 
 -- the two bytes before the name
-front_bytes : (bs : List ℕ) (kind : ℕ) → has_byte bs 0 1 1 ≡ true → has_byte bs 1 1 3 ≡ true → kind ≡ slice_index bs 1 → take 2 bs ≡ 1 ∷ kind ∷ []
+front_bytes : (bs : List ℕ) (kind : ℕ) → has_byte bs 0 1 1 ≡ true → has_byte bs 1 1 4 ≡ true → kind ≡ slice_index bs 1 → take 2 bs ≡ 1 ∷ kind ∷ []
 front_bytes [] kind a b e = absurd (false≢true a)
 front_bytes (x ∷ []) kind a b e = absurd (false≢true b)
 front_bytes (x ∷ y ∷ bs) kind a b e = λ i. one_byte x _ a i ∷ sym e i ∷ []
 
 -- what `decode` owes where it answers an operation
 pub op_found : (bs : List ℕ) (kind : ℕ) (name : Name) (body : Body) (end : ℕ)
-    → has_byte bs 0 1 1 ≡ true → (has_byte bs 1 1 3 ≡ true) × (kind ≡ slice_index bs 1)
+    → has_byte bs 0 1 1 ≡ true → (has_byte bs 1 1 4 ≡ true) × (kind ≡ slice_index bs 1)
     → (has_name bs 2 ≡ true) × (take 6 (drop 2 bs) ≡ name_bytes name)
     → (first_fault (body_fields bs kind 8) ≡ None) × (kind_byte body ≡ kind) × (end ≡ 8 + length (body_bytes body)) × (take (length (body_bytes body)) (drop 8 bs) ≡ body_bytes body)
     → (op_fault bs ≡ None) × (end ≡ length (op_bytes (record { name = name; body = body }))) × (take end bs ≡ op_bytes (record { name = name; body = body }))

@@ -1,5 +1,5 @@
 -- What an operation spells has no fault, and is spelled by no other.
-use Rattle.std.proofs.Common.{◌≡◌, ℕ, ◌+◌, ◌≤◌, Bool, true, ◌&&◌, List, [], ◌∷◌, ◌++◌, length, get_or, take, drop, slice_index, nat_lt, sym, ap, refl, ◌∙◌, lit≤, append_assoc, arith, length-append, None}
+use Rattle.std.proofs.Common.{◌≡◌, ℕ, ◌+◌, ◌≤◌, Bool, true, ◌&&◌, List, [], ◌∷◌, ◌++◌, length, get_or, take, drop, slice_index, nat_lt, nat_le, sym, ap, refl, ◌∙◌, lit≤, append_assoc, arith, length-append, None}
 use Rattle.std.specs.List.{AllByRecursion}
 use Rattle.std.specs.Int.{w16, w32, to_be_bytes, from_be_bytes}
 use Rattle.std.proofs.lemmas.Nat.{from_be_bytes-to_be_bytes_2, from_be_bytes-to_be_bytes_4}
@@ -14,10 +14,10 @@ use Rattle.fl_labels.specs.NameOrder.{same_name}
 use Rattle.fl_ops.specs.declared.op.Policy.{Policy}
 use Rattle.fl_ops.specs.declared.op.Policy.TheVariants.{Export, Read, Integrity}
 use Rattle.fl_ops.specs.declared.op.Body.{Body}
-use Rattle.fl_ops.specs.declared.op.Body.TheVariants.{MakeTag, MakeGroup, Put}
+use Rattle.fl_ops.specs.declared.op.Body.TheVariants.{MakeTag, MakeGroup, Put, MakeLogin}
 use Rattle.fl_ops.specs.declared.op.Op.{Op}
 use Rattle.fl_ops.specs.Bytes.{name_bytes, cap_bytes, policy_byte, kind_byte, body_bytes, op_bytes}
-use Rattle.fl_ops.specs.OpLaws.{cap_same}
+use Rattle.fl_ops.specs.OpLaws.{cap_same, same_digest}
 use Rattle.fl_ops.specs.Grammar.{op_fields, has_byte, has_name, first_fault, op_fault}
 
 node_back : (n : Name) → from_be_bytes w16 (to_be_bytes w16 n.node) ≡ n.node
@@ -72,10 +72,10 @@ cap_there front c rest =
     )
 
 -- the two bytes before the name, and the name
-head_there : (kind : ℕ) (n : Name) (rest : List ℕ) → 1 ≤ kind → kind ≤ 3 →
-    (has_byte (1 ∷ kind ∷ (name_bytes n ++ rest)) 0 1 1 ≡ true) × (has_byte (1 ∷ kind ∷ (name_bytes n ++ rest)) 1 1 3 ≡ true) × (has_name (1 ∷ kind ∷ (name_bytes n ++ rest)) 2 ≡ true)
+head_there : (kind : ℕ) (n : Name) (rest : List ℕ) → 1 ≤ kind → kind ≤ 4 →
+    (has_byte (1 ∷ kind ∷ (name_bytes n ++ rest)) 0 1 1 ≡ true) × (has_byte (1 ∷ kind ∷ (name_bytes n ++ rest)) 1 1 4 ≡ true) × (has_name (1 ∷ kind ∷ (name_bytes n ++ rest)) 2 ≡ true)
 head_there kind n rest low high =
-    (byte_there [] 1 (kind ∷ (name_bytes n ++ rest)) 1 1 (lit≤ tt) (lit≤ tt), byte_there (1 ∷ []) kind (name_bytes n ++ rest) 1 3 low high, name_there (1 ∷ kind ∷ []) n rest)
+    (byte_there [] 1 (kind ∷ (name_bytes n ++ rest)) 1 1 (lit≤ tt) (lit≤ tt), byte_there (1 ∷ []) kind (name_bytes n ++ rest) 1 4 low high, name_there (1 ∷ kind ∷ []) n rest)
 
 -- what an operation spells has no fault
 pub no_fault : (n : Name) (body : Body) (rest : List ℕ) → op_fault (op_bytes (record { name = n; body = body }) ++ rest) ≡ None
@@ -92,6 +92,12 @@ no_fault n (Put g c) rest =
     let m = name_there (1 ∷ 3 ∷ name_bytes n) g (cap_bytes c ++ rest) in
     let k = cap_there (1 ∷ 3 ∷ (name_bytes n ++ name_bytes g)) c rest in
     no_faults (op_fields (op_bytes (record { name = n; body = Put g c }) ++ rest) 0) (h.0, (h.1, (h.2, (m, (k.0, (k.1, tt))))))
+no_fault n (MakeLogin c d) rest =
+    let h = head_there 4 n (cap_bytes c ++ (d.bytes ++ rest)) (lit≤ tt) (lit≤ tt) in
+    let k = cap_there (1 ∷ 4 ∷ name_bytes n) c (d.bytes ++ rest) in
+    let bs = op_bytes (record { name = n; body = MakeLogin c d }) ++ rest in
+    let whole : nat_le 47 (length bs) ≡ true = le-leb 47 (length bs) (omega (arith, length-append d.bytes rest, d.sized)) in
+    no_faults (op_fields bs 0) (h.0, (h.1, (h.2, (k.0, (k.1, (whole, tt))))))
 
 -- ---- one operation
 
@@ -114,6 +120,14 @@ policy_same Read Read e = refl
 policy_same Integrity Integrity e = refl
 policy_same p q e = absurd (cc)
 
+bytes_front : (a b u v : List ℕ) → length a ≡ length b → a ++ u ≡ b ++ v → (a ≡ b) × (u ≡ v)
+bytes_front [] [] u v n e = (refl, e)
+bytes_front [] (y ∷ b) u v n e = absurd (omega arith)
+bytes_front (x ∷ a) [] u v n e = absurd (omega arith)
+bytes_front (x ∷ a) (y ∷ b) u v n e =
+    let rest = bytes_front a b u v (omega arith) (ap (drop 1) e) in
+    (λ i. (ap (λ l. get_or l 0 0) e i) ∷ rest.0 i, rest.1)
+
 body_front : (a b : Body) (u v : List ℕ) → kind_byte a ≡ kind_byte b → body_bytes a ++ u ≡ body_bytes b ++ v → (a ≡ b) × (u ≡ v)
 body_front (MakeTag p) (MakeTag q) u v k e = (ap MakeTag (policy_same p q (ap (λ l. get_or l 0 0) e)), ap (drop 1) e)
 body_front MakeGroup MakeGroup u v k e = (refl, e)
@@ -121,6 +135,11 @@ body_front (Put g c) (Put h d) u v k e =
     let first = name_front g h (cap_bytes c ++ u) (cap_bytes d ++ v) e in
     let second = cap_front c d u v first.1 in
     (λ x. Put (first.0 x) (second.0 x), second.1)
+body_front (MakeLogin c d) (MakeLogin c' d') u v k e =
+    let first = cap_front c c' (d.bytes ++ u) (d'.bytes ++ v) e in
+    let second = bytes_front d.bytes d'.bytes u v (d.sized ∙ sym d'.sized) first.1 in
+    let digest = same_digest d d' second.0 in
+    (λ x. MakeLogin (first.0 x) (digest x), second.1)
 body_front a b u v k e = absurd (cc)
 
 -- no spelling begins another

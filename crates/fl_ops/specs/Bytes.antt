@@ -7,7 +7,7 @@ use Rattle.fl_labels.specs.Cap.{cap_name, cap_rank}
 use Rattle.fl_ops.specs.declared.op.Policy.{Policy}
 use Rattle.fl_ops.specs.declared.op.Policy.TheVariants.{Export, Read, Integrity}
 use Rattle.fl_ops.specs.declared.op.Body.{Body}
-use Rattle.fl_ops.specs.declared.op.Body.TheVariants.{MakeTag, MakeGroup, Put}
+use Rattle.fl_ops.specs.declared.op.Body.TheVariants.{MakeTag, MakeGroup, Put, MakeLogin}
 use Rattle.fl_ops.specs.declared.op.Op.{Op}
 
 -- the node in two bytes, then the sequence number in four
@@ -27,12 +27,14 @@ abbrev pub kind_byte : Body → ℕ
 kind_byte (MakeTag p) = 1
 kind_byte MakeGroup = 2
 kind_byte (Put g c) = 3
+kind_byte (MakeLogin c d) = 4
 
 -- what follows the name
 abbrev pub body_bytes : Body → List ℕ
 body_bytes (MakeTag p) = policy_byte p ∷ []
 body_bytes MakeGroup = []
 body_bytes (Put g c) = name_bytes g ++ cap_bytes c
+body_bytes (MakeLogin c d) = cap_bytes c ++ d.bytes
 
 -- the format, the kind, the name, and what the kind asks for
 abbrev pub op_bytes : Op → List ℕ

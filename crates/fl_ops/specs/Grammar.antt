@@ -1,5 +1,5 @@
 -- The fields of an operation as bytes have them: where each begins, and whether it is there and in its range.
-use Rattle.std.specs.Prelude.{ℕ, ◌+◌, Bool, ◌&&◌, List, [], ◌∷◌, length, take, drop, Option, Some, None, slice_index, nat_lt, nat_le, ◌==◌, if◌then◌else◌}
+use Rattle.std.specs.Prelude.{ℕ, ◌+◌, Bool, ◌&&◌, List, [], ◌∷◌, ◌++◌, length, take, drop, Option, Some, None, slice_index, nat_lt, nat_le, ◌==◌, if◌then◌else◌}
 use Rattle.std.specs.Int.{w16, w32, from_be_bytes}
 
 -- the first field that isn't there
@@ -20,18 +20,24 @@ has_name bytes at = nat_le (at + 6) (length bytes)
 abbrev pub cap_fields : List ℕ → ℕ → List (ℕ × Bool)
 cap_fields bytes at = (at, has_byte bytes at 1 4) ∷ (at + 1, has_name bytes (at + 1)) ∷ []
 
--- what follows the name, by the kind: the policy of a tag, nothing for a group, and the group and the capability of a put
+-- 32 bytes, whatever they are
+abbrev pub has_digest : List ℕ → ℕ → Bool
+has_digest bytes at = nat_le (at + 32) (length bytes)
+
+-- what follows the name, by the kind: the policy of a tag, nothing for a group, the group and the capability of a put, and
+-- the capability and the digest of a login
 abbrev pub body_fields : List ℕ → ℕ → ℕ → List (ℕ × Bool)
 body_fields bytes kind at =
     if kind == 1 then (at, has_byte bytes at 1 3) ∷ []
     else (if kind == 2 then []
-    else ((at, has_name bytes at) ∷ cap_fields bytes (at + 6)))
+    else (if kind == 3 then (at, has_name bytes at) ∷ cap_fields bytes (at + 6)
+    else (cap_fields bytes at ++ (at + 7, has_digest bytes (at + 7)) ∷ [])))
 
 -- those of an operation that begins at a place
 abbrev pub op_fields : List ℕ → ℕ → List (ℕ × Bool)
 op_fields bytes at =
     (at, has_byte bytes at 1 1)
-    ∷ (at + 1, has_byte bytes (at + 1) 1 3)
+    ∷ (at + 1, has_byte bytes (at + 1) 1 4)
     ∷ (at + 2, has_name bytes (at + 2))
     ∷ body_fields bytes (slice_index bytes (at + 1)) (at + 8)
 

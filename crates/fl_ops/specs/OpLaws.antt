@@ -1,6 +1,8 @@
 -- Operations are totally ordered, and only equal ones tie.
-use Rattle.std.specs.Prelude.{◌≡◌, ℕ, List, refl, slice_index}
+use Rattle.std.specs.Prelude.{◌≡◌, ℕ, List, refl, slice_index, drop, length}
 use Rattle.std.proofs.Common.{ap}
+use Rattle.std.proofs.Math.Nat.{ℕ_set}
+use mathlib.Core.HLevel.{Σ_prop_path}
 use Rattle.std.specs.Cmp.{IsTotalOrder, IsPartialOrder, IsEquivalence, IsPartialEquivalence, eq_by_cmp_equiv, partial_equiv_from_equiv, po}
 use Rattle.std.specs.FinMap.{IsAntisymmetric, slice_cmp-IsAntisymmetric, nat_cmp-IsAntisymmetric}
 use Rattle.std.specs.Ordering.{ordering_then, eq_by_cmp, as_partial_cmp}
@@ -16,8 +18,9 @@ use Rattle.fl_ops.specs.contracts.op.Op as ops_row
 use Rattle.fl_ops.specs.declared.op.Policy.{Policy}
 use Rattle.fl_ops.specs.declared.op.Policy.TheVariants.{Export, Read, Integrity}
 use Rattle.fl_ops.specs.declared.op.Body.{Body}
-use Rattle.fl_ops.specs.declared.op.Body.TheVariants.{MakeTag, MakeGroup, Put}
+use Rattle.fl_ops.specs.declared.op.Body.TheVariants.{MakeTag, MakeGroup, Put, MakeLogin}
 use Rattle.fl_ops.specs.declared.op.Op.{Op}
+use Rattle.fl_ops.specs.declared.digest.Digest.{Digest}
 use Rattle.fl_ops.specs.Bytes.{policy_byte}
 use Rattle.fl_ops.specs.OpOrder.{body_key, op_cmp}
 
@@ -34,6 +37,12 @@ cap_same (Minus a) (Minus b) e k = ap Minus k
 cap_same (Use a) (Use b) e k = ap Use k
 cap_same (Grow a) (Grow b) e k = ap Grow k
 cap_same a b e k = absurd (cc)
+
+-- digests of equal bytes are equal
+pub same_digest : (a b : Digest) → a.bytes ≡ b.bytes → a ≡ b
+same_digest a b e =
+    let parts : ◌≡◌ {A = (bytes : List ℕ) × (length bytes ≡ 32)} (a.bytes, a.sized) (b.bytes, b.sized) = Σ_prop_path (λ bytes. ℕ_set _ _) e in
+    λ i. record { bytes = (parts i).0; sized = (parts i).1 }
 
 policy_same : (p q : Policy) → policy_byte p ≡ policy_byte q → p ≡ q
 policy_same Export Export e = refl
@@ -52,6 +61,10 @@ body_same (Put g c) (Put h d) e =
     let group = same_name g h (ap (at 1) e) (ap (at 2) e) in
     let cap = cap_same c d (ap (at 3) e) (same_name (cap_name c) (cap_name d) (ap (at 4) e) (ap (at 5) e)) in
     λ i. Put (group i) (cap i)
+body_same (MakeLogin c d) (MakeLogin c' d') e =
+    let cap = cap_same c c' (ap (at 1) e) (same_name (cap_name c) (cap_name c') (ap (at 2) e) (ap (at 3) e)) in
+    let digest = same_digest d d' (ap (drop 4) e) in
+    λ i. MakeLogin (cap i) (digest i)
 body_same a b e = absurd (cc)
 
 level : (o p : Ordering) → ordering_then o p ≡ Equal → (o ≡ Equal) × (p ≡ Equal)

@@ -6,7 +6,7 @@ use Rattle.std.specs.Cmp.Lexicographic.{slice_cmp}
 use Rattle.fl_labels.specs.Name.{name_cmp}
 use Rattle.fl_labels.specs.Cap.{cap_name, cap_rank}
 use Rattle.fl_ops.specs.declared.op.Body.{Body}
-use Rattle.fl_ops.specs.declared.op.Body.TheVariants.{MakeTag, MakeGroup, Put}
+use Rattle.fl_ops.specs.declared.op.Body.TheVariants.{MakeTag, MakeGroup, Put, MakeLogin}
 use Rattle.fl_ops.specs.declared.op.Op.{Op}
 use Rattle.fl_ops.specs.Bytes.{policy_byte}
 
@@ -15,6 +15,7 @@ abbrev pub body_key : Body → List ℕ
 body_key (MakeTag p) = 1 ∷ policy_byte p ∷ []
 body_key MakeGroup = 2 ∷ []
 body_key (Put g c) = 3 ∷ g.node ∷ g.seq ∷ cap_rank c ∷ (cap_name c).node ∷ (cap_name c).seq ∷ []
+body_key (MakeLogin c d) = 4 ∷ cap_rank c ∷ (cap_name c).node ∷ (cap_name c).seq ∷ d.bytes
 
 -- by name, and then as their bytes are
 abbrev pub op_cmp : Op → Op → Ordering

@@ -5,9 +5,10 @@ use Rattle.std.specs.List.{Contains}
 use Rattle.fl_labels.specs.declared.name.Name.{Name}
 use Rattle.fl_labels.specs.declared.cap.Cap.{Cap}
 use Rattle.fl_labels.specs.declared.cap.Cap.TheVariants.{Plus, Minus, Use, Grow}
+use Rattle.fl_ops.specs.declared.digest.Digest.{Digest}
 use Rattle.fl_ops.specs.declared.op.Op.{Op}
 use Rattle.fl_ops.specs.declared.op.Body.{Body}
-use Rattle.fl_ops.specs.declared.op.Body.TheVariants.{MakeTag, MakeGroup, Put}
+use Rattle.fl_ops.specs.declared.op.Body.TheVariants.{MakeTag, MakeGroup, Put, MakeLogin}
 use Rattle.fl_ops.specs.declared.op.Policy.{Policy}
 use Rattle.fl_ops.specs.declared.op.Policy.TheVariants.{Export, Integrity}
 
@@ -20,6 +21,7 @@ abbrev pub Puts : Body → Name → Cap → Type 0
 Puts (MakeTag policy) group c = ⊥
 Puts MakeGroup group c = ⊥
 Puts (Put into what) group c = (into ≡ group) × (what ≡ c)
+Puts (MakeLogin cap digest) group c = ⊥
 
 -- A chain leads from the first capability to the last: each but the last is the use of a group into which the registry puts the next one.
 pub data Chain (U : Op → Type 0) : Cap → Cap → Type 0 where
@@ -56,6 +58,10 @@ Eff U owned c = Reach U owned c ⊎ Global U c
 -- the tags that may be both added and removed by who has E in effect
 abbrev pub Dual : (Cap → Type 0) → Name → Type 0
 Dual E tag = E (Plus tag) × E (Minus tag)
+
+-- the registry has a login of this name, to this capability, whose secret has this digest
+abbrev pub IsLogin : (Op → Type 0) → Name → Cap → Digest → Type 0
+IsLogin U login cap digest = U (record { name = login; body = MakeLogin cap digest })
 
 -- the registry of a list's items
 abbrev pub Listed : List Op → Op → Type 0

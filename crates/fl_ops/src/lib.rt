@@ -1,6 +1,7 @@
 //! Operations of the tag registry, their order and their bytes.
 #![tactic(auto)]
 
+pub mod digest;
 pub mod fault;
 pub mod laws;
 pub mod op;

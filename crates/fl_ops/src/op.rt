@@ -8,6 +8,7 @@ ghost use Rattle.fl_ops.specs.Bytes.{policy_byte, kind_byte, op_bytes};
 ghost use Rattle.fl_ops.specs.PolicyText.{policy_text};
 ghost use Rattle.fl_ops.specs.OpOrder.{body_key, op_cmp};
 
+use crate::digest::Digest;
 use fl_labels::cap::Cap;
 use fl_labels::name::{Group, Name};
 use std::cmp::Ordering;
@@ -29,6 +30,8 @@ pub enum Body {
     MakeGroup,
     /// Puts the capability into the group: who may use the group has it.
     Put(Group, Cap),
+    /// Makes the login of the operation's name: who knows the secret of this digest gets the capability.
+    MakeLogin(Cap, Digest),
 }
 
 /// An entry of the tag registry. Ordered by name, then by its bytes.
@@ -71,6 +74,7 @@ impl Body {
             Body::MakeTag(_) => 1,
             Body::MakeGroup => 2,
             Body::Put(_, _) => 3,
+            Body::MakeLogin(_, _) => 4,
         }
     }
 }
@@ -84,6 +88,7 @@ impl Op {
             Body::MakeTag(_) => 9,
             Body::MakeGroup => 8,
             Body::Put(_, _) => 21,
+            Body::MakeLogin(_, _) => 47,
         }
     }
 }
@@ -102,6 +107,9 @@ fn cmp_bodies(a: &Body, b: &Body) -> Ordering
     match (a, b) {
         (Body::MakeTag(p), Body::MakeTag(q)) => p.number().cmp(&q.number()),
         (Body::Put(g, c), Body::Put(h, d)) => g.cmp(h).then(cmp_caps(*c, *d)),
+        (Body::MakeLogin(c, x), Body::MakeLogin(d, y)) => {
+            cmp_caps(*c, *d).then(x.bytes.as_slice().cmp(y.bytes.as_slice()))
+        }
         _ => a.kind().cmp(&b.kind()),
     }
 }

@@ -1,8 +1,9 @@
 // Operations from bytes.
 ghost use Rattle.std.specs.Prelude.{◌≡◌, ◌<◌, ◌≤◌, ◌+◌, ◌^◌, MatchResult, true, false, slice_index, take, drop, length, Some, None, [], ◌∷◌};
 ghost use Rattle.fl_ops.specs.Bytes.{kind_byte, body_bytes, name_bytes, cap_bytes, policy_byte, op_bytes};
-ghost use Rattle.fl_ops.specs.Grammar.{body_fields, cap_fields, has_byte, has_name, first_fault, op_fault};
+ghost use Rattle.fl_ops.specs.Grammar.{body_fields, cap_fields, has_byte, has_digest, has_name, first_fault, op_fault};
 
+use crate::digest::Digest;
 use crate::fault::OpFault;
 use crate::op::{Body, Op, Policy};
 use fl_labels::cap::Cap;
@@ -64,10 +65,24 @@ fn policy_at(bytes: &[u8], at: usize) -> Result<Policy, OpFault>
     })
 }
 
+fn digest_at(bytes: &[u8], at: usize) -> Result<Digest, OpFault>
+    requires { at < 2 ^ 32 }
+    ensures { MatchResult result
+        (λ d. (has_digest bytes.now at ≡ true) × (take 32 (drop at bytes.now) ≡ d.bytes))
+        (λ f. (has_digest bytes.now at ≡ false) × (f.place ≡ at)) }
+{
+    let Some(field) = bytes.get(at..at + 32) else {
+        return Err(OpFault { place: at });
+    };
+    let mut bytes = [0; 32];
+    bytes.copy_from_slice(field);
+    Ok(Digest { bytes })
+}
+
 // The body of an operation of this kind, which follows its name, and where it ends.
 fn body_at(bytes: &[u8], kind: u8) -> Result<(Body, usize), OpFault>
     requires low { 1 ≤ kind }
-    requires high { kind ≤ 3 }
+    requires high { kind ≤ 4 }
     ensures { MatchResult result
         (λ x. (first_fault (body_fields bytes.now kind 8) ≡ None) × (kind_byte x.0 ≡ kind)
         × (x.1 ≡ 8 + length (body_bytes x.0)) × (take (length (body_bytes x.0)) (drop 8 bytes.now) ≡ body_bytes x.0))
@@ -76,7 +91,11 @@ fn body_at(bytes: &[u8], kind: u8) -> Result<(Body, usize), OpFault>
     match kind {
         1 => Ok((Body::MakeTag(policy_at(bytes, 8)?), 9)),
         2 => Ok((Body::MakeGroup, 8)),
-        _ => Ok((Body::Put(name_at(bytes, 8)?, cap_at(bytes, 14)?), 21)),
+        3 => Ok((Body::Put(name_at(bytes, 8)?, cap_at(bytes, 14)?), 21)),
+        _ => Ok((
+            Body::MakeLogin(cap_at(bytes, 8)?, digest_at(bytes, 15)?),
+            47,
+        )),
     }
 }
 
@@ -88,7 +107,7 @@ pub fn decode(bytes: &[u8]) -> Result<(Op, usize), OpFault>
         (λ f. op_fault bytes.now ≡ Some f.place) }
 {
     byte_at(bytes, 0, 1, 1)?;
-    let kind = byte_at(bytes, 1, 1, 3)?;
+    let kind = byte_at(bytes, 1, 1, 4)?;
     let name = name_at(bytes, 2)?;
     let (body, end) = body_at(bytes, kind)?;
     Ok((Op { name, body }, end))

@@ -1,4 +1,5 @@
 // Tests of operations and their bytes.
+use crate::digest::Digest;
 use crate::fault::OpFault;
 use crate::laws::{law_one_spelling, law_order, law_reach};
 use crate::op::{Body, Op, Policy};
@@ -14,6 +15,11 @@ const GROUP: [u8; 8] = [1, 2, 0, 1, 0, 0, 0, 2];
 
 const PUT: [u8; 21] = [
     1, 3, 0, 1, 0, 0, 0, 6, 0, 1, 0, 0, 0, 4, 3, 0, 1, 0, 0, 0, 5,
+];
+
+const LOGIN: [u8; 47] = [
+    1, 4, 0, 1, 0, 0, 0, 7, 1, 0, 1, 0, 0, 0, 5, 0, 1, 2, 3, 4, 5, 6, 7, 8, 9, 10, 11, 12, 13, 14,
+    15, 16, 17, 18, 19, 20, 21, 22, 23, 24, 25, 26, 27, 28, 29, 128, 255,
 ];
 
 fn tag(name: Name, policy: Policy) -> Op {
@@ -34,6 +40,13 @@ fn put(name: Name, into: Group, cap: Cap) -> Op {
     Op {
         name,
         body: Body::Put(into, cap),
+    }
+}
+
+fn login(name: Name, cap: Cap, digest: Digest) -> Op {
+    Op {
+        name,
+        body: Body::MakeLogin(cap, digest),
     }
 }
 
@@ -98,6 +111,72 @@ fn spells_and_reads_puts(rt: HostRuntime) -> Result<(), Fail> {
 }
 
 #[test]
+fn spells_and_reads_logins(rt: HostRuntime) -> Result<(), Fail> {
+    let digest = Digest {
+        bytes: [
+            0, 1, 2, 3, 4, 5, 6, 7, 8, 9, 10, 11, 12, 13, 14, 15, 16, 17, 18, 19, 20, 21, 22, 23,
+            24, 25, 26, 27, 28, 29, 128, 255,
+        ],
+    };
+    let cap = Cap::Plus(Name { node: 1, seq: 5 });
+    let op = login(Name { node: 1, seq: 7 }, cap, digest);
+    assert_eq!(rt; encode(rt.alloc(), &op)?.as_slice(), LOGIN.as_slice());
+    assert_eq!(rt; decode(&LOGIN), Ok((op, 47)));
+    assert_eq!(rt; op.length(), 47);
+    assert_eq!(rt; op.body.kind(), 4);
+    Ok(())
+}
+
+#[test]
+fn refuses_logins_that_are_cut_off(rt: HostRuntime) {
+    for length in 0..LOGIN.len() {
+        let place = match length {
+            0 | 1 => length,
+            2..=7 => 2,
+            8 => 8,
+            9..=14 => 9,
+            _ => 15,
+        };
+        assert_eq!(rt; decode(&LOGIN[..length]), Err(OpFault { place }));
+    }
+}
+
+#[test]
+fn refuses_logins_that_are_out_of_range(rt: HostRuntime) {
+    for (place, byte, fault) in [
+        (0, 2, 0),
+        (1, 5, 1),
+        (3, 0, 2),
+        (7, 0, 2),
+        (8, 0, 8),
+        (8, 5, 8),
+        (10, 0, 9),
+        (14, 0, 9),
+    ] {
+        let mut bytes = LOGIN;
+        bytes[place] = byte;
+        assert_eq!(rt; decode(&bytes), Err(OpFault { place: fault }));
+    }
+}
+
+#[test]
+fn orders_logins(rt: HostRuntime) {
+    let one = Name { node: 1, seq: 1 };
+    let two = Name { node: 1, seq: 2 };
+    let few = Digest { bytes: [1; 32] };
+    let many = Digest { bytes: [2; 32] };
+    let op = login(two, Cap::Minus(two), few);
+    assert!(rt; op == op);
+    assert!(rt; op > group(two));
+    assert!(rt; op > put(two, two, Cap::Grow(two)));
+    assert!(rt; op < tag(Name { node: 1, seq: 3 }, Policy::Export));
+    assert!(rt; op < login(two, Cap::Minus(two), many));
+    assert!(rt; op < login(two, Cap::Use(one), few));
+    assert!(rt; op > login(two, Cap::Plus(two), many));
+    assert!(rt; op > login(two, Cap::Minus(one), many));
+}
+
+#[test]
 fn refuses_puts_that_are_cut_off(rt: HostRuntime) {
     for length in 0..PUT.len() {
         let place = match length {
@@ -113,7 +192,7 @@ fn refuses_puts_that_are_cut_off(rt: HostRuntime) {
 
 #[test]
 fn refuses_puts_that_are_out_of_range(rt: HostRuntime) {
-    for (place, byte, fault) in [(0, 2, 0), (1, 0, 1), (1, 4, 1), (3, 0, 2), (7, 0, 2)] {
+    for (place, byte, fault) in [(0, 2, 0), (1, 0, 1), (1, 5, 1), (3, 0, 2), (7, 0, 2)] {
         let mut bytes = PUT;
         bytes[place] = byte;
         assert_eq!(rt; decode(&bytes), Err(OpFault { place: fault }));
@@ -158,7 +237,7 @@ fn refuses_what_is_out_of_range(rt: HostRuntime) {
         (0, 0, 0),
         (0, 2, 0),
         (1, 0, 1),
-        (1, 4, 1),
+        (1, 5, 1),
         (3, 0, 2),
         (7, 0, 2),
         (8, 0, 8),

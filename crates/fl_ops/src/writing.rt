@@ -21,6 +21,7 @@ fn push_name(out: &mut Vec<u8>, name: Name) -> Result<(), AllocError>
 fn push_cap(out: &mut Vec<u8>, cap: Cap) -> Result<(), AllocError>
     ensures ok { OnOk result (out.new.items ≡ out.old.items ++ cap_bytes cap) }
     ensures len { OnOk result (vec_len out.new ≡ vec_len out.old + 7) }
+    ensures capacity { vec_capacity out.old ≤ vec_capacity out.new }
     ensures full { OnErr result (vec_capacity out.old < vec_len out.old + 7) }
 {
     out.push(cap.rank())?;
@@ -37,6 +38,10 @@ fn push_body(out: &mut Vec<u8>, body: &Body) -> Result<(), AllocError>
         Body::Put(group, cap) => {
             push_name(out, *group)?;
             push_cap(out, *cap)?;
+        }
+        Body::MakeLogin(cap, digest) => {
+            push_cap(out, *cap)?;
+            out.extend_from_slice(&digest.bytes)?;
         }
     }
     Ok(())

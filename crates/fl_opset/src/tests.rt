@@ -3,6 +3,7 @@ use crate::laws::{law_equal_text, law_join};
 use crate::set::OpSet;
 use fl_labels::cap::Cap;
 use fl_labels::name::{Group, Name};
+use fl_ops::digest::Digest;
 use fl_ops::op::{Body, Op, Policy};
 use fl_sink::sink::Sink;
 use std::test::Fail;
@@ -192,6 +193,27 @@ fn writes_puts(rt: HostRuntime) -> Result<(), Fail> {
 1.7 put 1.4 -1.5
 65535.4294967295 put 65535.4294967295 ^1.4
 ";
+    assert_eq!(rt; output.as_slice(), text.as_slice());
+    Ok(())
+}
+
+#[test]
+fn writes_logins(rt: HostRuntime) -> Result<(), Fail> {
+    let mut ops = OpSet::new(rt.alloc());
+    let cap = Cap::Use(Name { node: 1, seq: 5 });
+    let digest = Digest {
+        bytes: [
+            0, 1, 2, 3, 4, 5, 6, 7, 8, 9, 10, 11, 12, 13, 14, 15, 16, 17, 18, 19, 20, 21, 22, 23,
+            24, 25, 26, 27, 28, 159, 160, 255,
+        ],
+    };
+    ops.add(Op {
+        name: Name { node: 1, seq: 7 },
+        body: Body::MakeLogin(cap, digest),
+    })?;
+    let mut output = Vec::new(rt.alloc());
+    ops.text(&mut output)?;
+    let text = b"1.7 login *1.5 000102030405060708090a0b0c0d0e0f101112131415161718191a1b1c9fa0ff\n";
     assert_eq!(rt; output.as_slice(), text.as_slice());
     Ok(())
 }

@@ -2,13 +2,16 @@
 ghost use Rattle.std.specs.Prelude.{◌≡◌, ◌∷◌, ◌++◌, [], OnErr, OnOk};
 ghost use Rattle.std.specs.List.{flat_map};
 ghost use Rattle.fl_labels.specs.Text.{name_text, cap_sign};
+ghost use Rattle.hex.specs.Hex.{encode_lower};
 ghost use Rattle.fl_sink.specs.Sink.{Cuts, Passes};
-ghost use Rattle.fl_opset.specs.RegistryText.{op_line, put_line};
+ghost use Rattle.fl_opset.specs.RegistryText.{op_line, put_line, login_line};
 
 use fl_labels::cap::Cap;
 use fl_labels::name::{Group, Name};
+use fl_ops::digest::Digest;
 use fl_ops::op::{Body, Op};
 use fl_sink::sink::{Sink, WriteFault};
+use hex::encode_to_slice;
 use itoa::Buffer;
 use std::io::Write;
 
@@ -21,6 +24,14 @@ fn sign_of(cap: Cap) -> &'static [u8]
         Cap::Use(_) => b"*",
         Cap::Grow(_) => b"^",
     }
+}
+
+fn digits_of(digest: &Digest) -> [u8; 64]
+    ensures { result ≡ encode_lower digest.now.bytes }
+{
+    let mut digits = [0; 64];
+    encode_to_slice(digest.bytes.as_slice(), &mut digits).unwrap();
+    digits
 }
 
 // The name, the two words, and a line feed.
@@ -73,6 +84,36 @@ fn write_put<W: Write>(
     sink.put_all(output, &pieces)
 }
 
+// `1.7 login *1.5`, the 64 digits of the digest, and a line feed.
+fn write_login<W: Write>(
+    name: Name,
+    cap: Cap,
+    digest: &Digest,
+    sink: &mut Sink,
+    output: &mut W,
+) -> Result<(), WriteFault>
+    ensures ok { OnOk result (Passes (W.contents output.old) (W.contents output.new) sink.old (login_line name cap digest.now) sink.new) }
+    ensures err { OnErr result (Cuts (W.contents output.old) (W.contents output.new) sink.old (login_line name cap digest.now)) }
+{
+    let (mut node, mut seq) = (Buffer::new(), Buffer::new());
+    let (mut cap_node, mut cap_seq) = (Buffer::new(), Buffer::new());
+    let digits = digits_of(digest);
+    let pieces = [
+        node.format(name.node).as_bytes(),
+        b".",
+        seq.format(name.seq).as_bytes(),
+        b" login ",
+        sign_of(cap),
+        cap_node.format(cap.name().node).as_bytes(),
+        b".",
+        cap_seq.format(cap.name().seq).as_bytes(),
+        b" ",
+        digits.as_slice(),
+        b"\n",
+    ];
+    sink.put_all(output, &pieces)
+}
+
 fn write_line<W: Write>(op: &Op, sink: &mut Sink, output: &mut W) -> Result<(), WriteFault>
     ensures ok { OnOk result (Passes (W.contents output.old) (W.contents output.new) sink.old (op_line op.now) sink.new) }
     ensures err { OnErr result (Cuts (W.contents output.old) (W.contents output.new) sink.old (op_line op.now)) }
@@ -83,6 +124,7 @@ fn write_line<W: Write>(op: &Op, sink: &mut Sink, output: &mut W) -> Result<(), 
         }
         Body::MakeGroup => write_words(op.name, b" group", b"", sink, output),
         Body::Put(group, cap) => write_put(op.name, group, cap, sink, output),
+        Body::MakeLogin(cap, digest) => write_login(op.name, cap, &digest, sink, output),
     }
 }
 
