@@ -1,0 +1,5 @@
+use Rattle.fl_aliases.proofs.WordByWord.{same_comment}
+use Rattle.fl_aliases.proofs.laws.law_comment.Goals as goal
+
+pub returns : goal.returns
+returns c = λ table line out h. same_comment table h

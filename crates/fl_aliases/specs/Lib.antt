@@ -1,0 +1,5 @@
+pub mod Alias
+pub mod TargetText
+pub mod Table
+pub mod Expansion
+pub mod Words

@@ -1,0 +1,11 @@
+-- Lines are cut into words at spaces.
+use Rattle.std.specs.Prelude.{◌≢◌, ℕ, List, length, filter, not, ◌==◌}
+use Rattle.std.specs.List.{All, slice_split}
+
+-- the words of a line: what stands between its spaces, and is not empty
+abbrev pub words_of : List ℕ → List (List ℕ)
+words_of line = filter (λ piece. not (length piece == 0)) (slice_split (λ b. b == 32) line)
+
+-- no space and no `$` stands in these bytes
+abbrev pub InWord : List ℕ → Type 0
+InWord bytes = All (λ b. (b ≢ 32) × (b ≢ 36)) bytes

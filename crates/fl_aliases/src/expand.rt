@@ -1,0 +1,76 @@
+// Aliases replaced in a line.
+ghost use Rattle.std.specs.Prelude.{◌≡◌, ◌++◌, ℕ, List, IfOk, IfSome, IfNone, OnOk};
+ghost use Rattle.std.specs.Bool.{MatchBool};
+ghost use Rattle.std.specs.String.{string_bytes};
+ghost use Rattle.std.specs.List.{prefix_len};
+ghost use Rattle.fl_aliases.specs.Alias.{is_letter, IsAlias};
+ghost use Rattle.fl_aliases.specs.Expansion.{Expands, NoDollar, NoLetterFirst};
+ghost use Rattle.fl_aliases.specs.TargetText.{target_text};
+
+use crate::alias::{Alias, is_letter};
+use crate::table::Aliases;
+use crate::target::Target;
+use std::alloc::AllocError;
+use std::fmt::Write;
+
+/// Whether a `$` stands in the line. A line with none expands to itself.
+pub fn has_dollar(line: &str) -> bool
+    ensures { MatchBool result (¬ NoDollar line.now) (NoDollar line.now) }
+{
+    line.contains('$')
+}
+
+/// How many letters stand at the front of the text.
+fn letters_in_front(text: &str) -> usize
+    ensures { result ≡ prefix_len is_letter text.now }
+{
+    text.bytes().take_while(|byte| is_letter(*byte)).count()
+}
+
+/// An alias that stood at the front of a text, and the text behind it.
+#[derive(Clone, Copy)]
+struct Front<'a> {
+    alias: Alias,
+    behind: &'a str,
+}
+
+/// The alias that all the letters at the front of the text make. `None` where they make none.
+fn split_alias(text: &str) -> Option<Front<'_>>
+    ensures some { IfSome result (λ front. (text.now ≡ front.alias ++ front.behind.now) × IsAlias front.alias × NoLetterFirst front.behind.now) }
+    ensures none { IfNone result ((letters rest : List ℕ) → IsAlias letters → NoLetterFirst rest → text.now ≡ letters ++ rest → ⊥) }
+{
+    let (letters, behind) = text.split_at(letters_in_front(text));
+    let alias = Alias::from_letters(letters.as_bytes())?;
+    Some(Front { alias, behind })
+}
+
+fn push_target(buffer: &mut String, target: Target) -> Result<(), AllocError>
+    ensures ok { OnOk result (string_bytes buffer.new ≡ string_bytes buffer.old ++ target_text target) }
+{
+    write!(buffer, "{target}").map_err(|_| AllocError)
+}
+
+/// Writes into the buffer, over what it holds, the line with each alias in it replaced by the text of what it stands for, and
+/// answers whether this could be done: not where a `$` has no 1 to 32 letters behind it, or these are an alias that is not set.
+/// What was replaced is not looked at again. One look at each byte.
+///
+/// An error is want of memory for the buffer. After an error or `false` the buffer holds any text.
+pub fn expand(aliases: &Aliases, line: &str, buffer: &mut String) -> Result<bool, AllocError>
+    ensures { IfOk result (λ done. MatchBool done (Expands aliases.now line.now (string_bytes buffer.new)) ((out : List ℕ) → Expands aliases.now line.now out → ⊥)) }
+{
+    buffer.clear();
+    let mut rest = line;
+    while let Some((plain, behind)) = rest.split_once('$') {
+        buffer.push_str(plain)?;
+        let Some(front) = split_alias(behind) else {
+            return Ok(false);
+        };
+        let Some(target) = aliases.get(&front.alias) else {
+            return Ok(false);
+        };
+        push_target(buffer, target)?;
+        rest = front.behind;
+    }
+    buffer.push_str(rest)?;
+    Ok(true)
+}

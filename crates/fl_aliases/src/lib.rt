@@ -1,0 +1,11 @@
+//! The aliases of a script: what its lines name, and how these names are replaced in the lines after.
+#![tactic(auto)]
+
+pub mod alias;
+pub mod expand;
+pub mod laws;
+pub mod table;
+pub mod target;
+#[cfg(test)]
+mod tests;
+mod text;

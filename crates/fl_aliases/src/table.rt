@@ -1,0 +1,118 @@
+// The aliases that are set.
+ghost use Rattle.std.specs.Prelude.{◌≡◌, ◌<◌, ◌++◌, [], ◌∷◌, IfOk, OnOk, OnErr, IsTrue, IsSome, IsNone, ◌↔◌, None, length};
+ghost use Rattle.std.specs.Bool.{MatchBool};
+ghost use Rattle.fl_sink.specs.Sink.{Cuts, Passes};
+ghost use Rattle.fl_aliases.specs.Table.{Entry, IsTable, target_of, retargeted, table_text};
+
+use crate::alias::Alias;
+use crate::target::Target;
+use crate::text::write_line;
+use fl_sink::sink::{Sink, WriteFault};
+use indexmap::IndexMap;
+use std::alloc::{AllocError, Global};
+use std::io::Write;
+use std::marker::Model;
+
+/// The most aliases that are set.
+pub const MOST_ALIASES: usize = 1024;
+
+/// What the aliases of a script stand for, in the order of their first setting. At most [`MOST_ALIASES`] are set.
+#[derive(Drop)]
+pub struct Aliases {
+    targets: IndexMap<Alias, Target>,
+}
+
+impl Model for Aliases {
+    ghost use Rattle.fl_aliases.specs.Table.{Table, IsTable};
+
+    ghost Value = { Table };
+
+    ghost view = { λ a. a.targets.entries };
+
+    ghost invariant = { λ a. IsTable a.targets.entries };
+}
+
+impl Aliases {
+    /// No aliases. Takes no memory.
+    pub fn new(alloc: Global) -> Self
+        ensures { result ≡ [] }
+    {
+        Aliases {
+            targets: IndexMap::new(alloc),
+        }
+    }
+
+    /// How many aliases are set.
+    pub fn len(&self) -> usize
+        ensures count { result ≡ length self.now }
+        ensures table { IsTable self.now }
+    {
+        self.targets.len()
+    }
+
+    /// Whether no alias is set.
+    pub fn is_empty(&self) -> bool
+        ensures { IsTrue result ↔ (length self.now ≡ 0) }
+    {
+        self.targets.is_empty()
+    }
+
+    /// Whether as many aliases are set as may be.
+    pub fn is_full(&self) -> bool
+        ensures { MatchBool result (length self.now ≡ 1024) (length self.now < 1024) }
+    {
+        self.len() == MOST_ALIASES
+    }
+
+    /// What the alias stands for, or `None` where it is not set. One look-up.
+    pub fn get(&self, alias: &Alias) -> Option<Target>
+        ensures { result ≡ target_of self.now alias.now }
+    {
+        self.targets.get(alias).copied()
+    }
+
+    /// Sets an alias that is not set, as the last one, and answers whether it did: one that is set is left.
+    /// An error leaves all.
+    pub fn place(&mut self, alias: Alias, target: Target) -> Result<bool, AllocError>
+        requires room { target_of self.old alias ≡ None → length self.old < 1024 }
+        ensures new { IfOk result (λ new. MatchBool new (IsNone (target_of self.old alias)) (IsSome (target_of self.old alias))) }
+        ensures ok { IfOk result (λ new. MatchBool new (self.new ≡ self.old ++ (alias, target) ∷ []) (self.new ≡ self.old)) }
+        ensures err { OnErr result (self.new ≡ self.old) }
+        ensures absent { OnErr result (target_of self.old alias ≡ None) }
+    {
+        if self.targets.contains_key(&alias) {
+            return Ok(false);
+        }
+        self.targets.insert(alias, target)?;
+        Ok(true)
+    }
+
+    /// Has an alias that is set stand for this, in its place. Takes no memory.
+    pub fn set(&mut self, alias: Alias, target: Target)
+        requires { IsSome (target_of self.old alias) }
+        ensures { self.new ≡ retargeted self.old alias target }
+    {
+        *self.targets.get_mut(&alias).unwrap() = target;
+    }
+
+    /// Takes the last alias out, by the order of first setting. Takes no memory.
+    pub fn take_back(&mut self)
+        requires { 0 < length self.old }
+        ensures { (last : Entry) × (self.old ≡ self.new ++ last ∷ []) }
+    {
+        self.targets.pop();
+    }
+
+    /// Puts the text of the aliases into a sink, a line for each in order: `$a p1.1.1`. Takes no memory but the sink's.
+    ///
+    /// At a fault a front of what waited and the text was written, and the sink may not be used again.
+    pub fn write_text<W: Write>(&self, sink: &mut Sink, output: &mut W) -> Result<(), WriteFault>
+        ensures ok { OnOk result (Passes (W.contents output.old) (W.contents output.new) sink.old (table_text self.now) sink.new) }
+        ensures err { OnErr result (Cuts (W.contents output.old) (W.contents output.new) sink.old (table_text self.now)) }
+    {
+        for (alias, target) in self.targets.iter() {
+            write_line(alias, target, sink, output)?;
+        }
+        Ok(())
+    }
+}

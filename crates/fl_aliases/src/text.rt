@@ -1,0 +1,43 @@
+// The text of aliases.
+ghost use Rattle.std.specs.Prelude.{OnErr, OnOk};
+ghost use Rattle.fl_sink.specs.Sink.{Cuts, Passes};
+ghost use Rattle.fl_aliases.specs.Table.{entry_line};
+
+use crate::alias::Alias;
+use crate::target::Target;
+use fl_sink::sink::{Sink, WriteFault};
+use itoa::Buffer;
+use std::io::Write;
+
+/// Puts the line of an alias into the sink.
+pub(crate) fn write_line<W: Write>(
+    alias: &Alias,
+    target: &Target,
+    sink: &mut Sink,
+    output: &mut W,
+) -> Result<(), WriteFault>
+    ensures ok { OnOk result (Passes (W.contents output.old) (W.contents output.new) sink.old (entry_line (alias.now, target.now)) sink.new) }
+    ensures err { OnErr result (Cuts (W.contents output.old) (W.contents output.new) sink.old (entry_line (alias.now, target.now))) }
+{
+    let letters = alias.as_str().as_bytes();
+    let mut node = Buffer::new();
+    match target {
+        Target::Process(pid) => {
+            let mut boot = Buffer::new();
+            let mut serial = Buffer::new();
+            let node = node.format(pid.node).as_bytes();
+            let boot = boot.format(pid.boot).as_bytes();
+            let serial = serial.format(pid.serial).as_bytes();
+            sink.put_all(
+                output,
+                &[b"$", letters, b" p", node, b".", boot, b".", serial, b"\n"],
+            )
+        }
+        Target::Operation(name) => {
+            let mut seq = Buffer::new();
+            let node = node.format(name.node).as_bytes();
+            let seq = seq.format(name.seq).as_bytes();
+            sink.put_all(output, &[b"$", letters, b" ", node, b".", seq, b"\n"])
+        }
+    }
+}
