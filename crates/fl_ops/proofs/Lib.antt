@@ -1,3 +1,4 @@
+pub mod Logins
 pub mod Reaching
 pub mod Fields
 pub mod OneSpelling

@@ -3,4 +3,5 @@ pub mod Grammar
 pub mod OpOrder
 pub mod OpLaws
 pub mod Registry
+pub mod Logins
 pub mod PolicyText

@@ -3,12 +3,15 @@ ghost use Rattle.std.specs.Prelude.{◌≡◌, ◌++◌, List, ℕ, Bool, None};
 ghost use Rattle.std.specs.Ordering.{nat_cmp, ordering_then};
 ghost use Rattle.std.specs.Cmp.Lexicographic.{slice_cmp};
 ghost use Rattle.fl_labels.specs.declared.cap.Cap.{Cap};
+ghost use Rattle.fl_labels.specs.declared.name.Name.{Name};
 ghost use Rattle.fl_labels.specs.Name.{name_cmp};
 ghost use Rattle.fl_labels.specs.Found.{Within};
+ghost use Rattle.fl_ops.specs.declared.digest.Digest.{Digest};
 ghost use Rattle.fl_ops.specs.declared.op.Op.{Op};
 ghost use Rattle.fl_ops.specs.Bytes.{op_bytes};
 ghost use Rattle.fl_ops.specs.Grammar.{op_fault};
 ghost use Rattle.fl_ops.specs.OpOrder.{op_cmp};
+ghost use Rattle.fl_ops.specs.Logins.{IsFirstLogin};
 ghost use Rattle.fl_ops.specs.Registry.{Listed, Among, IsClosed, Reach};
 
 /// Operations are ordered by name, and then by their bytes.
@@ -32,4 +35,9 @@ pub fn law_reach()
     ensures grows { (ops more : List Op) (owned held : Cap → Bool) → Within (Listed ops) (Listed more) → Within (Among owned) (Among held)
         → Within (Reach (Listed ops) (Among owned)) (Reach (Listed more) (Among held)) }
     ensures composes { (ops : List Op) (owned : Cap → Bool) → Within (Reach (Listed ops) (Reach (Listed ops) (Among owned))) (Reach (Listed ops) (Among owned)) }
+{}
+
+/// A name has no more than one first login in a registry: one capability, and one digest.
+pub fn law_login()
+    ensures { (ops : List Op) (login : Name) (c d : Cap) (x y : Digest) → IsFirstLogin (Listed ops) login c x → IsFirstLogin (Listed ops) login d y → (c ≡ d) × (x ≡ y) }
 {}

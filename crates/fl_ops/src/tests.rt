@@ -1,7 +1,7 @@
 // Tests of operations and their bytes.
 use crate::digest::Digest;
 use crate::fault::OpFault;
-use crate::laws::{law_one_spelling, law_order, law_reach};
+use crate::laws::{law_login, law_one_spelling, law_order, law_reach};
 use crate::op::{Body, Op, Policy};
 use crate::reading::decode;
 use crate::writing::{encode, push_op};
@@ -283,4 +283,5 @@ fn has_laws(_rt: HostRuntime) {
     law_order();
     law_one_spelling();
     law_reach();
+    law_login();
 }
