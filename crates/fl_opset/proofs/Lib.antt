@@ -3,3 +3,4 @@ pub mod Names
 pub mod Written
 pub mod MergeLemmas
 pub mod Join
+pub mod FirstLogin

@@ -1,1 +1,2 @@
+pub mod LoginPlace
 pub mod RegistryText

@@ -1,10 +1,17 @@
 // What binary searches find among operations that rise.
-ghost use Rattle.std.specs.Prelude.{◌≡◌, ◌≢◌, ◌≤◌, ◌<◌, length, true, false};
+ghost use Rattle.std.specs.Prelude.{◌≡◌, ◌≢◌, ◌≤◌, ◌<◌, length, true, false, MatchOption};
 ghost use Rattle.std.specs.List.{All, Any};
 ghost use Rattle.std.specs.List.Sorted.{IsStrictlySortedBy, IsSearchInRange, IsBinarySearchResult};
+ghost use Rattle.std.specs.Ordering.{is_lt};
 ghost use Rattle.fl_ops.specs.OpOrder.{op_cmp};
+ghost use Rattle.fl_ops.specs.Registry.{Listed};
+ghost use Rattle.fl_ops.specs.Logins.{IsFirstLogin, HasNoLogin};
+ghost use Rattle.fl_opset.specs.LoginPlace.{login_place};
 
-use fl_ops::op::Op;
+use fl_labels::cap::Cap;
+use fl_labels::name::Name;
+use fl_ops::digest::Digest;
+use fl_ops::op::{Body, Op};
 
 /// The place of an operation, or the place at which it would stand. The last operation is asked first, since most are added
 /// at the end.
@@ -54,4 +61,32 @@ pub fn has_other(ops: &[Op], op: &Op) -> bool
         }
     }
     false
+}
+
+// The kind of logins, the greatest: they come last among the operations of a name.
+const LOGIN: u8 = 4;
+
+// Whether the operation stands before all logins of this name.
+fn is_before_logins(op: &Op, name: Name) -> bool
+    ensures { result ≡ is_lt (login_place name op.now) }
+{
+    op.name.cmp(&name).then(op.body.kind().cmp(&LOGIN)).is_lt()
+}
+
+/// The least login of this name, or none.
+pub fn first_login(ops: &[Op], name: Name) -> Option<(Cap, Digest)>
+    requires { IsStrictlySortedBy op_cmp ops.now }
+    ensures { MatchOption result (HasNoLogin (Listed ops.now) name) (λ l. IsFirstLogin (Listed ops.now) name l.0 l.1) }
+{
+    let start = ops.partition_point(|op| is_before_logins(op, name));
+    let Some(first) = ops[start..].first() else {
+        return None;
+    };
+    if first.name != name {
+        return None;
+    }
+    match first.body {
+        Body::MakeLogin(cap, digest) => Some((cap, digest)),
+        _ => None,
+    }
 }

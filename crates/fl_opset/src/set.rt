@@ -1,17 +1,20 @@
 // Sets of operations, in a sorted `Vec`.
-ghost use Rattle.std.specs.Prelude.{◌≡◌, ◌≢◌, ◌≤◌, ◌<◌, [], IfOk, IfSome, IfNone, OnOk, OnErr, not};
+ghost use Rattle.std.specs.Prelude.{◌≡◌, ◌≢◌, ◌≤◌, ◌<◌, [], IfOk, IfSome, IfNone, MatchOption, OnOk, OnErr, not};
 ghost use Rattle.std.specs.Io.KnownBytes.{Appends};
 ghost use Rattle.fl_labels.specs.SetBy as set;
 ghost use Rattle.fl_labels.specs.SetBy.{In};
 ghost use Rattle.fl_ops.specs.declared.op.Op.{Op};
 ghost use Rattle.fl_ops.specs.OpOrder.{op_cmp};
+ghost use Rattle.fl_ops.specs.Logins.{IsFirstLogin, HasNoLogin};
 ghost use Rattle.fl_sink.specs.Sink.{Cuts, Passes};
 ghost use Rattle.fl_opset.specs.RegistryText.{registry_text};
 
 use crate::merging::{all_below, merged};
-use crate::search::{has_other, last_seq, place_of};
+use crate::search::{first_login, has_other, last_seq, place_of};
 use crate::text::write_lines;
+use fl_labels::cap::Cap;
 use fl_labels::name::Name;
+use fl_ops::digest::Digest;
 use fl_ops::op::Op;
 use fl_sink::sink::{Sink, WriteFault};
 use std::alloc::{AllocError, Global};
@@ -84,6 +87,13 @@ impl OpSet {
         ensures none { IfNone result ((other : Op) → In self.now other → other.name ≡ op.now.name → other ≡ op.now) }
     {
         has_other(&self.ops, op).then_some(op.name)
+    }
+
+    /// The least login of this name, as its capability and the digest of its secret, or none. A binary search; takes no memory.
+    pub fn first_login(&self, name: Name) -> Option<(Cap, Digest)>
+        ensures { MatchOption result (HasNoLogin (In self.now) name) (λ l. IsFirstLogin (In self.now) name l.0 l.1) }
+    {
+        first_login(&self.ops, name)
     }
 
     /// Adds an operation, and answers whether it is new. An error leaves the set.

@@ -29,6 +29,13 @@ fn put(name: Name, into: Group, cap: Cap) -> Op {
     }
 }
 
+fn login(name: Name, cap: Cap, digest: Digest) -> Op {
+    Op {
+        name,
+        body: Body::MakeLogin(cap, digest),
+    }
+}
+
 #[test]
 fn adds_and_takes_out(rt: HostRuntime) -> Result<(), Fail> {
     let mut ops = OpSet::new(rt.alloc());
@@ -207,13 +214,35 @@ fn writes_logins(rt: HostRuntime) -> Result<(), Fail> {
             24, 25, 26, 27, 28, 159, 160, 255,
         ],
     };
-    ops.add(Op {
-        name: Name { node: 1, seq: 7 },
-        body: Body::MakeLogin(cap, digest),
-    })?;
+    ops.add(login(Name { node: 1, seq: 7 }, cap, digest))?;
     let mut output = Vec::new(rt.alloc());
     ops.text(&mut output)?;
     let text = b"1.7 login *1.5 000102030405060708090a0b0c0d0e0f101112131415161718191a1b1c9fa0ff\n";
     assert_eq!(rt; output.as_slice(), text.as_slice());
+    Ok(())
+}
+
+#[test]
+fn tells_the_least_login_of_a_name(rt: HostRuntime) -> Result<(), Fail> {
+    let mut ops = OpSet::new(rt.alloc());
+    let (before, name, after) = (
+        Name { node: 1, seq: 6 },
+        Name { node: 1, seq: 7 },
+        Name { node: 1, seq: 8 },
+    );
+    let (plus, minus) = (Cap::Plus(before), Cap::Minus(before));
+    let (low, high) = (Digest { bytes: [1; 32] }, Digest { bytes: [2; 32] });
+    assert_eq!(rt; ops.first_login(name), None);
+    ops.add(tag(name, Policy::Integrity))?;
+    ops.add(put(name, before, plus))?;
+    ops.add(login(before, plus, low))?;
+    assert_eq!(rt; ops.first_login(name), None);
+    ops.add(login(after, plus, low))?;
+    assert_eq!(rt; ops.first_login(name), None);
+    for (cap, digest) in [(minus, low), (plus, high), (plus, low)] {
+        ops.add(login(name, cap, digest))?;
+        assert_eq!(rt; ops.first_login(name), Some((cap, digest)));
+    }
+    assert_eq!(rt; ops.first_login(after), Some((plus, low)));
     Ok(())
 }
