@@ -1,5 +1,5 @@
 // The index of who reaches what.
-ghost use Rattle.std.specs.Prelude.{◌≡◌, ◌≢◌, ◌↔◌, Some, IfOk, OnOk, OnErr};
+ghost use Rattle.std.specs.Prelude.{◌≡◌, ◌≢◌, ◌↔◌, Some, MatchOption, IfOk, OnOk, OnErr};
 ghost use Rattle.fl_labels.specs.Found.{Tells};
 ghost use Rattle.fl_labels.specs.SetBy as set;
 ghost use Rattle.fl_labels.specs.SetBy.{In};
@@ -7,6 +7,7 @@ ghost use Rattle.fl_labels.specs.declared.cap.Cap.{Cap};
 ghost use Rattle.fl_labels.specs.declared.cap.Cap.TheVariants.{Use};
 ghost use Rattle.fl_labels.specs.declared.name.Name.{Name};
 ghost use Rattle.fl_ops.specs.OpOrder.{op_cmp};
+ghost use Rattle.fl_ops.specs.Logins.{IsFirstLogin, HasNoLogin};
 ghost use Rattle.fl_ops.specs.Registry.{Reach, From, Global as IsGlobal, Eff};
 ghost use Rattle.fl_closure.specs.Met.{Has};
 ghost use Rattle.fl_closure.specs.Search.{IsSearched};
@@ -16,6 +17,8 @@ use crate::met::Met;
 use crate::rows::Rows;
 use fl_labels::cap::Cap;
 use fl_labels::cap_set::CapSet;
+use fl_labels::name::Name;
+use fl_ops::digest::Digest;
 use fl_ops::op::{Body, Op, Policy};
 use fl_opset::set::OpSet;
 use std::alloc::{AllocError, Global};
@@ -59,6 +62,13 @@ impl Index {
         ensures { result.now ≡ self.now }
     {
         &self.ops
+    }
+
+    /// The least login of this name, as its capability and the digest of its secret, or none. A binary search; takes no memory.
+    pub fn login(&self, name: Name) -> Option<(Cap, Digest)>
+        ensures { MatchOption result (HasNoLogin (In self.now) name) (λ l. IsFirstLogin (In self.now) name l.0 l.1) }
+    {
+        self.ops.first_login(name)
     }
 
     /// Adds an operation; one that is there already changes nothing. Fails only where there is not enough memory, and then leaves

@@ -3,6 +3,7 @@ use crate::index::Index;
 use fl_labels::cap::Cap;
 use fl_labels::cap_set::CapSet;
 use fl_labels::name::Name;
+use fl_ops::digest::Digest;
 use fl_ops::op::{Body, Op, Policy};
 use std::alloc::{AllocError, Global};
 use std::test::Fail;
@@ -28,6 +29,13 @@ fn tag(name: Name, policy: Policy) -> Op {
     Op {
         name,
         body: Body::MakeTag(policy),
+    }
+}
+
+fn login(name: Name, cap: Cap, digest: Digest) -> Op {
+    Op {
+        name,
+        body: Body::MakeLogin(cap, digest),
     }
 }
 
@@ -116,6 +124,25 @@ fn a_policy_tells_what_everybody_has(rt: HostRuntime) -> Result<(), Fail> {
         index.closed(alloc, &none)?.as_slice(),
         [Cap::Plus(name(1)), Cap::Minus(name(3))].as_slice()
     );
+    Ok(())
+}
+
+#[test]
+fn the_least_login_is_told(rt: HostRuntime) -> Result<(), Fail> {
+    let (plus, grow) = (Cap::Plus(name(9)), Cap::Grow(name(9)));
+    let (low, high) = (Digest { bytes: [0; 32] }, Digest { bytes: [255; 32] });
+    let ops = [
+        login(name(1), grow, low),
+        login(name(1), plus, high),
+        tag(name(2), Policy::Export),
+        login(name(2), grow, high),
+        tag(name(3), Policy::Export),
+    ];
+    let index = index_of(rt.alloc(), &ops)?;
+    assert_eq!(rt; index.login(name(1)), Some((plus, high)));
+    assert_eq!(rt; index.login(name(2)), Some((grow, high)));
+    assert_eq!(rt; index.login(name(3)), None);
+    assert_eq!(rt; index.login(name(4)), None);
     Ok(())
 }
 
