@@ -1,6 +1,8 @@
 //! Answers to jobs.
 
+use crate::payload::Payload;
 use fl_labels::cap::Cap;
+use fl_labels::name::Name;
 use fl_labels::pid::Pid;
 use fl_ops::op::Body;
 
@@ -13,26 +15,38 @@ pub enum Refusal {
     Busy,
     /// The least capability that is needed and not in effect.
     MissingCap(Cap),
+    /// The least tag that may not go to the outside.
+    Secrecy(Name),
+    /// There is no login of this name.
+    NoLogin(Name),
+    /// The login has another secret.
+    WrongSecret,
     /// The next number of its kind would be above 4,294,967,295.
     NamesSpent,
     /// A label of more than 256 tags.
     LabelTooLong,
     /// A growth was refused.
     Memory,
+    /// The process does not own the capability.
+    NotOwned(Cap),
 }
 
 /// What an admitted job is answered.
-#[derive(Clone, Copy, Debug, PartialEq, Eq)]
+#[derive(Debug, Drop, PartialEq, Eq)]
 pub enum Reply {
     /// The process that was made.
     Made(Pid),
     Done,
     Yes,
     NotYet,
+    /// The capability that the login gave.
+    Entered(Cap),
+    /// What went to the outside.
+    Out(Payload),
 }
 
 /// What comes of an admitted job.
-#[derive(Clone, Copy, Debug, PartialEq, Eq)]
+#[derive(Debug, Drop, PartialEq, Eq)]
 pub enum Outcome {
     Reply(Reply),
     /// An operation of this body is to be saved and published for its maker.

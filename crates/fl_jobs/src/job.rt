@@ -1,6 +1,9 @@
 //! Jobs: what processes ask for.
 
+use crate::payload::Payload;
+use crate::secret::Secret;
 use fl_labels::cap::Cap;
+use fl_labels::cap_set::CapSet;
 use fl_labels::label::Label;
 use fl_labels::name::Name;
 use fl_labels::pid::Pid;
@@ -26,6 +29,8 @@ pub enum Order {
     Group,
     /// Into this group the capability is put.
     Put(Name, Cap),
+    /// A new login, by which the capability is given to who shows the secret.
+    MakeLogin(Cap, Secret),
 }
 
 /// What one process asks for by itself.
@@ -36,6 +41,16 @@ pub enum Act {
     Relabel(Side, Result<Label, TooLong>),
     /// Whether the capability is in effect.
     Ask(Cap),
+    /// A new process with the labels of this one, which owns these.
+    Spawn(CapSet),
+    /// The process ends.
+    Exit,
+    /// The process owns the capability no more.
+    Drop(Cap),
+    /// The capability of the login of this name, by its secret.
+    Enter(Name, Secret),
+    /// These bytes go to the outside.
+    Emit(Payload),
 }
 
 /// One job of the reference monitor.

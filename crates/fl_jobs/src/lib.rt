@@ -3,3 +3,7 @@
 
 pub mod answer;
 pub mod job;
+pub mod payload;
+pub mod secret;
+#[cfg(test)]
+mod tests;
