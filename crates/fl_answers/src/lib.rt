@@ -1,0 +1,6 @@
+//! The text of what jobs are answered.
+#![tactic(auto)]
+
+#[cfg(test)]
+mod tests;
+pub mod text;
