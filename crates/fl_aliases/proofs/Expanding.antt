@@ -3,7 +3,7 @@ use Rattle.std.proofs.Common.{◌≡◌, ◌≢◌, ℕ, ◌<◌, ◌⊎◌, inl
 use Rattle.std.proofs.lemmas.List.Elements.{All-head, All-tail}
 use Rattle.std.proofs.lemmas.Option.{same_Some, none-some}
 use Rattle.fl_aliases.specs.Alias.{IsAlias}
-use Rattle.fl_aliases.specs.Expansion.{Expands, ends, stays, becomes, NoLetterFirst, NoDollar}
+use Rattle.fl_aliases.specs.Expansion.{Expands, ExpandsBehind, ends, stays, becomes, NoLetterFirst, NoDollar}
 use Rattle.fl_aliases.specs.Table.{Table, target_of}
 use Rattle.fl_aliases.specs.TargetText.{target_text}
 use Rattle.fl_aliases.specs.declared.target.Target.{Target}
@@ -135,6 +135,23 @@ module _ (table : Table) where
             after = subst (λ l. Expands table l s.more) (sym front.1) s.after;
           }
 
+  -- the line is expanded so far, behind the bytes that were there
+  pub record Behind (line before written rest : List ℕ) : Type 0 where
+    pub done : List ℕ
+    pub is : written ≡ before ++ done
+    pub so_far : Continues line done rest
+
+  pub begun_behind : (line before : List ℕ) → Behind line before before line
+  begun_behind line before = record { done = []; is = sym (append-nil before); so_far = begun line }
+
+  -- some plain bytes and the text of an alias were written behind them
+  pub behind_more : (line before written plain middle text after rest : List ℕ) {given : List ℕ} → (b : Behind line before written given) → middle ≡ written ++ plain → after ≡ middle ++ text → Continues line ((b.done ++ plain) ++ text) rest → Behind line before after rest
+  behind_more line before written plain middle text after rest b e f c = record {
+    done = (b.done ++ plain) ++ text;
+    is = f ∙ ap (λ l. l ++ text) (e ∙ ap (λ l. l ++ plain) b.is ∙ append_assoc before b.done plain) ∙ append_assoc before (b.done ++ plain) text;
+    so_far = c;
+  }
+
   -- the rest is cut at its first `$`
   pub cut_at : (line done rest plain behind : List ℕ) → (rest ≡ plain ++ 36 ∷ behind) × ((k : ℕ) → k < length plain → get_or plain k 0 ≢ 36) → Continues line done rest → Continues line (done ++ plain) (36 ∷ behind)
   cut_at line done rest plain behind cut c = plain_more line done plain (36 ∷ behind) (none_stands plain cut.1) (subst (Continues line done) cut.0 c)
@@ -155,6 +172,9 @@ module _ (table : Table) where
   -- the rest has no `$`
   pub all_done : (line done rest : List ℕ) → NoDollar rest → Continues line done rest → Expands table line (done ++ rest)
   all_done line done rest clean c = c.forth rest (plain_itself rest clean)
+
+  pub all_behind : (line before written rest after : List ℕ) → NoDollar rest → Behind line before written rest → after ≡ written ++ rest → ExpandsBehind table line before after
+  all_behind line before written rest after clean b e = record { out = b.done ++ rest; expands = all_done line b.done rest clean b.so_far; written = e ∙ ap (λ l. l ++ rest) b.is ∙ append_assoc before b.done rest }
 
   -- a line becomes one text at most
   pub one_expansion : {line a b : List ℕ} → Expands table line a → Expands table line b → a ≡ b

@@ -20,3 +20,9 @@ pub data Expands (table : Table) : List ℕ → List ℕ → Type 0 where
 -- no `$` stands in these bytes
 abbrev pub NoDollar : List ℕ → Type 0
 NoDollar bytes = All (λ b. b ≢ 36) bytes
+
+-- behind the bytes that were there stands what the line becomes
+pub record ExpandsBehind (table : Table) (line before after : List ℕ) : Type 0 where
+  pub out : List ℕ
+  pub expands : Expands table line out
+  pub written : after ≡ before ++ out

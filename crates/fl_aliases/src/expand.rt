@@ -4,7 +4,7 @@ ghost use Rattle.std.specs.Bool.{MatchBool};
 ghost use Rattle.std.specs.String.{string_bytes};
 ghost use Rattle.std.specs.List.{prefix_len};
 ghost use Rattle.fl_aliases.specs.Alias.{is_letter, IsAlias};
-ghost use Rattle.fl_aliases.specs.Expansion.{Expands, NoDollar, NoLetterFirst};
+ghost use Rattle.fl_aliases.specs.Expansion.{Expands, ExpandsBehind, NoDollar, NoLetterFirst};
 ghost use Rattle.fl_aliases.specs.TargetText.{target_text};
 
 use crate::alias::{Alias, is_letter};
@@ -50,15 +50,14 @@ fn push_target(buffer: &mut String, target: Target) -> Result<(), AllocError>
     write!(buffer, "{target}").map_err(|_| AllocError)
 }
 
-/// Writes into the buffer, over what it holds, the line with each alias in it replaced by the text of what it stands for, and
+/// Writes into the buffer, behind what it holds, the line with each alias in it replaced by the text of what it stands for, and
 /// answers whether this could be done: not where a `$` has no 1 to 32 letters behind it, or these are an alias that is not set.
 /// What was replaced is not looked at again. One look at each byte.
 ///
 /// An error is want of memory for the buffer. After an error or `false` the buffer holds any text.
 pub fn expand(aliases: &Aliases, line: &str, buffer: &mut String) -> Result<bool, AllocError>
-    ensures { IfOk result (λ done. MatchBool done (Expands aliases.now line.now (string_bytes buffer.new)) ((out : List ℕ) → Expands aliases.now line.now out → ⊥)) }
+    ensures { IfOk result (λ done. MatchBool done (ExpandsBehind aliases.now line.now (string_bytes buffer.old) (string_bytes buffer.new)) ((out : List ℕ) → Expands aliases.now line.now out → ⊥)) }
 {
-    buffer.clear();
     let mut rest = line;
     while let Some((plain, behind)) = rest.split_once('$') {
         buffer.push_str(plain)?;

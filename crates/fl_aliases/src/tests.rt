@@ -140,10 +140,11 @@ fn sample(rt: &HostRuntime) -> Result<Aliases, Fail> {
 }
 
 fn expands_to(rt: &HostRuntime, aliases: &Aliases, line: &str, text: &str) -> Result<bool, Fail> {
-    let mut buffer = format!(in rt.alloc(); "what was there before")?;
+    let mut buffer = format!(in rt.alloc(); "before ")?;
+    let whole = format!(in rt.alloc(); "before {text}")?;
     Ok(
         expand(aliases, line, &mut buffer)?
-            && buffer.as_str() == text
+            && buffer.as_str() == whole.as_str()
             && has_dollar(line) == (line != text),
     )
 }

@@ -1,36 +1,45 @@
-use Rattle.std.proofs.Common.{◌++◌, ◌∷◌, None, Some, lit<, sym, ap, ◌∙◌, subst, rules}
+use Rattle.std.proofs.Common.{◌++◌, ◌∷◌, None, Some, lit<, sym, ◌∙◌, subst, rules}
 use Rattle.std.specs.String.{string_bytes}
 use Rattle.std.proofs.lemmas.Str.Pattern.{split_parts}
 use Rattle.fl_aliases.specs.TargetText.{target_text}
 use Rattle.fl_aliases.proofs.Dollars.{none_stands}
-use Rattle.fl_aliases.proofs.Expanding.{Continues, cut_at, no_alias, not_set, alias_more, all_done}
+use Rattle.fl_aliases.proofs.Expanding.{Continues, cut_at, no_alias, not_set, alias_more, begun_behind, behind_more, all_behind}
 use Rattle.fl_aliases.proofs.expand.expand.Goals as goal
+
+pub loop-plain-init : goal.loop-plain-init
+loop-plain-init c = (search rules, begun_behind c.args.aliases.now c.args.line.now (string_bytes c.args.buffer.now))
 
 pub returns-in_default-split_alias : goal.returns-in_default-split_alias
 returns-in_default-split_alias c =
     let cut = split_parts 36 c.loop-plain.rest.now (Some (c.in-Some.plain, c.in-Some.behind)) c.in-Some.ensures.cases (lit< tt) in
-    no_alias c.args.aliases.now c.args.line.now _ c.in-Some.behind.now (cut_at c.args.aliases.now _ _ _ _ _ cut c.loop-plain.invariant.1) c.in_default-split_alias.ensures.none
+    let behind = c.loop-plain.invariant.1 in
+    no_alias c.args.aliases.now c.args.line.now _ c.in-Some.behind.now (cut_at c.args.aliases.now _ _ _ _ _ cut behind.so_far) c.in_default-split_alias.ensures.none
 
 pub returns-in_default-get : goal.returns-in_default-get
 returns-in_default-get c =
     let cut = split_parts 36 c.loop-plain.rest.now (Some (c.in-Some.plain, c.in-Some.behind)) c.in-Some.ensures.cases (lit< tt) in
     let found = c.in-Some-split_alias.ensures.some in
-    let so_far = cut_at c.args.aliases.now _ _ _ _ _ cut c.loop-plain.invariant.1 in
-    let done = string_bytes c.loop-plain.buffer ++ c.in-Some.plain.now in
+    let behind = c.loop-plain.invariant.1 in
+    let done = behind.done ++ c.in-Some.plain.now in
+    let so_far = cut_at c.args.aliases.now _ _ _ _ _ cut behind.so_far in
     not_set c.args.aliases.now c.args.line.now done c.in-Some-split_alias.front.alias c.in-Some-split_alias.front.behind.now found.1 found.2 (sym c.get.ensures ∙ c.in_default-get.is) (subst (λ l. Continues c.args.aliases.now c.args.line.now done (36 ∷ l)) found.0 so_far)
 
 pub loop-plain-preserved : goal.loop-plain-preserved
 loop-plain-preserved c =
     let cut = split_parts 36 c.loop-plain.rest.now (Some (c.in-Some.plain, c.in-Some.behind)) c.in-Some.ensures.cases (lit< tt) in
     let found = c.in-Some-split_alias.ensures.some in
-    let so_far = cut_at c.args.aliases.now _ _ _ _ _ cut c.loop-plain.invariant.1 in
-    let done = string_bytes c.loop-plain.buffer ++ c.in-Some.plain.now in
+    let table = c.args.aliases.now in
+    let line = c.args.line.now in
+    let before = string_bytes c.args.buffer.now in
+    let behind = c.loop-plain.invariant.1 in
     let rest = c.in-Some-split_alias.front.behind.now in
-    let more = alias_more c.args.aliases.now c.args.line.now done c.in-Some-split_alias.front.alias rest c.in-Some-get.target found.1 found.2 (sym c.get.ensures ∙ c.in-Some-get.is) (subst (λ l. Continues c.args.aliases.now c.args.line.now done (36 ∷ l)) found.0 so_far) in
-    let written = c.in_ok-push_target.ensures.ok ∙ ap (λ l. l ++ target_text c.in-Some-get.target) c.in_ok-push_str.ensures.bytes in
-    (search rules, subst (λ l. Continues c.args.aliases.now c.args.line.now l rest) (sym written) more)
+    let text = target_text c.in-Some-get.target in
+    let so_far = cut_at table _ _ _ _ _ cut behind.so_far in
+    let done = behind.done ++ c.in-Some.plain.now in
+    let more = alias_more table line done c.in-Some-split_alias.front.alias rest c.in-Some-get.target found.1 found.2 (sym c.get.ensures ∙ c.in-Some-get.is) (subst (λ l. Continues table line done (36 ∷ l)) found.0 so_far) in
+    (search rules, behind_more table line before _ c.in-Some.plain.now _ text _ rest behind c.in_ok-push_str.ensures.bytes c.in_ok-push_target.ensures.ok more)
 
 pub returns : goal.returns
 returns c =
     let none = split_parts 36 c.loop-plain.rest.now None c.in_default.ensures.cases (lit< tt) in
-    rw c.in_ok-push_str-2.ensures.bytes (all_done c.args.aliases.now c.args.line.now _ _ (none_stands _ none) c.loop-plain.invariant.1)
+    all_behind c.args.aliases.now c.args.line.now _ _ _ _ (none_stands _ none) c.loop-plain.invariant.1 c.in_ok-push_str-2.ensures.bytes
