@@ -4,11 +4,11 @@ use Rattle.fl_jobs.specs.declared.job.Job.{Job}
 use Rattle.fl_script.specs.Cut.{Word}
 use Rattle.fl_script.specs.Grammar.{Is, job_forms, forms, Spells}
 use Rattle.fl_script.specs.declared.line.Line.{Line}
-use Rattle.fl_script.specs.declared.line.Line.TheVariants.{Job as OfJob, Text, Union}
+use Rattle.fl_script.specs.declared.line.Line.TheVariants.{Job as OfJob, Text, Union, Aliases}
 use Rattle.fl_script.proofs.Agreement.{Agree, agree, turned}
 use Rattle.fl_script.proofs.JobKinds.{Kind, kind_of}
-use Rattle.fl_script.proofs.JobKinds.Kind.{proc, tag, group, put, relabel, ask, member}
-use Rattle.fl_script.proofs.OneWord.{same_node, same_name, same_pid, same_cap, same_policy, same_side, same_label, no_node}
+use Rattle.fl_script.proofs.JobKinds.Kind.{proc, tag, group, put, make_login, relabel, ask, spawn, exit, drop, enter, emit, member}
+use Rattle.fl_script.proofs.OneWord.{same_node, same_name, same_pid, same_cap, same_policy, same_side, same_label, same_caps, same_secret, same_bytes, no_node}
 
 -- one job of each kind, and none of two kinds, for their verbs differ
 one_of : {a b : Job} → Kind a → Kind b → Agree (job_forms a) (job_forms b) → a ≡ b
@@ -16,8 +16,14 @@ one_of proc proc g = refl
 one_of (tag p x) (tag q y) g = let e = same_pid p q g.1.0 in let f = same_policy x y g.1.1.0 in cc
 one_of (group p) (group q) g = let e = same_pid p q g.1.0 in cc
 one_of (put p x c) (put q y d) g = let e = same_pid p q g.1.0 in let f = same_name x y g.1.1.0 in let h = same_cap c d g.1.1.1.0 in cc
+one_of (make_login p c x) (make_login q d y) g = let e = same_pid p q g.1.0 in let f = same_cap c d g.1.1.0 in let h = same_secret x y g.1.1.1.0 in cc
 one_of (relabel p x l) (relabel q y m) g = let e = same_pid p q g.1.0 in let f = same_side x y g.1.1.0 in let h = same_label l m g.1.1.1.0 in cc
 one_of (ask p c) (ask q d) g = let e = same_pid p q g.1.0 in let f = same_cap c d g.1.1.0 in cc
+one_of (spawn p c) (spawn q d) g = let e = same_pid p q g.1.0 in let f = same_caps c d g.1.1.0 in cc
+one_of (exit p) (exit q) g = let e = same_pid p q g.1.0 in cc
+one_of (drop p c) (drop q d) g = let e = same_pid p q g.1.0 in let f = same_cap c d g.1.1.0 in cc
+one_of (enter p n x) (enter q m y) g = let e = same_pid p q g.1.0 in let f = same_name n m g.1.1.0 in let h = same_secret x y g.1.1.1.0 in cc
+one_of (emit p x) (emit q y) g = let e = same_pid p q g.1.0 in let f = same_bytes x y g.1.1.0 in cc
 one_of (member r c) (member s d) g = let e = same_cap r s g.1.0 in let f = same_cap c d g.1.1.0 in cc
 one_of k l g = absurd (search (rules, g.0.left, g.0.right))
 
@@ -25,6 +31,11 @@ one_of k l g = absurd (search (rules, g.0.left, g.0.right))
 no_text : {job : Job} → Kind job → Agree (Is (codes "text") ∷ []) (job_forms job) → ⊥
 no_text proc g = absurd (search (rules, g.0.left, g.0.right))
 no_text k g = absurd (search (rules, g.0.left, g.0.right))
+
+-- each job has a verb
+no_alone : {job : Job} → Kind job → Agree [] (job_forms job) → ⊥
+no_alone proc g = g
+no_alone k g = absurd g
 
 one_form : (a b : Line) → Agree (forms a) (forms b) → a ≡ b
 one_form (OfJob n a) (OfJob m b) g = let e = same_node n m g.0 in let f = one_of (kind_of a) (kind_of b) g.1 in cc
@@ -34,6 +45,13 @@ one_form (Union a b) (Text n) g = absurd (no_node n g.0.word g.0.right g.0.left)
 one_form (Union a b) (OfJob n job) g = absurd (no_node n g.0.word g.0.right g.0.left)
 one_form (Text n) (Union a b) g = absurd (no_node n g.0.word g.0.left g.0.right)
 one_form (OfJob n job) (Union a b) g = absurd (no_node n g.0.word g.0.left g.0.right)
+one_form Aliases Aliases g = refl
+one_form Aliases (Union a b) g = absurd (g.1)
+one_form (Union a b) Aliases g = absurd (g.1)
+one_form Aliases (Text n) g = absurd (g.1)
+one_form (Text n) Aliases g = absurd (g.1)
+one_form Aliases (OfJob n job) g = absurd (no_alone (kind_of job) g.1)
+one_form (OfJob n job) Aliases g = absurd (no_alone (kind_of job) (turned _ _ g.1))
 one_form (Text n) (OfJob m job) g = absurd (no_text (kind_of job) g.1)
 one_form (OfJob m job) (Text n) g = absurd (no_text (kind_of job) (turned _ _ g.1))
 

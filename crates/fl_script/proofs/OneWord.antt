@@ -1,13 +1,19 @@
 -- Words stand for one value.
-use Rattle.std.proofs.Common.{◌≡◌, ◌<◌, ◌^◌, ◌∙◌, ap, refl, subst, sym, ℕ, codes, arith, rules}
+use Rattle.std.proofs.Common.{◌≡◌, ◌<◌, ◌^◌, ◌∙◌, ap, refl, subst, sym, ℕ, List, [], ◌∷◌, length, length-append, codes, arith, rules}
+use Rattle.std.proofs.Math.Nat.{ℕ_set}
+use mathlib.Core.HLevel.{Σ_prop_path}
+use Rattle.std.specs.Fmt.{decimal}
 use Rattle.std.proofs.lemmas.Fmt.{decimal_injective, digits_decimal}
 use Rattle.std.proofs.lemmas.Str.Parse.{digit_from_value}
 use Rattle.std.specs.Str.Parse.{AllDigits}
-use Rattle.fl_labels.specs.ItemText.{own}
+use Rattle.hex.proofs.HexLemmas.{decode_of-same}
+use Rattle.hex.proofs.OnLiterals.{hex_on_literals}
+use Rattle.fl_labels.specs.ItemText.{own, no_comma-name_text, no_comma-cap_text}
 use Rattle.std.specs.declared.result.Result.{Result}
 use Rattle.std.specs.declared.result.Result.TheVariants.{Ok, Err}
+use Rattle.fl_labels.specs.Cap.{cap_cmp}
 use Rattle.fl_labels.specs.Name.{name_cmp}
-use Rattle.fl_labels.specs.SetBy.{SetBy, of_list}
+use Rattle.fl_labels.specs.SetBy.{SetBy}
 use Rattle.fl_labels.specs.Text.{name_text, pid_text, cap_text}
 use Rattle.fl_labels.specs.declared.name.Name.{Name}
 use Rattle.fl_labels.specs.declared.pid.Pid.{Pid}
@@ -17,13 +23,15 @@ use Rattle.fl_ops.specs.declared.op.Policy.TheVariants.{Export, Read, Integrity}
 use Rattle.fl_jobs.specs.declared.job.Side.{Side}
 use Rattle.fl_jobs.specs.declared.job.Side.TheVariants.{Secrecy, Integrity as IntegritySide}
 use Rattle.fl_jobs.specs.declared.job.TooLong.{TooLong}
+use Rattle.fl_jobs.specs.declared.secret.Secret.{Secret}
 use Rattle.fl_script.specs.Cut.{Word}
-use Rattle.fl_script.proofs.OneText.{name_text_injective, pid_text_injective, cap_text_injective, braces_injective}
+use Rattle.fl_script.proofs.OneText.{name_text_injective, pid_text_injective, cap_text_injective}
+use Rattle.fl_script.proofs.OneListing.{IsItemText, same_listing}
 use Rattle.fl_script.specs.Grammar.{Is}
 use Rattle.fl_script.proofs.Agreement.{Both}
-use Rattle.fl_labels.specs.Words.{IsNode, IsListing}
+use Rattle.fl_labels.specs.Words.{IsNode}
 use Rattle.fl_ops.specs.PolicyText.{policy_text}
-use Rattle.fl_script.specs.Words.{side_text, ListsLabel, ListsTooMany, IsLabelWord}
+use Rattle.fl_script.specs.Words.{side_text, ListsLabel, ListsTooMany, IsLabelWord, IsCapsWord, HasDigits, IsSecretWord, IsBytesWord}
 
 same_text : {A : Type 0} (text : A → Word) → ((x y : A) → text x ≡ text y → x ≡ y) → (a b : A) → Both (Is (text a)) (Is (text b)) → a ≡ b
 same_text text injective a b g = injective a b (sym g.left ∙ g.right)
@@ -62,18 +70,49 @@ same_side Secrecy Secrecy g = refl
 same_side IntegritySide IntegritySide g = refl
 same_side a b g = absurd (search (rules, g.left, g.right))
 
-same_listing : (a b : SetBy name_cmp) (w : Word) → IsListing name_text a w → IsListing name_text b w → a ≡ b
-same_listing a b w s t = s.same ∙ ap of_list (braces_injective s.items t.items (sym s.spelled ∙ t.spelled)) ∙ sym t.same
+no_name : (n : Name) → name_text n ≡ [] → ⊥
+no_name n e = absurd (omega (arith, length-append (decimal n.node) (46 ∷ decimal n.seq), ap length e))
+
+-- names can be listed
+names_listed : IsItemText name_text
+names_listed = record { plain = no_comma-name_text; full = no_name; injective = name_text_injective }
+
+-- capabilities can be listed
+caps_listed : IsItemText cap_text
+caps_listed = record { plain = no_comma-cap_text; full = λ c e. absurd (cc); injective = cap_text_injective }
 
 -- a word lists no label and too long a one
 no_long : (l : SetBy name_cmp) (w : Word) → ListsLabel l w → ListsTooMany w → ⊥
 no_long l w s t =
-    let same = same_listing l t.tags w s.listed t.listed in
+    let same = same_listing name_text names_listed l t.tags w s.listed t.listed in
     let short = rw same at s.short in
     let long = t.long in absurd (omega arith)
 
 pub same_label : (a b : Result (SetBy name_cmp) TooLong) → Both (IsLabelWord a) (IsLabelWord b) → a ≡ b
-same_label (Ok l) (Ok m) g = ap Ok (same_listing l m g.word g.left.listed g.right.listed)
+same_label (Ok l) (Ok m) g = ap Ok (same_listing name_text names_listed l m g.word g.left.listed g.right.listed)
 same_label (Err e) (Err f) g = refl
 same_label (Ok l) (Err f) g = absurd (no_long l g.word g.left g.right)
 same_label (Err e) (Ok m) g = absurd (no_long m g.word g.right g.left)
+
+pub same_caps : (a b : SetBy cap_cmp) → Both (IsCapsWord a) (IsCapsWord b) → a ≡ b
+same_caps a b g = same_listing cap_text caps_listed a b g.word g.left g.right
+
+-- secrets of equal bytes are equal
+of_bytes : (a b : Secret) → a.bytes ≡ b.bytes → a ≡ b
+of_bytes a b e =
+    let parts : ◌≡◌ {A = (bytes : List ℕ) × (length bytes ≡ 32)} (a.bytes, a.sized) (b.bytes, b.sized) = Σ_prop_path (λ bytes. ℕ_set _ _) e in
+    λ i. record { bytes = (parts i).0; sized = (parts i).1 }
+
+pub same_secret : (a b : Secret) → Both (IsSecretWord a) (IsSecretWord b) → a ≡ b
+same_secret a b g = of_bytes a b (decode_of-same g.word a.bytes b.bytes g.left g.right)
+
+-- `none` is the digits of no bytes
+none_of_digits : (bytes : List ℕ) → HasDigits bytes (codes "none") → ⊥
+unfolding hex_on_literals
+none_of_digits bytes is = absurd (cc is)
+
+pub same_bytes : (a b : List ℕ) → Both (IsBytesWord a) (IsBytesWord b) → a ≡ b
+same_bytes [] [] g = refl
+same_bytes (x ∷ xs) (y ∷ ys) g = decode_of-same g.word (x ∷ xs) (y ∷ ys) g.left g.right
+same_bytes [] (y ∷ ys) g = absurd (none_of_digits (y ∷ ys) (subst (HasDigits (y ∷ ys)) g.left g.right))
+same_bytes (x ∷ xs) [] g = absurd (none_of_digits (x ∷ xs) (subst (HasDigits (x ∷ xs)) g.right g.left))

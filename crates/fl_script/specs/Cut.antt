@@ -1,6 +1,6 @@
 -- Lines are cut into words at spaces.
 use Rattle.std.specs.Prelude.{ℕ, List, length, filter, not, ◌==◌}
-use Rattle.std.specs.List.{slice_split}
+pub use Rattle.fl_aliases.specs.Words.{words_of}
 
 -- the bytes of a word
 abbrev pub Word : Type 0
@@ -9,7 +9,3 @@ Word = List ℕ
 -- the pieces that are not empty
 abbrev pub full_pieces : List Word → List Word
 full_pieces pieces = filter (λ piece. not (length piece == 0)) pieces
-
--- the words of a line: what stands between its spaces, and is not empty
-abbrev pub words_of : List ℕ → List Word
-words_of line = full_pieces (slice_split (λ b. b == 32) line)

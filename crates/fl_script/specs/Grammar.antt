@@ -1,16 +1,16 @@
 -- The lines of the script, each by the words that spell it.
-use Rattle.std.specs.Prelude.{◌≡◌, ℕ, List, [], ◌∷◌, codes}
+use Rattle.std.specs.Prelude.{◌≡◌, ◌⊎◌, ℕ, List, [], ◌∷◌, codes}
 use Rattle.fl_labels.specs.Text.{name_text, pid_text, cap_text}
 use Rattle.fl_labels.specs.Words.{IsNode}
-use Rattle.fl_jobs.specs.declared.job.Order.TheVariants.{Tag, Group, Put}
-use Rattle.fl_jobs.specs.declared.job.Act.TheVariants.{Order as Orders, Relabel, Ask}
+use Rattle.fl_jobs.specs.declared.job.Order.TheVariants.{Tag, Group, Put, MakeLogin}
+use Rattle.fl_jobs.specs.declared.job.Act.TheVariants.{Order as Orders, Relabel, Ask, Spawn, Exit, Drop, Enter, Emit}
 use Rattle.fl_jobs.specs.declared.job.Job.{Job}
 use Rattle.fl_jobs.specs.declared.job.Job.TheVariants.{Proc, By, Member}
 use Rattle.fl_script.specs.Cut.{Word}
 use Rattle.fl_ops.specs.PolicyText.{policy_text}
-use Rattle.fl_script.specs.Words.{side_text, IsLabelWord}
+use Rattle.fl_script.specs.Words.{side_text, IsLabelWord, IsCapsWord, IsSecretWord, IsBytesWord}
 use Rattle.fl_script.specs.declared.line.Line.{Line}
-use Rattle.fl_script.specs.declared.line.Line.TheVariants.{Job as OfJob, Text, Union}
+use Rattle.fl_script.specs.declared.line.Line.TheVariants.{Job as OfJob, Text, Union, Aliases}
 
 -- the word is this one
 abbrev pub Is : List ℕ → Word → Type 0
@@ -29,8 +29,14 @@ job_forms Proc = Is (codes "proc") ∷ []
 job_forms (By p (Orders (Tag policy))) = Is (codes "tag") ∷ Is (pid_text p) ∷ Is (policy_text policy) ∷ []
 job_forms (By p (Orders Group)) = Is (codes "group") ∷ Is (pid_text p) ∷ []
 job_forms (By p (Orders (Put group cap))) = Is (codes "put") ∷ Is (pid_text p) ∷ Is (name_text group) ∷ Is (cap_text cap) ∷ []
+job_forms (By p (Orders (MakeLogin cap secret))) = Is (codes "make-login") ∷ Is (pid_text p) ∷ Is (cap_text cap) ∷ IsSecretWord secret ∷ []
 job_forms (By p (Relabel side label)) = Is (codes "label") ∷ Is (pid_text p) ∷ Is (side_text side) ∷ IsLabelWord label ∷ []
 job_forms (By p (Ask cap)) = Is (codes "ask") ∷ Is (pid_text p) ∷ Is (cap_text cap) ∷ []
+job_forms (By p (Spawn caps)) = Is (codes "spawn") ∷ Is (pid_text p) ∷ IsCapsWord caps ∷ []
+job_forms (By p Exit) = Is (codes "exit") ∷ Is (pid_text p) ∷ []
+job_forms (By p (Drop cap)) = Is (codes "drop") ∷ Is (pid_text p) ∷ Is (cap_text cap) ∷ []
+job_forms (By p (Enter login secret)) = Is (codes "enter") ∷ Is (pid_text p) ∷ Is (name_text login) ∷ IsSecretWord secret ∷ []
+job_forms (By p (Emit bytes)) = Is (codes "emit") ∷ Is (pid_text p) ∷ IsBytesWord bytes ∷ []
 job_forms (Member root cap) = Is (codes "member") ∷ Is (cap_text root) ∷ Is (cap_text cap) ∷ []
 
 -- the table of the lines
@@ -38,6 +44,7 @@ abbrev pub forms : Line → List (Word → Type 0)
 forms (OfJob n job) = IsNode n ∷ job_forms job
 forms (Text n) = IsNode n ∷ Is (codes "text") ∷ []
 forms (Union n m) = Is (codes "union") ∷ IsNode n ∷ IsNode m ∷ []
+forms Aliases = Is (codes "aliases") ∷ []
 
 -- the words after the node spell the job
 abbrev pub SpellsJob : Job → List Word → Type 0
@@ -47,8 +54,19 @@ SpellsJob job words = Matches (job_forms job) words
 abbrev pub Spells : Line → List Word → Type 0
 Spells line words = Matches (forms line) words
 
+-- the verb of a job that holds a list: of tags, of capabilities, of bytes
+pub record IsListVerb (verb : Word) : Type 0 where
+  pub is : (verb ≡ codes "label") ⊎ (verb ≡ codes "spawn") ⊎ (verb ≡ codes "emit")
+
+-- the second word is the verb of a list
+abbrev pub HoldsList : List Word → Type 0
+HoldsList [] = ⊥
+HoldsList (word ∷ []) = ⊥
+HoldsList (node ∷ verb ∷ words) = IsListVerb verb
+
 -- the nodes that the line names, in their order
 abbrev pub nodes_of : Line → List ℕ
 nodes_of (OfJob node job) = node ∷ []
 nodes_of (Text node) = node ∷ []
 nodes_of (Union first second) = first ∷ second ∷ []
+nodes_of Aliases = []

@@ -1,10 +1,18 @@
 -- What the bytes of a line say.
-use Rattle.std.specs.Prelude.{◌≡◌, ◌≤◌, ◌⊎◌, ℕ, List, [], ◌∷◌, Option, None, Some, length, not, ◌==◌, codes, slice_get}
-use Rattle.std.specs.List.{find}
+use Rattle.std.specs.Prelude.{◌≡◌, ◌≤◌, ◌<◌, ◌⊎◌, ℕ, Bool, true, false, List, [], ◌∷◌, ◌++◌, Option, None, Some, length, not, ◌==◌, codes, slice_get}
+use Rattle.std.specs.List.{find, AllZip}
 use Rattle.std.specs.Str.{IsUtf8}
-use Rattle.fl_script.specs.Cut.{words_of}
-use Rattle.fl_script.specs.Grammar.{Spells}
+use Rattle.fl_aliases.specs.Alias.{IsAlias, alias_text}
+use Rattle.fl_aliases.specs.Expansion.{Expands, NoDollar}
+use Rattle.fl_aliases.specs.Table.{Table}
+use Rattle.fl_jobs.specs.declared.job.Act.{Act}
+use Rattle.fl_jobs.specs.declared.job.Act.TheVariants.{Order, Relabel, Ask, Spawn, Exit, Drop, Enter, Emit}
+use Rattle.fl_jobs.specs.declared.job.Job.{Job}
+use Rattle.fl_jobs.specs.declared.job.Job.TheVariants.{Proc, By, Member}
+use Rattle.fl_script.specs.Cut.{Word, words_of}
+use Rattle.fl_script.specs.Grammar.{Spells, HoldsList}
 use Rattle.fl_script.specs.declared.line.Line.{Line}
+use Rattle.fl_script.specs.declared.line.Line.TheVariants.{Job as OfJob, Text, Union, Aliases}
 use Rattle.fl_script.specs.declared.reading.Reading.{Reading}
 use Rattle.fl_script.specs.declared.reading.Reading.TheVariants.{Quiet, Bad, Means}
 
@@ -26,26 +34,70 @@ pub record IsAsking (bytes : List ℕ) : Type 0 where
   pub loud : ¬ IsQuiet bytes
   pub text : IsText bytes
 
+-- an alias can stand for what the act makes
+abbrev pub act_makes : Act → Bool
+act_makes (Order order) = true
+act_makes (Relabel side label) = false
+act_makes (Ask cap) = false
+act_makes (Spawn caps) = true
+act_makes Exit = false
+act_makes (Drop cap) = false
+act_makes (Enter login secret) = false
+act_makes (Emit bytes) = false
+
+-- and for what the job makes
+abbrev pub job_makes : Job → Bool
+job_makes Proc = true
+job_makes (By p act) = act_makes act
+job_makes (Member root cap) = false
+
+-- and for what the line makes
+abbrev pub makes : Line → Bool
+makes (OfJob n job) = job_makes job
+makes (Text n) = false
+makes (Union n m) = false
+makes Aliases = false
+
+-- with each alias in them replaced, the words spell the line
+pub record SpellsReplaced (table : Table) (line : Line) (words : List Word) : Type 0 where
+  pub replaced : List Word
+  pub each : AllZip (Expands table) words replaced
+  pub spelled : Spells line replaced
+
+-- the words end in `as $x`, an alias for what the line makes that the words before spell, and there is room for one
+pub record SpellsNamed (table : Table) (line : Line) (alias : List ℕ) (words : List Word) : Type 0 where
+  pub front : List Word
+  pub split : words ≡ front ++ codes "as" ∷ alias_text alias ∷ []
+  pub is_alias : IsAlias alias
+  pub made : makes line ≡ true
+  pub room : length table < 1024
+  pub spelled : SpellsReplaced table line front
+
+-- the words say this line, and which alias is to stand for what it makes, if one is
+abbrev pub Says : Table → Line → Option (List ℕ) → List Word → Type 0
+Says table line None words = SpellsReplaced table line words
+Says table line (Some alias) words = SpellsNamed table line alias words
+
 -- the line asks for an answer, and is no line of the script
-pub record IsBad (bytes : List ℕ) : Type 0 where
+pub record IsBad (table : Table) (bytes : List ℕ) : Type 0 where
   pub loud : ¬ IsQuiet bytes
-  pub spells_none : IsText bytes → (line : Line) → Spells line (words_of bytes) → ⊥
+  pub says_none : IsText bytes → (line : Line) (alias : Option (List ℕ)) → Says table line alias (words_of bytes) → ⊥
 
--- the words of the bytes spell the line
-pub record IsMeaning (bytes : List ℕ) (line : Line) : Type 0 where
+-- the words of the bytes say the line
+pub record IsMeaning (table : Table) (bytes : List ℕ) (line : Line) (alias : Option (List ℕ)) : Type 0 where
   pub asking : IsAsking bytes
-  pub spelled : Spells line (words_of bytes)
+  pub said : Says table line alias (words_of bytes)
 
--- the bytes say this
-abbrev pub IsReading : List ℕ → Reading → Type 0
-IsReading bytes Quiet = IsQuiet bytes
-IsReading bytes Bad = IsBad bytes
-IsReading bytes (Means line) = IsMeaning bytes line
+-- the bytes say this where the aliases of the table are set
+abbrev pub IsReading : Table → List ℕ → Reading → Type 0
+IsReading table bytes Quiet = IsQuiet bytes
+IsReading table bytes Bad = IsBad table bytes
+IsReading table bytes (Means line alias) = IsMeaning table bytes line alias
 
--- reading the line may want memory: it asks for an answer, and its second word is `label`
+-- reading the line may want memory: it asks for an answer, and has an alias or holds a list
 pub record MayWant (bytes : List ℕ) : Type 0 where
   pub asking : IsAsking bytes
-  pub label : slice_get (words_of bytes) 1 ≡ Some (codes "label")
+  pub wants : (¬ NoDollar bytes) ⊎ HoldsList (words_of bytes)
 
 -- there are no words, or the first begins with `#`
 abbrev pub SaysNothing : List (List ℕ) → Type 0

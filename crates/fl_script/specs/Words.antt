@@ -1,13 +1,16 @@
--- The words of a side and of a label.
-use Rattle.std.specs.Prelude.{ℕ, List, ◌≤◌, ◌<◌, codes}
+-- The words of a side, of a label, of capabilities, of a secret and of bytes.
+use Rattle.std.specs.Prelude.{◌≡◌, ℕ, List, [], ◌∷◌, ◌≤◌, ◌<◌, codes}
 use Rattle.std.specs.declared.result.Result.{Result}
 use Rattle.std.specs.declared.result.Result.TheVariants.{Ok, Err}
+use Rattle.hex.specs.Hex.{decode_of}
+use Rattle.fl_labels.specs.Cap.{cap_cmp}
 use Rattle.fl_labels.specs.Name.{name_cmp}
 use Rattle.fl_labels.specs.SetBy.{SetBy, len}
-use Rattle.fl_labels.specs.Text.{name_text}
+use Rattle.fl_labels.specs.Text.{name_text, cap_text}
 use Rattle.fl_jobs.specs.declared.job.Side.{Side}
 use Rattle.fl_jobs.specs.declared.job.Side.TheVariants.{Secrecy, Integrity as IntegritySide}
 use Rattle.fl_jobs.specs.declared.job.TooLong.{TooLong}
+use Rattle.fl_jobs.specs.declared.secret.Secret.{Secret}
 use Rattle.fl_script.specs.Cut.{Word}
 use Rattle.fl_labels.specs.Words.{IsListing}
 
@@ -31,3 +34,20 @@ pub record ListsTooMany (word : Word) : Type 0 where
 abbrev pub IsLabelWord : Result (SetBy name_cmp) TooLong → Word → Type 0
 IsLabelWord (Ok label) word = ListsLabel label word
 IsLabelWord (Err e) word = ListsTooMany word
+
+-- the word lists these capabilities
+abbrev pub IsCapsWord : SetBy cap_cmp → Word → Type 0
+IsCapsWord caps word = IsListing cap_text caps word
+
+-- the word is the hexadecimal digits of these bytes, two of each, in either case
+abbrev pub HasDigits : List ℕ → Word → Type 0
+HasDigits bytes word = decode_of word ≡ Ok bytes
+
+-- the word is the 64 digits of the secret's bytes
+abbrev pub IsSecretWord : Secret → Word → Type 0
+IsSecretWord secret word = HasDigits secret.bytes word
+
+-- the word is `none` of no bytes, and else their digits
+abbrev pub IsBytesWord : List ℕ → Word → Type 0
+IsBytesWord [] word = word ≡ codes "none"
+IsBytesWord (b ∷ bytes) word = HasDigits (b ∷ bytes) word

@@ -1,9 +1,12 @@
 //! Jobs by the words that spell them.
 ghost use Rattle.std.specs.Prelude.{◌≡◌, ◌∷◌, IfOk, OnErr, map, codes};
 ghost use Rattle.fl_labels.specs.Found.{Finds};
-ghost use Rattle.fl_script.specs.Grammar.{SpellsJob};
+ghost use Rattle.fl_script.specs.Grammar.{IsListVerb, SpellsJob};
 
-use crate::words::{label_from_word, policy_from_word, side_from_word};
+use crate::words::{
+    bytes_from_word, caps_from_word, label_from_word, policy_from_word, secret_from_word,
+    side_from_word,
+};
 use fl_jobs::job::{Act, Job, Order};
 use fl_labels::text::{read_cap, read_name, read_pid};
 use std::alloc::{AllocError, Global};
@@ -42,6 +45,18 @@ fn put_job(rest: &[&str]) -> Option<Job>
     Some(Job::By(pid, Act::Order(Order::Put(group, cap))))
 }
 
+fn make_login_job(rest: &[&str]) -> Option<Job>
+    ensures { Finds result (λ j. SpellsJob j (codes "make-login" ∷ map (λ w. w.now) rest.now)) }
+{
+    let [pid, cap, secret] = rest else {
+        return None
+    };
+    let pid = read_pid(pid)?;
+    let cap = read_cap(cap)?;
+    let secret = secret_from_word(secret)?;
+    Some(Job::By(pid, Act::Order(Order::MakeLogin(cap, secret))))
+}
+
 fn label_job(alloc: Global, rest: &[&str]) -> Result<Option<Job>, AllocError>
     ensures { IfOk result (λ r. Finds r (λ j. SpellsJob j (codes "label" ∷ map (λ w. w.now) rest.now))) }
 {
@@ -69,6 +84,65 @@ fn ask_job(rest: &[&str]) -> Option<Job>
     Some(Job::By(pid, Act::Ask(cap)))
 }
 
+fn spawn_job(alloc: Global, rest: &[&str]) -> Result<Option<Job>, AllocError>
+    ensures { IfOk result (λ r. Finds r (λ j. SpellsJob j (codes "spawn" ∷ map (λ w. w.now) rest.now))) }
+{
+    let [pid, caps] = rest else {
+        return Ok(None);
+    };
+    let Some(pid) = read_pid(pid) else {
+        return Ok(None);
+    };
+    let Some(caps) = caps_from_word(alloc, caps)? else {
+        return Ok(None);
+    };
+    Ok(Some(Job::By(pid, Act::Spawn(caps))))
+}
+
+fn exit_job(rest: &[&str]) -> Option<Job>
+    ensures { Finds result (λ j. SpellsJob j (codes "exit" ∷ map (λ w. w.now) rest.now)) }
+{
+    let [pid] = rest else { return None };
+    let pid = read_pid(pid)?;
+    Some(Job::By(pid, Act::Exit))
+}
+
+fn drop_job(rest: &[&str]) -> Option<Job>
+    ensures { Finds result (λ j. SpellsJob j (codes "drop" ∷ map (λ w. w.now) rest.now)) }
+{
+    let [pid, cap] = rest else { return None };
+    let pid = read_pid(pid)?;
+    let cap = read_cap(cap)?;
+    Some(Job::By(pid, Act::Drop(cap)))
+}
+
+fn enter_job(rest: &[&str]) -> Option<Job>
+    ensures { Finds result (λ j. SpellsJob j (codes "enter" ∷ map (λ w. w.now) rest.now)) }
+{
+    let [pid, login, secret] = rest else {
+        return None
+    };
+    let pid = read_pid(pid)?;
+    let login = read_name(login)?;
+    let secret = secret_from_word(secret)?;
+    Some(Job::By(pid, Act::Enter(login, secret)))
+}
+
+fn emit_job(alloc: Global, rest: &[&str]) -> Result<Option<Job>, AllocError>
+    ensures { IfOk result (λ r. Finds r (λ j. SpellsJob j (codes "emit" ∷ map (λ w. w.now) rest.now))) }
+{
+    let [pid, bytes] = rest else {
+        return Ok(None);
+    };
+    let Some(pid) = read_pid(pid) else {
+        return Ok(None);
+    };
+    let Some(bytes) = bytes_from_word(alloc, bytes)? else {
+        return Ok(None);
+    };
+    Ok(Some(Job::By(pid, Act::Emit(bytes))))
+}
+
 fn member_job(rest: &[&str]) -> Option<Job>
     ensures { Finds result (λ j. SpellsJob j (codes "member" ∷ map (λ w. w.now) rest.now)) }
 {
@@ -79,18 +153,24 @@ fn member_job(rest: &[&str]) -> Option<Job>
 }
 
 /// The job that a verb and the words after it spell, or none where they spell no job.
-/// Takes memory for a label alone.
+/// Takes memory for a list alone: of tags, of capabilities or of bytes.
 pub fn job_from_words(alloc: Global, verb: &str, rest: &[&str]) -> Result<Option<Job>, AllocError>
     ensures ok { IfOk result (λ r. Finds r (λ j. SpellsJob j (verb.now ∷ map (λ w. w.now) rest.now))) }
-    ensures err { OnErr result (verb.now ≡ codes "label") }
+    ensures err { OnErr result (IsListVerb verb.now) }
 {
     match verb {
         "proc" => Ok(proc_job(rest)),
         "tag" => Ok(tag_job(rest)),
         "group" => Ok(group_job(rest)),
         "put" => Ok(put_job(rest)),
+        "make-login" => Ok(make_login_job(rest)),
         "label" => label_job(alloc, rest),
         "ask" => Ok(ask_job(rest)),
+        "spawn" => spawn_job(alloc, rest),
+        "exit" => Ok(exit_job(rest)),
+        "drop" => Ok(drop_job(rest)),
+        "enter" => Ok(enter_job(rest)),
+        "emit" => emit_job(alloc, rest),
         "member" => Ok(member_job(rest)),
         _ => Ok(None),
     }

@@ -1,5 +1,6 @@
 //! Laws of the lines.
 ghost use Rattle.std.specs.Prelude.{◌≡◌, ◌↔◌, List, ℕ};
+ghost use Rattle.fl_aliases.specs.Table.{Table};
 ghost use Rattle.fl_script.specs.Cut.{Word, words_of};
 ghost use Rattle.fl_script.specs.Grammar.{Spells};
 ghost use Rattle.fl_script.specs.Reading.{IsQuiet, IsReading, SaysNothing};
@@ -11,9 +12,9 @@ pub fn law_one_line()
     ensures { (a b : Line) (words : List Word) → Spells a words → Spells b words → a ≡ b }
 {}
 
-/// Bytes have one reading at most.
+/// Bytes have one reading at most, where given aliases are set.
 pub fn law_one_reading()
-    ensures { (bytes : List ℕ) (r s : Reading) → IsReading bytes r → IsReading bytes s → r ≡ s }
+    ensures { (table : Table) (bytes : List ℕ) (r s : Reading) → IsReading table bytes r → IsReading table bytes s → r ≡ s }
 {}
 
 /// A line is quiet exactly where it has no words, or its first word begins with `#`.

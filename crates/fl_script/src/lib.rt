@@ -5,7 +5,11 @@ mod cut;
 mod job;
 pub mod laws;
 pub mod line;
+mod meaning;
 pub mod reading;
+mod replaced;
 #[cfg(test)]
 mod tests;
+#[cfg(test)]
+mod tests_reading;
 mod words;

@@ -1,14 +1,14 @@
 //! Lines of the script.
-ghost use Rattle.std.specs.Prelude.{◌≡◌, ◌∷◌, [], IfOk, OnErr, map, codes, slice_get};
+ghost use Rattle.std.specs.Prelude.{◌≡◌, ◌∷◌, [], IfOk, OnErr, map, codes};
 ghost use Rattle.fl_labels.specs.Found.{Finds};
-ghost use Rattle.fl_script.specs.Grammar.{Spells};
+ghost use Rattle.fl_script.specs.Grammar.{HoldsList, Spells};
 
 use crate::job::job_from_words;
 use fl_jobs::job::Job;
 use fl_labels::text::read_node;
 use std::alloc::{AllocError, Global};
 
-/// A line that asks something of one node, or of two. A line that was read names nodes from 1 to 65,535.
+/// A line that asks something of one node, of two, or of none. A line that was read names nodes from 1 to 65,535.
 #[derive(Debug, Drop)]
 pub enum Line {
     /// The node is to do a job.
@@ -17,6 +17,8 @@ pub enum Line {
     Text { node: u16 },
     /// The published operations of both nodes are to be written together.
     Union { first: u16, second: u16 },
+    /// The aliases that are set are to be written.
+    Aliases,
 }
 
 fn text_line(n: &str) -> Option<Line>
@@ -35,12 +37,14 @@ fn union_line(rest: &[&str]) -> Option<Line>
     Some(Line::Union { first, second })
 }
 
-/// The line that the words spell, or none where they spell no line. Takes memory for a label alone.
+/// The line that the words spell, or none where they spell no line. Takes memory for a list alone: of tags,
+/// of capabilities or of bytes.
 pub(crate) fn line_from_words(alloc: Global, words: &[&str]) -> Result<Option<Line>, AllocError>
     ensures ok { IfOk result (λ r. Finds r (λ l. Spells l (map (λ w. w.now) words.now))) }
-    ensures err { OnErr result (slice_get (map (λ w. w.now) words.now) 1 ≡ Some (codes "label")) }
+    ensures err { OnErr result (HoldsList (map (λ w. w.now) words.now)) }
 {
     match words {
+        ["aliases"] => Ok(Some(Line::Aliases)),
         ["union", rest @ ..] => Ok(union_line(rest)),
         [n, "text"] => Ok(text_line(n)),
         [n, verb, rest @ ..] => {

@@ -3,7 +3,10 @@ ghost use Rattle.std.specs.Prelude.{◌≡◌, ◌↔◌, IsTrue, IfOk, OnErr};
 ghost use Rattle.fl_script.specs.Reading.{first_mark, IsQuiet, IsReading, MayWant};
 
 use crate::cut::cut_words;
-use crate::line::{Line, line_from_words};
+use crate::line::Line;
+use crate::meaning::meaning_of;
+use fl_aliases::alias::Alias;
+use fl_aliases::table::Aliases;
 use std::alloc::{AllocError, Global};
 
 /// The most bytes of a line that asks for an answer.
@@ -16,7 +19,8 @@ pub enum Reading {
     Quiet,
     /// No line of the script.
     Bad,
-    Means(Line),
+    /// A line of the script, and the alias that is to stand for what it makes, if one is.
+    Means { line: Line, alias: Option<Alias> },
 }
 
 /// The first byte that is no space.
@@ -36,13 +40,16 @@ fn is_quiet(bytes: &[u8]) -> bool
     }
 }
 
-/// What the bytes of a line say, which have no line feed.
+/// What the bytes of a line, which have no line feed, say where these aliases are set.
 ///
-/// `Quiet` comes first, whatever else the bytes are. `Bad` is a line of more than [`MOST_BYTES`], one that is no
-/// UTF-8, and one whose words are those of no form. Looks at each byte a few times at most, and takes no memory but
-/// that of the label of a `label` line; where this is refused, the line is not read.
-pub fn read_line(alloc: Global, bytes: &[u8]) -> Result<Reading, AllocError>
-    ensures ok { IfOk result (λ reading. IsReading bytes.now reading) }
+/// `Quiet` comes first, whatever else the bytes are. `Bad` is a line of more than [`MOST_BYTES`], one that is no UTF-8, and one
+/// whose words, with the aliases in them replaced, are those of no form. A line that makes something may end in `as $x`, with an
+/// alias that is not replaced, where fewer than 1,024 are set; else such a line is `Bad`.
+///
+/// Looks at each byte a few times at most, and takes no memory but that of the replaced words, where an alias is in one, and of
+/// the list of a `label`, `spawn` or `emit` line; where this is refused, the line is not read.
+pub fn read_line(alloc: Global, aliases: &Aliases, bytes: &[u8]) -> Result<Reading, AllocError>
+    ensures ok { IfOk result (λ reading. IsReading aliases.now bytes.now reading) }
     ensures err { OnErr result (MayWant bytes.now) }
 {
     if is_quiet(bytes) {
@@ -57,8 +64,11 @@ pub fn read_line(alloc: Global, bytes: &[u8]) -> Result<Reading, AllocError>
     let Some(words) = cut_words(text) else {
         return Ok(Reading::Bad);
     };
-    match line_from_words(alloc, words.as_slice())? {
-        Some(line) => Ok(Reading::Means(line)),
-        None => Ok(Reading::Bad),
-    }
+    let Some(meaning) = meaning_of(alloc, aliases, words.as_slice())? else {
+        return Ok(Reading::Bad);
+    };
+    Ok(Reading::Means {
+        line: meaning.line,
+        alias: meaning.alias,
+    })
 }

@@ -1,5 +1,8 @@
 //! Lines of each form, and lines of none.
+use crate::line::Line;
 use crate::reading::{MOST_BYTES, Reading, read_line};
+use fl_aliases::table::Aliases;
+use fl_jobs::job::{Act, Job, Order};
 use std::test::Fail;
 
 #[test]
@@ -43,14 +46,44 @@ fn each_form(rt: HostRuntime) -> Result<(), Fail> {
             "1 member *1.1 ^2.4294967295",
             "Job { node: 1, job: Member(Use(Name { node: 1, seq: 1 }), Grow(Name { node: 2, seq: 4294967295 })) }",
         ),
+        (
+            "1 spawn p1.1.1 {-1.4,+1.4,-1.4}",
+            "Job { node: 1, job: By(Pid { node: 1, boot: 1, serial: 1 }, Spawn(CapSet { caps: [Plus(Name { node: 1, seq: 4 }), Minus(Name { node: 1, seq: 4 })] })) }",
+        ),
+        (
+            "1 spawn p1.1.1 {}",
+            "Job { node: 1, job: By(Pid { node: 1, boot: 1, serial: 1 }, Spawn(CapSet { caps: [] })) }",
+        ),
+        (
+            "1 exit p1.1.1",
+            "Job { node: 1, job: By(Pid { node: 1, boot: 1, serial: 1 }, Exit) }",
+        ),
+        (
+            "1 drop p1.1.1 -1.5",
+            "Job { node: 1, job: By(Pid { node: 1, boot: 1, serial: 1 }, Drop(Minus(Name { node: 1, seq: 5 }))) }",
+        ),
+        (
+            "1 emit p1.1.1 00aBFf",
+            "Job { node: 1, job: By(Pid { node: 1, boot: 1, serial: 1 }, Emit(Payload { bytes: [0, 171, 255] })) }",
+        ),
+        (
+            "1 emit p1.1.1 none",
+            "Job { node: 1, job: By(Pid { node: 1, boot: 1, serial: 1 }, Emit(Payload { bytes: [] })) }",
+        ),
         ("7 text", "Text { node: 7 }"),
+        ("aliases", "Aliases"),
         ("union 2 1", "Union { first: 2, second: 1 }"),
         (
             " union  65535 65535",
             "Union { first: 65535, second: 65535 }",
         ),
     ] {
-        let Reading::Means(read) = read_line(alloc, line.as_bytes())? else {
+        let Reading::Means { line: read, .. } = read_line(
+            alloc,
+            &Aliases::new(alloc),
+            line.as_bytes(),
+        )?
+        else {
             assert!(rt; false, "{line}");
             return Ok(());
         };
@@ -98,7 +131,28 @@ fn no_form(rt: HostRuntime) -> Result<(), Fail> {
         "1 member *1.1 2.1",
         "1 member *1.1 ^2.1 ^2.2",
         "1 member p1.1.1 *1.1",
+        "1 spawn p1.1.1",
+        "1 spawn p1.1.1 +1.4",
+        "1 spawn p1.1.1 {1.4}",
+        "1 spawn p1.1.1 {+1.4} {}",
+        "1 spawn {+1.4}",
+        "1 exit",
+        "1 exit p1.1.1 p1.1.2",
+        "1 drop p1.1.1",
+        "1 drop p1.1.1 1.5",
+        "1 drop p1.1.1 {+1.5}",
+        "1 make-login p1.1.1 +1.4",
+        "1 enter p1.1.1 1.4",
+        "1 emit p1.1.1",
+        "1 emit p1.1.1 abc",
+        "1 emit p1.1.1 0g",
+        "1 emit p1.1.1 0x12",
+        "1 emit p1.1.1 None",
+        "1 emit p1.1.1 none none",
         "1 text 1",
+        "1 aliases",
+        "aliases 1",
+        "Aliases",
         "union",
         "union 1",
         "union 1 0",
@@ -109,7 +163,77 @@ fn no_form(rt: HostRuntime) -> Result<(), Fail> {
         "a b c d e f g h i",
     ] {
         assert!(rt;
-            matches!(read_line(rt.alloc(), line.as_bytes())?, Reading::Bad),
+            matches!(
+                read_line(rt.alloc(), &Aliases::new(rt.alloc()), line.as_bytes())?,
+                Reading::Bad
+            ),
+            "{line}"
+        );
+    }
+    Ok(())
+}
+
+#[test]
+fn secrets(rt: HostRuntime) -> Result<(), Fail> {
+    let alloc = rt.alloc();
+    let digits = "000102030405060708090a0b0c0d0e0f101112131415161718191A1B1C1D1E1F";
+    let made = format!(in alloc; "1 make-login p1.1.1 +1.4 {digits}")?;
+    let entered = format!(in alloc; "1 enter p1.1.1 1.4 {digits}")?;
+    for line in [made.as_str(), entered.as_str()] {
+        let Reading::Means {
+            line: Line::Job {
+                job: Job::By(_, act),
+                ..
+            },
+            ..
+        } = read_line(alloc, &Aliases::new(alloc), line.as_bytes())?
+        else {
+            assert!(rt; false, "{line}");
+            return Ok(());
+        };
+        let secret = match act {
+            Act::Order(Order::MakeLogin(cap, secret)) => {
+                assert_eq!(rt; format!(in alloc; "{cap}")?.as_str(), "+1.4");
+                secret
+            }
+            Act::Enter(login, secret) => {
+                assert_eq!(rt; format!(in alloc; "{login}")?.as_str(), "1.4");
+                secret
+            }
+            _ => {
+                assert!(rt; false, "{line}");
+                return Ok(());
+            }
+        };
+        for (i, byte) in secret.bytes.iter().enumerate() {
+            assert_eq!(rt; *byte as usize, i);
+        }
+    }
+    Ok(())
+}
+
+#[test]
+fn no_secrets(rt: HostRuntime) -> Result<(), Fail> {
+    let alloc = rt.alloc();
+    let digits = "000102030405060708090a0b0c0d0e0f101112131415161718191a1b1c1d1e1f";
+    for line in [
+        format!(in alloc; "1 enter p1.1.1 1.4 {digits}0")?,
+        format!(in alloc; "1 enter p1.1.1 1.4 {digits}00")?,
+        format!(in alloc; "1 enter p1.1.1 1.4 {}", &digits[1..])?,
+        format!(in alloc; "1 enter p1.1.1 1.4 {}", &digits[2..])?,
+        format!(in alloc; "1 enter p1.1.1 1.4 {}g", &digits[1..])?,
+        format!(in alloc; "1 enter p1.1.1 1.4 none")?,
+        format!(in alloc; "1 enter p1.1.1 +1.4 {digits}")?,
+        format!(in alloc; "1 enter 1.4 p1.1.1 {digits}")?,
+        format!(in alloc; "1 make-login p1.1.1 1.4 {digits}")?,
+        format!(in alloc; "1 make-login p1.1.1 +1.4 {digits}00")?,
+        format!(in alloc; "1 make_login p1.1.1 +1.4 {digits}")?,
+    ] {
+        assert!(rt;
+            matches!(
+                read_line(alloc, &Aliases::new(alloc), line.as_bytes())?,
+                Reading::Bad
+            ),
             "{line}"
         );
     }
@@ -119,9 +243,19 @@ fn no_form(rt: HostRuntime) -> Result<(), Fail> {
 #[test]
 fn quiet(rt: HostRuntime) -> Result<(), Fail> {
     for line in [b"", b"   ", b"#", b"   # 1 proc", b"#\xff"] as [&[u8]; 5] {
-        assert!(rt; matches!(read_line(rt.alloc(), line)?, Reading::Quiet));
+        assert!(rt;
+            matches!(
+                read_line(rt.alloc(), &Aliases::new(rt.alloc()), line)?,
+                Reading::Quiet
+            )
+        );
     }
-    assert!(rt; matches!(read_line(rt.alloc(), b"1 proc \xff")?, Reading::Bad));
+    assert!(rt;
+        matches!(
+            read_line(rt.alloc(), &Aliases::new(rt.alloc()), b"1 proc \xff")?,
+            Reading::Bad
+        )
+    );
     Ok(())
 }
 
@@ -130,11 +264,26 @@ fn longest(rt: HostRuntime) -> Result<(), Fail> {
     let mut line = Vec::new(rt.alloc());
     line.extend_from_slice(b"1 proc")?;
     line.resize(MOST_BYTES, b' ')?;
-    assert!(rt; matches!(read_line(rt.alloc(), &line)?, Reading::Means(_)));
+    assert!(rt;
+        matches!(
+            read_line(rt.alloc(), &Aliases::new(rt.alloc()), &line)?,
+            Reading::Means { .. }
+        )
+    );
     line.push(b' ')?;
-    assert!(rt; matches!(read_line(rt.alloc(), &line)?, Reading::Bad));
+    assert!(rt;
+        matches!(
+            read_line(rt.alloc(), &Aliases::new(rt.alloc()), &line)?,
+            Reading::Bad
+        )
+    );
     line[0] = b'#';
-    assert!(rt; matches!(read_line(rt.alloc(), &line)?, Reading::Quiet));
+    assert!(rt;
+        matches!(
+            read_line(rt.alloc(), &Aliases::new(rt.alloc()), &line)?,
+            Reading::Quiet
+        )
+    );
     Ok(())
 }
 
@@ -147,9 +296,9 @@ fn too_long_label(rt: HostRuntime) -> Result<(), Fail> {
         line.push_str(format!(in alloc; ",1.{seq}")?.as_str())?;
     }
     line.push('}')?;
-    let read = read_line(alloc, line.as_bytes())?;
+    let read = read_line(alloc, &Aliases::new(alloc), line.as_bytes())?;
     let meaning =
-        "Means(Job { node: 1, job: By(Pid { node: 1, boot: 1, serial: 1 }, Relabel(Secrecy, Err(TooLong))) })";
+        "Means { line: Job { node: 1, job: By(Pid { node: 1, boot: 1, serial: 1 }, Relabel(Secrecy, Err(TooLong))) }, alias: None }";
     assert_eq!(rt; format!(in alloc; "{read:?}")?.as_str(), meaning);
     Ok(())
 }

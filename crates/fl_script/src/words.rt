@@ -2,12 +2,16 @@
 ghost use Rattle.std.specs.Prelude.{◌≡◌, IfOk};
 ghost use Rattle.fl_labels.specs.Found.{Finds};
 ghost use Rattle.fl_ops.specs.PolicyText.{policy_text};
-ghost use Rattle.fl_script.specs.Words.{IsLabelWord, side_text};
+ghost use Rattle.fl_script.specs.Words.{IsBytesWord, IsCapsWord, IsLabelWord, IsSecretWord, side_text};
 
 use fl_jobs::job::{Side, TooLong};
+use fl_jobs::payload::Payload;
+use fl_jobs::secret::Secret;
+use fl_labels::cap_set::CapSet;
 use fl_labels::error::SetError;
 use fl_labels::label::Label;
 use fl_ops::op::Policy;
+use hex::{FromHex, FromHexError};
 use std::alloc::{AllocError, Global};
 
 /// The policy that a word names, in lower case.
@@ -45,5 +49,45 @@ pub fn label_from_word(
         Err(SetError::TooLong) => Ok(Some(Err(TooLong))),
         Err(SetError::BadText) => Ok(None),
         Err(SetError::Memory) => Err(AllocError),
+    }
+}
+
+/// The capabilities that a word lists in braces, in any order, or none where it is no such list. An error says that there
+/// was not enough memory for them. Linear in a list that rises, and else with a sort.
+pub fn caps_from_word(alloc: Global, word: &str) -> Result<Option<CapSet>, AllocError>
+    ensures { IfOk result (λ r. Finds r (λ caps. IsCapsWord caps word.now)) }
+{
+    match CapSet::from_text(alloc, word) {
+        Ok(caps) => Ok(Some(caps)),
+        Err(SetError::BadText) => Ok(None),
+        // never, since there may be any number of capabilities
+        Err(SetError::TooLong) => Ok(None),
+        Err(SetError::Memory) => Err(AllocError),
+    }
+}
+
+/// The secret whose 64 hexadecimal digits the word is, in either case, or none of another word. Takes no memory.
+pub fn secret_from_word(word: &str) -> Option<Secret>
+    ensures { Finds result (λ secret. IsSecretWord secret word.now) }
+{
+    let Ok(bytes) = <[u8; 32]>::from_hex(word) else {
+        return None;
+    };
+    Some(Secret { bytes })
+}
+
+/// The bytes that a word spells: no bytes of `none`, and else those of its hexadecimal digits, two of each byte, in either
+/// case. None of a word that is neither. An error says that there was not enough memory for them. Linear.
+pub fn bytes_from_word(alloc: Global, word: &str) -> Result<Option<Payload>, AllocError>
+    ensures { IfOk result (λ r. Finds r (λ bytes. IsBytesWord bytes word.now)) }
+{
+    if word == "none" {
+        return Ok(Some(Payload::from_vec(Vec::new(alloc))));
+    }
+    match hex::decode(alloc, word) {
+        Ok(bytes) if bytes.is_empty() => Ok(None),
+        Ok(bytes) => Ok(Some(Payload::from_vec(bytes))),
+        Err(FromHexError::OutOfMemory) => Err(AllocError),
+        Err(_) => Ok(None),
     }
 }

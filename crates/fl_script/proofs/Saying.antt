@@ -1,0 +1,79 @@
+-- What words say, and that they say nothing else.
+use Rattle.std.proofs.Common.{◌≡◌, ◌≢◌, ◌++◌, ◌<◌, inl, inr, false, sym, ap, subst, refl, ◌∙◌, true≢false, ℕ, List, [], ◌∷◌, length, Option, None, Some, codes, length-append, arith}
+use Rattle.std.specs.List.{All}
+use Rattle.std.proofs.lemmas.List.Elements.{length_all_zip}
+use Rattle.std.proofs.lemmas.List.Elements.{All-nil, All-cons, All-head, All-tail}
+use Rattle.fl_aliases.specs.Alias.{alias_text}
+use Rattle.fl_aliases.specs.Expansion.{Expands, NoDollar}
+use Rattle.fl_aliases.specs.Table.{Table}
+use Rattle.fl_script.specs.Cut.{Word, words_of}
+use Rattle.fl_script.specs.Meaning.{IsWord, EndsInAlias, CanBeNamed, WantsMemory}
+use Rattle.fl_script.specs.Reading.{makes, IsAsking, MayWant, Says, SpellsReplaced, SpellsNamed}
+use Rattle.fl_script.specs.declared.line.Line.{Line}
+use Rattle.fl_script.proofs.Ends.{same_ends}
+use Rattle.fl_script.proofs.OneReading.{none_with_as, same_line}
+use Rattle.fl_script.proofs.NoAs.{few_spell}
+use Rattle.fl_script.proofs.ReplacedWords.{too_many}
+use Rattle.fl_script.proofs.WordShape.{clean_words}
+
+front_all : (P : Word → Type 0) (front back : List Word) → All P (front ++ back) → All P front
+front_all P [] back h = All-nil P
+front_all P (w ∷ front) back h = All-cons P w front (All-head P w (front ++ back) h) (front_all P front back (All-tail P w (front ++ back) h))
+
+back_all : (P : Word → Type 0) (front back : List Word) → All P (front ++ back) → All P back
+back_all P [] back h = h
+back_all P (w ∷ front) back h = back_all P front back (All-tail P w (front ++ back) h)
+
+-- the words before `as $x` are words
+pub front_words : (words front : List Word) (alias : List ℕ) → EndsInAlias front alias words → All IsWord words → All IsWord front
+front_words words front alias s are = front_all IsWord front _ (subst (All IsWord) s.split are)
+
+-- an alias is among the words
+pub alias_wants : (words front : List Word) (alias : List ℕ) → EndsInAlias front alias words → WantsMemory words
+alias_wants words front alias s = record {
+  is = inl (λ clean.
+      let back = back_all NoDollar front (codes "as" ∷ alias_text alias ∷ []) (subst (All NoDollar) s.split clean) in
+      let last = All-head NoDollar (alias_text alias) [] (All-tail NoDollar (codes "as") (alias_text alias ∷ []) back) in
+      All-head (λ b. b ≢ 36) 36 alias last refl);
+}
+
+-- a word has a `$`
+pub dollar_wants : (words : List Word) → ¬ All NoDollar words → WantsMemory words
+dollar_wants words dollar = record { is = inl dollar }
+
+module _ (table : Table) where
+  -- the line that the words spell makes nothing
+  pub not_made : (words : List Word) (a : Line) → SpellsReplaced table a words → makes a ≡ false → (b : Line) → CanBeNamed table b words → ⊥
+  not_made words a s e b t = true≢false (sym t.made ∙ ap makes (same_line table words b a t.spelled s) ∙ e)
+
+  pub none_named : (words : List Word) → ((line : Line) → SpellsReplaced table line words → ⊥) → (line : Line) → CanBeNamed table line words → ⊥
+  none_named words none line s = none line s.spelled
+
+  -- words that do not end in an alias, and spell no line
+  pub plain_none : (words : List Word) → ((front : List Word) (alias : List ℕ) → EndsInAlias front alias words → ⊥) → ((line : Line) → SpellsReplaced table line words → ⊥) → (line : Line) (alias : Option (List ℕ)) → Says table line alias words → ⊥
+  plain_none words no_end none line None s = none line s
+  plain_none words no_end none line (Some alias) s = no_end s.front alias (record { split = s.split; is_alias = s.is_alias })
+
+  -- words that end in an alias, and spell no line for which it can stand
+  pub named_none : (words front : List Word) (alias : List ℕ) → EndsInAlias front alias words → ((line : Line) → CanBeNamed table line front → ⊥) → (line : Line) (other : Option (List ℕ)) → Says table line other words → ⊥
+  named_none words front alias end none line None s = none_with_as table line front (alias_text alias ∷ []) (subst (SpellsReplaced table line) end.split s)
+  named_none words front alias end none line (Some other) s =
+      let same = same_ends s.front front (codes "as") (alias_text other) (codes "as") (alias_text alias) (sym s.split ∙ end.split) in
+      none line (record { made = s.made; room = s.room; spelled = subst (SpellsReplaced table line) same.0 s.spelled })
+
+  pub says_named : (words front : List Word) (alias : List ℕ) (line : Line) → EndsInAlias front alias words → CanBeNamed table line front → SpellsNamed table line alias words
+  says_named words front alias line end s = record { front = front; split = end.split; is_alias = end.is_alias; made = s.made; room = s.room; spelled = s.spelled }
+
+  -- too many words say nothing
+  pub many_say_none : (words : List Word) → 8 < length words → (line : Line) (alias : Option (List ℕ)) → Says table line alias words → ⊥
+  many_say_none words many line None s = too_many table words many line s
+  many_say_none words many line (Some alias) s =
+      let count = ap length s.split ∙ length-append s.front (codes "as" ∷ alias_text alias ∷ []) in
+      too_many_front s.front (omega (arith, many, count)) s.spelled
+    where
+      too_many_front : (front : List Word) → 6 < length front → SpellsReplaced table line front → ⊥
+      too_many_front front many s = absurd (omega (arith, many, few_spell line s.replaced s.spelled, length_all_zip (Expands table) front s.replaced s.each))
+
+-- memory that the words may want the bytes may want
+pub bytes_want : (bytes : List ℕ) → IsAsking bytes → WantsMemory (words_of bytes) → MayWant bytes
+bytes_want bytes asking wants = record { asking = asking; wants = elim wants.is [ inl dollar ↦ inl (λ clean. dollar (clean_words bytes clean)) | inr label ↦ inr label ] }
