@@ -1,40 +1,46 @@
 -- What the acts of a process owe.
-use Rattle.std.proofs.Common.{◌≡◌, ◌↔◌, inl, inr, Bool, true, false, cond, refl, sym, ap, ◌∙◌, subst, Result, Ok, Err, None, Some}
+use Rattle.std.proofs.Common.{◌≡◌, inl, inr, Bool, true, false, cond, refl, sym, ap, ◌∙◌, subst, Result, Ok, Err, None, Some}
 use Rattle.std.specs.Result.{IsErr, IsErrAnd}
-use Rattle.std.specs.Cmp.{tied_itself}
-use Rattle.std.specs.Ordering.{is_gt}
+use Rattle.std.specs.Prelude.{not, ◌&&◌, List, ℕ}
+use Rattle.std.specs.Cmp.{tied_itself, Equal-is}
+use Rattle.std.specs.Ordering.{is_gt, eq_by_cmp}
 use Rattle.fl_labels.specs.Name.{name_cmp}
 use Rattle.fl_labels.specs.Cap.{cap_cmp}
-use Rattle.fl_labels.specs.CapOrder.{cap_total}
+use Rattle.fl_labels.specs.CapOrder.{cap_total, cap_exact}
+use Rattle.fl_labels.specs.SetBy as set
 use Rattle.fl_labels.specs.SetBy.{SetBy, In}
-use Rattle.fl_labels.specs.Found.{IsLeastOutside, Tells}
+use Rattle.fl_labels.specs.Found.{Tells}
 use Rattle.fl_labels.specs.declared.name.Name.{Name}
 use Rattle.fl_labels.specs.declared.cap.Cap.{Cap}
 use Rattle.fl_labels.specs.declared.pid.Pid.{Pid}
 use Rattle.fl_ops.specs.declared.op.Op.{Op}
 use Rattle.fl_ops.specs.declared.op.Body.{Body}
-use Rattle.fl_ops.specs.Registry.{Eff, Global}
+use Rattle.fl_ops.specs.declared.op.Policy.{Policy}
+use Rattle.fl_ops.specs.Registry.{Eff, Global, From}
 use Rattle.fl_jobs.specs.declared.job.Act.{Act}
-use Rattle.fl_jobs.specs.declared.job.Act.TheVariants.{Order, Relabel, Ask}
+use Rattle.fl_jobs.specs.declared.job.Act.TheVariants.{Order, Relabel, Ask, Spawn, Exit, Drop, Enter, Emit}
+use Rattle.fl_jobs.specs.declared.secret.Secret.{Secret}
 use Rattle.fl_jobs.specs.declared.job.Order as orders
-use Rattle.fl_jobs.specs.declared.job.Order.TheVariants.{Tag, Group, Put}
+use Rattle.fl_jobs.specs.declared.job.Order.TheVariants.{Tag, Group, Put, MakeLogin}
 use Rattle.fl_jobs.specs.declared.job.Side.{Side}
 use Rattle.fl_jobs.specs.declared.job.TooLong.{TooLong}
 use Rattle.fl_jobs.specs.declared.answer.Refusal.{Refusal}
-use Rattle.fl_jobs.specs.declared.answer.Refusal.TheVariants.{MissingCap, LabelTooLong, Memory, Busy}
+use Rattle.fl_jobs.specs.declared.answer.Refusal.TheVariants.{MissingCap, LabelTooLong, Memory, Busy, NotOwned}
 use Rattle.fl_jobs.specs.declared.answer.Reply.{Reply}
-use Rattle.fl_jobs.specs.declared.answer.Reply.TheVariants.{Done, Yes, NotYet}
+use Rattle.fl_jobs.specs.declared.answer.Reply.TheVariants.{Done, Yes, NotYet, Out}
 use Rattle.fl_jobs.specs.declared.answer.Outcome.{Outcome}
-use Rattle.fl_rules.specs.Safety.{Takes, SafeChange}
-use Rattle.fl_monitor.specs.Process.{is_under_way, ordering, side_of, with_side, body_of, held, OneOf, PutTakes}
+use Rattle.fl_rules.specs.Safety.{Takes, Dual}
+use Rattle.fl_monitor.specs.Process.{is_under_way, ordering, side_of, with_side, body_of, OneOf, PutTakes}
 use Rattle.fl_monitor.specs.Hand.{AtHand, Lacks}
-use Rattle.fl_monitor.specs.Checks.{demand}
-use Rattle.fl_monitor.specs.Jobs.{Answers, order_checks, change_check}
-use Rattle.fl_monitor.specs.Acts.{Acts, Checked, Required, Told, Relabels}
+use Rattle.fl_monitor.specs.Checks.{Check, demand}
+use Rattle.fl_monitor.specs.Jobs.{Answers, order_checks, change_check, spawn_check, emission_check}
+use Rattle.fl_monitor.specs.Acts.{Acts, Checked, Gives, Required, Told, Relabels, GivesUp, Enters, answered}
 use Rattle.fl_monitor.specs.declared.process.Holding.{Holding}
 use Rattle.fl_monitor.specs.declared.process.Holding.TheVariants.{Idle, Ordering}
 use Rattle.fl_monitor.specs.declared.process.Labels.{Labels}
 use Rattle.fl_monitor.specs.declared.process.Process.{Process}
+use Rattle.fl_monitor.specs.declared.sequel.Sequel.{Sequel}
+use Rattle.fl_monitor.specs.declared.sequel.Sequel.TheVariants.{Answer, Birth, End}
 
 -- ---- questions
 
@@ -50,8 +56,51 @@ pub passed_on : {T : Type 0} (r : Result T Refusal) (f : Refusal) → IsErr r ×
 passed_on (Ok x) f h = absurd h.1
 passed_on (Err g) f h = ap Err h.1
 
-to_outcome : {f g : Refusal} → ◌≡◌ {A = Result (Unit {0}) Refusal} (Err f) (Err g) → ◌≡◌ {A = Result Outcome Refusal} (Err f) (Err g)
+to_outcome : {T : Type 0} {f g : Refusal} → ◌≡◌ {A = Result (Unit {0}) Refusal} (Err f) (Err g) → ◌≡◌ {A = Result T Refusal} (Err f) (Err g)
 to_outcome e = ap (λ r. elim r [ Ok u ↦ Err Memory | Err f ↦ Err f ]) e
+
+-- a check, and what it gives where it passes
+module _ {T : Type 0} (check : Check) (Q : Type 0) (x : T) where
+  gives_failed : {r : Result (Unit {0}) Refusal} (f : Refusal) → r ≡ Err f → Checked check Q r → Gives check Q x (Err f)
+  gives_failed f e (Checked.passed h) = absurd (cc)
+  gives_failed f e (Checked.failed h) = subst (Gives check Q x) (to_outcome e) (Gives.failed h)
+  gives_failed f e (Checked.no_room h) = subst (Gives check Q x) (to_outcome e) (Gives.no_room h)
+
+  pub gives_refused : {r : Result (Unit {0}) Refusal} → Checked check Q r → (f : Refusal) → r ≡ Err f → (q : Result T Refusal) → IsErr q × IsErrAnd q (λ g. g ≡ f) → Gives check Q x q
+  gives_refused h f e q s = subst (Gives check Q x) (sym (passed_on q f s)) (gives_failed f e h)
+
+  pub gives_passed : {r : Result (Unit {0}) Refusal} → Checked check Q r → (u : Unit {0}) → r ≡ Ok u → (y : T) → y ≡ x → Gives check Q x (Ok y)
+  gives_passed (Checked.passed h) u e y is = subst (λ y. Gives check Q x (Ok y)) (sym is) (Gives.passed h)
+  gives_passed (Checked.failed h) u e y is = absurd (cc)
+  gives_passed (Checked.no_room h) u e y is = absurd (cc)
+
+-- where there may be no memory at all
+pub any_room : {check : Check} {Q : Type 0} {r : Result (Unit {0}) Refusal} → Checked check Q r → Checked check (Unit {0}) r
+any_room (Checked.passed h) = Checked.passed h
+any_room (Checked.failed h) = Checked.failed h
+any_room (Checked.no_room h) = Checked.no_room tt
+
+-- who is born
+pub child_given : (check : Check) (l : Labels) (caps : SetBy cap_cmp) {r : Result (Unit {0}) Refusal} → Checked check (Unit {0}) r → (u : Unit {0}) → r ≡ Ok u → (m : Labels) → m ≡ l
+    → Gives check (Unit {0}) (Birth (record { labels = l; owned = Idle caps })) (Ok (Birth (record { labels = m; owned = Idle caps })))
+child_given check l caps h u e m is = gives_passed check (Unit {0}) _ h u e _ (λ i. Birth (record { labels = is i; owned = Idle caps }))
+
+-- ---- what is given up
+
+-- to remove what is not there changes nothing
+remove_absent : (owned : SetBy cap_cmp) (c : Cap) → set.contains owned c ≡ false → set.remove owned c ≡ owned
+remove_absent owned c out = set.same_set cap_total cap_exact _ _ (λ q. set.contains-remove cap_total owned c q ∙ by_test q (eq_by_cmp cap_cmp q c) refl)
+  where
+    by_test : (q : Cap) (b : Bool) → eq_by_cmp cap_cmp q c ≡ b → (not b && set.contains owned q) ≡ set.contains owned q
+    by_test q true e = sym (ap (set.contains owned) (cap_exact q c ((Equal-is (cap_cmp q c)).0 e)) ∙ out)
+    by_test q false e = refl
+
+module _ (owned after : SetBy cap_cmp) (c : Cap) (removed : after ≡ set.remove owned c) (was : Bool) (told : was ≡ set.contains owned c) where
+  pub gives_up : was ≡ true → GivesUp owned c (Ok (Outcome.Reply Done)) after
+  gives_up e = subst (GivesUp owned c (Ok (Outcome.Reply Done))) (sym removed) (GivesUp.gone (sym told ∙ e))
+
+  pub never_had : was ≡ false → GivesUp owned c (Err (NotOwned c)) after
+  never_had e = subst (GivesUp owned c (Err (NotOwned c))) (sym (removed ∙ remove_absent owned c (sym told ∙ e))) (GivesUp.never (sym told ∙ e))
 
 -- ---- changes of labels
 
@@ -115,17 +164,24 @@ module _ (E : Cap → Type 0) where
     greater_tells u e (Required.missing out) k = absurd (cc)
     greater_tells u e Required.no_room k = absurd (cc)
 
-  no_put : (order : orders.Order) → ((group : Name) (c : Cap) → order ≡ Put group c → ⊥) → order_checks E order None
-  no_put (Tag policy) n = refl
-  no_put Group n = refl
-  no_put (Put group c) n = absurd (n group c refl)
+  -- an order that is not checked
+  pub tag_checked : (order : orders.Order) (policy : Policy) → order ≡ Tag policy → Checked (order_checks E order) (Unit {0}) (Ok tt)
+  tag_checked order policy e = subst (λ o. Checked (order_checks E o) (Unit {0}) (Ok tt)) (sym e) (Checked.passed refl)
 
-  -- an order that is no put is not checked
-  pub unchecked : (order : orders.Order) → ((group : Name) (c : Cap) → order ≡ Put group c → ⊥) → Checked (order_checks E order) (Unit {0}) (Ok tt)
-  unchecked order n = Checked.passed (no_put order n)
+  pub group_checked : (order : orders.Order) → order ≡ Group → Checked (order_checks E order) (Unit {0}) (Ok tt)
+  group_checked order e = subst (λ o. Checked (order_checks E o) (Unit {0}) (Ok tt)) (sym e) (Checked.passed refl)
 
   pub put_checked : (order : orders.Order) (group : Name) (c : Cap) → order ≡ Put group c → {r : Result (Unit {0}) Refusal} → Checked (demand cap_cmp (PutTakes group c) E MissingCap) (Unit {0}) r → Checked (order_checks E order) (Unit {0}) r
   put_checked order group c e {r} h = subst (λ o. Checked (order_checks E o) (Unit {0}) r) (sym e) h
+
+  -- one capability is demanded
+  alone : (c : Cap) {r : Result (Unit {0}) Refusal} → Required E c r → Checked (demand cap_cmp (From c) E MissingCap) (Unit {0}) r
+  alone c (Required.there h) = Checked.passed (λ d is. subst E (sym is) h)
+  alone c (Required.missing out) = Checked.failed (c, refl, record { member = refl; lacking = out; least = λ d is n. ap (λ y. is_gt (cap_cmp c y)) is ∙ ap is_gt (tied_itself cap_total c) })
+  alone c Required.no_room = Checked.no_room tt
+
+  pub login_checked : (order : orders.Order) (c : Cap) (secret : Secret) → order ≡ MakeLogin c secret → {r : Result (Unit {0}) Refusal} → Required E c r → Checked (order_checks E order) (Unit {0}) r
+  login_checked order c secret e {r} h = subst (λ o. Checked (order_checks E o) (Unit {0}) r) (sym e) (alone c h)
 
   other : (a b c : Cap) → OneOf a b c → OneOf b a c
   other a b c (inl x) = inr x
@@ -157,43 +213,84 @@ module _ (V : Op → Type 0) (pid : Pid) (l : Labels) (owned : SetBy cap_cmp) wh
   order_fails order f e (Checked.failed h) = subst (λ r. Acts V pid idle (Order order) r idle) (to_outcome e) (Acts.failed (inr (refl, h)))
   order_fails order f e (Checked.no_room h) = subst (λ r. Acts V pid idle (Order order) r idle) (to_outcome e) (Acts.no_room refl tt)
 
-  order_done : (order : orders.Order) (u : Unit {0}) {r : Result (Unit {0}) Refusal} → r ≡ Ok u → Checked (order_checks (Eff V (In owned)) order) (Unit {0}) r → Acts V pid idle (Order order) (Ok (Outcome.Order (body_of order) pid)) (ordering idle)
+  order_done : (order : orders.Order) (u : Unit {0}) {r : Result (Unit {0}) Refusal} → r ≡ Ok u → Checked (order_checks (Eff V (In owned)) order) (Unit {0}) r → Acts V pid idle (Order order) (Ok (Answer (Outcome.Order (body_of order) pid))) (ordering idle)
   order_done order u e (Checked.passed h) = Acts.passed (refl, h) (refl, refl)
   order_done order u e (Checked.failed h) = absurd (cc)
   order_done order u e (Checked.no_room h) = absurd (cc)
 
-  relabelled : (side : Side) (given : Result (SetBy name_cmp) TooLong) {r : Result Outcome Refusal} {l' : Labels} → Relabels V owned l side given r l' → Acts V pid idle (Relabel side given) r (record { labels = l'; owned = Idle owned })
-  relabelled side given (Relabels.safe {label} e h) = subst (λ g. Acts V pid idle (Relabel side g) (Ok (Outcome.Reply Done)) (record { labels = with_side side label l; owned = Idle owned })) (sym e) (Acts.passed (refl, h) (refl, refl))
+  relabelled : (side : Side) (given : Result (SetBy name_cmp) TooLong) {r : Result Outcome Refusal} {l' : Labels} → Relabels V owned l side given r l' → Acts V pid idle (Relabel side given) (answered r) (record { labels = l'; owned = Idle owned })
+  relabelled side given (Relabels.safe {label} e h) = subst (λ g. Acts V pid idle (Relabel side g) (Ok (Answer (Outcome.Reply Done))) (record { labels = with_side side label l; owned = Idle owned })) (sym e) (Acts.passed (refl, h) (refl, refl))
   relabelled side given (Relabels.unsafe {label} {f} e h) = subst (λ g. Acts V pid idle (Relabel side g) (Err f) idle) (sym e) (Acts.failed (inr (refl, h)))
   relabelled side given (Relabels.too_long e) = subst (λ g. Acts V pid idle (Relabel side g) (Err LabelTooLong) idle) (sym e) (Acts.failed (inr (refl, refl)))
   relabelled side given (Relabels.no_room {label} e h) = subst (λ g. Acts V pid idle (Relabel side g) (Err Memory) idle) (sym e) (Acts.no_room refl h)
 
-  asked : (c : Cap) {r : Result Outcome Refusal} → Told (Eff V (In owned) c) ((¬ In owned c) × (¬ Global V c)) r → Acts V pid idle (Ask c) r idle
-  asked c (Told.told h) = Acts.passed (refl, refl) (h, refl)
+  asked : (c : Cap) {r : Result Outcome Refusal} → Told (Eff V (In owned) c) ((¬ In owned c) × (¬ Global V c)) r → Acts V pid idle (Ask c) (answered r) idle
+  asked c (Told.told {outcome} h) = Acts.passed (refl, refl) (outcome, refl, h, refl)
   asked c (Told.no_room h) = Acts.no_room refl h
+
+  spawned : (caps : SetBy cap_cmp) {r : Result Sequel Refusal} → Gives (spawn_check (Eff V (In owned)) caps) (Unit {0}) (Birth (record { labels = l; owned = Idle caps })) r → Acts V pid idle (Spawn caps) r idle
+  spawned caps (Gives.passed h) = Acts.passed (refl, h) (refl, refl)
+  spawned caps (Gives.failed h) = Acts.failed (inr (refl, h))
+  spawned caps (Gives.no_room h) = Acts.no_room refl tt
+
+  emitted : (bytes : List ℕ) {r : Result Sequel Refusal} → Gives (emission_check (Eff V (In owned)) l.secrecy) (Lacks (In l.secrecy) (Dual (AtHand V owned))) (Answer (Outcome.Reply (Out bytes))) r → Acts V pid idle (Emit bytes) r idle
+  emitted bytes (Gives.passed h) = Acts.passed (refl, h) (refl, refl)
+  emitted bytes (Gives.failed h) = Acts.failed (inr (refl, h))
+  emitted bytes (Gives.no_room h) = Acts.no_room refl h
+
+  given_up : (c : Cap) {r : Result Outcome Refusal} {s : SetBy cap_cmp} → GivesUp owned c r s → Acts V pid idle (Drop c) (answered r) (record { labels = l; owned = Idle s })
+  given_up c (GivesUp.gone has) = Acts.passed (refl, ap (λ b. cond (not b) (Some (NotOwned c)) None) (sym has)) (refl, refl)
+  given_up c (GivesUp.never out) = Acts.failed (inr (refl, ap (λ b. cond (not b) (Some (NotOwned c)) None) (sym out)))
+
+  entered : (login : Name) (secret : Secret) {r : Result Outcome Refusal} {s : SetBy cap_cmp} → Enters V owned login secret r s → Acts V pid idle (Enter login secret) (answered r) (record { labels = l; owned = Idle s })
+  entered login secret (Enters.enters {c} first) = Acts.passed (refl, (c, first)) (c, first, refl, refl)
+  entered login secret (Enters.unknown none) = Acts.failed (inr (refl, inl (refl, none)))
+  entered login secret (Enters.wrong {c} {digest} first other) = Acts.failed (inr (refl, inr (refl, c, digest, first, other)))
+  entered login secret (Enters.no_room {c} first) = Acts.no_room refl (c, first)
 
 module _ (V : Op → Type 0) (pid : Pid) (p : Process) (act : Act) (owned : SetBy cap_cmp) (is : p.owned ≡ Idle owned) where
   -- what was shown of an idle process
-  of_idle : {r : Result Outcome Refusal} {l' : Labels} → Acts V pid (idle V pid p.labels owned) act r (record { labels = l'; owned = Idle owned }) → Acts V pid p act r (record { labels = l'; owned = p.owned })
-  of_idle {r} {l'} h = subst (λ o. Acts V pid (record { labels = p.labels; owned = o }) act r (record { labels = l'; owned = o })) (sym is) h
+  of_idle : {r : Result Sequel Refusal} {p' : Process} → Acts V pid (idle V pid p.labels owned) act r p' → Acts V pid p act r p'
+  of_idle {r} {p'} h = subst (λ o. Acts V pid (record { labels = p.labels; owned = o }) act r p') (sym is) h
+
+  -- the act is this one
+  act_is : (a : Act) → act ≡ a → {q : Result Sequel Refusal} {p' : Process} → Acts V pid (idle V pid p.labels owned) a q p' → Acts V pid p act q p'
+  act_is a e {q} {p'} h = of_idle (subst (λ a. Acts V pid (idle V pid p.labels owned) a q p') (sym e) h)
+
+  -- and is answered alone
+  act_answers : (a : Act) → act ≡ a → (r : Result Outcome Refusal) {p' : Process} → Acts V pid (idle V pid p.labels owned) a (answered r) p' → (q : Result Sequel Refusal) → q ≡ answered r → Acts V pid p act q p'
+  act_answers a e r {p'} h q is = subst (λ q. Acts V pid p act q p') (sym is) (act_is a e h)
 
   module _ (order : orders.Order) (ordered : act ≡ Order order) {r : Result (Unit {0}) Refusal} (checked : Checked (order_checks (Eff V (In owned)) order) (Unit {0}) r) where
-    pub act_unchecked : (f : Refusal) → r ≡ Err f → {q : Result Outcome Refusal} → IsErr q × IsErrAnd q (λ g. g ≡ f) → Acts V pid p act q p
-    act_unchecked f e {q} h = subst (λ q. Acts V pid p act q p) (sym (passed_on q f h)) (of_idle (subst (λ a. Acts V pid (idle V pid p.labels owned) a (Err f) (idle V pid p.labels owned)) (sym ordered) (order_fails V pid p.labels owned order f e checked)))
+    pub act_unchecked : (f : Refusal) → r ≡ Err f → {q : Result Sequel Refusal} → IsErr q × IsErrAnd q (λ g. g ≡ f) → Acts V pid p act q (idle V pid p.labels owned)
+    act_unchecked f e {q} h = subst (λ q. Acts V pid p act q (idle V pid p.labels owned)) (sym (passed_on q f h)) (act_is (Order order) ordered (order_fails V pid p.labels owned order f e checked))
 
-    pub act_order : (u : Unit {0}) → r ≡ Ok u → (body : Body) → body ≡ body_of order → (h : Holding) → h ≡ Ordering (held p.owned) → Acts V pid p act (Ok (Outcome.Order body pid)) (record { labels = p.labels; owned = h })
+    pub act_order : (u : Unit {0}) → r ≡ Ok u → (body : Body) → body ≡ body_of order → (h : Holding) → h ≡ Ordering owned → Acts V pid p act (Ok (Answer (Outcome.Order body pid))) (record { labels = p.labels; owned = h })
     act_order u e body is_body h is_h =
-        let done : Acts V pid (idle V pid p.labels owned) act (Ok (Outcome.Order (body_of order) pid)) (ordering (idle V pid p.labels owned)) =
-        subst (λ a. Acts V pid (idle V pid p.labels owned) a (Ok (Outcome.Order (body_of order) pid)) (ordering (idle V pid p.labels owned))) (sym ordered) (order_done V pid p.labels owned order u e checked) in
-        subst (λ b. Acts V pid p act (Ok (Outcome.Order b pid)) (record { labels = p.labels; owned = h })) (sym is_body)
-        (subst (λ o. Acts V pid p act (Ok (Outcome.Order (body_of order) pid)) (record { labels = p.labels; owned = o })) (sym is_h)
-        (subst (λ o. Acts V pid (record { labels = p.labels; owned = o }) act (Ok (Outcome.Order (body_of order) pid)) (record { labels = p.labels; owned = Ordering (held o) })) (sym is) done))
+        subst (λ b. Acts V pid p act (Ok (Answer (Outcome.Order b pid))) (record { labels = p.labels; owned = h })) (sym is_body)
+        (subst (λ o. Acts V pid p act (Ok (Answer (Outcome.Order (body_of order) pid))) (record { labels = p.labels; owned = o })) (sym is_h)
+        (act_is (Order order) ordered (order_done V pid p.labels owned order u e checked)))
 
-  pub act_full : (order : orders.Order) → act ≡ Order order → (h : Holding) → h ≡ p.owned → Acts V pid p act (Err Memory) (record { labels = p.labels; owned = h })
-  act_full order e h same = subst (λ o. Acts V pid p act (Err Memory) (record { labels = p.labels; owned = o })) (sym same) (of_idle (subst (λ a. Acts V pid (idle V pid p.labels owned) a (Err Memory) (idle V pid p.labels owned)) (sym e) (Acts.no_room refl tt)))
+  pub act_full : (order : orders.Order) → act ≡ Order order → (h : Holding) → h ≡ Idle owned → Acts V pid p act (Err Memory) (record { labels = p.labels; owned = h })
+  act_full order e h same = subst (λ o. Acts V pid p act (Err Memory) (record { labels = p.labels; owned = o })) (sym same) (act_is (Order order) e (Acts.no_room refl tt))
 
-  pub act_relabel : (side : Side) (given : Result (SetBy name_cmp) TooLong) → act ≡ Relabel side given → {r : Result Outcome Refusal} {l' : Labels} → Relabels V owned p.labels side given r l' → Acts V pid p act r (record { labels = l'; owned = p.owned })
-  act_relabel side given e {r} {l'} h = of_idle (subst (λ a. Acts V pid (idle V pid p.labels owned) a r (record { labels = l'; owned = Idle owned })) (sym e) (relabelled V pid p.labels owned side given h))
+  pub act_relabel : (side : Side) (given : Result (SetBy name_cmp) TooLong) → act ≡ Relabel side given → {r : Result Outcome Refusal} {l' : Labels} → Relabels V owned p.labels side given r l' → (q : Result Sequel Refusal) → q ≡ answered r → Acts V pid p act q (record { labels = l'; owned = Idle owned })
+  act_relabel side given e {r} h q is = act_answers (Relabel side given) e r (relabelled V pid p.labels owned side given h) q is
 
-  pub act_ask : (c : Cap) → act ≡ Ask c → {r : Result Outcome Refusal} → Told (Eff V (In owned) c) ((¬ In owned c) × (¬ Global V c)) r → Acts V pid p act r p
-  act_ask c e {r} h = of_idle (subst (λ a. Acts V pid (idle V pid p.labels owned) a r (idle V pid p.labels owned)) (sym e) (asked V pid p.labels owned c h))
+  pub act_ask : (c : Cap) → act ≡ Ask c → {r : Result Outcome Refusal} → Told (Eff V (In owned) c) ((¬ In owned c) × (¬ Global V c)) r → (q : Result Sequel Refusal) → q ≡ answered r → Acts V pid p act q (idle V pid p.labels owned)
+  act_ask c e {r} h q is = act_answers (Ask c) e r (asked V pid p.labels owned c h) q is
+
+  pub act_spawn : (caps : SetBy cap_cmp) → act ≡ Spawn caps → {q : Result Sequel Refusal} → Gives (spawn_check (Eff V (In owned)) caps) (Unit {0}) (Birth (record { labels = p.labels; owned = Idle caps })) q → Acts V pid p act q (idle V pid p.labels owned)
+  act_spawn caps e h = act_is (Spawn caps) e (spawned V pid p.labels owned caps h)
+
+  pub act_exit : act ≡ Exit → Acts V pid p act (Ok End) (idle V pid p.labels owned)
+  act_exit e = act_is Exit e (Acts.passed (refl, refl) (refl, refl))
+
+  pub act_drop : (c : Cap) → act ≡ Drop c → {r : Result Outcome Refusal} {s : SetBy cap_cmp} → GivesUp owned c r s → (q : Result Sequel Refusal) → q ≡ answered r → Acts V pid p act q (record { labels = p.labels; owned = Idle s })
+  act_drop c e {r} h q is = act_answers (Drop c) e r (given_up V pid p.labels owned c h) q is
+
+  pub act_enter : (login : Name) (secret : Secret) → act ≡ Enter login secret → {r : Result Outcome Refusal} {s : SetBy cap_cmp} → Enters V owned login secret r s → (q : Result Sequel Refusal) → q ≡ answered r → Acts V pid p act q (record { labels = p.labels; owned = Idle s })
+  act_enter login secret e {r} h q is = act_answers (Enter login secret) e r (entered V pid p.labels owned login secret h) q is
+
+  pub act_emit : (bytes : List ℕ) → act ≡ Emit bytes → {q : Result Sequel Refusal} → Gives (emission_check (Eff V (In owned)) p.labels.secrecy) (Lacks (In p.labels.secrecy) (Dual (AtHand V owned))) (Answer (Outcome.Reply (Out bytes))) q → Acts V pid p act q (idle V pid p.labels owned)
+  act_emit bytes e h = act_is (Emit bytes) e (emitted V pid p.labels owned bytes h)

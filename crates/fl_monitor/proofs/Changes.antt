@@ -32,12 +32,12 @@ module _ (V : Op → Type 0) where
     pub finished_keeps : {body : Body} {pid : Pid} → IsOrder V b job body pid after → (op : Op) → Keeps V b (finished after pid op)
     finished_keeps {pid} o op = same_labelled pid o.process (Idle (set.insert_all (owns o.process) (given op))) o.lived (finished_at o op)
 
-  step_changes : {b after : State} {job : Job} {r : Result Outcome Refusal} → Step V b job r after → Changes V b after
+  step_changes : {b after : State} {job : Job} {r : Result Outcome Refusal} → Step V b job r after → Changes V b job after
   step_changes refuses = keeps (stays refl)
   step_changes (replies h) = h
   step_changes (orders o) = keeps (order_keeps o)
 
-  pub does_changes : {b after : State} {job : Job} {r : Result Outcome Refusal} → Does V b job r after → Changes V b after
+  pub does_changes : {b after : State} {job : Job} {r : Result Outcome Refusal} → Does V b job r after → Changes V b job after
   does_changes {b} d = step_changes (does_step V b d)
 
   -- a finish and a cancel

@@ -15,15 +15,15 @@ use Rattle.fl_jobs.specs.declared.job.Job.TheVariants.{By}
 use Rattle.fl_jobs.specs.declared.answer.Refusal.{Refusal}
 use Rattle.fl_jobs.specs.declared.answer.Outcome.{Outcome}
 use Rattle.fl_rules.specs.Safety.{SafeChange}
-use Rattle.fl_monitor.specs.Process.{newborn, effective, side_of, with_side}
-use Rattle.fl_monitor.specs.Bench.{State, IsNext, has_at}
+use Rattle.fl_monitor.specs.Process.{effective, side_of, with_side}
+use Rattle.fl_monitor.specs.Bench.{State, IsNext, has_at, gone}
 use Rattle.fl_monitor.specs.Gifts.{settles, finished}
 use Rattle.fl_monitor.specs.Jobs.{Does, passed}
 use Rattle.fl_monitor.specs.Orderly.{IsOrderly}
 use Rattle.fl_monitor.specs.Following.{Follows}
 use Rattle.fl_monitor.specs.declared.process.Process.{Process}
-use Rattle.fl_monitor.proofs.Puts.{get_here, get_put}
-use Rattle.fl_monitor.proofs.Steps.{Keeps, stays, turns, Changes, keeps, bears, same_labels, passed_by}
+use Rattle.fl_monitor.proofs.Puts.{get_here, get_put, get_gone}
+use Rattle.fl_monitor.proofs.Steps.{Keeps, stays, turns, Changes, keeps, bears, loses, same_labels, passed_by}
 use Rattle.fl_monitor.proofs.Orders.{order_at}
 use Rattle.fl_monitor.proofs.Changes.{does_changes, settles_keeps, finished_keeps}
 
@@ -51,14 +51,26 @@ module _ (V : Op → Type 0) where
   keeps_follow {b} {after} (stays e) = all_same b after e
   keeps_follow {b} (turns pid old new e h is) = subst (AllFollow b) (sym is) (follows_put b pid new (subst (λ o. Follows V o (Some new)) (sym e) h))
 
-  -- the next process takes no other's place
-  follows_born : {number : ℕ} (b : State) (pid : Pid) → IsOrderly number b → IsNext b pid → (o : Option Process) → map.get b.processes pid ≡ o → Follows V o (Some newborn)
-  follows_born b pid h next None e = refl
-  follows_born b pid h next (Some p) e = let below : pid.serial < b.next = (h.each pid p e).below in absurd (omega (arith, below, next.serial))
+  -- who is new or gone follows nobody, and the next process takes no other's place
+  new_follows : {number : ℕ} (b : State) (pid : Pid) (child : Process) → IsOrderly number b → IsNext b pid → (o : Option Process) → map.get b.processes pid ≡ o → Follows V o (Some child)
+  new_follows b pid child h next None e = tt
+  new_follows b pid child h next (Some p) e = let below : pid.serial < b.next = (h.each pid p e).below in absurd (omega (arith, below, next.serial))
 
-  changes_follow : {number : ℕ} {b after : State} → IsOrderly number b → Changes V b after → AllFollow b after
+  gone_follows : (o : Option Process) → Follows V o None
+  gone_follows None = tt
+  gone_follows (Some p) = tt
+
+  follows_gone : (b : State) (pid : Pid) → AllFollow b (gone b pid)
+  follows_gone b pid q = by_place (get_gone pid_total pid_exact b.processes pid q)
+    where
+      by_place : ((q ≡ pid) × (map.get (map.remove b.processes pid) q ≡ None)) ⊎ (map.get (map.remove b.processes pid) q ≡ map.get b.processes q) → Follows V (map.get b.processes q) (map.get (map.remove b.processes pid) q)
+      by_place (inl s) = subst (Follows V (map.get b.processes q)) (sym s.1) (gone_follows _)
+      by_place (inr s) = subst (Follows V (map.get b.processes q)) (sym s) (follows_same _)
+
+  changes_follow : {number : ℕ} {b after : State} {job : Job} → IsOrderly number b → Changes V b job after → AllFollow b after
   changes_follow h (keeps k) = keeps_follow k
-  changes_follow {b} h (bears pid next is) = subst (AllFollow b) (sym is) (follows_put b pid newborn (follows_born b pid h next _ refl))
+  changes_follow {b} h (bears pid child birth is) = subst (AllFollow b) (sym is) (follows_put b pid child (new_follows b pid child h birth.next _ refl))
+  changes_follow {b} h (loses pid asked is) = subst (AllFollow b) (sym is) (follows_gone b pid)
 
   pub follows_does : {number : ℕ} {b after : State} {job : Job} {r : Result Outcome Refusal} → IsOrderly number b → Does V b job r after → AllFollow b after
   follows_does h d = changes_follow h (does_changes V d)

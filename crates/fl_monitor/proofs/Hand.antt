@@ -1,17 +1,21 @@
 -- What is at hand tells of what is in effect.
 use Rattle.std.proofs.Common.{◌≡◌, ◌↔◌, inl, inr, refl, sym, ap, subst, ◌∙◌, Bool, List, Option, Some, None, Result, Ok, Err, true, false}
-use Rattle.std.specs.Prelude.{is_some, not, MatchOption}
+use Rattle.std.specs.Prelude.{is_some, not, MatchOption, ⊤}
 use Rattle.std.proofs.lemmas.Bool.{false≢true}
 use Rattle.std.specs.declared.cmp.Ordering.{Ordering}
 use Rattle.fl_labels.specs.Cap.{cap_cmp}
-use Rattle.fl_labels.specs.SetBy.{SetBy, In}
-use Rattle.fl_labels.specs.Found.{Within, IsLeastOutside}
+use Rattle.fl_labels.specs.CapOrder.{cap_total, cap_exact}
+use Rattle.fl_labels.specs.SetBy.{SetBy, In, members}
+use Rattle.fl_labels.specs.Found.{Found, FoundAs, IsFirst, Within, IsLeastOutside}
+use Rattle.fl_labels.proofs.Searches.{found_as, searched_set}
 use Rattle.fl_labels.specs.declared.cap.Cap.{Cap}
+use Rattle.fl_labels.specs.declared.cap.Cap.TheVariants.{Plus, Minus}
 use Rattle.fl_ops.specs.declared.op.Op.{Op}
 use Rattle.fl_ops.specs.Registry.{Reach, Eff, Listed}
 use Rattle.fl_ops.proofs.Reaching.{owned_eff}
 use Rattle.fl_jobs.specs.declared.answer.Refusal.{Refusal}
 use Rattle.fl_jobs.specs.declared.answer.Refusal.TheVariants.{Memory}
+use Rattle.fl_rules.specs.Safety.{Dual}
 use Rattle.fl_monitor.specs.Checks.{demand}
 use Rattle.fl_monitor.specs.Hand.{AtHand, Lacks}
 use Rattle.fl_monitor.specs.Acts.{Checked}
@@ -69,3 +73,18 @@ module _ {K : Type 0} (R : K → K → Ordering) (P : K → Type 0) (made : (Cap
             least = λ y p n. h.least y p (λ e. n (more _ _ (all_effective owned reached whole) y e));
           },
         )
+
+cap_match : (P Q : Cap → Type 0) (r : Option Cap) → FoundAs cap_cmp P Q r → MatchOption r (Within P Q) (IsLeastOutside cap_cmp P Q)
+cap_match P Q None h = h
+cap_match P Q (Some c) h = h
+
+-- what a search along the members of a set finds
+pub caps_found : (E : Cap → Type 0) (s : SetBy cap_cmp) (caps : List Cap) (r : Option Cap) → caps ≡ members s → IsFirst (λ _. ⊤) E caps r
+    → MatchOption r (Within (In s) E) (IsLeastOutside cap_cmp (In s) E)
+caps_found E s caps r e first =
+    let found : Found cap_cmp (In s) E r = found_as r (λ c h. h.0) (λ c h. (h, tt)) (λ c h. h) (λ c h. h) (searched_set cap_total cap_exact (λ _. ⊤) E s caps r e first) in
+    cap_match (In s) E r found.is
+
+-- both capabilities of a tag, where more capabilities make no less
+pub dual_more : (E F : Cap → Type 0) → Within E F → Within (Dual E) (Dual F)
+dual_more E F more tag h = (more (Plus tag) h.0, more (Minus tag) h.1)

@@ -12,3 +12,6 @@ pub mod Orderly
 pub mod Following
 pub mod OneCheck
 pub mod OneResult
+pub mod Entries
+pub mod Births
+pub mod Gains

@@ -1,14 +1,19 @@
 -- What the members of a set tell of its registry.
-use Rattle.std.proofs.Common.{◌↔◌, sym, ◌∙◌, Bool, Result, Ok, Err, IfOk, OnErr}
+use Rattle.std.proofs.Common.{◌↔◌, sym, ◌∙◌, Bool, Result, Ok, Err, IfOk, OnErr, Option}
+use Rattle.std.specs.Prelude.{MatchOption}
 use Rattle.std.specs.Cmp.{Equal-is, eq_by_cmp_equiv}
 use Rattle.std.proofs.lemmas.Map.Views.{Contains-from_any, list_any-from_Contains}
 use Rattle.fl_labels.specs.Cap.{cap_cmp}
 use Rattle.fl_labels.specs.Found.{Within, Tells}
 use Rattle.fl_labels.specs.SetBy.{SetBy, In, members, contains-members}
+use Rattle.fl_labels.specs.declared.name.Name.{Name}
 use Rattle.fl_labels.specs.declared.cap.Cap.{Cap}
+use Rattle.fl_ops.specs.declared.digest.Digest.{Digest}
 use Rattle.fl_ops.specs.OpOrder.{op_cmp}
 use Rattle.fl_ops.specs.OpLaws.{op_total, op_exact}
 use Rattle.fl_ops.specs.Registry.{Reach, From, Eff, Global, Listed}
+use Rattle.fl_ops.specs.Logins.{IsFirstLogin, HasNoLogin}
+use Rattle.fl_ops.proofs.Logins.{answer_kept}
 use Rattle.fl_ops.proofs.Reaching.{eff_more, global_more, reach_more}
 
 listed : (s : SetBy op_cmp) → Within (In s) (Listed (members s))
@@ -46,3 +51,6 @@ module _ (s : SetBy op_cmp) where
 
   pub told_global : (c : Cap) (b : Bool) → Tells b (Global (In s) c) → Tells b (Global (Listed (members s)) c)
   told_global c b t = told b (global_more (listed s) c) (global_more (unlisted s) c) t
+
+  pub told_login : (login : Name) (r : Option (Cap × Digest)) → MatchOption r (HasNoLogin (In s) login) (λ l. IsFirstLogin (In s) login l.0 l.1) → MatchOption r (HasNoLogin (Listed (members s)) login) (λ l. IsFirstLogin (Listed (members s)) login l.0 l.1)
+  told_login login r h = answer_kept (λ op. (listed s op, unlisted s op)) login r h

@@ -2,24 +2,32 @@
 use Rattle.std.proofs.Common.{◌≡◌, ◌≢◌, ◌∙◌, inl, inr, refl, sym, ap, subst, Option, Some, None, Result, Ok, Err}
 use Rattle.std.specs.FinMap as map
 use Rattle.fl_labels.specs.CapOrder.{cap_total, cap_exact}
+use Rattle.fl_labels.specs.NameOrder.{name_total, name_exact}
+use Rattle.fl_labels.specs.SetBy as set
 use Rattle.fl_labels.specs.PidOrder.{same_pid}
+use Rattle.fl_labels.specs.declared.name.Name.{Name}
 use Rattle.fl_labels.specs.declared.cap.Cap.{Cap}
 use Rattle.fl_labels.specs.declared.pid.Pid.{Pid}
+use Rattle.fl_ops.specs.declared.digest.Digest.{Digest}
 use Rattle.fl_ops.specs.declared.op.Op.{Op}
+use Rattle.fl_ops.specs.Logins.{IsFirstLogin}
+use Rattle.fl_ops.proofs.Logins.{one_first}
+use Rattle.fl_jobs.specs.declared.secret.Secret.{Secret}
 use Rattle.fl_jobs.specs.declared.job.Order as orders
-use Rattle.fl_jobs.specs.declared.job.Order.TheVariants.{Tag, Group, Put}
+use Rattle.fl_jobs.specs.declared.job.Order.TheVariants.{Tag, Group, Put, MakeLogin}
 use Rattle.fl_jobs.specs.declared.job.Act.{Act}
-use Rattle.fl_jobs.specs.declared.job.Act.TheVariants.{Order, Relabel, Ask}
+use Rattle.fl_jobs.specs.declared.job.Act.TheVariants.{Order, Relabel, Ask, Spawn, Exit, Drop, Enter, Emit}
 use Rattle.fl_jobs.specs.declared.job.Job.{Job}
 use Rattle.fl_jobs.specs.declared.job.Job.TheVariants.{Proc, By, Member}
 use Rattle.fl_jobs.specs.declared.answer.Refusal.{Refusal}
-use Rattle.fl_jobs.specs.declared.answer.Refusal.TheVariants.{NoProcess, MissingCap, Busy, Memory}
-use Rattle.fl_jobs.specs.declared.answer.Reply.TheVariants.{Made}
+use Rattle.fl_jobs.specs.declared.answer.Refusal.TheVariants.{NoProcess, MissingCap, Secrecy, Busy, Memory}
+use Rattle.fl_jobs.specs.declared.answer.Reply.TheVariants.{Made, Entered}
 use Rattle.fl_jobs.specs.declared.answer.Outcome.{Outcome}
-use Rattle.fl_monitor.specs.Checks.{refuse_if}
-use Rattle.fl_monitor.specs.Process.{newborn, is_busy, effective}
-use Rattle.fl_monitor.specs.Bench.{State, IsNext, born}
-use Rattle.fl_monitor.specs.Jobs.{order_checks, checks_of, act_checks, checks, Answers, Performs, Effect, Does, passed, failed, no_room}
+use Rattle.fl_monitor.specs.Checks.{refuse_if, ◌then◌}
+use Rattle.fl_monitor.specs.Secrets.{digest_of}
+use Rattle.fl_monitor.specs.Process.{newborn, owns, owning, child_of, is_busy, effective}
+use Rattle.fl_monitor.specs.Bench.{State, IsNext, has_at, born}
+use Rattle.fl_monitor.specs.Jobs.{order_checks, enter_check, checks_of, act_checks, bench_checks, checks, Answers, Performs, Effect, Does, passed, failed, no_room}
 use Rattle.fl_monitor.specs.declared.process.Process.{Process}
 use Rattle.fl_monitor.proofs.OneCheck.{OneVerdict, one_said, one_then, one_demand, one_with}
 
@@ -29,6 +37,26 @@ one_order_check : (E : Cap → Type 0) (order : orders.Order) → OneVerdict (or
 one_order_check E (Tag policy) = one_said
 one_order_check E Group = one_said
 one_order_check E (Put group c) = one_demand cap_total cap_exact _ _ MissingCap
+one_order_check E (MakeLogin c secret) = one_demand cap_total cap_exact _ _ MissingCap
+
+-- an entry, since a name has one first login
+module _ (V : Op → Type 0) (login : Name) (secret : Secret) where
+  let_in_once : (c d : Cap) → IsFirstLogin V login c (digest_of secret) → IsFirstLogin V login d (digest_of secret) → c ≡ d
+  let_in_once c d h k = (one_first V login c d (digest_of secret) (digest_of secret) h k).0
+
+  same_digest : (c d : Cap) (x y : Digest) → IsFirstLogin V login c x → IsFirstLogin V login d y → x ≡ y
+  same_digest c d x y h k = (one_first V login c d x y h k).1
+
+  one_enter_check : OneVerdict (enter_check V login secret)
+  one_enter_check None None h k = refl
+  one_enter_check None (Some g) h (inl k) = absurd (k.1 h.0 (digest_of secret) h.1.member)
+  one_enter_check None (Some g) h (inr k) = absurd (k.4 (same_digest k.1 h.0 k.2 (digest_of secret) k.3 h.1))
+  one_enter_check (Some f) None (inl h) k = absurd (h.1 k.0 (digest_of secret) k.1.member)
+  one_enter_check (Some f) None (inr h) k = absurd (h.4 (same_digest h.1 k.0 h.2 (digest_of secret) h.3 k.1))
+  one_enter_check (Some f) (Some g) (inl h) (inl k) = ap Some (h.0 ∙ sym k.0)
+  one_enter_check (Some f) (Some g) (inl h) (inr k) = absurd (h.1 k.1 k.2 k.3.member)
+  one_enter_check (Some f) (Some g) (inr h) (inl k) = absurd (k.1 h.1 h.2 h.3.member)
+  one_enter_check (Some f) (Some g) (inr h) (inr k) = ap Some (h.0 ∙ sym k.0)
 
 module _ (V : Op → Type 0) where
   one_check_of : (p : Process) (act : Act) → OneVerdict (checks_of V p act)
@@ -36,10 +64,28 @@ module _ (V : Op → Type 0) where
   one_check_of p (Relabel side (Ok label)) = one_demand cap_total cap_exact _ _ MissingCap
   one_check_of p (Relabel side (Err long)) = one_said
   one_check_of p (Ask c) = one_said
+  one_check_of p (Spawn caps) = one_demand cap_total cap_exact _ _ MissingCap
+  one_check_of p Exit = one_said
+  one_check_of p (Drop c) = one_said
+  one_check_of p (Enter login secret) = one_enter_check V login secret
+  one_check_of p (Emit bytes) = one_demand name_total name_exact _ _ Secrecy
+
+  one_bench_check : (b : State) (act : Act) → OneVerdict (bench_checks b act)
+  one_bench_check b (Spawn caps) = one_said
+  one_bench_check b (Order order) = one_said
+  one_bench_check b (Relabel side label) = one_said
+  one_bench_check b (Ask c) = one_said
+  one_bench_check b Exit = one_said
+  one_bench_check b (Drop c) = one_said
+  one_bench_check b (Enter login secret) = one_said
+  one_bench_check b (Emit bytes) = one_said
+
+  one_act_check : (b : State) (act : Act) (p : Process) → OneVerdict (act_checks V p act then bench_checks b act)
+  one_act_check b act p = one_then (act_checks V p act) (bench_checks b act) (one_then (refuse_if (is_busy p) Busy) (checks_of V p act) one_said (one_check_of p act)) (one_bench_check b act)
 
   one_check : (b : State) (job : Job) → OneVerdict (checks V b job)
   one_check b Proc = one_said
-  one_check b (By pid act) = one_with (map.get b.processes pid) (NoProcess pid) (λ p. act_checks V p act) (λ p. one_then (refuse_if (is_busy p) Busy) (checks_of V p act) one_said (one_check_of p act))
+  one_check b (By pid act) = one_with (map.get b.processes pid) (NoProcess pid) (λ p. act_checks V p act then bench_checks b act) (one_act_check b act)
   one_check b (Member root c) = one_said
 
 -- ---- each job that passes has one end
@@ -71,6 +117,15 @@ module _ (V : Op → Type 0) (b : State) where
   one_performs pid p (Relabel side (Ok label)) = one_end
   one_performs pid p (Relabel side (Err long)) = λ x y c d h k. absurd h
   one_performs pid p (Ask c) = one_answer
+  one_performs pid p (Spawn caps) = λ x y c d h k.
+      let e : h.0 ≡ k.0 = one_next h.0 k.0 h.1 k.1 in
+      (h.2 ∙ ap (λ q. Outcome.Reply (Made q)) e ∙ sym k.2, h.3 ∙ ap (λ q. born b q (child_of p caps)) e ∙ sym k.3)
+  one_performs pid p Exit = one_end
+  one_performs pid p (Drop c) = one_end
+  one_performs pid p (Enter login secret) = λ x y c d h k.
+      let e : h.0 ≡ k.0 = let_in_once V login secret h.0 k.0 h.1 k.1 in
+      (h.2 ∙ ap (λ cap. Outcome.Reply (Entered cap)) e ∙ sym k.2, h.3 ∙ ap (λ cap. has_at b pid (owning p (set.insert (owns p) cap))) e ∙ sym k.3)
+  one_performs pid p (Emit bytes) = one_end
 
   one_effect : (job : Job) → OneEnd (Effect V b job)
   one_effect Proc x y c d h k =

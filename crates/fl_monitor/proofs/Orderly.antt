@@ -9,14 +9,13 @@ use Rattle.fl_ops.specs.declared.op.Op.{Op}
 use Rattle.fl_jobs.specs.declared.job.Job.{Job}
 use Rattle.fl_jobs.specs.declared.answer.Refusal.{Refusal}
 use Rattle.fl_jobs.specs.declared.answer.Outcome.{Outcome}
-use Rattle.fl_monitor.specs.Process.{newborn}
-use Rattle.fl_monitor.specs.Bench.{State, IsNext, opened, has_at, born}
+use Rattle.fl_monitor.specs.Bench.{State, IsNext, opened, has_at, gone, born}
 use Rattle.fl_monitor.specs.Gifts.{settles}
 use Rattle.fl_monitor.specs.Jobs.{Does}
 use Rattle.fl_monitor.specs.Orderly.{IsPlace, IsOrderly}
 use Rattle.fl_monitor.specs.declared.process.Process.{Process}
-use Rattle.fl_monitor.proofs.Puts.{get_put, none_some}
-use Rattle.fl_monitor.proofs.Steps.{stays, turns, Changes, keeps, bears}
+use Rattle.fl_monitor.proofs.Puts.{get_put, left_there, none_some}
+use Rattle.fl_monitor.proofs.Steps.{Keeps, stays, turns, Changes, keeps, bears, loses}
 use Rattle.fl_monitor.proofs.Changes.{does_changes, settles_keeps}
 
 pub opened_orderly : (number boot index stride : ℕ) → 0 < stride → IsOrderly number (opened number boot index stride)
@@ -35,23 +34,30 @@ module _ {number : ℕ} {b : State} (h : IsOrderly number b) where
   put_orderly : (pid : Pid) (old new : Process) → map.get b.processes pid ≡ Some old → IsOrderly number (has_at b pid new)
   put_orderly pid old new e = record { node_is = h.node_is; forward = h.forward; each = put_places b.processes pid new (h.each pid old e) h.each }
 
-  born_orderly : (pid : Pid) → IsNext b pid → IsOrderly number (born b pid newborn)
-  born_orderly pid next = record {
+  gone_orderly : (pid : Pid) → IsOrderly number (gone b pid)
+  gone_orderly pid = record { node_is = h.node_is; forward = h.forward; each = λ k x e. h.each k x (left_there pid_total pid_exact b.processes pid k x e) }
+
+  born_orderly : (pid : Pid) (child : Process) → IsNext b pid → IsOrderly number (born b pid child)
+  born_orderly pid child next = record {
     node_is = h.node_is;
     forward = h.forward;
-    each = put_places b.processes pid newborn
+    each = put_places b.processes pid child
         (record { own = next.node ∙ h.node_is; below = omega (arith, next.serial, h.forward) })
         (λ k x e. let place = h.each k x e in record { own = place.own; below = omega (arith, place.below) });
   }
 
-  changes_orderly : (V : Op → Type 0) {after : State} → Changes V b after → IsOrderly number after
-  changes_orderly V (keeps (stays e)) = subst (IsOrderly number) (sym e) h
-  changes_orderly V (keeps (turns pid old new e follows is)) = subst (IsOrderly number) (sym is) (put_orderly pid old new e)
-  changes_orderly V (bears pid next is) = subst (IsOrderly number) (sym is) (born_orderly pid next)
+  keeps_orderly : (V : Op → Type 0) {after : State} → Keeps V b after → IsOrderly number after
+  keeps_orderly V (stays e) = subst (IsOrderly number) (sym e) h
+  keeps_orderly V (turns pid old new e follows is) = subst (IsOrderly number) (sym is) (put_orderly pid old new e)
+
+  changes_orderly : (V : Op → Type 0) {job : Job} {after : State} → Changes V b job after → IsOrderly number after
+  changes_orderly V (keeps k) = keeps_orderly V k
+  changes_orderly V (bears pid child birth is) = subst (IsOrderly number) (sym is) (born_orderly pid child birth.next)
+  changes_orderly V (loses pid asked is) = subst (IsOrderly number) (sym is) (gone_orderly pid)
 
   pub does_orderly : {V : Op → Type 0} {after : State} {job : Job} {r : Result Outcome Refusal} → Does V b job r after → IsOrderly number after
   does_orderly {V} d = changes_orderly V (does_changes V d)
 
   -- a finish and a cancel
   pub settles_orderly : (pid : Pid) (caps : List Cap) → IsOrderly number (settles b pid caps)
-  settles_orderly pid caps = changes_orderly (λ op. ⊥) (keeps (settles_keeps (λ op. ⊥) b pid caps))
+  settles_orderly pid caps = keeps_orderly (λ op. ⊥) (settles_keeps (λ op. ⊥) b pid caps)

@@ -2,6 +2,7 @@
 use Rattle.std.proofs.Common.{◌≡◌, inl, inr, refl, sym, subst, Bool, true, false, Some, None, Result, Ok, Err}
 use Rattle.std.specs.FinMap as map
 use Rattle.fl_labels.specs.Name.{name_cmp}
+use Rattle.fl_labels.specs.SetBy as set
 use Rattle.fl_labels.specs.SetBy.{SetBy}
 use Rattle.fl_labels.specs.declared.cap.Cap.{Cap}
 use Rattle.fl_labels.specs.declared.cap.Cap.TheVariants.{Plus, Minus, Use, Grow}
@@ -12,7 +13,7 @@ use Rattle.fl_jobs.specs.declared.job.Side.{Side}
 use Rattle.fl_jobs.specs.declared.job.Side.TheVariants.{Secrecy, Integrity}
 use Rattle.fl_jobs.specs.declared.job.Order as order
 use Rattle.fl_jobs.specs.declared.job.Act.{Act}
-use Rattle.fl_jobs.specs.declared.job.Act.TheVariants.{Order, Relabel, Ask}
+use Rattle.fl_jobs.specs.declared.job.Act.TheVariants.{Order, Relabel, Ask, Spawn, Exit, Drop, Enter, Emit}
 use Rattle.fl_jobs.specs.declared.job.Job.{Job}
 use Rattle.fl_jobs.specs.declared.job.Job.TheVariants.{Proc, By, Member}
 use Rattle.fl_jobs.specs.declared.answer.Refusal.{Refusal}
@@ -20,11 +21,12 @@ use Rattle.fl_jobs.specs.declared.answer.Refusal.TheVariants.{NoProcess, Busy}
 use Rattle.fl_jobs.specs.declared.answer.Reply.{Reply}
 use Rattle.fl_jobs.specs.declared.answer.Outcome.{Outcome}
 use Rattle.fl_rules.specs.Safety.{SafeChange}
-use Rattle.fl_monitor.specs.Checks.{refuse_if, with}
-use Rattle.fl_monitor.specs.Process.{newborn, is_busy, ordering, effective, side_of, with_side, body_of}
-use Rattle.fl_monitor.specs.Bench.{State, has_at, IsNext, born}
-use Rattle.fl_monitor.specs.Jobs.{order_checks, checks_of, act_checks, checks, Answers, Performs, Effect, Does, passed, failed, no_room}
+use Rattle.fl_monitor.specs.Checks.{refuse_if, with, ◌then◌}
+use Rattle.fl_monitor.specs.Process.{newborn, owns, is_busy, ordering, owning, child_of, effective, side_of, with_side, body_of}
+use Rattle.fl_monitor.specs.Bench.{State, has_at, gone, born}
+use Rattle.fl_monitor.specs.Jobs.{order_checks, checks_of, act_checks, bench_checks, checks, Answers, Performs, Effect, Does, passed, failed, no_room}
 use Rattle.fl_monitor.specs.Following.{Follows}
+use Rattle.fl_monitor.specs.Births.{IsBirth, alone, of}
 use Rattle.fl_monitor.specs.declared.process.Process.{Process}
 
 -- ---- what a step is
@@ -34,10 +36,11 @@ pub data Keeps (V : Op → Type 0) (b after : State) : Type 0 where
   stays : after ≡ b → Keeps V b after
   turns : (pid : Pid) (old new : Process) → map.get b.processes pid ≡ Some old → Follows V (Some old) (Some new) → after ≡ has_at b pid new → Keeps V b after
 
--- or has them still and a new one
-pub data Changes (V : Op → Type 0) (b after : State) : Type 0 where
-  keeps : Keeps V b after → Changes V b after
-  bears : (pid : Pid) → IsNext b pid → after ≡ born b pid newborn → Changes V b after
+-- or has them still and a new one, or the one that asked to go is gone
+pub data Changes (V : Op → Type 0) (b : State) (job : Job) (after : State) : Type 0 where
+  keeps : Keeps V b after → Changes V b job after
+  bears : (pid : Pid) (child : Process) → IsBirth V b job pid child → after ≡ born b pid child → Changes V b job after
+  loses : (pid : Pid) → job ≡ By pid Exit → after ≡ gone b pid → Changes V b job after
 
 -- the job is the order of an idle process that stands as pid, and may ask for it
 pub record IsOrder (V : Op → Type 0) (b : State) (job : Job) (body : Body) (pid : Pid) (after : State) : Type 0 where
@@ -52,7 +55,7 @@ pub record IsOrder (V : Op → Type 0) (b : State) (job : Job) (body : Body) (pi
 
 pub data Step (V : Op → Type 0) (b : State) (job : Job) : Result Outcome Refusal → State → Type 0 where
   refuses : {f : Refusal} → Step V b job (Err f) b
-  replies : {reply : Reply} {after : State} → Changes V b after → Step V b job (Ok (Outcome.Reply reply)) after
+  replies : {reply : Reply} {after : State} → Changes V b job after → Step V b job (Ok (Outcome.Reply reply)) after
   orders : {body : Body} {pid : Pid} {after : State} → IsOrder V b job body pid after → Step V b job (Ok (Outcome.Order body pid)) after
 
 -- ---- labels
@@ -79,7 +82,7 @@ module _ (V : Op → Type 0) where
   -- ---- the step of each job
 
   module _ (b : State) where
-    replied : {job : Job} {x : Outcome} {reply : Reply} {after : State} → x ≡ Outcome.Reply reply → Changes V b after → Step V b job (Ok x) after
+    replied : {job : Job} {x : Outcome} {reply : Reply} {after : State} → x ≡ Outcome.Reply reply → Changes V b job after → Step V b job (Ok x) after
     replied {job} {after} e h = subst (λ x. Step V b job (Ok x) after) (sym e) (replies h)
 
     answered : {job : Job} {x : Outcome} {P : Type 0} {after : State} → Answers x P → after ≡ b → Step V b job (Ok x) after
@@ -93,17 +96,25 @@ module _ (V : Op → Type 0) where
     act_step pid p (Relabel side (Ok label)) x after e idle h f = replied f.0 (keeps (turns pid p _ e (set_label p side label h) f.1))
     act_step pid p (Relabel side (Err long)) x after e idle h f = absurd f
     act_step pid p (Ask c) x after e idle h f = answered f.0 f.1
+    act_step pid p (Spawn caps) x after e idle h f = replied f.2 (bears f.0 (child_of p caps) (record { next = f.1; child_is = of refl e h }) f.3)
+    act_step pid p Exit x after e idle h f = replied f.0 (loses pid refl f.1)
+    act_step pid p (Drop c) x after e idle h f = let new = owning p (set.remove (owns p) c) in replied f.0 (keeps (turns pid p new e (same_labels p new refl) f.1))
+    act_step pid p (Enter login secret) x after e idle h f = let new = owning p (set.insert (owns p) f.0) in replied f.2 (keeps (turns pid p new e (same_labels p new refl) f.3))
+    act_step pid p (Emit bytes) x after e idle h f = replied f.0 (keeps (stays f.1))
+
+    all_passed : (pid : Pid) (act : Act) (p : Process) → map.get b.processes pid ≡ Some p → checks V b (By pid act) None → (act_checks V p act then bench_checks b act) None
+    all_passed pid act p e h = subst (λ o. with o (NoProcess pid) (λ p. act_checks V p act then bench_checks b act) None) e h
 
     -- what the process that asks has passed
     pub passed_by : (pid : Pid) (act : Act) (p : Process) → map.get b.processes pid ≡ Some p → checks V b (By pid act) None → act_checks V p act None
-    passed_by pid act p e h = subst (λ o. with o (NoProcess pid) (λ p. act_checks V p act) None) e h
+    passed_by pid act p e h = (all_passed pid act p e h).0
 
     is_idle : (busy : Bool) → refuse_if busy Busy None → busy ≡ false
     is_idle true h = absurd (cc)
     is_idle false h = refl
 
     job_step : (job : Job) (x : Outcome) (after : State) → checks V b job None → Effect V b job x after → Step V b job (Ok x) after
-    job_step Proc x after h f = replied f.2 (bears f.0 f.1 f.3)
+    job_step Proc x after h f = replied f.2 (bears f.0 newborn (record { next = f.1; child_is = alone refl }) f.3)
     job_step (By pid act) x after h f =
         let both = passed_by pid act f.0 f.1 h in
         act_step pid f.0 act x after f.1 (is_idle (is_busy f.0) both.0) both.1 f.2

@@ -1,5 +1,5 @@
 -- What the parts of a bench do: one process by itself, all of them with it, and a birth.
-use Rattle.std.specs.Prelude.{◌≡◌, false}
+use Rattle.std.specs.Prelude.{◌≡◌, ◌≢◌, true, false}
 use Rattle.std.specs.declared.option.Option.TheVariants.{None, Some}
 use Rattle.std.specs.declared.result.Result.{Result}
 use Rattle.std.specs.declared.result.Result.TheVariants.{Ok, Err}
@@ -7,33 +7,47 @@ use Rattle.std.specs.FinMap as map
 use Rattle.fl_labels.specs.Cap.{cap_cmp}
 use Rattle.fl_labels.specs.Name.{name_cmp}
 use Rattle.fl_labels.specs.Pid.{pid_cmp}
+use Rattle.fl_labels.specs.SetBy as set
 use Rattle.fl_labels.specs.SetBy.{SetBy, In}
+use Rattle.fl_labels.specs.declared.name.Name.{Name}
 use Rattle.fl_labels.specs.declared.cap.Cap.{Cap}
 use Rattle.fl_labels.specs.declared.pid.Pid.{Pid}
+use Rattle.fl_ops.specs.declared.digest.Digest.{Digest}
 use Rattle.fl_ops.specs.declared.op.Op.{Op}
 use Rattle.fl_jobs.specs.declared.job.Act.{Act}
-use Rattle.fl_jobs.specs.declared.job.Act.TheVariants.{Order, Relabel, Ask}
+use Rattle.fl_jobs.specs.declared.job.Act.TheVariants.{Order, Relabel, Ask, Spawn, Exit, Drop, Enter, Emit}
+use Rattle.fl_jobs.specs.declared.secret.Secret.{Secret}
 use Rattle.fl_jobs.specs.declared.job.Side.{Side}
 use Rattle.fl_jobs.specs.declared.job.TooLong.{TooLong}
 use Rattle.fl_jobs.specs.declared.answer.Refusal.{Refusal}
-use Rattle.fl_jobs.specs.declared.answer.Refusal.TheVariants.{NoProcess, MissingCap, NamesSpent, LabelTooLong, Memory}
-use Rattle.fl_jobs.specs.declared.answer.Reply.TheVariants.{Made, Done}
+use Rattle.fl_jobs.specs.declared.answer.Refusal.TheVariants.{NoProcess, MissingCap, NoLogin, WrongSecret, NamesSpent, LabelTooLong, Memory, NotOwned}
+use Rattle.fl_jobs.specs.declared.answer.Reply.TheVariants.{Made, Done, Entered, Out}
 use Rattle.fl_jobs.specs.declared.answer.Outcome.{Outcome}
 use Rattle.fl_ops.specs.Registry.{Eff}
+use Rattle.fl_ops.specs.Logins.{IsFirstLogin, HasNoLogin}
 use Rattle.fl_rules.specs.Safety.{Takes}
 use Rattle.fl_monitor.specs.Checks.{Check}
 use Rattle.fl_monitor.specs.Hand.{AtHand, Lacks}
-use Rattle.fl_monitor.specs.Process.{newborn, is_busy, ordering, effective, side_of, with_side, body_of}
+use Rattle.fl_monitor.specs.Secrets.{digest_of}
+use Rattle.fl_monitor.specs.Process.{owns, is_busy, ordering, owning, child_of, effective, side_of, with_side, body_of}
 use Rattle.fl_monitor.specs.Jobs.{change_check, act_checks, serials_left, Answers, ActTakesMemory}
 use Rattle.fl_monitor.specs.Bench.{State, IsNext, born}
 use Rattle.fl_monitor.specs.declared.process.Labels.{Labels}
 use Rattle.fl_monitor.specs.declared.process.Process.{Process}
+use Rattle.fl_monitor.specs.declared.sequel.Sequel.{Sequel}
+use Rattle.fl_monitor.specs.declared.sequel.Sequel.TheVariants.{Answer, Birth, End}
 
 -- the check passes, or fails so, or there was no memory for it, which there may not be where Q
 pub data Checked (check : Check) (Q : Type 0) : Result (Unit {0}) Refusal → Type 0 where
   passed : check None → Checked check Q (Ok tt)
   failed : {f : Refusal} → check (Some f) → Checked check Q (Err f)
   no_room : Q → Checked check Q (Err Memory)
+
+-- the check passes, and gives x, or fails so, or there was no memory, which there may not be where Q
+pub data Gives {T : Type 0} (check : Check) (Q : Type 0) (x : T) : Result T Refusal → Type 0 where
+  passed : check None → Gives check Q x (Ok x)
+  failed : {f : Refusal} → check (Some f) → Gives check Q x (Err f)
+  no_room : Q → Gives check Q x (Err Memory)
 
 -- c is in effect, or is named as what is missing
 pub data Required (E : Cap → Type 0) (c : Cap) : Result (Unit {0}) Refusal → Type 0 where
@@ -53,26 +67,48 @@ pub data Relabels (V : Op → Type 0) (owned : SetBy cap_cmp) (old : Labels) (si
   too_long : {e : TooLong} → given ≡ Err e → Relabels V owned old side given (Err LabelTooLong) old
   no_room : {label : SetBy name_cmp} → given ≡ Ok label → Lacks (Takes (side_of side old) label) (AtHand V owned) → Relabels V owned old side given (Err Memory) old
 
--- what the process answers to an act, and becomes
-abbrev pub Becomes : (Op → Type 0) → Pid → Process → Act → Outcome → Process → Type 0
-Becomes V pid p (Order order) outcome p' = (outcome ≡ Outcome.Order (body_of order) pid) × (p' ≡ ordering p)
-Becomes V pid p (Relabel side (Err e)) outcome p' = ⊥
-Becomes V pid p (Relabel side (Ok label)) outcome p' = (outcome ≡ Outcome.Reply Done) × (p' ≡ record p { labels = with_side side label p.labels })
-Becomes V pid p (Ask c) outcome p' = Answers outcome (effective V p c) × (p' ≡ p)
+-- who owns these gives c up, or does not own it
+pub data GivesUp (owned : SetBy cap_cmp) (c : Cap) : Result Outcome Refusal → SetBy cap_cmp → Type 0 where
+  gone : set.contains owned c ≡ true → GivesUp owned c (Ok (Outcome.Reply Done)) (set.remove owned c)
+  never : set.contains owned c ≡ false → GivesUp owned c (Err (NotOwned c)) owned
+
+-- who owns these enters a login by a secret
+pub data Enters (V : Op → Type 0) (owned : SetBy cap_cmp) (login : Name) (secret : Secret) : Result Outcome Refusal → SetBy cap_cmp → Type 0 where
+  enters : {c : Cap} → IsFirstLogin V login c (digest_of secret) → Enters V owned login secret (Ok (Outcome.Reply (Entered c))) (set.insert owned c)
+  unknown : HasNoLogin V login → Enters V owned login secret (Err (NoLogin login)) owned
+  wrong : {c : Cap} {digest : Digest} → IsFirstLogin V login c digest → digest ≢ digest_of secret → Enters V owned login secret (Err WrongSecret) owned
+  no_room : {c : Cap} → IsFirstLogin V login c (digest_of secret) → Enters V owned login secret (Err Memory) owned
+
+-- an answer that nothing follows
+abbrev pub answered : Result Outcome Refusal → Result Sequel Refusal
+answered (Ok outcome) = Ok (Answer outcome)
+answered (Err f) = Err f
+
+-- what follows from an act of the process, and what it becomes
+abbrev pub Becomes : (Op → Type 0) → Pid → Process → Act → Sequel → Process → Type 0
+Becomes V pid p (Order order) sequel p' = (sequel ≡ Answer (Outcome.Order (body_of order) pid)) × (p' ≡ ordering p)
+Becomes V pid p (Relabel side (Err e)) sequel p' = ⊥
+Becomes V pid p (Relabel side (Ok label)) sequel p' = (sequel ≡ Answer (Outcome.Reply Done)) × (p' ≡ record p { labels = with_side side label p.labels })
+Becomes V pid p (Ask c) sequel p' = (outcome : Outcome) × (sequel ≡ Answer outcome) × Answers outcome (effective V p c) × (p' ≡ p)
+Becomes V pid p (Spawn caps) sequel p' = (sequel ≡ Birth (child_of p caps)) × (p' ≡ p)
+Becomes V pid p Exit sequel p' = (sequel ≡ End) × (p' ≡ p)
+Becomes V pid p (Drop c) sequel p' = (sequel ≡ Answer (Outcome.Reply Done)) × (p' ≡ owning p (set.remove (owns p) c))
+Becomes V pid p (Enter login secret) sequel p' = (c : Cap) × IsFirstLogin V login c (digest_of secret) × (sequel ≡ Answer (Outcome.Reply (Entered c))) × (p' ≡ owning p (set.insert (owns p) c))
+Becomes V pid p (Emit bytes) sequel p' = (sequel ≡ Answer (Outcome.Reply (Out bytes))) × (p' ≡ p)
 
 -- the act may have this result, and leaves p'
-pub data Acts (V : Op → Type 0) (pid : Pid) (p : Process) (act : Act) : Result Outcome Refusal → Process → Type 0 where
-  passed : {outcome : Outcome} {p' : Process} → act_checks V p act None → Becomes V pid p act outcome p' → Acts V pid p act (Ok outcome) p'
+pub data Acts (V : Op → Type 0) (pid : Pid) (p : Process) (act : Act) : Result Sequel Refusal → Process → Type 0 where
+  passed : {sequel : Sequel} {p' : Process} → act_checks V p act None → Becomes V pid p act sequel p' → Acts V pid p act (Ok sequel) p'
   failed : {f : Refusal} → act_checks V p act (Some f) → Acts V pid p act (Err f) p
   no_room : is_busy p ≡ false → ActTakesMemory V p act → Acts V pid p act (Err Memory) p
 
 -- one process of many acts by itself
-pub data ActsAt (V : Op → Type 0) (m : map.FinMap pid_cmp Process) (pid : Pid) (act : Act) : Result Outcome Refusal → map.FinMap pid_cmp Process → Type 0 where
+pub data ActsAt (V : Op → Type 0) (m : map.FinMap pid_cmp Process) (pid : Pid) (act : Act) : Result Sequel Refusal → map.FinMap pid_cmp Process → Type 0 where
   nobody : map.get m pid ≡ None → ActsAt V m pid act (Err (NoProcess pid)) m
-  did : {p p' : Process} {result : Result Outcome Refusal} → map.get m pid ≡ Some p → Acts V pid p act result p' → ActsAt V m pid act result (map.insert m pid p')
+  did : {p p' : Process} {result : Result Sequel Refusal} → map.get m pid ≡ Some p → Acts V pid p act result p' → ActsAt V m pid act result (map.insert m pid p')
 
--- a new process is put as the next, where a serial and room are left
-pub data Births (b : State) : Result Outcome Refusal → State → Type 0 where
-  made : {pid : Pid} → serials_left b None → IsNext b pid → Births b (Ok (Outcome.Reply (Made pid))) (born b pid newborn)
-  spent : serials_left b (Some NamesSpent) → Births b (Err NamesSpent) b
-  full : serials_left b None → Births b (Err Memory) b
+-- the process p is put as the next, where a serial and room are left
+pub data Births (b : State) (p : Process) : Result Outcome Refusal → State → Type 0 where
+  made : {pid : Pid} → serials_left b None → IsNext b pid → Births b p (Ok (Outcome.Reply (Made pid))) (born b pid p)
+  spent : serials_left b (Some NamesSpent) → Births b p (Err NamesSpent) b
+  full : serials_left b None → Births b p (Err Memory) b

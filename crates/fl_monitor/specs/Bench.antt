@@ -24,6 +24,10 @@ opened node boot index stride = record { node = node; boot = boot; next = index;
 abbrev pub has_at : State → Pid → Process → State
 has_at b pid p = record b { processes = map.insert b.processes pid p }
 
+-- with no process as pid
+abbrev pub gone : State → Pid → State
+gone b pid = record b { processes = map.remove b.processes pid }
+
 -- pid is what the next process is called
 pub record IsNext (b : State) (pid : Pid) : Type 0 where
   pub node : pid.node ≡ b.node

@@ -1,31 +1,37 @@
 -- What a bench does with a job: the checks of each, in their order, and what it leaves and answers where none fails.
-use Rattle.std.specs.Prelude.{◌≡◌, ◌≢◌, ◌⊎◌, false, nat_lt}
+use Rattle.std.specs.Prelude.{◌≡◌, ◌≢◌, ◌⊎◌, false, nat_lt, not}
 use Rattle.std.specs.declared.option.Option.TheVariants.{None, Some}
 use Rattle.std.specs.declared.result.Result.{Result}
 use Rattle.std.specs.declared.result.Result.TheVariants.{Ok, Err}
 use Rattle.std.specs.FinMap as map
 use Rattle.fl_labels.specs.Cap.{cap_cmp}
 use Rattle.fl_labels.specs.Name.{name_cmp}
+use Rattle.fl_labels.specs.SetBy as set
 use Rattle.fl_labels.specs.SetBy.{SetBy, In}
+use Rattle.fl_labels.specs.declared.name.Name.{Name}
 use Rattle.fl_labels.specs.declared.cap.Cap.{Cap}
 use Rattle.fl_labels.specs.declared.pid.Pid.{Pid}
+use Rattle.fl_ops.specs.declared.digest.Digest.{Digest}
 use Rattle.fl_ops.specs.declared.op.Op.{Op}
 use Rattle.fl_ops.specs.Registry.{Reach, From, Global}
+use Rattle.fl_ops.specs.Logins.{IsFirstLogin, HasNoLogin}
 use Rattle.fl_jobs.specs.declared.job.Order as orders
-use Rattle.fl_jobs.specs.declared.job.Order.TheVariants.{Tag, Group, Put}
+use Rattle.fl_jobs.specs.declared.job.Order.TheVariants.{Tag, Group, Put, MakeLogin}
 use Rattle.fl_jobs.specs.declared.job.Act.{Act}
-use Rattle.fl_jobs.specs.declared.job.Act.TheVariants.{Order, Relabel, Ask}
+use Rattle.fl_jobs.specs.declared.job.Act.TheVariants.{Order, Relabel, Ask, Spawn, Exit, Drop, Enter, Emit}
 use Rattle.fl_jobs.specs.declared.job.Job.{Job}
 use Rattle.fl_jobs.specs.declared.job.Job.TheVariants.{Proc, By, Member}
+use Rattle.fl_jobs.specs.declared.secret.Secret.{Secret}
 use Rattle.fl_jobs.specs.declared.answer.Refusal.{Refusal}
-use Rattle.fl_jobs.specs.declared.answer.Refusal.TheVariants.{NoProcess, MissingCap, NamesSpent, LabelTooLong, Memory, Busy}
-use Rattle.fl_jobs.specs.declared.answer.Reply.TheVariants.{Made, Done, Yes, NotYet}
+use Rattle.fl_jobs.specs.declared.answer.Refusal.TheVariants.{NoProcess, MissingCap, Secrecy, NoLogin, WrongSecret, NamesSpent, LabelTooLong, Memory, NotOwned, Busy}
+use Rattle.fl_jobs.specs.declared.answer.Reply.TheVariants.{Made, Done, Yes, NotYet, Entered, Out}
 use Rattle.fl_jobs.specs.declared.answer.Outcome.{Outcome}
-use Rattle.fl_rules.specs.Safety.{Takes}
+use Rattle.fl_rules.specs.Safety.{Takes, Dual}
 use Rattle.fl_monitor.specs.Checks.{Check, no_check, fails, refuse_if, demand, with, ◌then◌}
-use Rattle.fl_monitor.specs.Process.{newborn, owns, is_busy, ordering, effective, side_of, with_side, body_of, PutTakes}
+use Rattle.fl_monitor.specs.Secrets.{digest_of}
+use Rattle.fl_monitor.specs.Process.{newborn, owns, is_busy, ordering, owning, child_of, effective, side_of, with_side, body_of, PutTakes}
 use Rattle.fl_monitor.specs.Hand.{AtHand, Lacks}
-use Rattle.fl_monitor.specs.Bench.{State, has_at, IsNext, born}
+use Rattle.fl_monitor.specs.Bench.{State, has_at, gone, IsNext, born}
 use Rattle.fl_monitor.specs.declared.process.Process.{Process}
 
 -- ---- the checks of each job, in their order
@@ -35,10 +41,26 @@ abbrev pub order_checks : (Cap → Type 0) → orders.Order → Check
 order_checks E (Tag policy) = no_check
 order_checks E Group = no_check
 order_checks E (Put group c) = demand cap_cmp (PutTakes group c) E MissingCap
+order_checks E (MakeLogin c secret) = demand cap_cmp (From c) E MissingCap
 
 -- of the change of one label into another, by who has E in effect
 abbrev pub change_check : (Cap → Type 0) → SetBy name_cmp → SetBy name_cmp → Check
 change_check E from to = demand cap_cmp (Takes from to) E MissingCap
+
+-- of a birth with these, by who has E in effect
+abbrev pub spawn_check : (Cap → Type 0) → SetBy cap_cmp → Check
+spawn_check E caps = demand cap_cmp (In caps) E MissingCap
+
+-- of an emission under this label, by who has E in effect
+abbrev pub emission_check : (Cap → Type 0) → SetBy name_cmp → Check
+emission_check E secrecy = demand name_cmp (In secrecy) (Dual E) Secrecy
+
+-- of an entry by a secret: the registry has the login, and the least one of that name has the secret's digest
+abbrev pub enter_check : (Op → Type 0) → Name → Secret → Check
+enter_check V login secret None = (c : Cap) × IsFirstLogin V login c (digest_of secret)
+enter_check V login secret (Some f) =
+    ((f ≡ NoLogin login) × HasNoLogin V login)
+    ⊎ ((f ≡ WrongSecret) × (c : Cap) × (digest : Digest) × IsFirstLogin V login c digest × (digest ≢ digest_of secret))
 
 -- of an act of the process p
 abbrev pub checks_of : (Op → Type 0) → Process → Act → Check
@@ -46,6 +68,11 @@ checks_of V p (Order order) = order_checks (effective V p) order
 checks_of V p (Relabel side (Err e)) = fails LabelTooLong
 checks_of V p (Relabel side (Ok label)) = change_check (effective V p) (side_of side p.labels) label
 checks_of V p (Ask c) = no_check
+checks_of V p (Spawn caps) = spawn_check (effective V p) caps
+checks_of V p Exit = no_check
+checks_of V p (Drop c) = refuse_if (not (set.contains (owns p) c)) (NotOwned c)
+checks_of V p (Enter login secret) = enter_check V login secret
+checks_of V p (Emit bytes) = emission_check (effective V p) p.labels.secrecy
 
 -- of an act of the process p, of which no operation may be under way
 abbrev pub act_checks : (Op → Type 0) → Process → Act → Check
@@ -55,10 +82,15 @@ act_checks V p act = refuse_if (is_busy p) Busy then checks_of V p act
 abbrev pub serials_left : State → Check
 serials_left b = refuse_if (nat_lt 4294967295 b.next) NamesSpent
 
+-- of an act, after those of the process: a serial is left for who is born
+abbrev pub bench_checks : State → Act → Check
+bench_checks b (Spawn caps) = serials_left b
+bench_checks b act = no_check
+
 -- who asks stands at the bench
 abbrev pub checks : (Op → Type 0) → State → Job → Check
 checks V b Proc = serials_left b
-checks V b (By pid act) = with (map.get b.processes pid) (NoProcess pid) (λ p. act_checks V p act)
+checks V b (By pid act) = with (map.get b.processes pid) (NoProcess pid) (λ p. act_checks V p act then bench_checks b act)
 checks V b (Member root c) = no_check
 
 -- ---- what a job leaves and answers
@@ -73,6 +105,11 @@ Performs V b pid p (Order order) outcome b' = (outcome ≡ Outcome.Order (body_o
 Performs V b pid p (Relabel side (Err e)) outcome b' = ⊥
 Performs V b pid p (Relabel side (Ok label)) outcome b' = (outcome ≡ Outcome.Reply Done) × (b' ≡ has_at b pid (record p { labels = with_side side label p.labels }))
 Performs V b pid p (Ask c) outcome b' = Answers outcome (effective V p c) × (b' ≡ b)
+Performs V b pid p (Spawn caps) outcome b' = (child : Pid) × IsNext b child × (outcome ≡ Outcome.Reply (Made child)) × (b' ≡ born b child (child_of p caps))
+Performs V b pid p Exit outcome b' = (outcome ≡ Outcome.Reply Done) × (b' ≡ gone b pid)
+Performs V b pid p (Drop c) outcome b' = (outcome ≡ Outcome.Reply Done) × (b' ≡ has_at b pid (owning p (set.remove (owns p) c)))
+Performs V b pid p (Enter login secret) outcome b' = (c : Cap) × IsFirstLogin V login c (digest_of secret) × (outcome ≡ Outcome.Reply (Entered c)) × (b' ≡ has_at b pid (owning p (set.insert (owns p) c)))
+Performs V b pid p (Emit bytes) outcome b' = (outcome ≡ Outcome.Reply (Out bytes)) × (b' ≡ b)
 
 -- a job at the bench b, which it leaves as b'
 abbrev pub Effect : (Op → Type 0) → State → Job → Outcome → State → Type 0
@@ -88,6 +125,11 @@ ActTakesMemory V p (Order order) = Unit {0}
 ActTakesMemory V p (Relabel side (Err e)) = ⊥
 ActTakesMemory V p (Relabel side (Ok label)) = Lacks (Takes (side_of side p.labels) label) (AtHand V (owns p))
 ActTakesMemory V p (Ask c) = (¬ In (owns p) c) × (¬ Global V c)
+ActTakesMemory V p (Spawn caps) = Unit {0}
+ActTakesMemory V p Exit = ⊥
+ActTakesMemory V p (Drop c) = ⊥
+ActTakesMemory V p (Enter login secret) = enter_check V login secret None
+ActTakesMemory V p (Emit bytes) = Lacks (In p.labels.secrecy) (Dual (AtHand V (owns p)))
 
 abbrev pub TakesMemory : (Op → Type 0) → State → Job → Type 0
 TakesMemory V b Proc = serials_left b None

@@ -1,4 +1,5 @@
 pub mod Checks
+pub mod Secrets
 pub mod Process
 pub mod Hand
 pub mod Bench
@@ -7,3 +8,5 @@ pub mod Gifts
 pub mod Acts
 pub mod Orderly
 pub mod Following
+pub mod Births
+pub mod Gains

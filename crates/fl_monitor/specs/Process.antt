@@ -14,7 +14,8 @@ use Rattle.fl_ops.specs.Registry.{Eff}
 use Rattle.fl_jobs.specs.declared.job.Side.{Side}
 use Rattle.fl_jobs.specs.declared.job.Side.TheVariants.{Secrecy, Integrity}
 use Rattle.fl_jobs.specs.declared.job.Order.{Order}
-use Rattle.fl_jobs.specs.declared.job.Order.TheVariants.{Tag, Group, Put}
+use Rattle.fl_jobs.specs.declared.job.Order.TheVariants.{Tag, Group, Put, MakeLogin}
+use Rattle.fl_monitor.specs.Secrets.{digest_of}
 use Rattle.fl_monitor.specs.declared.process.Labels.{Labels}
 use Rattle.fl_monitor.specs.declared.process.Holding.{Holding}
 use Rattle.fl_monitor.specs.declared.process.Holding.TheVariants.{Idle, Ordering}
@@ -44,6 +45,14 @@ is_busy p = is_under_way p.owned
 abbrev pub ordering : Process → Process
 ordering p = record p { owned = Ordering (owns p) }
 
+-- idle, as the owner of these
+abbrev pub owning : Process → set.SetBy cap_cmp → Process
+owning p caps = record p { owned = Idle caps }
+
+-- a new process with the labels of p, which owns these
+abbrev pub child_of : Process → set.SetBy cap_cmp → Process
+child_of p caps = record { labels = p.labels; owned = Idle caps }
+
 -- what the process has in effect under the registry V
 abbrev pub effective : (Op → Type 0) → Process → Cap → Type 0
 effective V p = Eff V (In (owns p))
@@ -61,6 +70,7 @@ abbrev pub body_of : Order → Body
 body_of (Tag policy) = bodies.MakeTag policy
 body_of Group = bodies.MakeGroup
 body_of (Put group c) = bodies.Put group c
+body_of (MakeLogin c secret) = bodies.MakeLogin c (digest_of secret)
 
 abbrev pub OneOf : Cap → Cap → Cap → Type 0
 OneOf a b c = (c ≡ a) ⊎ (c ≡ b)

@@ -3,6 +3,7 @@ ghost use Rattle.std.specs.Option.{option_copied};
 ghost use Rattle.std.specs.Prelude.{◌≡◌, ◌≢◌, ◌≤◌, ◌<◌};
 ghost use Rattle.std.specs.FinMap as map;
 ghost use Rattle.fl_ops.specs.Registry.{Reach, From, Listed};
+ghost use Rattle.fl_jobs.specs.declared.job.Job.TheVariants.{By};
 ghost use Rattle.fl_monitor.specs.Bench.{opened};
 ghost use Rattle.fl_monitor.specs.Jobs.{Does};
 ghost use Rattle.fl_monitor.specs.Acts.{Births, Told};
@@ -10,9 +11,10 @@ ghost use Rattle.fl_monitor.specs.Gifts.{finished, cancelled};
 
 use crate::process::{Process, reply_of};
 use crate::processes::Processes;
+use crate::sequel::Sequel;
 use crate::view::View;
 use fl_jobs::answer::{Outcome, Refusal, Reply};
-use fl_jobs::job::Job;
+use fl_jobs::job::{Act, Job};
 use fl_labels::cap::Cap;
 use fl_labels::pid::Pid;
 use fl_ops::op::Op;
@@ -68,9 +70,9 @@ impl Bench {
         self.processes.get(pid)
     }
 
-    // A new process with nothing, under the next serial.
-    fn proc(&mut self, alloc: Global) -> Result<Outcome, Refusal>
-        ensures { Births self.old result self.new }
+    // A new process, under the next serial.
+    fn bear(&mut self, process: Process) -> Result<Outcome, Refusal>
+        ensures { Births self.old process result self.new }
     {
         let Ok(serial) = u32::try_from(self.next) else {
             return Err(Refusal::NamesSpent);
@@ -80,11 +82,32 @@ impl Bench {
             boot: self.boot,
             serial,
         };
-        let Ok(()) = self.processes.insert(pid, Process::new(alloc)) else {
+        let Ok(()) = self.processes.insert(pid, process) else {
             return Err(Refusal::Memory);
         };
         self.next += u64::from(self.stride);
         Ok(Outcome::Reply(Reply::Made(pid)))
+    }
+
+    // Does what one process asks for, and what follows.
+    fn act<V: View>(
+        &mut self,
+        alloc: Global,
+        view: &mut V,
+        pid: Pid,
+        act: Act,
+    ) -> Result<Outcome, Refusal>
+        ensures does { Does (Listed (V.list view.old)) self.old (By pid act) result self.new }
+        ensures same { V.list view.new ≡ V.list view.old }
+    {
+        match self.processes.act(alloc, view, pid, act)? {
+            Sequel::Answer(outcome) => Ok(outcome),
+            Sequel::Birth(child) => self.bear(child),
+            Sequel::End => {
+                self.processes.remove(pid);
+                Ok(Outcome::Reply(Reply::Done))
+            }
+        }
     }
 
     /// Does a job under the view's registry, or says why not and leaves the bench as it was. The reasons, in the order in
@@ -94,14 +117,19 @@ impl Bench {
     /// - `Busy`: an operation of who asks is under way: it was ordered, and neither finished nor cancelled.
     /// - `LabelTooLong`: the label that is asked for has more than 256 tags.
     /// - `MissingCap`: the least capability that the job takes and that is not in effect for who asks. The change of a label
-    ///   takes one for each tag that it gains or loses, and a put the right to grow the group, and the capability itself.
+    ///   takes one for each tag that it gains or loses, a put the right to grow the group, and the capability itself, a new login
+    ///   its capability, and a birth what the child is to own.
+    /// - `NotOwned`: the capability that is to be dropped is not owned.
+    /// - `NoLogin` and `WrongSecret`: there is no login of the name, or the least one has another secret.
+    /// - `Secrecy`: the least tag of the secrecy that who lets bytes out may not both add and remove.
     /// - `NamesSpent`: the next process would get a serial above 4,294,967,295.
-    /// - `Memory`: there was not enough for a new process, for an order, for the change of a label, or to search for a
-    ///   capability that is neither owned nor everybody's.
+    /// - `Memory`: there was not enough for a new process, for an order, for the change of a label, for an entry, or to search for
+    ///   a capability that is neither owned nor everybody's.
     ///
     /// An order becomes the body of an operation and its maker, whose operation is then under way, to be finished or cancelled:
-    /// there is room for what it gives. The change of a label asks the view once for all that is in effect, and then walks along
-    /// both labels; any other job asks it two questions at most.
+    /// there is room for what it gives. The change of a label, a birth and an emission look at each tag or capability that they
+    /// take, and where what is at hand does not do ask the view once for all that is in effect, and look again; any other job
+    /// asks the view two questions at most.
     pub fn job<V: View>(
         &mut self,
         alloc: Global,
@@ -112,8 +140,8 @@ impl Bench {
         ensures same { V.list view.new ≡ V.list view.old }
     {
         match job {
-            Job::Proc => self.proc(alloc),
-            Job::By(pid, act) => self.processes.act(alloc, view, pid, act),
+            Job::Proc => self.bear(Process::new(alloc)),
+            Job::By(pid, act) => self.act(alloc, view, pid, act),
             Job::Member(root, cap) => member(alloc, view, root, cap),
         }
     }

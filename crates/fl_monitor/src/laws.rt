@@ -1,18 +1,24 @@
 //! Laws of the jobs of a bench.
-ghost use Rattle.std.specs.Prelude.{◌≡◌, ◌≢◌, ◌<◌, List, ℕ, Result, Err};
+ghost use Rattle.std.specs.Prelude.{◌≡◌, ◌≢◌, ◌⊎◌, ◌<◌, List, ℕ, Option, None, Some, Result, Err};
 ghost use Rattle.std.specs.FinMap as map;
+ghost use Rattle.fl_labels.specs.declared.cap.Cap.{Cap};
 ghost use Rattle.fl_labels.specs.declared.pid.Pid.{Pid};
 ghost use Rattle.fl_ops.specs.Registry.{Listed};
 ghost use Rattle.fl_ops.specs.declared.op.Op.{Op};
 ghost use Rattle.fl_jobs.specs.declared.answer.Outcome.{Outcome};
 ghost use Rattle.fl_jobs.specs.declared.answer.Refusal.TheVariants.{Memory};
 ghost use Rattle.fl_jobs.specs.declared.answer.Refusal.{Refusal};
+ghost use Rattle.fl_jobs.specs.declared.job.Act.TheVariants.{Exit};
 ghost use Rattle.fl_jobs.specs.declared.job.Job.{Job};
+ghost use Rattle.fl_jobs.specs.declared.job.Job.TheVariants.{By};
 ghost use Rattle.fl_monitor.specs.Bench.{State, opened};
 ghost use Rattle.fl_monitor.specs.Following.{Follows};
 ghost use Rattle.fl_monitor.specs.Gifts.{cancelled, finished};
 ghost use Rattle.fl_monitor.specs.Jobs.{Does};
 ghost use Rattle.fl_monitor.specs.Orderly.{IsOrderly};
+ghost use Rattle.fl_monitor.specs.Births.{IsBirth, GoesOn};
+ghost use Rattle.fl_monitor.specs.Gains.{OwnsAt, Gains, GainsAtEnd};
+ghost use Rattle.fl_monitor.specs.declared.process.Process.{Process};
 
 /// Where memory is not wanted, a job at a bench has one result and leaves one bench.
 pub fn law_one_step()
@@ -29,8 +35,8 @@ pub fn law_orderly()
     ensures cancel { (number : ℕ) (b : State) (maker : Pid) → IsOrderly number b → IsOrderly number (cancelled b maker) }
 {}
 
-/// Whatever a job is answered, and when an operation is finished or cancelled, no process goes, a new one has nothing, and no label gains or loses
-/// what its process had not in effect.
+/// Whatever a job is answered, and when an operation is finished or cancelled, no label of a process gains or loses what its process had
+/// not in effect.
 pub fn law_labels()
     ensures job { (ops : List Op) (number : ℕ) (b after : State) (job : Job) (result : Result Outcome Refusal) (pid : Pid) →
         IsOrderly number b → Does (Listed ops) b job result after → Follows (Listed ops) (map.get b.processes pid) (map.get after.processes pid) }
@@ -38,4 +44,35 @@ pub fn law_labels()
         Follows (Listed ops) (map.get b.processes pid) (map.get (finished b maker op).processes pid) }
     ensures cancel { (ops : List Op) (b : State) (maker pid : Pid) →
         Follows (Listed ops) (map.get b.processes pid) (map.get (cancelled b maker).processes pid) }
+{}
+
+/// Whom a job brings to a bench it bore under the next serial: a process with nothing, or one with the labels of its parent that owns a part
+/// of what its parent has in effect. The next serial never falls, so that no two processes are called the same. The end of an operation
+/// brings nobody.
+pub fn law_births()
+    ensures job { (ops : List Op) (b after : State) (job : Job) (result : Result Outcome Refusal) (pid : Pid) (child : Process) →
+        Does (Listed ops) b job result after → map.get b.processes pid ≡ None → map.get after.processes pid ≡ Some child → IsBirth (Listed ops) b job pid child }
+    ensures forward { (ops : List Op) (b after : State) (job : Job) (result : Result Outcome Refusal) → Does (Listed ops) b job result after → GoesOn b after }
+    ensures finish { (b : State) (maker pid : Pid) (op : Op) → map.get b.processes pid ≡ None → map.get (finished b maker op).processes pid ≡ None }
+    ensures cancel { (b : State) (maker pid : Pid) → map.get b.processes pid ≡ None → map.get (cancelled b maker).processes pid ≡ None }
+{}
+
+/// Who is no more at a bench after a job has asked to go, and the end of an operation takes nobody away.
+pub fn law_exits()
+    ensures job { (ops : List Op) (b after : State) (job : Job) (result : Result Outcome Refusal) (pid : Pid) (old : Process) →
+        Does (Listed ops) b job result after → map.get b.processes pid ≡ Some old → map.get after.processes pid ≡ None → job ≡ By pid Exit }
+    ensures finish { (b : State) (maker pid : Pid) (old : Process) (op : Op) →
+        map.get b.processes pid ≡ Some old → map.get (finished b maker op).processes pid ≡ None → ⊥ }
+    ensures cancel { (b : State) (maker pid : Pid) (old : Process) →
+        map.get b.processes pid ≡ Some old → map.get (cancelled b maker).processes pid ≡ None → ⊥ }
+{}
+
+/// What a process owns after a job it owned before, was born with as a part of what its parent has in effect, or entered by a secret. After
+/// its operation it owns besides what that gives its maker, and nothing more where the operation is cancelled.
+pub fn law_owned()
+    ensures job { (ops : List Op) (b after : State) (job : Job) (result : Result Outcome Refusal) (pid : Pid) (cap : Cap) →
+        Does (Listed ops) b job result after → OwnsAt after pid cap → OwnsAt b pid cap ⊎ Gains (Listed ops) b job pid cap }
+    ensures finish { (b : State) (maker pid : Pid) (op : Op) (cap : Cap) →
+        OwnsAt (finished b maker op) pid cap → OwnsAt b pid cap ⊎ GainsAtEnd b maker op pid cap }
+    ensures cancel { (b : State) (maker pid : Pid) (cap : Cap) → OwnsAt (cancelled b maker) pid cap → OwnsAt b pid cap }
 {}

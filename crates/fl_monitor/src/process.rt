@@ -10,20 +10,25 @@ ghost use Rattle.fl_ops.specs.Registry.{Eff, Global as IsGlobal, Listed};
 ghost use Rattle.fl_jobs.specs.declared.answer.Refusal.TheVariants.{MissingCap};
 ghost use Rattle.fl_jobs.specs.declared.answer.Reply.TheVariants.{Yes, NotYet};
 ghost use Rattle.fl_monitor.specs.declared.process.Holding.TheVariants.{Ordering};
-ghost use Rattle.fl_monitor.specs.Process.{newborn, held, side_of, with_side, body_of, OneOf};
+ghost use Rattle.fl_monitor.specs.Process.{newborn, held, side_of, with_side, body_of, OneOf, PutTakes};
 ghost use Rattle.fl_monitor.specs.Checks.{demand};
 ghost use Rattle.fl_monitor.specs.Jobs.{order_checks, change_check};
 ghost use Rattle.fl_monitor.specs.Hand.{AtHand, Lacks};
-ghost use Rattle.fl_monitor.specs.Acts.{Checked, Required, Told, Relabels, Acts};
+ghost use Rattle.fl_monitor.specs.Acts.{Checked, Required, Told, Relabels, GivesUp, Acts};
 ghost use Rattle.fl_monitor.specs.Gifts.{given, settled};
 
+use crate::birth::spawn;
+use crate::emission::emit;
 use crate::held::Held;
+use crate::login::{digest_of_secret, enter};
+use crate::sequel::{Sequel, answer_alone};
 use crate::view::View;
 use fl_jobs::answer::{Outcome, Refusal, Reply};
 use fl_jobs::job::{Act, Order, Side, TooLong};
 use fl_labels::cap::Cap;
 use fl_labels::cap_set::CapSet;
 use fl_labels::label::Label;
+use fl_labels::name::Name;
 use fl_labels::pid::Pid;
 use fl_labels::roomy::RoomyCapSet;
 use fl_ops::op::{Body, Op};
@@ -188,6 +193,7 @@ fn body_of_order(order: Order) -> Body
         Order::Tag(policy) => Body::MakeTag(policy),
         Order::Group => Body::MakeGroup,
         Order::Put(group, cap) => Body::Put(group, cap),
+        Order::MakeLogin(cap, secret) => Body::MakeLogin(cap, digest_of_secret(secret)),
     }
 }
 
@@ -237,6 +243,25 @@ fn require_both<V: View>(
     require(alloc, view, owned, greater)
 }
 
+// Whether the owner of these capabilities may put this one into the group. Either of the two that it takes may be the lesser.
+fn check_put<V: View>(
+    alloc: Global,
+    view: &mut V,
+    owned: &CapSet,
+    group: Name,
+    cap: Cap,
+) -> Result<(), Refusal>
+    ensures checked { Checked (demand cap_cmp (PutTakes group cap) (Eff (Listed (V.list view.old)) (In owned.now)) MissingCap) ⊤ result }
+    ensures same { V.list view.new ≡ V.list view.old }
+{
+    let grow = Cap::Grow(group);
+    if cap < grow {
+        require_both(alloc, view, owned, cap, grow)
+    } else {
+        require_both(alloc, view, owned, grow, cap)
+    }
+}
+
 // Whether the owner of these capabilities may give this order.
 fn check_order<V: View>(
     alloc: Global,
@@ -247,14 +272,11 @@ fn check_order<V: View>(
     ensures checked { Checked (order_checks (Eff (Listed (V.list view.old)) (In owned.now)) order) ⊤ result }
     ensures same { V.list view.new ≡ V.list view.old }
 {
-    let Order::Put(group, cap) = order else {
-        return Ok(());
-    };
-    let grow = Cap::Grow(group);
-    if cap < grow {
-        require_both(alloc, view, owned, cap, grow)
-    } else {
-        require_both(alloc, view, owned, grow, cap)
+    match order {
+        Order::Tag(_) => Ok(()),
+        Order::Group => Ok(()),
+        Order::Put(group, cap) => check_put(alloc, view, owned, group, cap),
+        Order::MakeLogin(cap, _) => require(alloc, view, owned, cap),
     }
 }
 
@@ -267,6 +289,16 @@ fn ask<V: View>(alloc: Global, view: &mut V, owned: &CapSet, cap: Cap) -> Result
         return Err(Refusal::Memory);
     };
     Ok(Outcome::Reply(reply_of(yes)))
+}
+
+// Takes the capability away, where it is owned.
+fn give_up(owned: &mut CapSet, cap: Cap) -> Result<Outcome, Refusal>
+    ensures { GivesUp owned.old cap result owned.new }
+{
+    if !owned.remove(cap) {
+        return Err(Refusal::NotOwned(cap));
+    }
+    Ok(Outcome::Reply(Reply::Done))
 }
 
 impl Process {
@@ -283,18 +315,18 @@ impl Process {
         }
     }
 
-    /// Does what the process asks for by itself, unless an operation of it is under way.
+    /// Does what the process asks for by itself, unless an operation of it is under way, and answers what follows.
     pub(crate) fn act<V: View>(
         &mut self,
         alloc: Global,
         view: &mut V,
         pid: Pid,
         act: Act,
-    ) -> Result<Outcome, Refusal>
+    ) -> Result<Sequel, Refusal>
         ensures acts { Acts (Listed (V.list view.old)) pid self.old act result self.new }
         ensures same { V.list view.new ≡ V.list view.old }
     {
-        let Holding::Idle(owned) = &self.owned else {
+        let Holding::Idle(owned) = &mut self.owned else {
             return Err(Refusal::Busy);
         };
         match act {
@@ -303,10 +335,17 @@ impl Process {
                 let Ok(()) = self.owned.begin(alloc) else {
                     return Err(Refusal::Memory);
                 };
-                Ok(Outcome::Order(body_of_order(order), pid))
+                Ok(Sequel::Answer(Outcome::Order(body_of_order(order), pid)))
             }
-            Act::Relabel(side, label) => self.labels.relabel(alloc, view, owned, side, label),
-            Act::Ask(cap) => ask(alloc, view, owned, cap),
+            Act::Relabel(side, label) => {
+                answer_alone(self.labels.relabel(alloc, view, owned, side, label))
+            }
+            Act::Ask(cap) => answer_alone(ask(alloc, view, owned, cap)),
+            Act::Spawn(caps) => spawn(alloc, view, &self.labels, owned, caps),
+            Act::Exit => Ok(Sequel::End),
+            Act::Drop(cap) => answer_alone(give_up(owned, cap)),
+            Act::Enter(login, secret) => answer_alone(enter(view, owned, login, secret)),
+            Act::Emit(bytes) => emit(alloc, view, owned, &self.labels.secrecy, bytes),
         }
     }
 

@@ -7,8 +7,9 @@ ghost use Rattle.fl_monitor.specs.Acts.{ActsAt};
 ghost use Rattle.fl_monitor.specs.Gifts.{given, receives};
 
 use crate::process::Process;
+use crate::sequel::Sequel;
 use crate::view::View;
-use fl_jobs::answer::{Outcome, Refusal};
+use fl_jobs::answer::Refusal;
 use fl_jobs::job::Act;
 use fl_labels::pid::Pid;
 use fl_ops::op::Op;
@@ -64,14 +65,21 @@ impl Processes {
         Ok(())
     }
 
-    /// Does what one process asks for by itself.
+    /// Removes a process, if there is that process. Takes no memory.
+    pub fn remove(&mut self, pid: Pid)
+        ensures { self.new ≡ map.remove self.old pid }
+    {
+        let _ = self.all.remove(&pid);
+    }
+
+    /// Does what one process asks for by itself, and answers what follows.
     pub fn act<V: View>(
         &mut self,
         alloc: Global,
         view: &mut V,
         pid: Pid,
         act: Act,
-    ) -> Result<Outcome, Refusal>
+    ) -> Result<Sequel, Refusal>
         ensures acts { ActsAt (Listed (V.list view.old)) self.old pid act result self.new }
         ensures same { V.list view.new ≡ V.list view.old }
     {

@@ -60,10 +60,9 @@ fn changes_by_a_group(rt: HostRuntime) -> Result<(), Fail> {
     let alloc = rt.alloc();
     let mut ops = Index::new(alloc);
     let mut bench = opened(alloc, &mut ops)?;
-    let done = Ok(Outcome::Reply(Reply::Done));
     for (label, answer) in [
-        ("{1.2,1.4}", done),
-        ("{1.3,1.4}", done),
+        ("{1.2,1.4}", Ok(Outcome::Reply(Reply::Done))),
+        ("{1.3,1.4}", Ok(Outcome::Reply(Reply::Done))),
         ("{1.2,1.4}", Err(Refusal::MissingCap(Cap::Minus(OTHER)))),
         ("{1.3}", Err(Refusal::MissingCap(Cap::Minus(EXPORT)))),
         (

@@ -2,16 +2,19 @@
 use fl_closure::index::Index;
 use fl_labels::cap::Cap;
 use fl_labels::cap_set::CapSet;
+use fl_labels::name::Name;
+use fl_ops::digest::Digest;
 use std::alloc::{AllocError, Global};
 
 /// A list of operations, which questions do not change. The answers to some questions are searched for, which takes memory.
 pub trait View {
-    ghost use Rattle.std.specs.Prelude.{◌≡◌, ◌≢◌, ◌↔◌, List, IfOk, OnErr};
+    ghost use Rattle.std.specs.Prelude.{◌≡◌, ◌≢◌, ◌↔◌, List, IfOk, OnErr, MatchOption};
     ghost use Rattle.fl_labels.specs.Found.{Tells};
     ghost use Rattle.fl_labels.specs.SetBy.{In};
     ghost use Rattle.fl_labels.specs.declared.cap.Cap.{Cap};
     ghost use Rattle.fl_ops.specs.declared.op.Op.{Op};
     ghost use Rattle.fl_ops.specs.Registry.{Reach, From, Global as IsGlobal, Eff, Listed};
+    ghost use Rattle.fl_ops.specs.Logins.{IsFirstLogin, HasNoLogin};
 
     // the operations
     ghost list: { Self → List Op };
@@ -39,6 +42,11 @@ pub trait View {
     fn global(&mut self, cap: Cap) -> bool
         ensures answer { Tells result (IsGlobal (Listed (list self.old)) cap) }
         ensures same { list self.new ≡ list self.old };
+
+    /// The least login of this name, as its capability and the digest of its secret, or none. Takes no memory.
+    fn login(&mut self, name: Name) -> Option<(Cap, Digest)>
+        ensures answer { MatchOption result (HasNoLogin (Listed (list self.old)) name) (λ l. IsFirstLogin (Listed (list self.old)) name l.0 l.1) }
+        ensures same { list self.new ≡ list self.old };
 }
 
 /// All of its operations.
@@ -61,5 +69,9 @@ impl View for Index {
 
     fn global(&mut self, cap: Cap) -> bool {
         Index::global(self, cap)
+    }
+
+    fn login(&mut self, name: Name) -> Option<(Cap, Digest)> {
+        Index::login(self, name)
     }
 }

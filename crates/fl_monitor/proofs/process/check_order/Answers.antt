@@ -1,12 +1,14 @@
-use Rattle.std.proofs.Common.{refl}
-use Rattle.fl_monitor.proofs.ActLemmas.{unchecked, put_checked, turned}
+use Rattle.fl_monitor.proofs.ActLemmas.{tag_checked, group_checked, put_checked, login_checked}
 use Rattle.fl_monitor.proofs.process.check_order.Goals as goal
 
-pub returns-in_default : goal.returns-in_default
-returns-in_default g c = record { checked = unchecked _ c.args.order c.in_default.not-Put; same = refl }
+pub returns-in-Tag-clause-checked : goal.returns-in-Tag-clause-checked
+returns-in-Tag-clause-checked g c = tag_checked _ c.args.order _ c.in-Tag.is
 
-pub returns-then-lt-clause-checked : goal.returns-then-lt-clause-checked
-returns-then-lt-clause-checked g c = put_checked _ c.args.order _ _ c.in-Put.is (turned _ _ _ c.require_both.ensures.checked)
+pub returns-in-Group-clause-checked : goal.returns-in-Group-clause-checked
+returns-in-Group-clause-checked g c = group_checked _ c.args.order c.in-Group.is
 
-pub returns-else-lt-clause-checked : goal.returns-else-lt-clause-checked
-returns-else-lt-clause-checked g c = put_checked _ c.args.order _ _ c.in-Put.is c.require_both-else-lt.ensures.checked
+pub returns-in-Put-clause-checked : goal.returns-in-Put-clause-checked
+returns-in-Put-clause-checked g c = put_checked _ c.args.order _ _ c.in-Put.is c.check_put.ensures.checked
+
+pub returns-in-MakeLogin-clause-checked : goal.returns-in-MakeLogin-clause-checked
+returns-in-MakeLogin-clause-checked g c = login_checked _ c.args.order _ _ c.in-MakeLogin.is c.require.ensures.required

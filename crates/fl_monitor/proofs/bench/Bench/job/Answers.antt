@@ -1,11 +1,11 @@
-use Rattle.fl_monitor.proofs.JobLemmas.{births_does, acts_does, told_does}
+use Rattle.fl_monitor.proofs.JobLemmas.{births_does, told_does}
 use Rattle.fl_monitor.proofs.bench.Bench.job.Goals as goal
 
 pub returns-in-Proc-clause-does : goal.returns-in-Proc-clause-does
-returns-in-Proc-clause-does g c = rw c.in-Proc.is (births_does _ c.args.self.now c.proc.ensures)
+returns-in-Proc-clause-does g c = rw c.in-Proc.is (births_does _ c.args.self.now _ c.new.ensures c.bear.ensures)
 
 pub returns-in-By-clause-does : goal.returns-in-By-clause-does
-returns-in-By-clause-does g c = rw c.in-By.is (acts_does _ _ c.args.self.now c.self.view_is c.in-By.pid c.in-By.act c.act.ensures.acts)
+returns-in-By-clause-does g c = rw c.in-By.is c.act.ensures.does
 
 pub returns-in-Member-clause-does : goal.returns-in-Member-clause-does
 returns-in-Member-clause-does g c = rw c.in-Member.is (told_does _ c.args.self.now c.in-Member.root c.in-Member.cap c.member.ensures.told)

@@ -1,0 +1,42 @@
+-- What entries by a secret owe.
+use Rattle.std.proofs.Common.{◌≡◌, ◌∙◌, refl, sym, ap, subst, Bool, true, false, Ok, Err}
+use Rattle.std.specs.Prelude.{not, nat_eq}
+use Rattle.std.specs.Cmp.Lexicographic.{pointwise, same_text, other_text}
+use Rattle.fl_labels.specs.Cap.{cap_cmp}
+use Rattle.fl_labels.specs.SetBy as set
+use Rattle.fl_labels.specs.SetBy.{SetBy}
+use Rattle.fl_labels.specs.declared.name.Name.{Name}
+use Rattle.fl_labels.specs.declared.cap.Cap.{Cap}
+use Rattle.fl_ops.specs.declared.digest.Digest.{Digest}
+use Rattle.fl_ops.specs.declared.op.Op.{Op}
+use Rattle.fl_ops.specs.OpLaws.{same_digest}
+use Rattle.fl_ops.specs.Logins.{IsFirstLogin}
+use Rattle.fl_jobs.specs.declared.secret.Secret.{Secret}
+use Rattle.fl_jobs.specs.declared.answer.Refusal.TheVariants.{WrongSecret, Memory}
+use Rattle.fl_jobs.specs.declared.answer.Reply.TheVariants.{Entered}
+use Rattle.fl_jobs.specs.declared.answer.Outcome.{Outcome}
+use Rattle.fl_monitor.specs.Secrets.{digest_of}
+use Rattle.fl_monitor.specs.Acts.{Enters}
+
+turned_true : (b : Bool) → not b ≡ true → false ≡ b
+turned_true true e = e
+turned_true false e = refl
+
+turned_false : (b : Bool) → not b ≡ false → true ≡ b
+turned_false true e = refl
+turned_false false e = e
+
+module _ (V : Op → Type 0) (owned : SetBy cap_cmp) (login : Name) (secret : Secret) (c : Cap) (digest other : Digest) (first : IsFirstLogin V login c digest) (is : other ≡ digest_of secret)
+    (ne : Bool) (told : ne ≡ not (pointwise nat_eq digest.bytes other.bytes)) where
+  pub enters_wrong : ne ≡ true → Enters V owned login secret (Err WrongSecret) owned
+  enters_wrong e = Enters.wrong first (λ same. other_text digest.bytes other.bytes (turned_true _ (sym told ∙ e)) (ap (λ (d : Digest). d.bytes) (same ∙ sym is)))
+
+  -- the digest is that of the secret
+  shown : ne ≡ false → IsFirstLogin V login c (digest_of secret)
+  shown e = subst (IsFirstLogin V login c) (same_digest digest other (same_text digest.bytes other.bytes (turned_false _ (sym told ∙ e))) ∙ is) first
+
+  pub enters_starved : ne ≡ false → (after : SetBy cap_cmp) → after ≡ owned → Enters V owned login secret (Err Memory) after
+  enters_starved e after same = subst (Enters V owned login secret (Err Memory)) (sym same) (Enters.no_room (shown e))
+
+  pub enters_by : ne ≡ false → (after : SetBy cap_cmp) → after ≡ set.insert owned c → Enters V owned login secret (Ok (Outcome.Reply (Entered c))) after
+  enters_by e after same = subst (Enters V owned login secret (Ok (Outcome.Reply (Entered c)))) (sym same) (Enters.enters (shown e))

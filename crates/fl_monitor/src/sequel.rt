@@ -1,0 +1,24 @@
+// What follows from acts.
+ghost use Rattle.std.specs.Prelude.{◌≡◌};
+ghost use Rattle.fl_monitor.specs.Acts.{answered};
+
+use crate::process::Process;
+use fl_jobs::answer::{Outcome, Refusal};
+
+/// What follows at a bench from an act of one of its processes.
+#[derive(Debug, Drop)]
+pub enum Sequel {
+    /// The act is answered, and nothing else follows.
+    Answer(Outcome),
+    /// This process is to be the next.
+    Birth(Process),
+    /// The process that acted is to go.
+    End,
+}
+
+/// The outcome, or the refusal, with nothing else that follows.
+pub(crate) fn answer_alone(answer: Result<Outcome, Refusal>) -> Result<Sequel, Refusal>
+    ensures { result ≡ answered answer }
+{
+    Ok(Sequel::Answer(answer?))
+}
