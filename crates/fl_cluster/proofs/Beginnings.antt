@@ -1,13 +1,13 @@
 -- A run over lines begins with a run over the first of them.
 use Rattle.std.proofs.Common.{◌≡◌, ◌+◌, ◌++◌, ◌∙◌, refl, sym, ap, subst, List, [], ◌∷◌, ℕ, suc, length, take, arith}
-use Rattle.fl_cluster.specs.State.{State}
+use Rattle.fl_cluster.specs.Session.{Session}
 use Rattle.fl_cluster.specs.Answer.{Answer}
 use Rattle.fl_cluster.specs.Turn.{Turn}
 use Rattle.fl_cluster.specs.Output.{Run, IsAmple}
 use Rattle.fl_cluster.specs.Beginning.{Begins}
 use Rattle.fl_cluster.proofs.OneTurn.{one_turn}
 
-pub run_begins : (number : ℕ) (old : State) (first later : List (List ℕ)) (bs : List Answer) (new : State) → Run number old (first ++ later) bs new → Begins number old first later bs new
+pub run_begins : (number : ℕ) (old : Session) (first later : List (List ℕ)) (bs : List Answer) (new : Session) → Run number old (first ++ later) bs new → Begins number old first later bs new
 run_begins number old [] later bs new h =
     let e : number ≡ number + 0 = omega arith in
     record { front = []; rest = bs; split = refl; one_each = refl; mid = old; begun = refl; ended = subst (λ n. Run n old later bs new) e h }
@@ -17,7 +17,7 @@ run_begins number old (l ∷ first) later (b ∷ bs) new h =
     let e : number + 1 + length first ≡ number + suc (length first) = omega arith in
     record { front = b ∷ r.front; rest = r.rest; split = ap (λ x. b ∷ x) r.split; one_each = ap suc r.one_each; mid = r.mid; begun = (h.0, h.1, r.begun); ended = subst (λ n. Run n r.mid later r.rest new) e r.ended }
 
-pub same_first : (number : ℕ) (old : State) (first later other : List (List ℕ)) (bs cs : List Answer) (m n : State) → Run number old (first ++ later) bs m → Run number old (first ++ other) cs n → IsAmple bs → IsAmple cs → take (length first) bs ≡ take (length first) cs
+pub same_first : (number : ℕ) (old : Session) (first later other : List (List ℕ)) (bs cs : List Answer) (m n : Session) → Run number old (first ++ later) bs m → Run number old (first ++ other) cs n → IsAmple bs → IsAmple cs → take (length first) bs ≡ take (length first) cs
 same_first number old [] later other bs cs m n h k p q = refl
 same_first number old (l ∷ first) later other (b ∷ bs) (c ∷ cs) m n h k p q =
     let e = one_turn number old l b c h.0 k.0 h.1 k.1 p.0 q.0 in
@@ -28,13 +28,13 @@ same_first number old (l ∷ first) later other [] cs m n h k p q = absurd h
 same_first number old (l ∷ first) later other (b ∷ bs) [] m n h k p q = absurd k
 
 -- one line's turn in a run
-pub record Moment (number : ℕ) (old : State) (first : List (List ℕ)) (front : List Answer) (line : List ℕ) (answer : Answer) : Type 0 where
-  pub mid : State
-  pub after : State
+pub record Moment (number : ℕ) (old : Session) (first : List (List ℕ)) (front : List Answer) (line : List ℕ) (answer : Answer) : Type 0 where
+  pub mid : Session
+  pub after : Session
   pub begun : Run number old first front mid
   pub turn : Turn (number + length first) mid line answer after
 
-pub moment_at : (number : ℕ) (old : State) (first later : List (List ℕ)) (line : List ℕ) (front rest : List Answer) (answer : Answer) (end : State) → Run number old (first ++ (line ∷ later)) (front ++ (answer ∷ rest)) end → length front ≡ length first → Moment number old first front line answer
+pub moment_at : (number : ℕ) (old : Session) (first later : List (List ℕ)) (line : List ℕ) (front rest : List Answer) (answer : Answer) (end : Session) → Run number old (first ++ (line ∷ later)) (front ++ (answer ∷ rest)) end → length front ≡ length first → Moment number old first front line answer
 moment_at number old [] later line [] rest answer end h e =
     let k : number ≡ number + 0 = omega arith in
     record { mid = old; after = h.0; begun = refl; turn = subst (λ n. Turn n old line answer h.0) k h.1 }

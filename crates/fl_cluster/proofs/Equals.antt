@@ -4,8 +4,11 @@ use Rattle.std.specs.FinMap as map
 use Rattle.fl_labels.specs.SetBy.{In, members}
 use Rattle.fl_labels.specs.CapOrder.{cap_total, cap_exact}
 use Rattle.fl_labels.specs.declared.cap.Cap.{Cap}
+use Rattle.fl_labels.specs.declared.name.Name.{Name}
 use Rattle.fl_labels.specs.declared.pid.Pid.{Pid}
+use Rattle.fl_ops.specs.Logins.{IsFirstLogin}
 use Rattle.fl_ops.specs.Registry.{Eff, From, Listed, Reach}
+use Rattle.fl_ops.specs.declared.digest.Digest.{Digest}
 use Rattle.fl_ops.specs.declared.op.Op.{Op}
 use Rattle.fl_ops.specs.OpLaws.{op_total, op_exact}
 use Rattle.fl_jobs.specs.declared.job.Order as orders
@@ -54,8 +57,8 @@ module _ (V W : Op → Type 0) (b d : bench.State) (cap : Cap) where
     -- the check looks at nothing that is in effect
     same_check : is_busy p ≡ is_busy q → (v : Option Refusal) → checks V b (By pid (Ask cap)) v → checks W d (By other (Ask cap)) v
     same_check busy v h =
-        let asked : act_checks V p (Ask cap) v = subst (λ o. with o (NoProcess pid) (λ p. act_checks V p (Ask cap)) v) here h in
-        subst (λ o. with o (NoProcess other) (λ p. act_checks W p (Ask cap)) v) (sym there) (subst (λ busy. (refuse_if busy Busy then no_check) v) busy asked)
+        let asked : (act_checks V p (Ask cap) then no_check) v = subst (λ o. with o (NoProcess pid) (λ p. act_checks V p (Ask cap) then no_check) v) here h in
+        subst (λ o. with o (NoProcess other) (λ p. act_checks W p (Ask cap) then no_check) v) (sym there) (subst (λ busy. ((refuse_if busy Busy then no_check) then no_check) v) busy asked)
 
     the_one : (o : Option Process) (p x : Process) → o ≡ Some p → o ≡ Some x → x ≡ p
     the_one o p x e f = cc
@@ -93,3 +96,7 @@ same_member a b m root cap answer e w =
     let alike : Reach (view_of a) (From root) cap ↔ Reach (view_of b) (From root) cap =
     (subst (λ s. Reach (Listed (members s)) (From root) cap) r, subst (λ s. Reach (Listed (members s)) (From root) cap) (sym r)) in
     answer_again a b (Member root cap) (λ maker order is. cc) (member_again (view_of a) (view_of b) a.bench b.bench cap root alike w.does (ample w.answered)) w.answered
+
+-- a login of one is one of the other
+pub same_login : (a b : NodeState) (login : Name) (cap : Cap) (digest : Digest) → SameMembers a.registry b.registry → IsFirstLogin (view_of a) login cap digest → IsFirstLogin (view_of b) login cap digest
+same_login a b login cap digest e h = subst (λ r. IsFirstLogin (Listed (members r)) login cap digest) (same_registry a b e) h

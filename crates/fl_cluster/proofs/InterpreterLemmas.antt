@@ -8,7 +8,7 @@ use Rattle.std.specs.Io.KnownBytes.{Appends, Keeps}
 use Rattle.std.specs.List.{flat_map, list_any}
 use Rattle.fl_sink.specs.Sink.{Passes, Cuts}
 use Rattle.fl_sink.proofs.SinkLemmas.{passes_then, cuts_then, cuts_passed, passes_none}
-use Rattle.fl_cluster.specs.State.{State}
+use Rattle.fl_cluster.specs.Session.{Session}
 use Rattle.fl_cluster.specs.Answer.{is_bad}
 use Rattle.fl_cluster.specs.AnswerText.{text_of}
 use Rattle.fl_cluster.specs.Interpreter.{InterpreterState, Turned, TurnCut, Proceeds, Halts}
@@ -33,7 +33,7 @@ proceeds_none a d = record {
 }
 
 -- one line was answered
-pub proceeds_one : {a b : Option (List ℕ)} {line : List ℕ} {bad : Bool} {new : State} {rest : List ℕ} (d : InterpreterState) → Turned d.number d.state line bad new a b d.pending rest → Proceeds d (record { number = d.number + 1; bad = d.bad || bad; state = new; pending = rest }) a b (line ∷ [])
+pub proceeds_one : {a b : Option (List ℕ)} {line : List ℕ} {bad : Bool} {new : Session} {rest : List ℕ} (d : InterpreterState) → Turned d.number d.session line bad new a b d.pending rest → Proceeds d (record { number = d.number + 1; bad = d.bad || bad; session = new; pending = rest }) a b (line ∷ [])
 proceeds_one {a} {b} {line} {bad} {new} {rest} d t = record {
   answers = t.answer ∷ [];
   run = (new, t.turn, refl);
@@ -43,7 +43,7 @@ proceeds_one {a} {b} {line} {bad} {new} {rest} d t = record {
 }
 
 -- a front of one line's text was written
-pub halts_one : {a b : Option (List ℕ)} {line : List ℕ} {new : State} (d : InterpreterState) → TurnCut d.number d.state line new a b d.pending → Halts d a b (line ∷ [])
+pub halts_one : {a b : Option (List ℕ)} {line : List ℕ} {new : Session} (d : InterpreterState) → TurnCut d.number d.session line new a b d.pending → Halts d a b (line ∷ [])
 halts_one {a} {b} {line} {new} d t = record {
   answers = t.answer ∷ [];
   end = new;
@@ -55,7 +55,7 @@ halts_one {a} {b} {line} {new} d t = record {
 pub proceeds_then : {a b : Option (List ℕ)} {d e f : InterpreterState} {ls ms : List (List ℕ)} (c : Option (List ℕ)) → Proceeds d e a b ls → Proceeds e f b c ms → Proceeds d f a c (ls ++ ms)
 proceeds_then {a} {b} {d} {e} {f} {ls} {ms} c p q = record {
   answers = p.answers ++ q.answers;
-  run = Run-append d.number d.state ls p.answers e.state ms q.answers f.state p.run (rw p.count at q.run);
+  run = Run-append d.number d.session ls p.answers e.session ms q.answers f.session p.run (rw p.count at q.run);
   count = omega (arith, p.count, q.count, length-append ls ms);
   bad_is = q.bad_is ∙ ap (λ x. x || list_any is_bad q.answers) p.bad_is ∙ or_assoc d.bad (list_any is_bad p.answers) (list_any is_bad q.answers) ∙ ap (λ x. d.bad || x) (sym (list_any-append is_bad p.answers q.answers));
   passed = rw (flat_map-append text_of p.answers q.answers) (passes_then c (flat_map text_of q.answers) f.pending p.passed q.passed);
@@ -67,7 +67,7 @@ halts_then {a} {b} {d} {e} {ls} {ms} c p q =
     let r = subst (λ x. Cuts a c d.pending (flat_map text_of p.answers ++ x)) (append-nil (flat_map text_of q.answers)) (cuts_then c (flat_map text_of q.answers) [] p.passed q.cut) in record {
       answers = p.answers ++ q.answers;
       end = q.end;
-      run = Run-append d.number d.state ls p.answers e.state ms q.answers q.end p.run (rw p.count at q.run);
+      run = Run-append d.number d.session ls p.answers e.session ms q.answers q.end p.run (rw p.count at q.run);
       cut = rw (flat_map-append text_of p.answers q.answers) r;
     }
 
@@ -75,7 +75,7 @@ halts_then {a} {b} {d} {e} {ls} {ms} c p q =
 pub halts_proceeds : {a b : Option (List ℕ)} {d e : InterpreterState} {ls : List (List ℕ)} → Proceeds d e a b ls → Halts d a b ls
 halts_proceeds {a} {b} {d} {e} {ls} p = record {
   answers = p.answers;
-  end = e.state;
+  end = e.session;
   run = p.run;
   cut = subst (λ x. Cuts a b d.pending x) (append-nil (flat_map text_of p.answers)) (cuts_passed [] p.passed);
 }
@@ -94,7 +94,7 @@ proceeds_sent a b c d left empty w k = record {
 pub halts_sent : {a b : Option (List ℕ)} (d : InterpreterState) → Cuts a b [] d.pending → Halts d a b []
 halts_sent {a} {b} d w = record {
   answers = [];
-  end = d.state;
+  end = d.session;
   run = refl;
   cut = record { front = w.front; rest = w.rest; split = append-nil d.pending ∙ w.split; written = w.written };
 }

@@ -5,7 +5,9 @@ pub mod StreamLemmas
 pub mod ScriptLemmas
 pub mod NodeLemmas
 pub mod OneStep
+pub mod Naming
 pub mod OneTurn
+pub mod AliasLaws
 pub mod Beginnings
 pub mod NodePuts
 pub mod NodesTable
@@ -13,5 +15,11 @@ pub mod Idle
 pub mod Orderly
 pub mod NeverBusy
 pub mod SafeTurn
+pub mod Leaves
+pub mod Fates
+pub mod Turns
+pub mod Pids
+pub mod Lives
+pub mod Owned
 pub mod KeptTags
 pub mod Equals

@@ -13,11 +13,13 @@ use Rattle.std.proofs.lemmas.Cmp.{nat_cmp_total}
 use Rattle.fl_labels.specs.SetBy as set
 use Rattle.fl_ops.specs.OpOrder.{op_cmp}
 use Rattle.fl_ops.specs.OpLaws.{op_total, op_exact}
+use Rattle.fl_aliases.specs.Table.{Table}
 use Rattle.fl_jobs.specs.declared.job.Job.{Job}
 use Rattle.fl_monitor.proofs.Table.{get_held, one_gone, one_put, put_same, put_through}
 use Rattle.fl_script.specs.declared.line.Line.TheVariants as line
 use Rattle.fl_cluster.proofs.NodePuts.{node_here}
 use Rattle.fl_cluster.specs.State.{State, NodeState, opened, is_open, node_at, node_or_opened, with_node, with_open}
+use Rattle.fl_cluster.specs.Session.{Session}
 use Rattle.fl_cluster.specs.Answer.{shown, text}
 use Rattle.fl_cluster.specs.NodeStep.{Works}
 use Rattle.fl_cluster.specs.Turn.{Answers, works, tells, unites}
@@ -115,20 +117,20 @@ pub empty-union : (s : set.SetBy op_cmp) → set.union set.empty s ≡ s
 empty-union s = set.same_set op_total op_exact _ _ (λ q. set.contains-union op_total set.empty s q ∙ ap (λ b. b || set.contains s q) (set.contains-empty op_cmp q))
 
 -- a node that is told of is as it was
-pub told : (s new : State) (n : ℕ) → new ≡ with_open s n → Answers s (line.Text n) (text (node_at new n).registry) new
-told s new n e = subst (λ (t : State). Answers s (line.Text n) (text (node_at t n).registry) t) (sym e) (subst (λ (x : NodeState). Answers s (line.Text n) (text x.registry) (with_open s n)) (sym (node_here s n (node_at s n))) tells)
+pub told : (table : Table) (s new : State) (n : ℕ) → new ≡ with_open s n → Answers table s (line.Text n) (text (node_at new n).registry) new
+told table s new n e = subst (λ (t : State). Answers table s (line.Text n) (text (node_at t n).registry) t) (sym e) (subst (λ (x : NodeState). Answers table s (line.Text n) (text x.registry) (with_open s n)) (sym (node_here s n (node_at s n))) tells)
 
 -- both registries were merged into an empty set
-pub united : (s new : State) (first second : ℕ) (none one both : set.SetBy op_cmp) → none ≡ set.empty → one ≡ set.union none (node_at s first).registry → both ≡ set.union one (node_at s second).registry → new ≡ with_open (with_open s first) second → Answers s (line.Union first second) (text both) new
-united s new first second none one both nothing h k e =
+pub united : (table : Table) (s new : State) (first second : ℕ) (none one both : set.SetBy op_cmp) → none ≡ set.empty → one ≡ set.union none (node_at s first).registry → both ≡ set.union one (node_at s second).registry → new ≡ with_open (with_open s first) second → Answers table s (line.Union first second) (text both) new
+united table s new first second none one both nothing h k e =
     let is : set.union (node_at s first).registry (node_at s second).registry ≡ both = sym (k ∙ ap (λ a. set.union a (node_at s second).registry) (h ∙ ap (λ a. set.union a (node_at s first).registry) nothing ∙ empty-union (node_at s first).registry)) in
-    subst (λ (t : State). Answers s (line.Union first second) (text both) t) (sym e) (subst (λ a. Answers s (line.Union first second) (text a) (with_open (with_open s first) second)) is unites)
+    subst (λ (t : State). Answers table s (line.Union first second) (text both) t) (sym e) (subst (λ a. Answers table s (line.Union first second) (text a) (with_open (with_open s first) second)) is unites)
 
 -- a node did a job
-pub worked_so : (s new : State) (n : ℕ) (job : Job) (node after : NodeState) (response : Response) → node_at s n ≡ node → new ≡ with_node s n after → ((state : State) → Works node job (shown state response) after) → Answers s (line.Job n job) (shown new response) new
-worked_so s new n job node after response here e p = subst (λ (t : State). Answers s (line.Job n job) (shown t response) t) (sym e) (works (subst (λ (x : NodeState). Works x job (shown (with_node s n after) response) after) (sym here) (p (with_node s n after))))
+pub worked_so : (s new : State) (n : ℕ) (job : Job) (node after : NodeState) (response : Response) → node_at s n ≡ node → new ≡ with_node s n after → ((session : Session) → Works node job (shown session response) after) → (table : Table) → Answers table s (line.Job n job) (shown (record { state = new; aliases = table }) response) new
+worked_so s new n job node after response here e p table = subst (λ (t : State). Answers table s (line.Job n job) (shown (record { state = t; aliases = table }) response) t) (sym e) (works (subst (λ (x : NodeState). Works x job (shown (record { state = with_node s n after; aliases = table }) response) after) (sym here) (p (record { state = with_node s n after; aliases = table }))))
 
-pub worked : (s new : State) (n : ℕ) (job : Job) (node after : NodeState) (result : Result Response AllocError) → node_at s n ≡ node → new ≡ with_node s n after → IfOk result (λ response. (state : State) → Works node job (shown state response) after) → IfOk result (λ response. Answers s (line.Job n job) (shown new response) new)
+pub worked : (s new : State) (n : ℕ) (job : Job) (node after : NodeState) (result : Result Response AllocError) → node_at s n ≡ node → new ≡ with_node s n after → IfOk result (λ response. (session : Session) → Works node job (shown session response) after) → IfOk result (λ response. (table : Table) → Answers table s (line.Job n job) (shown (record { state = new; aliases = table }) response) new)
 worked s new n job node after result here e h = IfOk-weaker result _ _ (λ response. worked_so s new n job node after response here e) h
 
 pub not_worked : (s new : State) (n : ℕ) (node after : NodeState) (result : Result Response AllocError) → map.get s.nodes n ≡ Some node → new ≡ with_node s n after → OnErr result (after ≡ node) → OnErr result (new ≡ s)

@@ -13,7 +13,7 @@ use Rattle.fl_jobs.specs.declared.answer.Refusal.TheVariants.{Memory}
 use Rattle.fl_monitor.specs.Bench as bench
 use Rattle.fl_monitor.proofs.OneResult.{one_result}
 use Rattle.fl_cluster.specs.State.{NodeState}
-use Rattle.fl_cluster.specs.Answer.{Answer, named}
+use Rattle.fl_cluster.specs.Answer.{Answer, named, refused}
 use Rattle.fl_cluster.specs.LastName.{IsLast}
 use Rattle.fl_cluster.specs.NodeStep.{view_of, with_operation, IsNextName, AnswersResult, replies, refuses, makes, spends, Works}
 
@@ -69,3 +69,13 @@ pub one_work : (node : NodeState) (job : Job) (a b : Answer) (m n : NodeState) �
 one_work node job a b m n h k =
     let e = one_result (view_of node) node.bench job h.result k.result h.after k.after h.does k.does (ample h.answered) (ample k.answered) in
     one_answer h.answered (subst (λ after. AnswersResult node h.result after b n) (sym e.1) (subst (λ r. AnswersResult node r k.after b n) (sym e.0) k.answered))
+
+-- nor is what is answered to a job
+ample_answer : {node : NodeState} {r : Result Outcome Refusal} {after : bench.State} {a : Answer} {m : NodeState} → AnswersResult node r after a m → a ≢ refused Memory
+ample_answer replies = λ e. cc
+ample_answer (refuses more) = λ e. more (cc)
+ample_answer (makes next) = λ e. cc
+ample_answer (spends last) = λ e. cc
+
+pub ample_work : {node : NodeState} {job : Job} {a : Answer} {m : NodeState} → Works node job a m → a ≢ refused Memory
+ample_work w = ample_answer w.answered

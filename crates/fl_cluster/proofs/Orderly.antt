@@ -2,6 +2,7 @@
 use Rattle.std.proofs.Common.{◌≡◌, ◌+◌, ◌⊎◌, inl, inr, sym, subst, List, [], ◌∷◌, ℕ, Result, arith}
 use Rattle.std.specs.FinMap as map
 use Rattle.std.specs.Ordering.{nat_cmp}
+use Rattle.fl_aliases.specs.Table.{Table}
 use Rattle.fl_jobs.specs.declared.job.Job.{Job}
 use Rattle.fl_jobs.specs.declared.answer.Refusal.{Refusal}
 use Rattle.fl_jobs.specs.declared.answer.Outcome.{Outcome}
@@ -14,9 +15,10 @@ use Rattle.fl_script.specs.declared.line.Line.{Line}
 use Rattle.fl_script.specs.declared.reading.Reading.{Reading}
 use Rattle.fl_script.specs.declared.reading.Reading.TheVariants as reading
 use Rattle.fl_cluster.specs.State.{State, NodeState, opened, start, node_or_opened, node_at, with_node, with_open}
+use Rattle.fl_cluster.specs.Session.{Session, begun}
 use Rattle.fl_cluster.specs.Answer.{Answer}
 use Rattle.fl_cluster.specs.NodeStep.{view_of, AnswersResult, replies, refuses, makes, spends, Works}
-use Rattle.fl_cluster.specs.Turn.{Answers, works, tells, unites, AnswersReading, Turn}
+use Rattle.fl_cluster.specs.Turn.{Answers, works, tells, unites, lists, AnswersReading, Turn}
 use Rattle.fl_cluster.specs.Output.{Run}
 use Rattle.fl_cluster.proofs.Idle.{IsIdle, opened_idle, replied_idle, finished_idle}
 use Rattle.fl_cluster.proofs.NodePuts.{node_put}
@@ -58,26 +60,27 @@ with_order s number node h k = record { bench_is = λ m. by_place m (node_put s 
 open_order : (s : State) (number : ℕ) → HasOrder s → HasOrder (with_open s number)
 open_order s number h = with_order s number (node_at s number) h (h.bench_is number)
 
-answers_order : {old : State} {l : Line} {a : Answer} {m : State} → HasOrder old → Answers old l a m → HasOrder m
+answers_order : {table : Table} {old : State} {l : Line} {a : Answer} {m : State} → HasOrder old → Answers table old l a m → HasOrder m
 answers_order {old} {a = a} h (works {number} {job} {after} k) = with_order old number after h (work_ordered (node_at old number) job (h.bench_is number) a after k)
 answers_order {old} h (tells {number}) = open_order old number h
 answers_order {old} h (unites {first} {second}) = open_order (with_open old first) second (open_order old first h)
+answers_order h lists = h
 
-reading_order : (number : ℕ) (old : State) (r : Reading) (a : Answer) (m : State) → HasOrder old → AnswersReading number old r a m → HasOrder m
-reading_order number old reading.Quiet a m h k = subst HasOrder (sym k.1) h
-reading_order number old reading.Bad a m h k = subst HasOrder (sym k.1) h
-reading_order number old (reading.Means l) a m h k = answers_order h k
+reading_order : (number : ℕ) (old : Session) (r : Reading) (a : Answer) (m : Session) → HasOrder old.state → AnswersReading number old r a m → HasOrder m.state
+reading_order number old reading.Quiet a m h k = subst (λ (s : Session). HasOrder s.state) (sym k.1) h
+reading_order number old reading.Bad a m h k = subst (λ (s : Session). HasOrder s.state) (sym k.1) h
+reading_order number old (reading.Means l alias) a m h k = answers_order h k.answered
 
-pub turn_order : (number : ℕ) (old : State) (bytes : List ℕ) (a : Answer) (m : State) → HasOrder old → Turn number old bytes a m → HasOrder m
+pub turn_order : (number : ℕ) (old : Session) (bytes : List ℕ) (a : Answer) (m : Session) → HasOrder old.state → Turn number old bytes a m → HasOrder m.state
 turn_order number old bytes a m h (inl k) = reading_order number old k.reading a m h k.answered
-turn_order number old bytes a m h (inr k) = subst HasOrder (sym k.unchanged) h
+turn_order number old bytes a m h (inr k) = subst (λ (s : Session). HasOrder s.state) (sym k.unchanged) h
 
-run_order : (number : ℕ) (old : State) (ls : List (List ℕ)) (bs : List Answer) (m : State) → HasOrder old → Run number old ls bs m → HasOrder m
-run_order number old [] [] m h k = subst HasOrder (sym k) h
+run_order : (number : ℕ) (old : Session) (ls : List (List ℕ)) (bs : List Answer) (m : Session) → HasOrder old.state → Run number old ls bs m → HasOrder m.state
+run_order number old [] [] m h k = subst (λ (s : Session). HasOrder s.state) (sym k) h
 run_order number old (l ∷ ls) (b ∷ bs) m h k = run_order (number + 1) k.0 ls bs m (turn_order number old l b k.0 h k.1) k.2
 run_order number old [] (b ∷ bs) m h k = absurd k
 run_order number old (l ∷ ls) [] m h k = absurd k
 
 -- what a script has made has such a bench
-pub script_order : (ls : List (List ℕ)) (bs : List Answer) (m : State) → Run 1 start ls bs m → HasOrder m
-script_order ls bs m k = run_order 1 start ls bs m start_order k
+pub script_order : (ls : List (List ℕ)) (bs : List Answer) (m : Session) → Run 1 begun ls bs m → HasOrder m.state
+script_order ls bs m k = run_order 1 begun ls bs m start_order k

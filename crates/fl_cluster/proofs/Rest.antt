@@ -7,7 +7,7 @@ use Rattle.fl_script.specs.Reading.{IsText, IsQuiet}
 use Rattle.fl_script.specs.declared.reading.Reading.TheVariants as reading
 use Rattle.fl_script.proofs.Quiet.{text_or_not, quiet_or_not}
 use Rattle.fl_jobs.specs.declared.answer.Refusal.TheVariants.{Memory}
-use Rattle.fl_cluster.specs.State.{State, start}
+use Rattle.fl_cluster.specs.Session.{Session, begun}
 use Rattle.fl_cluster.specs.Answer.{Answer, silence, refused, bad_line}
 use Rattle.fl_cluster.specs.AnswerText.{text_of}
 use Rattle.fl_cluster.specs.Turn.{Turn}
@@ -16,26 +16,26 @@ use Rattle.std.specs.Str.Lines.{lines}
 use Rattle.std.specs.Io.KnownBytes.{Appends}
 
 -- what may be answered to a line, and what it leaves
-record Next (number : ℕ) (old : State) (line : List ℕ) : Type 0 where
+record Next (number : ℕ) (old : Session) (line : List ℕ) : Type 0 where
   answer : Answer
-  new : State
+  new : Session
   turn : Turn number old line answer new
 
-next : (number : ℕ) (old : State) (line : List ℕ) → Next number old line
+next : (number : ℕ) (old : Session) (line : List ℕ) → Next number old line
 next number old line = by_cases (text_or_not line) (quiet_or_not line)
   where
     by_cases : IsText line ⊎ (IsText line → ⊥) → IsQuiet line ⊎ (IsQuiet line → ⊥) → Next number old line
     by_cases text (inl quiet) = record { answer = silence; new = old; turn = inl (record { reading = reading.Quiet; says = quiet; answered = (refl, refl) }) }
-    by_cases (inr never) (inr loud) = record { answer = bad_line number; new = old; turn = inl (record { reading = reading.Bad; says = record { loud = loud; spells_none = λ text. absurd (never text) }; answered = (refl, refl) }) }
+    by_cases (inr never) (inr loud) = record { answer = bad_line number; new = old; turn = inl (record { reading = reading.Bad; says = record { loud = loud; says_none = λ text. absurd (never text) }; answered = (refl, refl) }) }
     by_cases (inl text) (inr loud) = record { answer = refused Memory; new = old; turn = inr (record { asks = record { loud = loud; text = text }; answered = refl; unchanged = refl }) }
 
 -- what may be answered to lines, and what they leave
-record Going (number : ℕ) (old : State) (ls : List (List ℕ)) : Type 0 where
+record Going (number : ℕ) (old : Session) (ls : List (List ℕ)) : Type 0 where
   answers : List Answer
-  new : State
+  new : Session
   run : Run number old ls answers new
 
-go_on : (number : ℕ) (old : State) (ls : List (List ℕ)) → Going number old ls
+go_on : (number : ℕ) (old : Session) (ls : List (List ℕ)) → Going number old ls
 go_on number old [] = record { answers = []; new = old; run = refl }
 go_on number old (l ∷ ls) =
     let n = next number old l in
@@ -43,7 +43,7 @@ go_on number old (l ∷ ls) =
     record { answers = n.answer ∷ g.answers; new = g.new; run = (n.new, n.turn, g.run) }
 
 -- one run after another
-pub Run-append : (number : ℕ) (old : State) (ls : List (List ℕ)) (bs : List Answer) (mid : State) (ms : List (List ℕ)) (cs : List Answer) (new : State) → Run number old ls bs mid → Run (number + length ls) mid ms cs new → Run number old (ls ++ ms) (bs ++ cs) new
+pub Run-append : (number : ℕ) (old : Session) (ls : List (List ℕ)) (bs : List Answer) (mid : Session) (ms : List (List ℕ)) (cs : List Answer) (new : Session) → Run number old ls bs mid → Run (number + length ls) mid ms cs new → Run number old (ls ++ ms) (bs ++ cs) new
 Run-append number old [] [] mid ms cs new r q =
     let e : number + 0 ≡ number = omega arith in rw (e, r) at q
 Run-append number old [] (b ∷ bs) mid ms cs new r q = absurd r
@@ -75,7 +75,7 @@ front_of_all {a} {b} {script} p =
       output = record {
         answers = o.answers ++ g.answers;
         end = g.new;
-        run = rw p.split (Run-append 1 start p.seen o.answers o.end p.later g.answers g.new o.run g.run);
+        run = rw p.split (Run-append 1 begun p.seen o.answers o.end p.later g.answers g.new o.run g.run);
         text_is = sym (append_assoc p.front p.rest (flat_map text_of g.answers)) ∙ ap (λ x. x ++ flat_map text_of g.answers) o.text_is ∙ sym (flat_map-append text_of o.answers g.answers);
         status_is = refl;
       };

@@ -1,9 +1,10 @@
 -- What becomes of the processes of a state when a line is answered.
-use Rattle.std.proofs.Common.{◌≡◌, inl, inr, refl, sym, ap, subst, List, ℕ, Result, Ok}
+use Rattle.std.proofs.Common.{◌≡◌, inl, inr, refl, sym, ap, subst, List, ℕ, None, Result, Ok}
 use Rattle.std.specs.FinMap as map
 use Rattle.fl_labels.specs.Name.{name_cmp}
 use Rattle.fl_labels.specs.SetBy.{SetBy}
 use Rattle.fl_labels.specs.declared.pid.Pid.{Pid}
+use Rattle.fl_aliases.specs.Table.{Table}
 use Rattle.fl_jobs.specs.declared.job.Side.{Side}
 use Rattle.fl_jobs.specs.declared.job.Act.TheVariants.{Relabel}
 use Rattle.fl_jobs.specs.declared.job.Job.{Job}
@@ -22,9 +23,10 @@ use Rattle.fl_script.specs.declared.reading.Reading.{Reading}
 use Rattle.fl_script.specs.declared.reading.Reading.TheVariants as reading
 use Rattle.fl_script.proofs.OneReading.{one_reading}
 use Rattle.fl_cluster.specs.State.{State, NodeState, node_at, with_node}
+use Rattle.fl_cluster.specs.Session.{Session}
 use Rattle.fl_cluster.specs.Answer.{Answer, replied}
 use Rattle.fl_cluster.specs.NodeStep.{view_of, AnswersResult, replies, refuses, makes, spends, Works}
-use Rattle.fl_cluster.specs.Turn.{Answers, works, tells, unites, AnswersReading, Turn}
+use Rattle.fl_cluster.specs.Turn.{Answers, works, tells, unites, lists, AnswersReading, Turn}
 use Rattle.fl_cluster.specs.LabelChange.{SetsSafely, AsksForLabel}
 use Rattle.fl_cluster.specs.Living.{living, view_at}
 use Rattle.fl_cluster.proofs.Orderly.{HasOrder}
@@ -61,21 +63,22 @@ follows_put old number after q h = elim (node_put old number after q.node) [
   | inr e ↦ follows_node old (with_node old number after) q e
 ]
 
-follows_answer : {old : State} {l : Line} {a : Answer} {m : State} (q : Pid) → HasOrder old → Answers old l a m → From old q m
+follows_answer : {table : Table} {old : State} {l : Line} {a : Answer} {m : State} (q : Pid) → HasOrder old → Answers table old l a m → From old q m
 follows_answer {old} {a = a} q h (works {number} {job} {after} k) = follows_put old number after q (follows_work (node_at old number) q job a after (h.bench_is number).orderly k)
 follows_answer {old} q h (tells {number}) = follows_node old _ q (node_open old number q.node)
 follows_answer {old} q h (unites {first} {second}) = follows_node old _ q (node_open_both old first second q.node)
+follows_answer {old} q h lists = follows_node old _ q refl
 
-follows_left : (old m : State) (q : Pid) → m ≡ old → From old q m
-follows_left old m q e = follows_node old m q (ap (λ s. node_at s q.node) e)
+follows_left : (old m : Session) (q : Pid) → m ≡ old → From old.state q m.state
+follows_left old m q e = follows_node old.state m.state q (ap (λ (s : Session). node_at s.state q.node) e)
 
-follows_reading : (number : ℕ) (old : State) (r : Reading) (a : Answer) (m : State) (q : Pid) → HasOrder old → AnswersReading number old r a m → From old q m
+follows_reading : (number : ℕ) (old : Session) (r : Reading) (a : Answer) (m : Session) (q : Pid) → HasOrder old.state → AnswersReading number old r a m → From old.state q m.state
 follows_reading number old reading.Quiet a m q h k = follows_left old m q k.1
 follows_reading number old reading.Bad a m q h k = follows_left old m q k.1
-follows_reading number old (reading.Means l) a m q h k = follows_answer q h k
+follows_reading number old (reading.Means l alias) a m q h k = follows_answer q h k.answered
 
 -- whatever a line says and is answered
-pub follows_turn : (number : ℕ) (old : State) (bytes : List ℕ) (a : Answer) (m : State) (q : Pid) → HasOrder old → Turn number old bytes a m → From old q m
+pub follows_turn : (number : ℕ) (old : Session) (bytes : List ℕ) (a : Answer) (m : Session) (q : Pid) → HasOrder old.state → Turn number old bytes a m → From old.state q m.state
 follows_turn number old bytes a m q h (inl k) = follows_reading number old k.reading a m q h k.answered
 follows_turn number old bytes a m q h (inr k) = follows_left old m q k.unchanged
 
@@ -94,7 +97,7 @@ module _ (pid : Pid) (side : Side) (label : SetBy name_cmp) where
   work_set : (node : NodeState) (a : Answer) (m : NodeState) → Works node Setting a m → a ≡ replied Done → Set (view_of node) node.bench pid side label m.bench
   work_set node a m w e = result_set node w.result w.after a m w.does w.answered e
 
-  answer_set : {old : State} {l : Line} {a : Answer} {m : State} (asked : ℕ) → Answers old l a m → l ≡ line.Job asked Setting → a ≡ replied Done → SetsSafely (node_at old asked) pid side label (node_at m asked)
+  answer_set : {table : Table} {old : State} {l : Line} {a : Answer} {m : State} (asked : ℕ) → Answers table old l a m → l ≡ line.Job asked Setting → a ≡ replied Done → SetsSafely (node_at old asked) pid side label (node_at m asked)
   answer_set {old} {a = a} asked (works {number} {job} {after} k) is e =
       let same : job ≡ Setting = cc in
       let here : number ≡ asked = cc in
@@ -103,16 +106,17 @@ module _ (pid : Pid) (side : Side) (label : SetBy name_cmp) where
       (subst (SetsSafely (node_at old number) pid side label) (sym (node_here old number after)) (record { process = s.process; lived = s.lived; safe = s.safe; lives = s.lives }))
   answer_set asked tells is e = absurd (cc)
   answer_set asked unites is e = absurd (cc)
+  answer_set asked lists is e = absurd (cc)
 
-  reading_set : (number asked : ℕ) (old : State) (r : Reading) (m : State) → AnswersReading number old r (replied Done) m → r ≡ reading.Means (line.Job asked Setting) → SetsSafely (node_at old asked) pid side label (node_at m asked)
-  reading_set number asked old (reading.Means l) m k is =
+  reading_set : (number asked : ℕ) (old : Session) (r : Reading) (m : Session) → AnswersReading number old r (replied Done) m → r ≡ reading.Means (line.Job asked Setting) None → SetsSafely (node_at old.state asked) pid side label (node_at m.state asked)
+  reading_set number asked old (reading.Means l alias) m k is =
       let same : l ≡ line.Job asked Setting = cc in
-      answer_set asked k same refl
+      answer_set asked k.answered same refl
   reading_set number asked old reading.Quiet m k is = absurd (cc)
   reading_set number asked old reading.Bad m k is = absurd (cc)
 
-  pub turn_set : (number asked : ℕ) (old : State) (bytes : List ℕ) (m : State) → AsksForLabel bytes asked pid side label → Turn number old bytes (replied Done) m → SetsSafely (node_at old asked) pid side label (node_at m asked)
-  turn_set number asked old bytes m asks (inl k) = reading_set number asked old k.reading m k.answered (one_reading bytes k.reading (reading.Means (line.Job asked Setting)) k.says asks.reads)
+  pub turn_set : (number asked : ℕ) (old : Session) (bytes : List ℕ) (m : Session) → AsksForLabel old.aliases bytes asked pid side label → Turn number old bytes (replied Done) m → SetsSafely (node_at old.state asked) pid side label (node_at m.state asked)
+  turn_set number asked old bytes m asks (inl k) = reading_set number asked old k.reading m k.answered (one_reading old.aliases bytes k.reading (reading.Means (line.Job asked Setting) None) k.says asks.reads)
   turn_set number asked old bytes m asks (inr k) = let e = k.answered in absurd (cc)
 
   -- in what a script has made, only the process's own node can have set it

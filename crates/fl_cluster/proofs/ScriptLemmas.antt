@@ -7,7 +7,7 @@ use Rattle.std.proofs.KnownBytes.{Appends-trans, Appends-nil, Consumes-nil, Cons
 use Rattle.std.specs.Io.KnownBytes.{Appends, Keeps, Consumes, IsAtEnd}
 use Rattle.std.specs.List.{flat_map, list_any}
 use Rattle.std.specs.Str.Lines.{lines}
-use Rattle.fl_cluster.specs.State.{start}
+use Rattle.fl_cluster.specs.Session.{begun}
 use Rattle.fl_cluster.specs.Answer.{is_bad}
 use Rattle.fl_cluster.specs.AnswerText.{text_of}
 use Rattle.fl_cluster.specs.Output.{Run, WritesOutput, WritesFront}
@@ -25,7 +25,7 @@ output_end {a} {b} {s} {bad} c taken p q = record {
   output = record {
     answers = p.proceeds.answers ++ q.answers;
     end = q.end;
-    run = rw (← append-nil taken, advances_split p [], append-nil s.held) (Run-append 1 start p.seen p.proceeds.answers s.interpreter.state (lines s.held) q.answers q.end p.proceeds.run (rw p.proceeds.count at q.run));
+    run = rw (← append-nil taken, advances_split p [], append-nil s.held) (Run-append 1 begun p.seen p.proceeds.answers s.interpreter.session (lines s.held) q.answers q.end p.proceeds.run (rw p.proceeds.count at q.run));
     text_is = refl;
     status_is = ap (λ x. cond x 1 0) (q.bad_is ∙ ap (λ x. x || list_any is_bad q.answers) p.proceeds.bad_is ∙ sym (list_any-append is_bad p.proceeds.answers q.answers));
   };
@@ -117,8 +117,8 @@ read_beyond {r} {l} {a} {b} {s} {room} m beyond p q over part sent = record {
   status = _;
   output = record {
     answers = p.advance.proceeds.answers;
-    end = s.interpreter.state;
-    run = subst (λ x. Run 1 start x p.advance.proceeds.answers s.interpreter.state) (sym (ap lines (sym (append-nil p.advance.done)) ∙ p.advance.split [] ∙ append-nil p.advance.seen)) p.advance.proceeds.run;
+    end = s.interpreter.session;
+    run = subst (λ x. Run 1 begun x p.advance.proceeds.answers s.interpreter.session) (sym (ap lines (sym (append-nil p.advance.done)) ∙ p.advance.split [] ∙ append-nil p.advance.seen)) p.advance.proceeds.run;
     text_is = refl;
     status_is = refl;
   };
@@ -138,7 +138,7 @@ cut_none a script = record {
   front = [];
   rest = [];
   status = 0;
-  output = record { answers = []; end = start; run = refl; text_is = refl; status_is = refl };
+  output = record { answers = []; end = begun; run = refl; text_is = refl; status_is = refl };
   written = Appends-nil a;
 }
 

@@ -122,8 +122,8 @@ ends_sent {a} {b} {s} {e} {f} c p q empty =
     let all : lines s.held ++ [] ≡ lines s.held = append-nil (lines s.held) in
     record {
       answers = g.answers;
-      end = f.state;
-      run = subst (λ x. Run s.interpreter.number s.interpreter.state x g.answers f.state) all g.run;
+      end = f.session;
+      run = subst (λ x. Run s.interpreter.number s.interpreter.session x g.answers f.session) all g.run;
       bad_is = g.bad_is;
       written = subst (λ x. Appends a c x) (sym (g.passed.split ∙ ap (λ x. g.passed.front ++ x) empty ∙ append-nil g.passed.front)) g.passed.written;
     }

@@ -5,28 +5,32 @@ use Rattle.fl_labels.specs.declared.name.Name.{Name}
 use Rattle.fl_ops.specs.OpOrder.{op_cmp}
 use Rattle.fl_jobs.specs.declared.answer.Refusal.{Refusal}
 use Rattle.fl_jobs.specs.declared.answer.Reply.{Reply}
-use Rattle.fl_cluster.specs.State.{State, node_at}
+use Rattle.fl_aliases.specs.Table.{Table}
+use Rattle.fl_cluster.specs.State.{node_at}
+use Rattle.fl_cluster.specs.Session.{Session}
 use Rattle.fl_cluster.specs.declared.response.Response.{Response}
 use Rattle.fl_cluster.specs.declared.response.Response.TheVariants as response
 
--- nothing; what a job is answered; the name of a new operation; a registry; a refusal; or the number of a line that is none
+-- nothing; what a job is answered; the name of a new operation; a registry; the aliases that are set; a refusal; or the number of a line that is none
 pub data Answer : Type 0 where
   silence : Answer
   replied : Reply → Answer
   named : Name → Answer
   text : set.SetBy op_cmp → Answer
+  listed : Table → Answer
   refused : Refusal → Answer
   bad_line : ℕ → Answer
 
--- what a response of the program says at this state
-abbrev pub shown : State → Response → Answer
-shown state response.Silence = silence
-shown state (response.Reply reply) = replied reply
-shown state (response.Named name) = named name
-shown state (response.Text node) = text (node_at state node).registry
-shown state (response.Union registry) = text registry
-shown state (response.Refused refusal) = refused refusal
-shown state (response.BadLine number) = bad_line number
+-- what a response of the program says in this session
+abbrev pub shown : Session → Response → Answer
+shown session response.Silence = silence
+shown session (response.Reply reply) = replied reply
+shown session (response.Named name) = named name
+shown session (response.Text node) = text (node_at session.state node).registry
+shown session (response.Union registry) = text registry
+shown session response.Aliases = listed session.aliases
+shown session (response.Refused refusal) = refused refusal
+shown session (response.BadLine number) = bad_line number
 
 -- the line was none of the script
 abbrev pub is_bad : Answer → Bool
@@ -34,5 +38,6 @@ is_bad silence = false
 is_bad (replied reply) = false
 is_bad (named name) = false
 is_bad (text registry) = false
+is_bad (listed table) = false
 is_bad (refused refusal) = false
 is_bad (bad_line number) = true

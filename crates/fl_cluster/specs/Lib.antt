@@ -1,5 +1,7 @@
 pub mod State
+pub mod Session
 pub mod Answer
+pub mod Naming
 pub mod AnswerText
 pub mod LastName
 pub mod NodeStep
@@ -12,4 +14,6 @@ pub mod Beginning
 pub mod Moments
 pub mod Living
 pub mod LabelChange
+pub mod Lives
+pub mod Owned
 pub mod Equal

@@ -3,24 +3,24 @@ use Rattle.std.specs.Prelude.{◌≡◌, ◌≢◌, ◌+◌, ◌++◌, ◌∷◌
 use Rattle.std.specs.List.{flat_map, list_any}
 use Rattle.std.specs.Str.Lines.{lines}
 use Rattle.std.specs.Io.KnownBytes.{Appends}
-use Rattle.fl_cluster.specs.State.{State, start}
+use Rattle.fl_cluster.specs.Session.{Session, begun}
 use Rattle.fl_jobs.specs.declared.answer.Refusal.TheVariants.{Memory}
 use Rattle.fl_cluster.specs.Answer.{Answer, refused, is_bad}
 use Rattle.fl_cluster.specs.AnswerText.{text_of}
 use Rattle.fl_cluster.specs.Turn.{Turn}
 
 -- the lines are answered one after another, the first of them being the number-th
-abbrev pub Run : ℕ → State → List (List ℕ) → List Answer → State → Type 0
+abbrev pub Run : ℕ → Session → List (List ℕ) → List Answer → Session → Type 0
 Run number old [] [] new = new ≡ old
-Run number old (line ∷ lines) (answer ∷ answers) new = (mid : State) × Turn number old line answer mid × Run (number + 1) mid lines answers new
+Run number old (line ∷ lines) (answer ∷ answers) new = (mid : Session) × Turn number old line answer mid × Run (number + 1) mid lines answers new
 Run number old [] (answer ∷ answers) new = ⊥
 Run number old (line ∷ lines) [] new = ⊥
 
 -- the text is what is written for these lines, with this status
 pub record Writes (lines : List (List ℕ)) (text : List ℕ) (status : ℕ) : Type 0 where
   pub answers : List Answer
-  pub end : State
-  pub run : Run 1 start lines answers end
+  pub end : Session
+  pub run : Run 1 begun lines answers end
   pub text_is : text ≡ flat_map text_of answers
   pub status_is : status ≡ (if list_any is_bad answers then 1 else 0)
 

@@ -4,7 +4,7 @@ use Rattle.std.specs.Coded.{Coded, code_by, coded×, coded_ℕ, coded_list}
 use Rattle.std.specs.List.{flat_map, list_any}
 use Rattle.std.specs.Str.Lines.{lines}
 use Rattle.std.specs.Io.KnownBytes.{Appends}
-use Rattle.fl_cluster.specs.State.{State}
+use Rattle.fl_cluster.specs.Session.{Session}
 use Rattle.fl_cluster.specs.Answer.{Answer, is_bad}
 use Rattle.fl_cluster.specs.AnswerText.{text_of}
 use Rattle.fl_cluster.specs.Output.{Run}
@@ -37,8 +37,8 @@ pub record Stops (old : StreamState) (before after : Option (List ℕ)) (bytes :
 -- the bytes are the end: all lines were answered and written, and some was none of the script or none was
 pub record Ends (old : StreamState) (before after : Option (List ℕ)) (bad : Bool) : Type 0 where
   pub answers : List Answer
-  pub end : State
-  pub run : Run old.interpreter.number old.interpreter.state (lines old.held) answers end
+  pub end : Session
+  pub run : Run old.interpreter.number old.interpreter.session (lines old.held) answers end
   pub bad_is : bad ≡ old.interpreter.bad || list_any is_bad answers
   pub written : Appends before after (old.interpreter.pending ++ flat_map text_of answers)
 

@@ -1,69 +1,35 @@
 //! Lines are answered, one after another.
-ghost use Rattle.std.specs.Prelude.{◌≡◌, ◌≤◌, ◌∷◌, [], IfOk, OnErr, OnOk, if◌then◌else◌};
-ghost use Rattle.fl_script.specs.Reading.{IsAsking};
-ghost use Rattle.fl_cluster.specs.Answer.{shown};
-ghost use Rattle.fl_cluster.specs.Turn.{Turn, Understood};
+ghost use Rattle.std.specs.Prelude.{◌≡◌, ◌≤◌, ◌∷◌, [], IfOk, OnErr, OnOk};
 ghost use Rattle.fl_cluster.specs.Interpreter.{Halts, Proceeds, TurnCut, Turned, fresh};
 
 use crate::answers::write_response;
-use crate::nodes::Nodes;
-use crate::response::Response;
-use fl_jobs::answer::Refusal;
-use fl_script::reading::{Reading, read_line};
+use crate::session::Session;
 use fl_sink::sink::{Sink, WriteFault};
-use std::alloc::{AllocError, Global};
+use std::alloc::Global;
 use std::io::Write;
 use std::marker::Model;
-
-// What is answered to the line of this number, where there is memory.
-fn understand(
-    alloc: Global,
-    nodes: &mut Nodes,
-    number: u64,
-    line: &[u8],
-) -> Result<Response, AllocError>
-    ensures ok { IfOk result (λ response. Understood number nodes.old line.now (shown nodes.new response) nodes.new) }
-    ensures asks { OnErr result (IsAsking line.now) }
-    ensures err { OnErr result (nodes.new ≡ nodes.old) }
-{
-    match read_line(alloc, line)? {
-        Reading::Quiet => Ok(Response::Silence),
-        Reading::Bad => Ok(Response::BadLine(number)),
-        Reading::Means(line) => nodes.answer(alloc, line),
-    }
-}
-
-// What is answered to the line of this number.
-fn respond(alloc: Global, nodes: &mut Nodes, number: u64, line: &[u8]) -> Response
-    ensures { Turn number nodes.old line.now (shown nodes.new result) nodes.new }
-{
-    match understand(alloc, nodes, number, line) {
-        Ok(response) => response,
-        Err(AllocError) => Response::Refused(Refusal::Memory),
-    }
-}
 
 // Answers the line of this number, and says whether it was none of the script.
 fn answer_line<W: Write>(
     alloc: Global,
-    nodes: &mut Nodes,
+    session: &mut Session,
     number: u64,
     line: &[u8],
     sink: &mut Sink,
     output: &mut W,
 ) -> Result<bool, WriteFault>
-    ensures ok { IfOk result (λ bad. Turned number nodes.old line.now bad nodes.new (W.contents output.old) (W.contents output.new) sink.old sink.new) }
-    ensures err { OnErr result (TurnCut number nodes.old line.now nodes.new (W.contents output.old) (W.contents output.new) sink.old) }
+    ensures ok { IfOk result (λ bad. Turned number session.old line.now bad session.new (W.contents output.old) (W.contents output.new) sink.old sink.new) }
+    ensures err { OnErr result (TurnCut number session.old line.now session.new (W.contents output.old) (W.contents output.new) sink.old) }
 {
-    let response = respond(alloc, nodes, number, line);
-    write_response(nodes, &response, sink, output)?;
+    let response = session.answer(alloc, number, line);
+    write_response(session, &response, sink, output)?;
     Ok(response.is_bad())
 }
 
 /// Answers the lines of a script, one after another.
 #[derive(Drop)]
 pub struct Interpreter {
-    nodes: Nodes,
+    session: Session,
     number: u64,
     any_bad: bool,
     sink: Sink,
@@ -76,7 +42,7 @@ impl Model for Interpreter {
 
     ghost coded = { coded_interpreter };
 
-    ghost view = { λ i. record { number = i.number; bad = i.any_bad; state = i.nodes; pending = i.sink } };
+    ghost view = { λ i. record { number = i.number; bad = i.any_bad; session = i.session; pending = i.sink } };
 }
 
 impl Interpreter {
@@ -85,7 +51,7 @@ impl Interpreter {
         ensures { result ≡ fresh }
     {
         Interpreter {
-            nodes: Nodes::new(alloc),
+            session: Session::new(alloc),
             number: 1,
             any_bad: false,
             sink: Sink::new(alloc),
@@ -114,7 +80,7 @@ impl Interpreter {
     {
         let bad = answer_line(
             alloc,
-            &mut self.nodes,
+            &mut self.session,
             self.number,
             line,
             &mut self.sink,

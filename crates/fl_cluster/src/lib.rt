@@ -9,5 +9,6 @@ pub mod node;
 pub mod nodes;
 pub mod response;
 pub mod run;
+pub mod session;
 pub mod split;
 pub mod stream;

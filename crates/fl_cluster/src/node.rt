@@ -1,7 +1,8 @@
 //! A node, job by job.
 ghost use Rattle.std.specs.Prelude.{◌≡◌, ◌≢◌, ◌<◌, IfOk, MatchOption, OnErr, OnOk, Ok};
 ghost use Rattle.fl_jobs.specs.declared.answer.Outcome.TheVariants as outcome;
-ghost use Rattle.fl_cluster.specs.State.{State, opened};
+ghost use Rattle.fl_cluster.specs.State.{opened};
+ghost use Rattle.fl_cluster.specs.Session.{Session};
 ghost use Rattle.fl_cluster.specs.Answer.{shown};
 ghost use Rattle.fl_cluster.specs.LastName.{IsLast};
 ghost use Rattle.fl_cluster.specs.NodeStep.{AnswersResult, IsNextName, Works, with_operation, without_order};
@@ -72,7 +73,7 @@ impl Node {
 
     /// Does a job, and gives a new operation its name. Want of memory leaves the node.
     pub fn work(&mut self, alloc: Global, job: Job) -> Result<Response, AllocError>
-        ensures ok { IfOk result (λ response. (state : State) → Works self.old job (shown state response) self.new) }
+        ensures ok { IfOk result (λ response. (session : Session) → Works self.old job (shown session response) self.new) }
         ensures err { OnErr result (self.new ≡ self.old) }
     {
         match self.bench.job(alloc, &mut self.index, job) {
@@ -84,7 +85,7 @@ impl Node {
 
     // Gives the operation that is under way the next name, and makes it. Where no name is left, or no memory, the operation is cancelled.
     fn order(&mut self, body: Body, pid: Pid) -> Result<Response, AllocError>
-        ensures ok { IfOk result (λ response. (state : State) → AnswersResult (without_order self.old pid) (Ok (outcome.Order body pid)) self.old.bench (shown state response) self.new) }
+        ensures ok { IfOk result (λ response. (session : Session) → AnswersResult (without_order self.old pid) (Ok (outcome.Order body pid)) self.old.bench (shown session response) self.new) }
         ensures err { OnErr result (self.new ≡ without_order self.old pid) }
     {
         let Some(name) = self.next_name() else {

@@ -2,6 +2,7 @@
 ghost use Rattle.std.specs.Prelude.{◌≡◌, ◌<◌, All, IfOk, MatchOption, OnErr, OnOk, false, not};
 ghost use Rattle.std.specs.FinMap as map;
 ghost use Rattle.fl_labels.specs.SetBy as set;
+ghost use Rattle.fl_aliases.specs.Table.{Table};
 ghost use Rattle.fl_opset.specs.RegistryText.{registry_text};
 ghost use Rattle.fl_sink.specs.Sink.{Cuts, Passes};
 ghost use Rattle.fl_script.specs.Grammar.{nodes_of};
@@ -47,23 +48,24 @@ impl Nodes {
         }
     }
 
-    /// Answers a line. Want of memory leaves all as it was: a node that the line would open is then not open.
+    /// Answers a line, whatever the aliases are. Want of memory leaves all as it was: a node that the line would open is then not open.
     pub fn answer(&mut self, alloc: Global, line: Line) -> Result<Response, AllocError>
         requires { All (λ node. 0 < node) (nodes_of line) }
-        ensures ok { IfOk result (λ response. Answers self.old line (shown self.new response) self.new) }
+        ensures ok { IfOk result (λ response. (aliases : Table) → Answers aliases self.old line (shown (record { state = self.new; aliases = aliases }) response) self.new) }
         ensures err { OnErr result (self.new ≡ self.old) }
     {
         match line {
             Line::Job { node, job } => self.work(alloc, node, job),
             Line::Text { node } => self.tell(alloc, node),
             Line::Union { first, second } => self.unite(alloc, first, second),
+            Line::Aliases => Ok(Response::Aliases),
         }
     }
 
     // Has the node do the job, and opens it where it is not open.
     fn work(&mut self, alloc: Global, number: u16, job: Job) -> Result<Response, AllocError>
         requires { 0 < number }
-        ensures ok { IfOk result (λ response. Answers self.old (Line.Job number job) (shown self.new response) self.new) }
+        ensures ok { IfOk result (λ response. (aliases : Table) → Answers aliases self.old (Line.Job number job) (shown (record { state = self.new; aliases = aliases }) response) self.new) }
         ensures err { OnErr result (self.new ≡ self.old) }
     {
         let Some(node) = self.all.get_mut(&number) else {
@@ -76,7 +78,7 @@ impl Nodes {
     fn open_at_work(&mut self, alloc: Global, number: u16, job: Job) -> Result<Response, AllocError>
         requires known { 0 < number }
         requires new { is_open self.old number ≡ false }
-        ensures ok { IfOk result (λ response. Answers self.old (Line.Job number job) (shown self.new response) self.new) }
+        ensures ok { IfOk result (λ response. (aliases : Table) → Answers aliases self.old (Line.Job number job) (shown (record { state = self.new; aliases = aliases }) response) self.new) }
         ensures err { OnErr result (self.new ≡ self.old) }
     {
         let mut node = Node::new(alloc, number);
@@ -87,7 +89,7 @@ impl Nodes {
 
     fn tell(&mut self, alloc: Global, number: u16) -> Result<Response, AllocError>
         requires { 0 < number }
-        ensures ok { IfOk result (λ response. Answers self.old (Line.Text number) (shown self.new response) self.new) }
+        ensures ok { IfOk result (λ response. (aliases : Table) → Answers aliases self.old (Line.Text number) (shown (record { state = self.new; aliases = aliases }) response) self.new) }
         ensures err { OnErr result (self.new ≡ self.old) }
     {
         self.open(alloc, number)?;
@@ -98,7 +100,7 @@ impl Nodes {
     fn unite(&mut self, alloc: Global, first: u16, second: u16) -> Result<Response, AllocError>
         requires first { 0 < first }
         requires second { 0 < second }
-        ensures ok { IfOk result (λ response. Answers self.old (Line.Union first second) (shown self.new response) self.new) }
+        ensures ok { IfOk result (λ response. (aliases : Table) → Answers aliases self.old (Line.Union first second) (shown (record { state = self.new; aliases = aliases }) response) self.new) }
         ensures err { OnErr result (self.new ≡ self.old) }
     {
         let mut all = OpSet::new(alloc);

@@ -1,6 +1,7 @@
 //! What is answered to a line.
 ghost use Rattle.std.specs.Prelude.{◌≡◌};
 
+use fl_aliases::target::Target;
 use fl_jobs::answer::{Refusal, Reply};
 use fl_labels::name::Name;
 use fl_opset::set::OpSet;
@@ -18,6 +19,8 @@ pub enum Response {
     Text(u16),
     /// The lines of these operations of two nodes.
     Union(OpSet),
+    /// The lines of the aliases that are set, which are written from these themselves.
+    Aliases,
     /// The job was refused, and nothing changed.
     Refused(Refusal),
     /// The line of this number is none of the script, and nothing changed.
@@ -25,13 +28,25 @@ pub enum Response {
 }
 
 impl Response {
-    ghost use Rattle.fl_cluster.specs.State.{State};
+    ghost use Rattle.fl_cluster.specs.Session.{Session};
     ghost use Rattle.fl_cluster.specs.Answer.{is_bad, shown};
+    ghost use Rattle.fl_cluster.specs.Naming.{made_by};
 
     /// Whether the line was none of the script.
     pub fn is_bad(&self) -> bool
-        ensures { (state : State) → result ≡ is_bad (shown state self.now) }
+        ensures { (session : Session) → result ≡ is_bad (shown session self.now) }
     {
         matches!(self, Response::BadLine(_))
+    }
+
+    /// The process or the operation that the line made, for which its alias is to stand.
+    pub fn made(&self) -> Option<Target>
+        ensures { (session : Session) → result ≡ made_by (shown session self.now) }
+    {
+        match self {
+            Response::Reply(Reply::Made(pid)) => Some(Target::Process(*pid)),
+            Response::Named(name) => Some(Target::Operation(*name)),
+            _ => None,
+        }
     }
 }

@@ -2,7 +2,7 @@ use Rattle.std.proofs.Common.{ap}
 use Rattle.fl_ops.specs.OpLaws.{op_total, op_exact}
 use Rattle.fl_opset.specs.RegistryText.{registry_text}
 use Rattle.fl_opset.proofs.Join.{same_members}
-use Rattle.fl_cluster.proofs.Equals.{same_effect, same_reply, same_member}
+use Rattle.fl_cluster.proofs.Equals.{same_effect, same_reply, same_member, same_login}
 use Rattle.fl_cluster.proofs.laws.law_equal.Goals as goal
 
 pub returns-clause-text : goal.returns-clause-text
@@ -16,3 +16,6 @@ returns-clause-asked c = same_reply
 
 pub returns-clause-member : goal.returns-clause-member
 returns-clause-member c = same_member
+
+pub returns-clause-login : goal.returns-clause-login
+returns-clause-login c = same_login

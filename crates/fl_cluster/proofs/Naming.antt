@@ -1,0 +1,82 @@
+-- An alias is placed, and then stands for what its line made, or is taken back.
+use Rattle.std.proofs.Common.{◌≡◌, ◌≢◌, ◌<◌, ◌∙◌, refl, sym, ap, ℕ, Bool, true, false, cond, Option, None, Some, IsNone, IsSome, is_some, Result, List, [], ◌∷◌, ◌++◌, length, arith}
+use Rattle.std.specs.Bool.{MatchBool}
+use Rattle.fl_aliases.specs.Table.{Entry, Table, target_of, retargeted}
+use Rattle.fl_aliases.specs.declared.target.Target.{Target}
+use Rattle.fl_aliases.proofs.Placing.{placed_found, placed_set, taken_back}
+use Rattle.fl_jobs.specs.declared.answer.Outcome.{Outcome}
+use Rattle.fl_jobs.specs.declared.answer.Refusal.{Refusal}
+use Rattle.fl_monitor.specs.Bench as bench
+use Rattle.fl_script.specs.Reading.{makes as is_making}
+use Rattle.fl_script.specs.declared.line.Line.{Line}
+use Rattle.fl_cluster.specs.State.{State, NodeState}
+use Rattle.fl_cluster.specs.NodeStep.{AnswersResult, replies, refuses, makes, spends}
+use Rattle.fl_cluster.specs.Session.{Session}
+use Rattle.fl_cluster.specs.Answer.{Answer, shown, listed}
+use Rattle.fl_cluster.specs.Naming.{with_alias, IsPlaced, as_last, in_place}
+use Rattle.fl_cluster.specs.Turn.{Answers, works, tells, unites, lists}
+use Rattle.fl_cluster.specs.declared.response.Response.{Response}
+use Rattle.fl_cluster.specs.declared.response.Response.TheVariants as response
+
+-- sessions with the same nodes and aliases are equal
+pub same_session : (m n : Session) → m.state ≡ n.state → m.aliases ≡ n.aliases → m ≡ n
+same_session m n e f = ap (λ (s : State). record { state = s; aliases = m.aliases }) e ∙ ap (λ (t : Table). record { state = n.state; aliases = t }) f
+
+is_none : {X : Type 0} (o : Option X) → IsNone o → o ≡ None
+is_none None h = refl
+is_none (Some x) h = absurd (cc)
+
+-- the alias was set as the last one, or was set before
+pub placed : (before after : Table) (alias : List ℕ) (target : Target) (is_new : Bool) → MatchBool is_new (IsNone (target_of before alias)) (IsSome (target_of before alias)) → MatchBool is_new (after ≡ before ++ (alias, target) ∷ []) (after ≡ before) → IsPlaced before alias is_new after
+placed before after alias target true was is = rw is (as_last target (is_none _ was))
+placed before after alias target false was is = rw is (in_place was)
+
+-- either way it is set
+pub placed_is_set : {before after : Table} {alias : List ℕ} {is_new : Bool} → IsPlaced before alias is_new after → IsSome (target_of after alias)
+placed_is_set {before} {alias = alias} (as_last target none) = rw (placed_found before alias target none) refl
+placed_is_set (in_place some) = some
+
+-- an alias that is set is in the table
+pub some_set : (table : Table) (alias : List ℕ) → IsSome (target_of table alias) → 0 < length table
+some_set [] alias some = absurd (cc)
+some_set (e ∷ es) alias some = omega arith
+
+-- set then, it is as if it had been set to this at once
+pub placed_then_set : {before after : Table} {alias : List ℕ} {is_new : Bool} (target : Target) → IsPlaced before alias is_new after → retargeted after alias target ≡ with_alias before alias target
+placed_then_set {before} {alias = alias} target (as_last first none) = placed_set before alias first target none ∙ ap (λ o. cond (is_some o) (retargeted before alias target) (before ++ (alias, target) ∷ [])) (sym none)
+placed_then_set {before} {alias = alias} target (in_place some) = ap (λ b. cond b (retargeted before alias target) (before ++ (alias, target) ∷ [])) (sym some)
+
+-- a new one that is taken back was never there
+pub placed_then_back : {before after : Table} {alias : List ℕ} {is_new : Bool} (left : Table) → is_new ≡ true → IsPlaced before alias is_new after → ((last : Entry) × (after ≡ left ++ last ∷ [])) → left ≡ before
+placed_then_back {before} {alias = alias} left new (as_last target none) back = taken_back before left (alias, target) back.0 back.1
+placed_then_back left new (in_place some) back = absurd (cc)
+
+-- one that was set is as it was
+pub placed_then_left : {before after : Table} {alias : List ℕ} {is_new : Bool} → is_new ≡ false → IsPlaced before alias is_new after → after ≡ before
+placed_then_left old (as_last target none) = absurd (cc)
+placed_then_left old (in_place some) = refl
+
+-- no job is answered with the aliases
+result_no_list : {node : NodeState} {r : Result Outcome Refusal} {after : bench.State} {answer : Answer} {m : NodeState} {table : Table} → AnswersResult node r after answer m → answer ≢ listed table
+result_no_list replies e = absurd (cc)
+result_no_list (refuses more) e = absurd (cc)
+result_no_list (makes next) e = absurd (cc)
+result_no_list (spends last) e = absurd (cc)
+
+-- nor is a line that makes something
+no_list : {table other : Table} {old : State} {said : Line} {answer : Answer} {new : State} → is_making said ≡ true → Answers table old said answer new → answer ≢ listed other
+no_list made (works w) e = result_no_list w.answered e
+no_list made tells e = absurd (cc)
+no_list made unites e = absurd (cc)
+no_list made lists e = absurd (cc)
+
+-- so that its answer is the same whatever the aliases are when it is written
+pub shown_apart : {old new : State} {said : Line} (table other : Table) (r : Response) → is_making said ≡ true → Answers table old said (shown (record { state = new; aliases = table }) r) new → Answers table old said (shown (record { state = new; aliases = other }) r) new
+shown_apart table other response.Aliases made h = absurd (no_list made h refl)
+shown_apart table other response.Silence made h = h
+shown_apart table other (response.Reply reply) made h = h
+shown_apart table other (response.Named name) made h = h
+shown_apart table other (response.Text node) made h = h
+shown_apart table other (response.Union registry) made h = h
+shown_apart table other (response.Refused refusal) made h = h
+shown_apart table other (response.BadLine number) made h = h
