@@ -1,8 +1,9 @@
 //! Tests of whole runs.
 use crate::rows::{
-    CYCLE_OF_GROUPS, EMPTY_SCRIPT, FIRST_TAG, FORMS_OF_LINES, GROUP_LENDS, LABEL_RANGES,
-    LAST_RETURN_STAYS, NODES_APART, READ_AND_INTEGRITY_TAGS, READ_TAG_ALONE, Row,
-    UNION_OF_REGISTRIES,
+    ALIASES_AND_BIRTHS, ALIASES_IN_WORDS, BIRTHS_AND_EXITS, CYCLE_OF_GROUPS, EMPTY_SCRIPT,
+    EXPORT_TAG_TAINTS, FIRST_TAG, FORMS_OF_LINES, GROUP_LENDS, GROUP_LETS_OUT, LABEL_RANGES,
+    LAST_RETURN_STAYS, LOGIN_DIGESTS, LOGIN_GIVES_BACK_A_DROP, NODES_APART,
+    READ_AND_INTEGRITY_TAGS, READ_TAG_ALONE, Row, UNION_OF_REGISTRIES,
 };
 use crate::streams::{AskingReader, FailingReader, FailingWriter, FlushedWriter};
 use fl_cluster::fault::RunFault;
@@ -14,10 +15,7 @@ use std::test::Fail;
 
 /// The row as it stands, in pieces of all sizes, with each read and with each byte of writing failing once.
 fn check_row(rt: &(impl Abort + AllocGlobal), row: &Row) -> Result<(), Fail> {
-    let mut input = row.script;
-    let mut output = Vec::new(rt.alloc());
-    assert_eq!(rt; run(rt, &mut input, &mut output)?, row.status);
-    assert_eq!(rt; output.as_slice(), row.output);
+    check_once(rt, row)?;
     for piece in 1..=row.script.len() {
         check_pieces(rt, row, piece)?;
     }
@@ -25,6 +23,15 @@ fn check_row(rt: &(impl Abort + AllocGlobal), row: &Row) -> Result<(), Fail> {
         check_writes(rt, row, room, false)?;
         check_writes(rt, row, room, true)?;
     }
+    Ok(())
+}
+
+/// The row as it stands.
+fn check_once(rt: &(impl Abort + AllocGlobal), row: &Row) -> Result<(), Fail> {
+    let mut input = row.script;
+    let mut output = Vec::new(rt.alloc());
+    assert_eq!(rt; run(rt, &mut input, &mut output)?, row.status);
+    assert_eq!(rt; output.as_slice(), row.output);
     Ok(())
 }
 
@@ -129,6 +136,41 @@ fn last_return_stays(rt: HostRuntime) -> Result<(), Fail> {
     check_row(&rt, &LAST_RETURN_STAYS)
 }
 
+#[test]
+fn export_tag_taints(rt: HostRuntime) -> Result<(), Fail> {
+    check_row(&rt, &EXPORT_TAG_TAINTS)
+}
+
+#[test]
+fn aliases_and_births(rt: HostRuntime) -> Result<(), Fail> {
+    check_row(&rt, &ALIASES_AND_BIRTHS)
+}
+
+#[test]
+fn login_gives_back_a_drop(rt: HostRuntime) -> Result<(), Fail> {
+    check_row(&rt, &LOGIN_GIVES_BACK_A_DROP)
+}
+
+#[test]
+fn login_digests(rt: HostRuntime) -> Result<(), Fail> {
+    check_once(&rt, &LOGIN_DIGESTS)
+}
+
+#[test]
+fn births_and_exits(rt: HostRuntime) -> Result<(), Fail> {
+    check_once(&rt, &BIRTHS_AND_EXITS)
+}
+
+#[test]
+fn group_lets_out(rt: HostRuntime) -> Result<(), Fail> {
+    check_once(&rt, &GROUP_LETS_OUT)
+}
+
+#[test]
+fn aliases_in_words(rt: HostRuntime) -> Result<(), Fail> {
+    check_once(&rt, &ALIASES_IN_WORDS)
+}
+
 /// Who asks line by line sees each answer before it is asked for the next line.
 #[test]
 fn answers_before_it_reads_on(rt: HostRuntime) -> Result<(), Fail> {
@@ -210,5 +252,24 @@ fn put_groups(alloc: Global, script: &mut String, output: &mut String) -> Result
         script.push_str(&format!(in alloc; "1 put p1.1.1 1.{group} *1.{}\n", group + 1)?)?;
         output.push_str(&format!(in alloc; "ok 1.{}\n", group + 100)?)?;
     }
+    Ok(())
+}
+
+/// 1,024 aliases may be set. Then no line sets one, not even one that is set; the others are answered as before.
+#[test]
+fn full_table_of_aliases(rt: HostRuntime) -> Result<(), Fail> {
+    let alloc = rt.alloc();
+    let mut script = String::new(alloc);
+    let mut output = String::new(alloc);
+    for serial in 1..=1024u32 {
+        script.push_str(&format!(in alloc; "1 proc as $x{serial}\n")?)?;
+        output.push_str(&format!(in alloc; "p1.1.{serial}\n")?)?;
+    }
+    script.push_str("1 proc as $y\n1 proc as $x1\n1 proc\n1 ask $x1024 +1.1\n1 exit $x1\n")?;
+    output.push_str("refused F19 1025\nrefused F19 1026\np1.1.1025\nnot-yet\nok\n")?;
+    let mut written = Vec::new(alloc);
+    let mut input = script.as_bytes();
+    assert_eq!(rt; run(&rt, &mut input, &mut written)?, 1);
+    assert_eq!(rt; written.as_slice(), output.as_bytes());
     Ok(())
 }
