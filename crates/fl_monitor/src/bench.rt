@@ -147,8 +147,8 @@ impl Bench {
     }
 
     /// Ends the operation of its maker that is under way, and gives what it gives: of a tag, to add and to remove it; of a
-    /// group, to use and to grow it; of a put, nothing. Where no operation of that process is under way, or it does not stand
-    /// here, nothing changes. Takes no memory.
+    /// group, to use and to grow it; of a put or a login, nothing. Where no operation of that process is under way, or it does
+    /// not stand here, nothing changes. Takes no memory.
     pub fn finish(&mut self, pid: Pid, op: &Op)
         ensures { self.new ≡ finished self.old pid op.now }
     {
