@@ -1,3 +1,4 @@
+pub mod Unions
 pub mod Rising
 pub mod SortedVec
 pub mod Written

@@ -16,12 +16,14 @@ use Rattle.fl_labels.specs.declared.cap.Cap.TheVariants.{Plus, Minus, Use, Grow}
 use Rattle.fl_labels.specs.declared.pid.Pid.{Pid}
 use Rattle.fl_labels.specs.NameOrder.{same_name}
 use Rattle.fl_labels.specs.PidOrder.{same_pid}
+use Rattle.fl_labels.specs.declared.endpoint.Endpoint.{Endpoint}
+use Rattle.fl_labels.specs.Endpoint.{same_endpoint}
 use Rattle.fl_labels.specs.SetBy.{SetBy, of_list, members, of_list-members}
 use Rattle.fl_labels.specs.Cap.{cap_name, cap_rank}
 use Rattle.fl_labels.specs.CapOrder.{cap_total, cap_exact}
 use Rattle.fl_labels.specs.Name.{name_cmp}
 use Rattle.std.specs.Ordering.{nat_cmp, ordering_then}
-use Rattle.fl_labels.specs.Text.{name_text, cap_sign, cap_text, pid_text, braces}
+use Rattle.fl_labels.specs.Text.{name_text, cap_sign, cap_text, pid_text, endpoint_text, braces}
 use Rattle.fl_labels.specs.Words.{is_comma, NoComma, IsListing}
 use Rattle.fl_labels.specs.ItemText.{own}
 use Rattle.fl_labels.proofs.Cut.{cut_joined}
@@ -79,6 +81,10 @@ pid_text_injective p q e =
     (same_number p.node q.node (omega (arith, p.node_in_range)) (omega (arith, q.node_in_range)) nodes)
     (same_number p.boot q.boot p.boot_in_range.1 q.boot_in_range.1 boots)
     (same_number p.serial q.serial p.serial_in_range.1 q.serial_in_range.1 serials)
+
+-- no two endpoints have one text
+pub endpoint_text_injective : (d e : Endpoint) → endpoint_text d ≡ endpoint_text e → d ≡ e
+endpoint_text_injective d e same = same_endpoint d e (same_number d.number e.number (omega (arith, d.number_in_range)) (omega (arith, e.number_in_range)) (ap (drop 1) same))
 
 rank_of : ℕ → ℕ
 rank_of sign = cond (eqb sign 43) 1 (cond (eqb sign 45) 2 (cond (eqb sign 42) 3 4))

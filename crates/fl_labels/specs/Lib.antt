@@ -1,5 +1,6 @@
 pub mod Name
 pub mod SetBy
+pub mod SetEquality
 pub mod Found
 pub mod NameOrder
 pub mod Cap
@@ -7,6 +8,7 @@ pub mod CapOrder
 pub mod Label
 pub mod Pid
 pub mod PidOrder
+pub mod Endpoint
 pub mod Text
 pub mod Words
 pub mod ItemText

@@ -37,6 +37,29 @@ impl Model for CapSet {
     ghost invariant = { λ a. IsStrictlySortedBy cap_cmp a.caps.items };
 }
 
+impl PartialEq for CapSet {
+    ghost use Rattle.std.specs.Ordering.{eq_by_cmp};
+    ghost use Rattle.std.specs.Cmp.{partial_equiv_from_equiv};
+    ghost use Rattle.fl_labels.specs.Cap.{cap_cmp};
+    ghost use Rattle.fl_labels.specs.CapOrder.{cap_total};
+    ghost use Rattle.fl_labels.specs.SetEquality.{set_cmp, sets_equiv};
+
+    ghost eq = { eq_by_cmp (set_cmp cap_cmp) };
+
+    ghost laws = { partial_equiv_from_equiv (sets_equiv cap_total) };
+
+    fn eq(&self, other: &Self) -> bool {
+        self.as_slice().cmp(other.as_slice()).is_eq()
+    }
+}
+
+impl Eq for CapSet {
+    ghost use Rattle.fl_labels.specs.CapOrder.{cap_total};
+    ghost use Rattle.fl_labels.specs.SetEquality.{sets_equiv};
+
+    ghost laws = { sets_equiv cap_total };
+}
+
 impl fmt::Display for CapSet {
     ghost use Rattle.std.specs.Prelude.{Some};
     ghost use Rattle.fl_labels.specs.Text.{caps_text};
@@ -166,6 +189,16 @@ impl CapSet {
     {
         let caps = Vec::from_slice(alloc, &self.caps)?;
         Ok(CapSet { caps })
+    }
+
+    /// All members of both sets. Linear where those of the other are the greater ones, and else with a sort. Fails only where there is
+    /// not enough memory.
+    pub fn union(&self, alloc: Global, other: &CapSet) -> Result<Self, AllocError>
+        ensures { IfOk result (λ made. made ≡ set.union self.now other.now) }
+    {
+        let mut caps = Vec::from_slice(alloc, &self.caps)?;
+        caps.extend_from_slice(&other.caps)?;
+        Ok(CapSet::from_vec(caps))
     }
 
     /// The same set with room for two more. An error says that there was not enough memory, and gives the set back.

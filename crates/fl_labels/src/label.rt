@@ -39,6 +39,29 @@ impl Model for Label {
     ghost invariant = { λ a. IsLabel a.tags.items };
 }
 
+impl PartialEq for Label {
+    ghost use Rattle.std.specs.Ordering.{eq_by_cmp};
+    ghost use Rattle.std.specs.Cmp.{partial_equiv_from_equiv};
+    ghost use Rattle.fl_labels.specs.Name.{name_cmp};
+    ghost use Rattle.fl_labels.specs.NameOrder.{name_total};
+    ghost use Rattle.fl_labels.specs.SetEquality.{set_cmp, sets_equiv};
+
+    ghost eq = { eq_by_cmp (set_cmp name_cmp) };
+
+    ghost laws = { partial_equiv_from_equiv (sets_equiv name_total) };
+
+    fn eq(&self, other: &Self) -> bool {
+        self.as_slice().cmp(other.as_slice()).is_eq()
+    }
+}
+
+impl Eq for Label {
+    ghost use Rattle.fl_labels.specs.NameOrder.{name_total};
+    ghost use Rattle.fl_labels.specs.SetEquality.{sets_equiv};
+
+    ghost laws = { sets_equiv name_total };
+}
+
 impl fmt::Display for Label {
     ghost use Rattle.std.specs.Prelude.{Some};
     ghost use Rattle.fl_labels.specs.Text.{label_text};

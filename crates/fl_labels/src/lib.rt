@@ -3,6 +3,7 @@
 
 pub mod cap;
 pub mod cap_set;
+pub mod endpoint;
 pub mod error;
 pub mod label;
 pub mod laws;

@@ -1,13 +1,14 @@
 // Tests: texts both ways, bad texts, limits, and each public function once.
 use crate::cap::Cap;
 use crate::cap_set::CapSet;
+use crate::endpoint::{Endpoint, LAST_ENDPOINT};
 use crate::error::SetError;
 use crate::label::{Label, MOST_TAGS};
 use crate::list::read_items;
 use crate::name::Name;
 use crate::pid::Pid;
 use crate::sorted::{arrange, rises};
-use crate::text::{read_cap, read_name, read_node, read_number, read_pid};
+use crate::text::{read_cap, read_endpoint, read_name, read_node, read_number, read_pid};
 use std::test::Fail;
 
 #[test]
@@ -113,6 +114,26 @@ fn process_identifiers(rt: HostRuntime) -> Result<(), Fail> {
         "pp1.1.1",
     ] {
         assert_eq!(rt; read_pid(text), None, "{text}");
+    }
+    Ok(())
+}
+
+#[test]
+fn endpoints(rt: HostRuntime) -> Result<(), Fail> {
+    let alloc = rt.alloc();
+    let first = Endpoint { number: 1 };
+    let last = Endpoint {
+        number: LAST_ENDPOINT,
+    };
+    assert_eq!(rt; format!(in alloc; "{first}")?.as_str(), "e1");
+    assert_eq!(rt; format!(in alloc; "{last}")?.as_str(), "e64");
+    assert_eq!(rt; read_endpoint("e1"), Some(first));
+    assert_eq!(rt; read_endpoint("e64"), Some(last));
+    assert!(rt; first < last);
+    for text in [
+        "", "e", "1", "e0", "e01", "e65", "e257", "E1", "e1 ", "e-1", "p1",
+    ] {
+        assert_eq!(rt; read_endpoint(text), None, "{text}");
     }
     Ok(())
 }

@@ -1,10 +1,11 @@
 // Readers of words.
 ghost use Rattle.std.specs.Prelude.{◌≡◌, ℕ, ◌<◌, ◌∷◌, List};
 ghost use Rattle.fl_labels.specs.Found.{Finds};
-ghost use Rattle.fl_labels.specs.Text.{name_text, cap_text, pid_text};
+ghost use Rattle.fl_labels.specs.Text.{name_text, cap_text, pid_text, endpoint_text};
 ghost use Rattle.fl_labels.specs.Words.{IsNumber, IsNode};
 
 use crate::cap::Cap;
+use crate::endpoint::{Endpoint, LAST_ENDPOINT};
 use crate::name::Name;
 use crate::pid::Pid;
 
@@ -71,4 +72,17 @@ pub fn read_pid(text: &str) -> Option<Pid>
     let boot = read_number(boot)?;
     let serial = read_number(serial)?;
     Some(Pid { node, boot, serial })
+}
+
+/// The endpoint that a word such as `e1` spells. `None` of any other word.
+pub fn read_endpoint(text: &str) -> Option<Endpoint>
+    ensures { Finds result (λ endpoint. text.now ≡ endpoint_text endpoint) }
+{
+    let number = read_number(text.strip_prefix('e')?)?;
+    if number > u32::from(LAST_ENDPOINT) {
+        return None;
+    }
+    Some(Endpoint {
+        number: number as u8,
+    })
 }
