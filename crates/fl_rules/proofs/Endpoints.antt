@@ -11,7 +11,7 @@ use Rattle.fl_labels.proofs.Searches.{found_as, both_found}
 use Rattle.fl_rules.specs.declared.endpoint.Mode.{Mode}
 use Rattle.fl_rules.specs.declared.endpoint.Mode.TheVariants.{Read, Write, Both}
 use Rattle.fl_rules.specs.Safety.{Dual}
-use Rattle.fl_rules.specs.Labels.{LabelSets}
+use Rattle.fl_rules.specs.declared.labels.Labels.{Labels}
 use Rattle.fl_rules.specs.Endpoint.{Crosses, SafeEndpoint}
 use Rattle.fl_rules.specs.Walk.{OnlyIn}
 use Rattle.fl_rules.proofs.Duals.{dual_same}
@@ -32,12 +32,12 @@ either_found {E} {F} {P} {Q} a b c same e p q =
     let again : Found name_cmp Q (Dual E) b = found_as b (λ x h. h) (λ x h. h) (λ x d. (dual_same same x).0 d) (λ x d. (dual_same same x).1 d) q in
     subst (Found name_cmp (λ t. P t ⊎ Q t) (Dual E)) (sym e) (both_found name_total name_exact a b p again)
 
-safe_by : (E : Cap → Type 0) (mode : Mode) (process endpoint : LabelSets) → Within (Crosses mode process endpoint) (Dual E) → SafeEndpoint E mode process endpoint
+safe_by : (E : Cap → Type 0) (mode : Mode) (process endpoint : Labels) → Within (Crosses mode process endpoint) (Dual E) → SafeEndpoint E mode process endpoint
 safe_by E Read process endpoint all = record { read = λ _. all; write = λ e. absurd (false≢true e) }
 safe_by E Write process endpoint all = record { read = λ e. absurd (false≢true e); write = λ _. all }
 safe_by E Both process endpoint all = record { read = λ _ t h. all t (inl h); write = λ _ t h. all t (inr h) }
 
-pub endpoint_found : (E : Cap → Type 0) (mode : Mode) (process endpoint : LabelSets) (r : Option Name) → Found name_cmp (Crosses mode process endpoint) (Dual E) r
+pub endpoint_found : (E : Cap → Type 0) (mode : Mode) (process endpoint : Labels) (r : Option Name) → Found name_cmp (Crosses mode process endpoint) (Dual E) r
     → MatchOption r (SafeEndpoint E mode process endpoint) (IsLeastOutside name_cmp (Crosses mode process endpoint) (Dual E))
 endpoint_found E mode process endpoint None found = safe_by E mode process endpoint found.is
 endpoint_found E mode process endpoint (Some tag) found = found.is

@@ -8,13 +8,14 @@ use Rattle.fl_rules.specs.declared.endpoint.Mode.{Mode}
 use Rattle.fl_rules.specs.declared.pair.EndpointRef.{EndpointRef}
 use Rattle.fl_rules.specs.declared.pair.PairFault.{PairFault}
 use Rattle.fl_rules.specs.declared.pair.PairFault.TheVariants.{NotWritable, NotReadable, Secrecy, Integrity}
-use Rattle.fl_rules.specs.Labels.{LabelSets, sets_of}
+use Rattle.fl_rules.specs.declared.labels.Labels.{Labels}
+use Rattle.fl_rules.specs.Labels.{sets_of}
 use Rattle.fl_rules.specs.Endpoint.{reads, writes}
 
 -- an endpoint, with its labels as sets
 pub record Endpoint : Type 0 where
   pub mode : Mode
-  pub labels : LabelSets
+  pub labels : Labels
 
 abbrev pub endpoint_of : EndpointRef → Endpoint
 endpoint_of endpoint = record { mode = endpoint.mode; labels = sets_of endpoint.labels }
