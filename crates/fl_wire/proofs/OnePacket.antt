@@ -1,0 +1,137 @@
+-- Bytes spell one packet at most.
+use Rattle.std.proofs.Common.{◌≡◌, ℕ, ◌≤◌, ◌<◌, ◌^◌, List, [], ◌∷◌, ◌++◌, length, get_or, take, drop, refl, sym, ap, ◌∙◌, arith}
+use mathlib.Core.HLevel.{Σ_prop_path}
+use Rattle.std.specs.Coded.{×_prop, le_prop}
+use Rattle.std.specs.Int.{w16, w32, to_be_bytes, from_be_bytes}
+use Rattle.std.specs.List.{flat_map}
+use Rattle.std.proofs.lemmas.Nat.{from_be_bytes-to_be_bytes_2, from_be_bytes-to_be_bytes_4}
+use Rattle.fl_labels.specs.declared.name.Name.{Name}
+use Rattle.fl_labels.specs.declared.cap.Cap.{Cap}
+use Rattle.fl_labels.specs.declared.pid.Pid.{Pid}
+use Rattle.fl_labels.specs.Name.{name_cmp}
+use Rattle.fl_labels.specs.NameOrder.{same_name, name_total, name_exact}
+use Rattle.fl_labels.specs.Cap.{cap_name, cap_rank, cap_cmp}
+use Rattle.fl_labels.specs.CapOrder.{cap_total, cap_exact}
+use Rattle.fl_labels.specs.PidOrder.{same_pid}
+use Rattle.fl_labels.specs.Endpoint.{same_endpoint}
+use Rattle.fl_labels.specs.SetBy.{SetBy, of_list, members, len, len-members, of_list-members}
+use Rattle.fl_ops.specs.Bytes.{name_bytes, cap_bytes}
+use Rattle.fl_ops.specs.OpLaws.{cap_same}
+use Rattle.fl_wire.specs.declared.packet.Message.{Message}
+use Rattle.fl_wire.specs.declared.packet.Data.{Data}
+use Rattle.fl_wire.specs.declared.packet.Packet.{Packet}
+use Rattle.fl_wire.specs.declared.packet.Packet.TheVariants as kinds
+use Rattle.fl_wire.specs.PacketBytes.{pid_bytes, label_bytes, caps_bytes, payload_bytes, message_bytes, data_bytes, packet_bytes}
+
+two_back : (n : ℕ) → n < 2 ^ 16 → from_be_bytes w16 (to_be_bytes w16 n) ≡ n
+two_back n h = from_be_bytes-to_be_bytes_2 n h
+
+four_back : (n : ℕ) → n < 2 ^ 32 → from_be_bytes w32 (to_be_bytes w32 n) ≡ n
+four_back n h = from_be_bytes-to_be_bytes_4 n h
+
+-- two bytes of a number, before whatever follows
+two_front : (m n : ℕ) (u v : List ℕ) → m < 2 ^ 16 → n < 2 ^ 16 → to_be_bytes w16 m ++ u ≡ to_be_bytes w16 n ++ v → (m ≡ n) × (u ≡ v)
+two_front m n u v h k e = (sym (two_back m h) ∙ ap (λ l. from_be_bytes w16 (take 2 l)) e ∙ two_back n k, ap (drop 2) e)
+
+four_front : (m n : ℕ) (u v : List ℕ) → m < 2 ^ 32 → n < 2 ^ 32 → to_be_bytes w32 m ++ u ≡ to_be_bytes w32 n ++ v → (m ≡ n) × (u ≡ v)
+four_front m n u v h k e = (sym (four_back m h) ∙ ap (λ l. from_be_bytes w32 (take 4 l)) e ∙ four_back n k, ap (drop 4) e)
+
+byte_front : (m n : ℕ) (u v : List ℕ) → m ∷ u ≡ n ∷ v → (m ≡ n) × (u ≡ v)
+byte_front m n u v e = (ap (λ l. get_or l 0 0) e, ap (drop 1) e)
+
+name_front : (n m : Name) (u v : List ℕ) → name_bytes n ++ u ≡ name_bytes m ++ v → (n ≡ m) × (u ≡ v)
+name_front n m u v e =
+    let first = two_front n.node m.node (to_be_bytes w32 n.seq ++ u) (to_be_bytes w32 m.seq ++ v) n.node_in_range.1 m.node_in_range.1 e in
+    let second = four_front n.seq m.seq u v n.seq_in_range.1 m.seq_in_range.1 first.1 in
+    (same_name n m first.0 second.0, second.1)
+
+cap_front : (c d : Cap) (u v : List ℕ) → cap_bytes c ++ u ≡ cap_bytes d ++ v → (c ≡ d) × (u ≡ v)
+cap_front c d u v e =
+    let first = byte_front (cap_rank c) (cap_rank d) (name_bytes (cap_name c) ++ u) (name_bytes (cap_name d) ++ v) e in
+    let second = name_front (cap_name c) (cap_name d) u v first.1 in
+    (cap_same c d first.0 second.0, second.1)
+
+pid_front : (p q : Pid) (u v : List ℕ) → pid_bytes p ++ u ≡ pid_bytes q ++ v → (p ≡ q) × (u ≡ v)
+pid_front p q u v e =
+    let first = two_front p.node q.node (to_be_bytes w32 p.boot ++ (to_be_bytes w32 p.serial ++ u)) (to_be_bytes w32 q.boot ++ (to_be_bytes w32 q.serial ++ v)) p.node_in_range.1 q.node_in_range.1 e in
+    let second = four_front p.boot q.boot (to_be_bytes w32 p.serial ++ u) (to_be_bytes w32 q.serial ++ v) p.boot_in_range.1 q.boot_in_range.1 first.1 in
+    let third = four_front p.serial q.serial u v p.serial_in_range.1 q.serial_in_range.1 second.1 in
+    (same_pid p q first.0 second.0 third.0, third.1)
+
+-- as many names as others, one after another
+names_front : (xs ys : List Name) (u v : List ℕ) → length xs ≡ length ys → flat_map name_bytes xs ++ u ≡ flat_map name_bytes ys ++ v → (xs ≡ ys) × (u ≡ v)
+names_front [] [] u v n e = (refl, e)
+names_front [] (y ∷ ys) u v n e = absurd (omega arith)
+names_front (x ∷ xs) [] u v n e = absurd (omega arith)
+names_front (x ∷ xs) (y ∷ ys) u v n e =
+    let first = name_front x y (flat_map name_bytes xs ++ u) (flat_map name_bytes ys ++ v) e in
+    let rest = names_front xs ys u v (omega arith) first.1 in
+    (λ i. first.0 i ∷ rest.0 i, rest.1)
+
+caps_front : (xs ys : List Cap) (u v : List ℕ) → length xs ≡ length ys → flat_map cap_bytes xs ++ u ≡ flat_map cap_bytes ys ++ v → (xs ≡ ys) × (u ≡ v)
+caps_front [] [] u v n e = (refl, e)
+caps_front [] (y ∷ ys) u v n e = absurd (omega arith)
+caps_front (x ∷ xs) [] u v n e = absurd (omega arith)
+caps_front (x ∷ xs) (y ∷ ys) u v n e =
+    let first = cap_front x y (flat_map cap_bytes xs ++ u) (flat_map cap_bytes ys ++ v) e in
+    let rest = caps_front xs ys u v (omega arith) first.1 in
+    (λ i. first.0 i ∷ rest.0 i, rest.1)
+
+label_front : (s t : SetBy name_cmp) (u v : List ℕ) → len s ≤ 256 → len t ≤ 256 → label_bytes s ++ u ≡ label_bytes t ++ v → (s ≡ t) × (u ≡ v)
+label_front s t u v h k e =
+    let first = two_front (len s) (len t) (flat_map name_bytes (members s) ++ u) (flat_map name_bytes (members t) ++ v) (omega (arith, h)) (omega (arith, k)) e in
+    let rest = names_front (members s) (members t) u v (sym (len-members s) ∙ first.0 ∙ len-members t) first.1 in
+    (sym (of_list-members name_total name_exact s) ∙ ap of_list rest.0 ∙ of_list-members name_total name_exact t, rest.1)
+
+set_front : (s t : SetBy cap_cmp) (u v : List ℕ) → caps_bytes s ++ u ≡ caps_bytes t ++ v → (s ≡ t) × (u ≡ v)
+set_front s t u v e =
+    let first = byte_front (len s) (len t) (flat_map cap_bytes (members s) ++ u) (flat_map cap_bytes (members t) ++ v) e in
+    let rest = caps_front (members s) (members t) u v (sym (len-members s) ∙ first.0 ∙ len-members t) first.1 in
+    (sym (of_list-members cap_total cap_exact s) ∙ ap of_list rest.0 ∙ of_list-members cap_total cap_exact t, rest.1)
+
+same_message : (m n : Message) → m.caps ≡ n.caps → m.payload ≡ n.payload → m ≡ n
+same_message m n p q =
+    let parts : ◌≡◌ {A = (f : SetBy cap_cmp × List ℕ) × (len f.0 ≤ 64 × length f.1 ≤ 1024)}
+    ((m.caps, m.payload), (m.few_caps, m.few_bytes)) ((n.caps, n.payload), (n.few_caps, n.few_bytes))
+    = Σ_prop_path (λ f. ×_prop le_prop le_prop) (λ i. (p i, q i)) in
+    λ i. record { caps = (parts i).0.0; payload = (parts i).0.1; few_caps = (parts i).1.0; few_bytes = (parts i).1.1 }
+
+message_same : (m n : Message) → message_bytes m ≡ message_bytes n → m ≡ n
+message_same m n e =
+    let first = set_front m.caps n.caps (payload_bytes m.payload) (payload_bytes n.payload) e in
+    same_message m n first.0 (ap (drop 2) first.1)
+
+same_data : (a b : Data) → a.sender ≡ b.sender → a.from ≡ b.from → a.receiver ≡ b.receiver → a.to ≡ b.to → a.secrecy ≡ b.secrecy → a.integrity ≡ b.integrity → a.message ≡ b.message → a ≡ b
+same_data a b p q r s t u m =
+    let labels : ◌≡◌ {A = (f : SetBy name_cmp × SetBy name_cmp) × (len f.0 ≤ 256 × len f.1 ≤ 256)}
+    ((a.secrecy, a.integrity), (a.secrecy_fits, a.integrity_fits)) ((b.secrecy, b.integrity), (b.secrecy_fits, b.integrity_fits))
+    = Σ_prop_path (λ f. ×_prop le_prop le_prop) (λ i. (t i, u i)) in
+    λ i. record {
+      sender = p i;
+      from = q i;
+      receiver = r i;
+      to = s i;
+      secrecy = (labels i).0.0;
+      integrity = (labels i).0.1;
+      message = m i;
+      secrecy_fits = (labels i).1.0;
+      integrity_fits = (labels i).1.1;
+    }
+
+-- what follows a process, an endpoint, a process and an endpoint
+after_ends : Data → List ℕ
+after_ends d = label_bytes d.secrecy ++ (label_bytes d.integrity ++ message_bytes d.message)
+
+data_same : (a b : Data) → data_bytes a ≡ data_bytes b → a ≡ b
+unfolding after_ends
+data_same a b e =
+    let e1 = pid_front a.sender b.sender (a.from.number ∷ (pid_bytes a.receiver ++ a.to.number ∷ after_ends a)) (b.from.number ∷ (pid_bytes b.receiver ++ b.to.number ∷ after_ends b)) e in
+    let e2 = byte_front a.from.number b.from.number (pid_bytes a.receiver ++ a.to.number ∷ after_ends a) (pid_bytes b.receiver ++ b.to.number ∷ after_ends b) e1.1 in
+    let e3 = pid_front a.receiver b.receiver (a.to.number ∷ after_ends a) (b.to.number ∷ after_ends b) e2.1 in
+    let e4 = byte_front a.to.number b.to.number (after_ends a) (after_ends b) e3.1 in
+    let e5 = label_front a.secrecy b.secrecy (label_bytes a.integrity ++ message_bytes a.message) (label_bytes b.integrity ++ message_bytes b.message) a.secrecy_fits b.secrecy_fits e4.1 in
+    let e6 = label_front a.integrity b.integrity (message_bytes a.message) (message_bytes b.message) a.integrity_fits b.integrity_fits e5.1 in
+    same_data a b e1.0 (same_endpoint a.from b.from e2.0) e3.0 (same_endpoint a.to b.to e4.0) e5.0 e6.0 (message_same a.message b.message e6.1)
+
+pub one_packet : (a b : Packet) → packet_bytes a ≡ packet_bytes b → a ≡ b
+one_packet (kinds.Data a) (kinds.Data b) e = ap kinds.Data (data_same a b (ap (drop 2) e))

@@ -1,0 +1,15 @@
+-- What a reader's fault says of the fields that it read.
+use Rattle.std.specs.Prelude.{◌≡◌, ℕ, Bool, List, Some}
+use Rattle.fl_ops.specs.Grammar.{first_fault}
+use Rattle.fl_wire.specs.declared.fault.ReadFault.{ReadFault}
+use Rattle.fl_wire.specs.declared.fault.ReadFault.TheVariants.{BadPacket, Memory}
+
+-- the first fault of these fields
+abbrev pub IsBad : List (ℕ × Bool) → ReadFault → Type 0
+IsBad fields (BadPacket place) = first_fault fields ≡ Some place
+IsBad fields Memory = ⊥
+
+-- that, or no memory
+abbrev pub IsBadOrMemory : List (ℕ × Bool) → ReadFault → Type 0
+IsBadOrMemory fields (BadPacket place) = first_fault fields ≡ Some place
+IsBadOrMemory fields Memory = Unit {0}

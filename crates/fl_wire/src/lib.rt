@@ -1,0 +1,13 @@
+//! Packets between nodes, and their bytes.
+#![tactic(auto)]
+
+pub mod fault;
+mod fields;
+mod items;
+pub mod laws;
+pub mod packet;
+pub mod payload;
+pub mod reading;
+#[cfg(test)]
+mod tests;
+pub mod writing;

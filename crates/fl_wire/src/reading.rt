@@ -1,0 +1,76 @@
+// Packets from bytes.
+ghost use Rattle.std.specs.Prelude.{◌≡◌, ◌<◌, ◌≤◌, ◌+◌, ◌^◌, MatchResult, length, drop, None, ◌++◌};
+ghost use Rattle.fl_ops.specs.Grammar.{first_fault};
+ghost use Rattle.fl_wire.specs.Faults.{IsBadOrMemory};
+ghost use Rattle.fl_wire.specs.PacketBytes.{payload_bytes, message_bytes, data_bytes, packet_bytes};
+ghost use Rattle.fl_wire.specs.PacketGrammar.{payload_fields, message_fields, data_fields, packet_fields};
+
+use crate::fault::ReadFault;
+use crate::fields::{byte_at, end_at, short_at};
+use crate::items::{caps_at, label_at};
+use crate::packet::{Data, Message, Packet};
+use crate::payload::Payload;
+use std::alloc::Global;
+
+// The payload, and the end of the bytes after it.
+fn payload_at(alloc: Global, bytes: &[u8], at: usize) -> Result<Payload, ReadFault>
+    requires { at < 2 ^ 31 }
+    ensures { MatchResult result
+        (λ p. (first_fault (payload_fields bytes.now at) ≡ None) × (length p ≤ 1024) × (drop at bytes.now ≡ payload_bytes p))
+        (IsBadOrMemory (payload_fields bytes.now at)) }
+{
+    let start = at + 2;
+    let end = start + usize::from(short_at(bytes, at, 0, 1024)?);
+    let Some(field) = bytes.get(start..end) else {
+        return Err(ReadFault::BadPacket { place: start });
+    };
+    if end < bytes.len() {
+        return Err(ReadFault::BadPacket { place: end });
+    }
+    Ok(Payload::from_vec(Vec::from_slice(alloc, field)?))
+}
+
+fn message_at(alloc: Global, bytes: &[u8], at: usize) -> Result<Message, ReadFault>
+    requires { at < 2 ^ 29 }
+    ensures { MatchResult result
+        (λ m. (first_fault (message_fields bytes.now at) ≡ None) × (drop at bytes.now ≡ message_bytes m))
+        (IsBadOrMemory (message_fields bytes.now at)) }
+{
+    let caps = caps_at(alloc, bytes, at)?;
+    let payload = payload_at(alloc, bytes, at + (1 + 7 * caps.len()))?;
+    Ok(Message { caps, payload })
+}
+
+fn data_at(alloc: Global, bytes: &[u8]) -> Result<Data, ReadFault>
+    ensures { MatchResult result
+        (λ d. (first_fault (data_fields bytes.now 2) ≡ None) × (drop 2 bytes.now ≡ data_bytes d))
+        (IsBadOrMemory (data_fields bytes.now 2)) }
+{
+    let (sender, from) = end_at(bytes, 2)?;
+    let (receiver, to) = end_at(bytes, 13)?;
+    let secrecy = label_at(alloc, bytes, 24)?;
+    let middle = 24 + (2 + 6 * secrecy.len());
+    let integrity = label_at(alloc, bytes, middle)?;
+    let message = message_at(alloc, bytes, middle + (2 + 6 * integrity.len()))?;
+    Ok(Data {
+        sender,
+        from,
+        receiver,
+        to,
+        secrecy,
+        integrity,
+        message,
+    })
+}
+
+/// The packet that the bytes spell, all of them. Linear, and takes memory for the sets and the payload alone.
+///
+/// `BadPacket` where no packet spells them, at the first byte of the first field that is cut off, out of its range or against a
+/// rule with what came before it, or at the first byte after the packet's end. `Memory` where there is not enough memory.
+pub fn decode(alloc: Global, bytes: &[u8]) -> Result<Packet, ReadFault>
+    ensures { MatchResult result (λ packet. packet_bytes packet ≡ bytes.now) (IsBadOrMemory (packet_fields bytes.now)) }
+{
+    byte_at(bytes, 0, 0xf1, 0xf1)?;
+    byte_at(bytes, 1, 4, 4)?;
+    Ok(Packet::Data(data_at(alloc, bytes)?))
+}
