@@ -1,10 +1,12 @@
 //! Answers to jobs.
 
-use crate::payload::Payload;
 use fl_labels::cap::Cap;
+use fl_labels::endpoint::Endpoint;
 use fl_labels::name::Name;
 use fl_labels::pid::Pid;
 use fl_ops::op::Body;
+use fl_wire::packet::{Letter, Packet};
+use fl_wire::payload::Payload;
 
 /// Why a job was refused. The bench is then as before.
 #[derive(Clone, Copy, Debug, PartialEq, Eq)]
@@ -15,8 +17,20 @@ pub enum Refusal {
     Busy,
     /// The least capability that is needed and not in effect.
     MissingCap(Cap),
-    /// The least tag that may not go to the outside.
+    /// The endpoint is not open.
+    NoEndpoint(Endpoint),
+    /// The least endpoint that would not be safe, and its least tag that may not be both added and removed.
+    UnsafeEndpoint(Endpoint, Name),
+    /// The process has 64 endpoints.
+    EndpointsFull,
+    /// The endpoint is not for writing.
+    NotWritable(Endpoint),
+    /// The endpoint is not for reading.
+    NotReadable(Endpoint),
+    /// The least tag that may not go to the outside, or into the receiver's endpoint.
     Secrecy(Name),
+    /// The least tag of the receiver's endpoint that the message does not have.
+    Integrity(Name),
     /// There is no login of this name.
     NoLogin(Name),
     /// The login has another secret.
@@ -29,6 +43,8 @@ pub enum Refusal {
     Memory,
     /// The process does not own the capability.
     NotOwned(Cap),
+    /// 256 messages wait for the receiver.
+    InboxFull,
 }
 
 /// What an admitted job is answered.
@@ -43,6 +59,14 @@ pub enum Reply {
     Entered(Cap),
     /// What went to the outside.
     Out(Payload),
+    /// The endpoint that was opened.
+    Opened(Endpoint),
+    /// The message that was taken.
+    Taken(Letter),
+    /// No message waits.
+    Empty,
+    /// The process that a message came to.
+    Arrived(Pid),
 }
 
 /// What comes of an admitted job.
@@ -51,4 +75,6 @@ pub enum Outcome {
     Reply(Reply),
     /// An operation of this body is to be saved and published for its maker.
     Order(Body, Pid),
+    /// The packet is to be sent.
+    Out(Packet),
 }

@@ -1,13 +1,19 @@
 //! Jobs: what processes ask for.
+ghost use Rattle.std.specs.Prelude.{◌≡◌};
+ghost use Rattle.fl_jobs.specs.Given.{labels_of};
 
-use crate::payload::Payload;
 use crate::secret::Secret;
 use fl_labels::cap::Cap;
 use fl_labels::cap_set::CapSet;
+use fl_labels::endpoint::Endpoint;
 use fl_labels::label::Label;
 use fl_labels::name::Name;
 use fl_labels::pid::Pid;
 use fl_ops::op::Policy;
+use fl_rules::endpoint::Mode;
+use fl_rules::labels::Labels;
+use fl_wire::packet::{Data, Message};
+use fl_wire::payload::Payload;
 
 /// One of the two labels of a process.
 #[derive(Clone, Copy, Debug, PartialEq, Eq)]
@@ -20,6 +26,25 @@ pub enum Side {
 #[derive(Clone, Copy, Debug, PartialEq, Eq)]
 pub struct TooLong;
 
+/// Both labels that an endpoint is to have, where they are no longer than labels may be.
+#[derive(Debug, Drop)]
+pub struct GivenLabels {
+    pub secrecy: Result<Label, TooLong>,
+    pub integrity: Result<Label, TooLong>,
+}
+
+impl GivenLabels {
+    /// The two labels, or none where one of them has more than 256 tags.
+    pub fn labels(self) -> Option<Labels>
+        ensures { result ≡ labels_of self }
+    {
+        match (self.secrecy, self.integrity) {
+            (Ok(secrecy), Ok(integrity)) => Some(Labels { secrecy, integrity }),
+            _ => None,
+        }
+    }
+}
+
 /// What adds an operation to the registry.
 #[derive(Clone, Copy, Debug, PartialEq, Eq)]
 pub enum Order {
@@ -31,6 +56,26 @@ pub enum Order {
     Put(Name, Cap),
     /// A new login, by which the capability is given to who shows the secret.
     MakeLogin(Cap, Secret),
+}
+
+/// What a process does with its endpoints, and with the messages that wait for it.
+#[derive(Debug, Drop)]
+pub enum Channel {
+    /// A new endpoint of this mode, with these labels.
+    Open(Mode, GivenLabels),
+    /// The labels of the endpoint become these.
+    Tune(Endpoint, GivenLabels),
+    /// The endpoint is no more.
+    Close(Endpoint),
+    /// The message goes from an endpoint to an endpoint of another process.
+    Send {
+        from: Endpoint,
+        receiver: Pid,
+        to: Endpoint,
+        message: Message,
+    },
+    /// The oldest message that waits.
+    Take,
 }
 
 /// What one process asks for by itself.
@@ -51,6 +96,7 @@ pub enum Act {
     Enter(Name, Secret),
     /// These bytes go to the outside.
     Emit(Payload),
+    Channel(Channel),
 }
 
 /// One job of the reference monitor.
@@ -61,4 +107,6 @@ pub enum Job {
     By(Pid, Act),
     /// Whether the first capability, the root, reaches the second.
     Member(Cap, Cap),
+    /// A message comes to its receiver. Made of a packet that was sent alone.
+    Arrive(Data),
 }

@@ -3,7 +3,6 @@
 
 pub mod answer;
 pub mod job;
-pub mod payload;
 pub mod secret;
 #[cfg(test)]
 mod tests;

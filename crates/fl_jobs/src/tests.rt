@@ -1,6 +1,5 @@
-// Tests of secrets and payloads.
+// Tests of secrets.
 use crate::job::{Act, Order};
-use crate::payload::Payload;
 use crate::secret::Secret;
 use fl_labels::cap::Cap;
 use fl_labels::name::Name;
@@ -18,17 +17,5 @@ fn secrets_are_hidden(rt: HostRuntime) -> Result<(), Fail> {
     assert_eq!(rt; format!(in alloc; "{act:?}")?.as_str(), text);
     let order = Order::MakeLogin(Cap::Plus(name), secret);
     assert!(rt; !format!(in alloc; "{order:?}")?.contains("171"));
-    Ok(())
-}
-
-#[test]
-fn payloads_are_their_bytes(rt: HostRuntime) -> Result<(), Fail> {
-    let alloc = rt.alloc();
-    let one = Payload::from_vec(Vec::from_slice(alloc, &[1u8, 2])?);
-    let same = Payload::from_vec(Vec::from_slice(alloc, &[1u8, 2])?);
-    let other = Payload::from_vec(Vec::from_slice(alloc, &[1u8, 3])?);
-    assert!(rt; one == same);
-    assert!(rt; one != other);
-    assert_eq!(rt; one.as_slice(), [1u8, 2].as_slice());
     Ok(())
 }
