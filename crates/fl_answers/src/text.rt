@@ -1,22 +1,27 @@
 // Replies and refusals, a line each. Writing takes no memory but the sink's, and does without. At a fault a front of what waited and of
 // the line was written, and the sink may not be used again.
 ghost use Rattle.std.specs.Prelude.{◌≡◌, ◌++◌, ◌∷◌, [], OnOk, OnErr, codes};
+ghost use Rattle.std.specs.Fmt.{decimal};
 ghost use Rattle.std.specs.List.{flat_map};
 ghost use Rattle.hex.specs.Hex.{encode_lower};
-ghost use Rattle.fl_labels.specs.Text.{cap_sign, cap_text, name_text, pid_text};
+ghost use Rattle.fl_labels.specs.Text.{cap_sign, cap_text, caps_text, endpoint_text, name_text, pid_text};
 ghost use Rattle.fl_sink.specs.Sink.{Cuts, Passes};
-ghost use Rattle.fl_answers.specs.AnswerText.{bytes_text, refused_text, reply_text};
+ghost use Rattle.fl_answers.specs.AnswerText.{bytes_text, dropped_text, letter_text, refusal_text, refused_text, reply_text, sent_text};
 
 use fl_jobs::answer::{Refusal, Reply};
 use fl_labels::cap::Cap;
+use fl_labels::cap_set::CapSet;
+use fl_labels::endpoint::Endpoint;
 use fl_labels::name::Name;
 use fl_labels::pid::Pid;
 use fl_sink::sink::{Sink, WriteFault};
+use fl_wire::packet::Letter;
 use hex::encode_to_slice;
 use itoa::Buffer;
 use std::io::Write;
 
-/// Puts the line of a reply into the sink: `p1.1.1`, `ok`, `yes`, `not-yet`, `ok -1.1`, `out 6869`. Looks at each byte that went out once.
+/// Puts the line of a reply into the sink: `p1.1.1`, `ok`, `yes`, `not-yet`, `ok -1.1`, `out 6869`, `ok e1`, `message p1.1.1 {*1.4} 6869`,
+/// `empty`, `arrived p1.1.1`. Looks at each byte of a payload once.
 pub fn write_reply<W: Write>(
     reply: &Reply,
     sink: &mut Sink,
@@ -25,14 +30,8 @@ pub fn write_reply<W: Write>(
     ensures ok { OnOk result (Passes (W.contents output.old) (W.contents output.new) sink.old (reply_text reply.now ++ codes "\n") sink.new) }
     ensures err { OnErr result (Cuts (W.contents output.old) (W.contents output.new) sink.old (reply_text reply.now ++ codes "\n")) }
 {
-    match reply {
-        Reply::Made(pid) => write_pid(b"", *pid, sink, output),
-        Reply::Done => sink.put_all(output, &[b"ok\n"]),
-        Reply::Yes => sink.put_all(output, &[b"yes\n"]),
-        Reply::NotYet => sink.put_all(output, &[b"not-yet\n"]),
-        Reply::Entered(cap) => write_cap(b"ok ", *cap, sink, output),
-        Reply::Out(payload) => write_bytes(payload.as_slice(), sink, output),
-    }
+    put_reply(reply, sink, output)?;
+    sink.put_all(output, &[b"\n"])
 }
 
 /// Puts the line of a refusal into the sink: `refused`, its number, and what it is about.
@@ -44,17 +43,94 @@ pub fn write_refusal<W: Write>(
     ensures ok { OnOk result (Passes (W.contents output.old) (W.contents output.new) sink.old (refused_text refusal) sink.new) }
     ensures err { OnErr result (Cuts (W.contents output.old) (W.contents output.new) sink.old (refused_text refusal)) }
 {
+    sink.put_all(output, &[b"refused "])?;
+    put_refusal(refusal, sink, output)?;
+    sink.put_all(output, &[b"\n"])
+}
+
+/// Puts the line of a message that does not arrive into the sink: `dropped`, and then as a refusal.
+pub fn write_dropped<W: Write>(
+    refusal: Refusal,
+    sink: &mut Sink,
+    output: &mut W,
+) -> Result<(), WriteFault>
+    ensures ok { OnOk result (Passes (W.contents output.old) (W.contents output.new) sink.old (dropped_text refusal) sink.new) }
+    ensures err { OnErr result (Cuts (W.contents output.old) (W.contents output.new) sink.old (dropped_text refusal)) }
+{
+    sink.put_all(output, &[b"dropped "])?;
+    put_refusal(refusal, sink, output)?;
+    sink.put_all(output, &[b"\n"])
+}
+
+/// Puts the line of a packet that was sent into the sink, by its number: `sent 1`.
+pub fn write_sent<W: Write>(number: u64, sink: &mut Sink, output: &mut W) -> Result<(), WriteFault>
+    ensures ok { OnOk result (Passes (W.contents output.old) (W.contents output.new) sink.old (sent_text number ++ codes "\n") sink.new) }
+    ensures err { OnErr result (Cuts (W.contents output.old) (W.contents output.new) sink.old (sent_text number ++ codes "\n")) }
+{
+    let mut buffer = Buffer::new();
+    sink.put_all(output, &[b"sent ", buffer.format(number).as_bytes(), b"\n"])
+}
+
+/// Puts a line of these bytes and a name into the sink.
+pub fn write_name<W: Write>(
+    front: &[u8],
+    name: Name,
+    sink: &mut Sink,
+    output: &mut W,
+) -> Result<(), WriteFault>
+    ensures ok { OnOk result (Passes (W.contents output.old) (W.contents output.new) sink.old (front.now ++ (name_text name ++ codes "\n")) sink.new) }
+    ensures err { OnErr result (Cuts (W.contents output.old) (W.contents output.new) sink.old (front.now ++ (name_text name ++ codes "\n"))) }
+{
+    put_name(front, name, sink, output)?;
+    sink.put_all(output, &[b"\n"])
+}
+
+// What a reply says.
+fn put_reply<W: Write>(reply: &Reply, sink: &mut Sink, output: &mut W) -> Result<(), WriteFault>
+    ensures ok { OnOk result (Passes (W.contents output.old) (W.contents output.new) sink.old (reply_text reply.now) sink.new) }
+    ensures err { OnErr result (Cuts (W.contents output.old) (W.contents output.new) sink.old (reply_text reply.now)) }
+{
+    match reply {
+        Reply::Made(pid) => put_pid(b"", *pid, sink, output),
+        Reply::Done => sink.put_all(output, &[b"ok"]),
+        Reply::Yes => sink.put_all(output, &[b"yes"]),
+        Reply::NotYet => sink.put_all(output, &[b"not-yet"]),
+        Reply::Entered(cap) => put_cap(b"ok ", *cap, sink, output),
+        Reply::Out(payload) => put_bytes(b"out ", payload.as_slice(), sink, output),
+        Reply::Opened(endpoint) => put_endpoint(b"ok ", *endpoint, sink, output),
+        Reply::Taken(letter) => put_letter(letter, sink, output),
+        Reply::Empty => sink.put_all(output, &[b"empty"]),
+        Reply::Arrived(pid) => put_pid(b"arrived ", *pid, sink, output),
+    }
+}
+
+// A refusal's number, and what it is about.
+fn put_refusal<W: Write>(
+    refusal: Refusal,
+    sink: &mut Sink,
+    output: &mut W,
+) -> Result<(), WriteFault>
+    ensures ok { OnOk result (Passes (W.contents output.old) (W.contents output.new) sink.old (refusal_text refusal) sink.new) }
+    ensures err { OnErr result (Cuts (W.contents output.old) (W.contents output.new) sink.old (refusal_text refusal)) }
+{
     match refusal {
-        Refusal::NoProcess(pid) => write_pid(b"refused F1 ", pid, sink, output),
-        Refusal::MissingCap(cap) => write_cap(b"refused F3 ", cap, sink, output),
-        Refusal::Secrecy(tag) => write_name(b"refused F8 ", tag, sink, output),
-        Refusal::NoLogin(login) => write_name(b"refused F10 ", login, sink, output),
-        Refusal::WrongSecret => sink.put_all(output, &[b"refused F11\n"]),
-        Refusal::NamesSpent => sink.put_all(output, &[b"refused F12\n"]),
-        Refusal::LabelTooLong => sink.put_all(output, &[b"refused F13\n"]),
-        Refusal::Memory => sink.put_all(output, &[b"refused F14\n"]),
-        Refusal::NotOwned(cap) => write_cap(b"refused F22 ", cap, sink, output),
-        Refusal::Busy => sink.put_all(output, &[b"refused F24\n"]),
+        Refusal::NoProcess(pid) => put_pid(b"F1 ", pid, sink, output),
+        Refusal::NoEndpoint(endpoint) => put_endpoint(b"F2 ", endpoint, sink, output),
+        Refusal::MissingCap(cap) => put_cap(b"F3 ", cap, sink, output),
+        Refusal::UnsafeEndpoint(endpoint, tag) => put_unsafe(endpoint, tag, sink, output),
+        Refusal::EndpointsFull => sink.put_all(output, &[b"F5"]),
+        Refusal::NotWritable(endpoint) => put_endpoint(b"F6 ", endpoint, sink, output),
+        Refusal::NotReadable(endpoint) => put_endpoint(b"F7 ", endpoint, sink, output),
+        Refusal::Secrecy(tag) => put_name(b"F8 ", tag, sink, output),
+        Refusal::Integrity(tag) => put_name(b"F9 ", tag, sink, output),
+        Refusal::NoLogin(login) => put_name(b"F10 ", login, sink, output),
+        Refusal::WrongSecret => sink.put_all(output, &[b"F11"]),
+        Refusal::NamesSpent => sink.put_all(output, &[b"F12"]),
+        Refusal::LabelTooLong => sink.put_all(output, &[b"F13"]),
+        Refusal::Memory => sink.put_all(output, &[b"F14"]),
+        Refusal::NotOwned(cap) => put_cap(b"F22 ", cap, sink, output),
+        Refusal::InboxFull => sink.put_all(output, &[b"F23"]),
+        Refusal::Busy => sink.put_all(output, &[b"F24"]),
     }
 }
 
@@ -70,16 +146,16 @@ fn sign_of(cap: Cap) -> &'static [u8]
     }
 }
 
-// A line of these bytes, a sign and a name.
-fn write_signed<'a, W: Write>(
+// These bytes, a sign and a name.
+fn put_signed<'a, W: Write>(
     front: &'a [u8],
     sign: &'a [u8],
     name: Name,
     sink: &mut Sink,
     output: &mut W,
 ) -> Result<(), WriteFault>
-    ensures ok { OnOk result (Passes (W.contents output.old) (W.contents output.new) sink.old (front.now ++ (sign.now ++ (name_text name ++ codes "\n"))) sink.new) }
-    ensures err { OnErr result (Cuts (W.contents output.old) (W.contents output.new) sink.old (front.now ++ (sign.now ++ (name_text name ++ codes "\n")))) }
+    ensures ok { OnOk result (Passes (W.contents output.old) (W.contents output.new) sink.old (front.now ++ (sign.now ++ name_text name)) sink.new) }
+    ensures err { OnErr result (Cuts (W.contents output.old) (W.contents output.new) sink.old (front.now ++ (sign.now ++ name_text name))) }
 {
     let mut node = Buffer::new();
     let mut seq = Buffer::new();
@@ -91,94 +167,76 @@ fn write_signed<'a, W: Write>(
             node.format(name.node).as_bytes(),
             b".",
             seq.format(name.seq).as_bytes(),
-            b"\n",
         ],
     )
 }
 
-// A line of these bytes and a capability.
-fn write_cap<W: Write>(
+// These bytes and a capability.
+fn put_cap<W: Write>(
     front: &[u8],
     cap: Cap,
     sink: &mut Sink,
     output: &mut W,
 ) -> Result<(), WriteFault>
-    ensures ok { OnOk result (Passes (W.contents output.old) (W.contents output.new) sink.old (front.now ++ (cap_text cap ++ codes "\n")) sink.new) }
-    ensures err { OnErr result (Cuts (W.contents output.old) (W.contents output.new) sink.old (front.now ++ (cap_text cap ++ codes "\n"))) }
+    ensures ok { OnOk result (Passes (W.contents output.old) (W.contents output.new) sink.old (front.now ++ cap_text cap) sink.new) }
+    ensures err { OnErr result (Cuts (W.contents output.old) (W.contents output.new) sink.old (front.now ++ cap_text cap)) }
 {
-    write_signed(front, sign_of(cap), cap.name(), sink, output)
+    put_signed(front, sign_of(cap), cap.name(), sink, output)
 }
 
-// The two digits of a byte.
-fn digits_of(byte: u8) -> [u8; 2]
-    ensures { result ≡ encode_lower (byte ∷ []) }
-{
-    let mut digits = [0; 2];
-    encode_to_slice([byte], &mut digits).unwrap();
-    digits
-}
-
-fn write_byte<W: Write>(byte: u8, sink: &mut Sink, output: &mut W) -> Result<(), WriteFault>
-    ensures ok { OnOk result (Passes (W.contents output.old) (W.contents output.new) sink.old (encode_lower (byte ∷ [])) sink.new) }
-    ensures err { OnErr result (Cuts (W.contents output.old) (W.contents output.new) sink.old (encode_lower (byte ∷ []))) }
-{
-    sink.put_all(output, &[digits_of(byte).as_slice()])
-}
-
-// Two digits for each byte.
-fn write_digits<W: Write>(bytes: &[u8], sink: &mut Sink, output: &mut W) -> Result<(), WriteFault>
-    ensures ok { OnOk result (Passes (W.contents output.old) (W.contents output.new) sink.old (flat_map (λ b. encode_lower (b ∷ [])) bytes.now) sink.new) }
-    ensures err { OnErr result (Cuts (W.contents output.old) (W.contents output.new) sink.old (flat_map (λ b. encode_lower (b ∷ [])) bytes.now)) }
-{
-    for byte in bytes {
-        write_byte(*byte, sink, output)?;
-    }
-    Ok(())
-}
-
-// The word of some bytes.
-fn write_word<W: Write>(bytes: &[u8], sink: &mut Sink, output: &mut W) -> Result<(), WriteFault>
-    ensures ok { OnOk result (Passes (W.contents output.old) (W.contents output.new) sink.old (bytes_text bytes.now) sink.new) }
-    ensures err { OnErr result (Cuts (W.contents output.old) (W.contents output.new) sink.old (bytes_text bytes.now)) }
-{
-    match bytes {
-        [] => sink.put_all(output, &[b"none"]),
-        _ => write_digits(bytes, sink, output),
-    }
-}
-
-// The line of the bytes that went to the outside.
-fn write_bytes<W: Write>(bytes: &[u8], sink: &mut Sink, output: &mut W) -> Result<(), WriteFault>
-    ensures ok { OnOk result (Passes (W.contents output.old) (W.contents output.new) sink.old (codes "out " ++ (bytes_text bytes.now ++ codes "\n")) sink.new) }
-    ensures err { OnErr result (Cuts (W.contents output.old) (W.contents output.new) sink.old (codes "out " ++ (bytes_text bytes.now ++ codes "\n"))) }
-{
-    sink.put_all(output, &[b"out "])?;
-    write_word(bytes, sink, output)?;
-    sink.put_all(output, &[b"\n"])
-}
-
-/// Puts a line of these bytes and a name into the sink.
-pub fn write_name<W: Write>(
+// These bytes and a name.
+fn put_name<W: Write>(
     front: &[u8],
     name: Name,
     sink: &mut Sink,
     output: &mut W,
 ) -> Result<(), WriteFault>
-    ensures ok { OnOk result (Passes (W.contents output.old) (W.contents output.new) sink.old (front.now ++ (name_text name ++ codes "\n")) sink.new) }
-    ensures err { OnErr result (Cuts (W.contents output.old) (W.contents output.new) sink.old (front.now ++ (name_text name ++ codes "\n"))) }
+    ensures ok { OnOk result (Passes (W.contents output.old) (W.contents output.new) sink.old (front.now ++ name_text name) sink.new) }
+    ensures err { OnErr result (Cuts (W.contents output.old) (W.contents output.new) sink.old (front.now ++ name_text name)) }
 {
-    write_signed(front, b"", name, sink, output)
+    put_signed(front, b"", name, sink, output)
 }
 
-// A line of these bytes and a pid.
-fn write_pid<W: Write>(
+// These bytes and an endpoint.
+fn put_endpoint<W: Write>(
+    front: &[u8],
+    endpoint: Endpoint,
+    sink: &mut Sink,
+    output: &mut W,
+) -> Result<(), WriteFault>
+    ensures ok { OnOk result (Passes (W.contents output.old) (W.contents output.new) sink.old (front.now ++ endpoint_text endpoint) sink.new) }
+    ensures err { OnErr result (Cuts (W.contents output.old) (W.contents output.new) sink.old (front.now ++ endpoint_text endpoint)) }
+{
+    let mut buffer = Buffer::new();
+    sink.put_all(
+        output,
+        &[front, b"e", buffer.format(endpoint.number).as_bytes()],
+    )
+}
+
+// The endpoint that would not be safe, and its tag.
+fn put_unsafe<W: Write>(
+    endpoint: Endpoint,
+    tag: Name,
+    sink: &mut Sink,
+    output: &mut W,
+) -> Result<(), WriteFault>
+    ensures ok { OnOk result (Passes (W.contents output.old) (W.contents output.new) sink.old (codes "F4 " ++ (endpoint_text endpoint ++ (codes " " ++ name_text tag))) sink.new) }
+    ensures err { OnErr result (Cuts (W.contents output.old) (W.contents output.new) sink.old (codes "F4 " ++ (endpoint_text endpoint ++ (codes " " ++ name_text tag)))) }
+{
+    put_endpoint(b"F4 ", endpoint, sink, output)?;
+    put_name(b" ", tag, sink, output)
+}
+
+// These bytes and a pid.
+fn put_pid<W: Write>(
     front: &[u8],
     pid: Pid,
     sink: &mut Sink,
     output: &mut W,
 ) -> Result<(), WriteFault>
-    ensures ok { OnOk result (Passes (W.contents output.old) (W.contents output.new) sink.old (front.now ++ (pid_text pid ++ codes "\n")) sink.new) }
-    ensures err { OnErr result (Cuts (W.contents output.old) (W.contents output.new) sink.old (front.now ++ (pid_text pid ++ codes "\n"))) }
+    ensures ok { OnOk result (Passes (W.contents output.old) (W.contents output.new) sink.old (front.now ++ pid_text pid) sink.new) }
+    ensures err { OnErr result (Cuts (W.contents output.old) (W.contents output.new) sink.old (front.now ++ pid_text pid)) }
 {
     let mut node = Buffer::new();
     let mut boot = Buffer::new();
@@ -193,7 +251,95 @@ fn write_pid<W: Write>(
             boot.format(pid.boot).as_bytes(),
             b".",
             serial.format(pid.serial).as_bytes(),
-            b"\n",
         ],
     )
+}
+
+// The two digits of a byte.
+fn digits_of(byte: u8) -> [u8; 2]
+    ensures { result ≡ encode_lower (byte ∷ []) }
+{
+    let mut digits = [0; 2];
+    encode_to_slice([byte], &mut digits).unwrap();
+    digits
+}
+
+fn put_byte<W: Write>(byte: u8, sink: &mut Sink, output: &mut W) -> Result<(), WriteFault>
+    ensures ok { OnOk result (Passes (W.contents output.old) (W.contents output.new) sink.old (encode_lower (byte ∷ [])) sink.new) }
+    ensures err { OnErr result (Cuts (W.contents output.old) (W.contents output.new) sink.old (encode_lower (byte ∷ []))) }
+{
+    sink.put_all(output, &[digits_of(byte).as_slice()])
+}
+
+// Two digits for each byte.
+fn put_digits<W: Write>(bytes: &[u8], sink: &mut Sink, output: &mut W) -> Result<(), WriteFault>
+    ensures ok { OnOk result (Passes (W.contents output.old) (W.contents output.new) sink.old (flat_map (λ b. encode_lower (b ∷ [])) bytes.now) sink.new) }
+    ensures err { OnErr result (Cuts (W.contents output.old) (W.contents output.new) sink.old (flat_map (λ b. encode_lower (b ∷ [])) bytes.now)) }
+{
+    for byte in bytes {
+        put_byte(*byte, sink, output)?;
+    }
+    Ok(())
+}
+
+// The word of some bytes.
+fn put_word<W: Write>(bytes: &[u8], sink: &mut Sink, output: &mut W) -> Result<(), WriteFault>
+    ensures ok { OnOk result (Passes (W.contents output.old) (W.contents output.new) sink.old (bytes_text bytes.now) sink.new) }
+    ensures err { OnErr result (Cuts (W.contents output.old) (W.contents output.new) sink.old (bytes_text bytes.now)) }
+{
+    match bytes {
+        [] => sink.put_all(output, &[b"none"]),
+        _ => put_digits(bytes, sink, output),
+    }
+}
+
+// These bytes, and the word of some bytes.
+fn put_bytes<W: Write>(
+    front: &[u8],
+    bytes: &[u8],
+    sink: &mut Sink,
+    output: &mut W,
+) -> Result<(), WriteFault>
+    ensures ok { OnOk result (Passes (W.contents output.old) (W.contents output.new) sink.old (front.now ++ bytes_text bytes.now) sink.new) }
+    ensures err { OnErr result (Cuts (W.contents output.old) (W.contents output.new) sink.old (front.now ++ bytes_text bytes.now)) }
+{
+    sink.put(output, front)?;
+    put_word(bytes, sink, output)
+}
+
+// Capabilities, each after a comma.
+fn put_more<W: Write>(caps: &[Cap], sink: &mut Sink, output: &mut W) -> Result<(), WriteFault>
+    ensures ok { OnOk result (Passes (W.contents output.old) (W.contents output.new) sink.old (flat_map (λ cap. 44 ∷ cap_text cap) caps.now) sink.new) }
+    ensures err { OnErr result (Cuts (W.contents output.old) (W.contents output.new) sink.old (flat_map (λ cap. 44 ∷ cap_text cap) caps.now)) }
+{
+    for cap in caps {
+        put_cap(b",", *cap, sink, output)?;
+    }
+    Ok(())
+}
+
+// A set of capabilities.
+fn put_caps<W: Write>(caps: &CapSet, sink: &mut Sink, output: &mut W) -> Result<(), WriteFault>
+    ensures ok { OnOk result (Passes (W.contents output.old) (W.contents output.new) sink.old (caps_text caps.now) sink.new) }
+    ensures err { OnErr result (Cuts (W.contents output.old) (W.contents output.new) sink.old (caps_text caps.now)) }
+{
+    match caps.as_slice().split_first() {
+        None => sink.put_all(output, &[b"{}"]),
+        Some((first, rest)) => {
+            put_cap(b"{", *first, sink, output)?;
+            put_more(rest, sink, output)?;
+            sink.put_all(output, &[b"}"])
+        }
+    }
+}
+
+// A message that was taken, with who sent it.
+fn put_letter<W: Write>(letter: &Letter, sink: &mut Sink, output: &mut W) -> Result<(), WriteFault>
+    ensures ok { OnOk result (Passes (W.contents output.old) (W.contents output.new) sink.old (letter_text letter.now) sink.new) }
+    ensures err { OnErr result (Cuts (W.contents output.old) (W.contents output.new) sink.old (letter_text letter.now)) }
+{
+    put_pid(b"message ", letter.sender, sink, output)?;
+    sink.put_all(output, &[b" "])?;
+    put_caps(&letter.message.caps, sink, output)?;
+    put_bytes(b" ", letter.message.payload.as_slice(), sink, output)
 }

@@ -2,7 +2,7 @@ use Rattle.std.proofs.Common.{take}
 use Rattle.std.specs.List.{flat_map}
 use Rattle.fl_sink.specs.Sink.{Passes}
 use Rattle.fl_answers.proofs.Digits.{digits}
-use Rattle.fl_answers.proofs.text.write_digits.Given as goal
+use Rattle.fl_answers.proofs.text.put_digits.Given as goal
 
 -- the digits so far passed
 abbrev pub invariant-loop-byte : goal.invariant-loop-byte
