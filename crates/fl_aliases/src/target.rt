@@ -1,4 +1,5 @@
 // What aliases stand for.
+use fl_labels::endpoint::Endpoint;
 use fl_labels::name::Name;
 use fl_labels::pid::Pid;
 use std::fmt;
@@ -10,6 +11,8 @@ pub enum Target {
     Process(Pid),
     /// An operation, and so a tag or a group.
     Operation(Name),
+    /// An endpoint of a process.
+    Endpoint(Endpoint),
 }
 
 impl fmt::Display for Target {
@@ -22,6 +25,7 @@ impl fmt::Display for Target {
         match self {
             Target::Process(pid) => write!(f, "{pid}"),
             Target::Operation(name) => write!(f, "{name}"),
+            Target::Endpoint(endpoint) => write!(f, "{endpoint}"),
         }
     }
 }

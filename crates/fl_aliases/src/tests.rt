@@ -6,6 +6,7 @@ use crate::laws::{
 };
 use crate::table::{Aliases, MOST_ALIASES};
 use crate::target::Target;
+use fl_labels::endpoint::Endpoint;
 use fl_labels::name::Name;
 use fl_labels::pid::Pid;
 use fl_sink::sink::Sink;
@@ -20,6 +21,8 @@ fn process(serial: u32) -> Target {
 }
 
 const FIRST_GROUP: Target = Target::Operation(Name { node: 1, seq: 4 });
+
+const LAST_ENDPOINT: Target = Target::Endpoint(Endpoint { number: 64 });
 
 /// Places the alias that the word spells, and answers whether it is new.
 fn place(aliases: &mut Aliases, word: &str, target: Target) -> Result<bool, Fail> {
@@ -84,14 +87,15 @@ fn aliases_keep_their_order(rt: HostRuntime) -> Result<(), Fail> {
     assert!(rt; aliases.is_empty());
     assert!(rt; place(&mut aliases, "$b", process(1))?);
     assert!(rt; place(&mut aliases, "$a", process(4294967295))?);
+    assert!(rt; place(&mut aliases, "$e", LAST_ENDPOINT)?);
     assert!(rt; !place(&mut aliases, "$b", process(3))?);
     assert_eq!(rt; aliases.get(&b), Some(process(1)));
     assert_eq!(rt; aliases.get(&a), Some(process(4294967295)));
     assert_eq!(rt;
         text_of(&rt, &aliases)?.as_str(),
-        "$b p1.2.1\n$a p1.2.4294967295\n"
+        "$b p1.2.1\n$a p1.2.4294967295\n$e e64\n"
     );
-    assert_eq!(rt; aliases.len(), 2);
+    assert_eq!(rt; aliases.len(), 3);
     Ok(())
 }
 
@@ -131,6 +135,7 @@ fn sample(rt: &HostRuntime) -> Result<Aliases, Fail> {
     place(&mut aliases, "$a", process(1))?;
     place(&mut aliases, "$ab", process(2))?;
     place(&mut aliases, "$g", FIRST_GROUP)?;
+    place(&mut aliases, "$e", LAST_ENDPOINT)?;
     place(
         &mut aliases,
         "$abcdefghijklmnopqrstuvwxyz_01234",
@@ -158,6 +163,7 @@ fn lines_expand(rt: HostRuntime) -> Result<(), Fail> {
     assert!(rt; expands_to(&rt, &aliases, "$ab$a", "p1.2.2p1.2.1")?);
     assert!(rt; expands_to(&rt, &aliases, "1 ask $a *$g", "1 ask p1.2.1 *1.4")?);
     assert!(rt; expands_to(&rt, &aliases, "{$g,1.5}", "{1.4,1.5}")?);
+    assert!(rt; expands_to(&rt, &aliases, "1 close $a $e", "1 close p1.2.1 e64")?);
     assert!(rt;
         expands_to(
             &rt,

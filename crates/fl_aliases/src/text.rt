@@ -20,12 +20,12 @@ pub(crate) fn write_line<W: Write>(
     ensures err { OnErr result (Cuts (W.contents output.old) (W.contents output.new) sink.old (entry_line (alias.now, target.now))) }
 {
     let letters = alias.as_str().as_bytes();
-    let mut node = Buffer::new();
+    let mut number = Buffer::new();
     match target {
         Target::Process(pid) => {
             let mut boot = Buffer::new();
             let mut serial = Buffer::new();
-            let node = node.format(pid.node).as_bytes();
+            let node = number.format(pid.node).as_bytes();
             let boot = boot.format(pid.boot).as_bytes();
             let serial = serial.format(pid.serial).as_bytes();
             sink.put_all(
@@ -35,9 +35,13 @@ pub(crate) fn write_line<W: Write>(
         }
         Target::Operation(name) => {
             let mut seq = Buffer::new();
-            let node = node.format(name.node).as_bytes();
+            let node = number.format(name.node).as_bytes();
             let seq = seq.format(name.seq).as_bytes();
             sink.put_all(output, &[b"$", letters, b" ", node, b".", seq, b"\n"])
+        }
+        Target::Endpoint(endpoint) => {
+            let number = number.format(endpoint.number).as_bytes();
+            sink.put_all(output, &[b"$", letters, b" e", number, b"\n"])
         }
     }
 }

@@ -1,13 +1,15 @@
 pub mod CutLemmas
 pub mod LabelWord
 pub mod SecretWord
-pub mod OneText
-pub mod OneListing
 pub mod Agreement
 pub mod JobKinds
 pub mod OneWord
 pub mod UnionWords
+pub mod NodeWords
+pub mod MessageWords
+pub mod WordAt
 pub mod SpawnWords
+pub mod SendWords
 pub mod OneLine
 pub mod NoAs
 pub mod WordShape

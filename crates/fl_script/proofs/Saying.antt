@@ -1,5 +1,5 @@
 -- What words say, and that they say nothing else.
-use Rattle.std.proofs.Common.{◌≡◌, ◌≢◌, ◌++◌, ◌<◌, inl, inr, false, sym, ap, subst, refl, ◌∙◌, true≢false, ℕ, List, [], ◌∷◌, length, Option, None, Some, codes, length-append, arith}
+use Rattle.std.proofs.Common.{◌≡◌, ◌≢◌, ◌++◌, ◌<◌, inl, inr, false, sym, ap, subst, refl, ◌∙◌, true≢false, ℕ, List, [], ◌∷◌, length, Option, None, Some, true, codes, length-append, arith}
 use Rattle.std.specs.List.{All}
 use Rattle.std.proofs.lemmas.List.Elements.{length_all_zip}
 use Rattle.std.proofs.lemmas.List.Elements.{All-nil, All-cons, All-head, All-tail}
@@ -7,13 +7,15 @@ use Rattle.fl_aliases.specs.Alias.{alias_text}
 use Rattle.fl_aliases.specs.Expansion.{Expands, NoDollar}
 use Rattle.fl_aliases.specs.Table.{Table}
 use Rattle.fl_script.specs.Cut.{Word, words_of}
+use Rattle.fl_script.specs.Grammar.{Spells}
 use Rattle.fl_script.specs.Meaning.{IsWord, EndsInAlias, CanBeNamed, WantsMemory}
 use Rattle.fl_script.specs.Reading.{makes, IsAsking, MayWant, Says, SpellsReplaced, SpellsNamed}
 use Rattle.fl_script.specs.declared.line.Line.{Line}
 use Rattle.fl_script.proofs.Ends.{same_ends}
 use Rattle.fl_script.proofs.OneReading.{none_with_as, same_line}
-use Rattle.fl_script.proofs.NoAs.{few_spell}
+use Rattle.fl_script.proofs.NoAs.{few_spell_made}
 use Rattle.fl_script.proofs.ReplacedWords.{too_many}
+use Rattle.fl_script.proofs.Spaced.{clean_stay, same_replaced}
 use Rattle.fl_script.proofs.WordShape.{clean_words}
 
 front_all : (P : Word → Type 0) (front back : List Word) → All P (front ++ back) → All P front
@@ -29,19 +31,29 @@ pub front_words : (words front : List Word) (alias : List ℕ) → EndsInAlias f
 front_words words front alias s are = front_all IsWord front _ (subst (All IsWord) s.split are)
 
 -- an alias is among the words
+named_dollar : (words front : List Word) (alias : List ℕ) → words ≡ front ++ codes "as" ∷ alias_text alias ∷ [] → ¬ All NoDollar words
+named_dollar words front alias split clean =
+    let back = back_all NoDollar front (codes "as" ∷ alias_text alias ∷ []) (subst (All NoDollar) split clean) in
+    let last = All-head NoDollar (alias_text alias) [] (All-tail NoDollar (codes "as") (alias_text alias ∷ []) back) in
+    All-head (λ b. b ≢ 36) 36 alias last refl
+
 pub alias_wants : (words front : List Word) (alias : List ℕ) → EndsInAlias front alias words → WantsMemory words
-alias_wants words front alias s = record {
-  is = inl (λ clean.
-      let back = back_all NoDollar front (codes "as" ∷ alias_text alias ∷ []) (subst (All NoDollar) s.split clean) in
-      let last = All-head NoDollar (alias_text alias) [] (All-tail NoDollar (codes "as") (alias_text alias ∷ []) back) in
-      All-head (λ b. b ≢ 36) 36 alias last refl);
-}
+alias_wants words front alias s = record { is = inl (named_dollar words front alias s.split) }
 
 -- a word has a `$`
 pub dollar_wants : (words : List Word) → ¬ All NoDollar words → WantsMemory words
 dollar_wants words dollar = record { is = inl dollar }
 
 module _ (table : Table) where
+  -- words with no `$` say the line that they spell
+  pub clean_says : (words : List Word) → All NoDollar words → (line : Line) → Spells line words → Says table line None words
+  clean_says words clean line s = record { replaced = words; each = clean_stay table words clean; spelled = s }
+
+  -- and nothing where they spell none
+  pub clean_none : (words : List Word) → All NoDollar words → ((line : Line) → Spells line words → ⊥) → (line : Line) (alias : Option (List ℕ)) → Says table line alias words → ⊥
+  clean_none words clean none line None s = none line (subst (Spells line) (same_replaced table words s.replaced words s.each (clean_stay table words clean)) s.spelled)
+  clean_none words clean none line (Some alias) s = named_dollar words s.front alias s.split clean
+
   -- the line that the words spell makes nothing
   pub not_made : (words : List Word) (a : Line) → SpellsReplaced table a words → makes a ≡ false → (b : Line) → CanBeNamed table b words → ⊥
   not_made words a s e b t = true≢false (sym t.made ∙ ap makes (same_line table words b a t.spelled s) ∙ e)
@@ -69,10 +81,10 @@ module _ (table : Table) where
   many_say_none words many line None s = too_many table words many line s
   many_say_none words many line (Some alias) s =
       let count = ap length s.split ∙ length-append s.front (codes "as" ∷ alias_text alias ∷ []) in
-      too_many_front s.front (omega (arith, many, count)) s.spelled
+      too_many_front s.front (omega (arith, many, count)) s.made s.spelled
     where
-      too_many_front : (front : List Word) → 6 < length front → SpellsReplaced table line front → ⊥
-      too_many_front front many s = absurd (omega (arith, many, few_spell line s.replaced s.spelled, length_all_zip (Expands table) front s.replaced s.each))
+      too_many_front : (front : List Word) → 6 < length front → makes line ≡ true → SpellsReplaced table line front → ⊥
+      too_many_front front many made s = absurd (omega (arith, many, few_spell_made line s.replaced made s.spelled, length_all_zip (Expands table) front s.replaced s.each))
 
 -- memory that the words may want the bytes may want
 pub bytes_want : (bytes : List ℕ) → IsAsking bytes → WantsMemory (words_of bytes) → MayWant bytes

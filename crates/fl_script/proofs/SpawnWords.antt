@@ -1,27 +1,20 @@
 -- Words of no spawn.
-use Rattle.std.proofs.Common.{◌≡◌, List, [], ◌∷◌, Option, None, Bor, get_or, map, codes, subst, rules}
+use Rattle.std.proofs.Common.{◌≡◌, List, [], ◌∷◌, Option, None, Bor, get_or, map, codes, subst, arith, rules}
 use Rattle.fl_labels.specs.Cap.{cap_cmp}
 use Rattle.fl_labels.specs.Found.{Finds}
 use Rattle.fl_labels.specs.SetBy.{SetBy}
 use Rattle.fl_labels.specs.Text.{pid_text}
-use Rattle.fl_labels.specs.declared.pid.Pid.{Pid}
 use Rattle.fl_jobs.specs.declared.job.Job.{Job}
 use Rattle.fl_script.specs.Cut.{Word}
 use Rattle.fl_script.specs.Grammar.{Is, Matches, SpellsJob, job_forms}
 use Rattle.fl_script.specs.Words.{IsCapsWord}
 use Rattle.fl_script.proofs.JobKinds.{Kind, kind_of}
 use Rattle.fl_script.proofs.JobKinds.Kind.{spawn}
-
--- the last of two words lists the capabilities
-caps_last : (p : Pid) (caps : SetBy cap_cmp) (rest : List (Bor Word)) (other : Bor Word) → Matches (Is (pid_text p) ∷ IsCapsWord caps ∷ []) (map (λ w. w.now) rest) → IsCapsWord caps (get_or rest 1 other).now
-caps_last p caps [] other s = absurd s
-caps_last p caps (w ∷ []) other s = absurd s.1
-caps_last p caps (w ∷ x ∷ []) other s = s.1.0
-caps_last p caps (w ∷ x ∷ y ∷ ys) other s = absurd s.1.1
+use Rattle.fl_script.proofs.WordAt.{word_at}
 
 -- only a spawn is spelled by `spawn`, and its last word lists capabilities
 last_lists : {job : Job} → Kind job → (rest : List (Bor Word)) (other : Bor Word) → Matches (job_forms job) (codes "spawn" ∷ map (λ w. w.now) rest) → ((caps : SetBy cap_cmp) → IsCapsWord caps (get_or rest 1 other).now → ⊥) → ⊥
-last_lists (spawn p caps) rest other s none = none caps (caps_last p caps rest other s.1)
+last_lists (spawn p caps) rest other s none = none caps (word_at (Is (pid_text p) ∷ IsCapsWord caps ∷ []) rest 1 other (omega arith) s.1)
 last_lists k rest other s none = absurd (search (rules, s.0))
 
 -- where the last word lists no capabilities, the words after `spawn` spell no job

@@ -1,20 +1,25 @@
 -- The lines of the script, each by the words that spell it.
 use Rattle.std.specs.Prelude.{◌≡◌, ◌⊎◌, ℕ, List, [], ◌∷◌, codes}
-use Rattle.fl_labels.specs.Text.{name_text, pid_text, cap_text}
-use Rattle.fl_labels.specs.Words.{IsNode}
+use Rattle.fl_labels.specs.Text.{name_text, pid_text, cap_text, endpoint_text}
+use Rattle.fl_labels.specs.Words.{IsNode, IsNumber}
 use Rattle.fl_jobs.specs.declared.job.Order.TheVariants.{Tag, Group, Put, MakeLogin}
-use Rattle.fl_jobs.specs.declared.job.Act.TheVariants.{Order as Orders, Relabel, Ask, Spawn, Exit, Drop, Enter, Emit}
+use Rattle.fl_jobs.specs.declared.job.Act.TheVariants.{Order as Orders, Relabel, Ask, Spawn, Exit, Drop, Enter, Emit, Channel as Channels}
+use Rattle.fl_jobs.specs.declared.job.Channel.TheVariants.{Open, Tune, Close, Send, Take}
 use Rattle.fl_jobs.specs.declared.job.Job.{Job}
-use Rattle.fl_jobs.specs.declared.job.Job.TheVariants.{Proc, By, Member}
+use Rattle.fl_jobs.specs.declared.job.Job.TheVariants.{Proc, By, Member, Arrive}
 use Rattle.fl_script.specs.Cut.{Word}
 use Rattle.fl_ops.specs.PolicyText.{policy_text}
-use Rattle.fl_script.specs.Words.{side_text, IsLabelWord, IsCapsWord, IsSecretWord, IsBytesWord}
+use Rattle.fl_script.specs.Words.{side_text, mode_text, IsLabelWord, IsCapsWord, IsSecretWord, IsBytesWord}
 use Rattle.fl_script.specs.declared.line.Line.{Line}
-use Rattle.fl_script.specs.declared.line.Line.TheVariants.{Job as OfJob, Text, Union, Aliases}
+use Rattle.fl_script.specs.declared.line.Line.TheVariants.{Job as OfJob, Text, Deliver, Union, Aliases}
 
 -- the word is this one
 abbrev pub Is : List ℕ → Word → Type 0
 Is text word = word ≡ text
+
+-- no word is of this form
+abbrev pub Never : Word → Type 0
+Never word = ⊥
 
 -- each word is of its form, and there are no others
 abbrev pub Matches : List (Word → Type 0) → List Word → Type 0
@@ -37,12 +42,19 @@ job_forms (By p Exit) = Is (codes "exit") ∷ Is (pid_text p) ∷ []
 job_forms (By p (Drop cap)) = Is (codes "drop") ∷ Is (pid_text p) ∷ Is (cap_text cap) ∷ []
 job_forms (By p (Enter login secret)) = Is (codes "enter") ∷ Is (pid_text p) ∷ Is (name_text login) ∷ IsSecretWord secret ∷ []
 job_forms (By p (Emit bytes)) = Is (codes "emit") ∷ Is (pid_text p) ∷ IsBytesWord bytes ∷ []
+job_forms (By p (Channels (Open mode given))) = Is (codes "open") ∷ Is (pid_text p) ∷ Is (mode_text mode) ∷ IsLabelWord given.secrecy ∷ IsLabelWord given.integrity ∷ []
+job_forms (By p (Channels (Tune endpoint given))) = Is (codes "tune") ∷ Is (pid_text p) ∷ Is (endpoint_text endpoint) ∷ IsLabelWord given.secrecy ∷ IsLabelWord given.integrity ∷ []
+job_forms (By p (Channels (Close endpoint))) = Is (codes "close") ∷ Is (pid_text p) ∷ Is (endpoint_text endpoint) ∷ []
+job_forms (By p (Channels (Send from receiver to message))) = Is (codes "send") ∷ Is (pid_text p) ∷ Is (endpoint_text from) ∷ Is (pid_text receiver) ∷ Is (endpoint_text to) ∷ IsCapsWord message.caps ∷ IsBytesWord message.payload ∷ []
+job_forms (By p (Channels Take)) = Is (codes "take") ∷ Is (pid_text p) ∷ []
 job_forms (Member root cap) = Is (codes "member") ∷ Is (cap_text root) ∷ Is (cap_text cap) ∷ []
+job_forms (Arrive packet) = Never ∷ []
 
 -- the table of the lines
 abbrev pub forms : Line → List (Word → Type 0)
 forms (OfJob n job) = IsNode n ∷ job_forms job
 forms (Text n) = IsNode n ∷ Is (codes "text") ∷ []
+forms (Deliver n packet) = IsNode n ∷ Is (codes "deliver") ∷ IsNumber packet ∷ []
 forms (Union n m) = Is (codes "union") ∷ IsNode n ∷ IsNode m ∷ []
 forms Aliases = Is (codes "aliases") ∷ []
 
@@ -56,7 +68,7 @@ Spells line words = Matches (forms line) words
 
 -- the verb of a job that holds a list: of tags, of capabilities, of bytes
 pub record IsListVerb (verb : Word) : Type 0 where
-  pub is : (verb ≡ codes "label") ⊎ (verb ≡ codes "spawn") ⊎ (verb ≡ codes "emit")
+  pub is : (verb ≡ codes "label") ⊎ (verb ≡ codes "spawn") ⊎ (verb ≡ codes "emit") ⊎ (verb ≡ codes "open") ⊎ (verb ≡ codes "tune") ⊎ (verb ≡ codes "send")
 
 -- the second word is the verb of a list
 abbrev pub HoldsList : List Word → Type 0
@@ -68,5 +80,6 @@ HoldsList (node ∷ verb ∷ words) = IsListVerb verb
 abbrev pub nodes_of : Line → List ℕ
 nodes_of (OfJob node job) = node ∷ []
 nodes_of (Text node) = node ∷ []
+nodes_of (Deliver node packet) = node ∷ []
 nodes_of (Union first second) = first ∷ second ∷ []
 nodes_of Aliases = []

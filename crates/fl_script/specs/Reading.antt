@@ -6,13 +6,15 @@ use Rattle.fl_aliases.specs.Alias.{IsAlias, alias_text}
 use Rattle.fl_aliases.specs.Expansion.{Expands, NoDollar}
 use Rattle.fl_aliases.specs.Table.{Table}
 use Rattle.fl_jobs.specs.declared.job.Act.{Act}
-use Rattle.fl_jobs.specs.declared.job.Act.TheVariants.{Order, Relabel, Ask, Spawn, Exit, Drop, Enter, Emit}
+use Rattle.fl_jobs.specs.declared.job.Act.TheVariants.{Order, Relabel, Ask, Spawn, Exit, Drop, Enter, Emit, Channel as Channels}
+use Rattle.fl_jobs.specs.declared.job.Channel.{Channel}
+use Rattle.fl_jobs.specs.declared.job.Channel.TheVariants.{Open, Tune, Close, Send, Take}
 use Rattle.fl_jobs.specs.declared.job.Job.{Job}
-use Rattle.fl_jobs.specs.declared.job.Job.TheVariants.{Proc, By, Member}
+use Rattle.fl_jobs.specs.declared.job.Job.TheVariants.{Proc, By, Member, Arrive}
 use Rattle.fl_script.specs.Cut.{Word, words_of}
 use Rattle.fl_script.specs.Grammar.{Spells, HoldsList}
 use Rattle.fl_script.specs.declared.line.Line.{Line}
-use Rattle.fl_script.specs.declared.line.Line.TheVariants.{Job as OfJob, Text, Union, Aliases}
+use Rattle.fl_script.specs.declared.line.Line.TheVariants.{Job as OfJob, Text, Deliver, Union, Aliases}
 use Rattle.fl_script.specs.declared.reading.Reading.{Reading}
 use Rattle.fl_script.specs.declared.reading.Reading.TheVariants.{Quiet, Bad, Means}
 
@@ -34,6 +36,14 @@ pub record IsAsking (bytes : List ℕ) : Type 0 where
   pub loud : ¬ IsQuiet bytes
   pub text : IsText bytes
 
+-- an alias can stand for the endpoint that is made
+abbrev pub channel_makes : Channel → Bool
+channel_makes (Open mode given) = true
+channel_makes (Tune endpoint given) = false
+channel_makes (Close endpoint) = false
+channel_makes (Send from receiver to message) = false
+channel_makes Take = false
+
 -- an alias can stand for what the act makes
 abbrev pub act_makes : Act → Bool
 act_makes (Order order) = true
@@ -44,17 +54,20 @@ act_makes Exit = false
 act_makes (Drop cap) = false
 act_makes (Enter login secret) = false
 act_makes (Emit bytes) = false
+act_makes (Channels channel) = channel_makes channel
 
 -- and for what the job makes
 abbrev pub job_makes : Job → Bool
 job_makes Proc = true
 job_makes (By p act) = act_makes act
 job_makes (Member root cap) = false
+job_makes (Arrive packet) = false
 
 -- and for what the line makes
 abbrev pub makes : Line → Bool
 makes (OfJob n job) = job_makes job
 makes (Text n) = false
+makes (Deliver n packet) = false
 makes (Union n m) = false
 makes Aliases = false
 

@@ -1,4 +1,4 @@
--- The words of a side, of a label, of capabilities, of a secret and of bytes.
+-- The words of a side, of a mode, of labels, of a secret and of a message.
 use Rattle.std.specs.Prelude.{◌≡◌, ℕ, List, [], ◌∷◌, ◌≤◌, ◌<◌, codes}
 use Rattle.std.specs.declared.result.Result.{Result}
 use Rattle.std.specs.declared.result.Result.TheVariants.{Ok, Err}
@@ -7,10 +7,14 @@ use Rattle.fl_labels.specs.Cap.{cap_cmp}
 use Rattle.fl_labels.specs.Name.{name_cmp}
 use Rattle.fl_labels.specs.SetBy.{SetBy, len}
 use Rattle.fl_labels.specs.Text.{name_text, cap_text}
+use Rattle.fl_jobs.specs.declared.job.GivenLabels.{GivenLabels}
 use Rattle.fl_jobs.specs.declared.job.Side.{Side}
 use Rattle.fl_jobs.specs.declared.job.Side.TheVariants.{Secrecy, Integrity as IntegritySide}
 use Rattle.fl_jobs.specs.declared.job.TooLong.{TooLong}
 use Rattle.fl_jobs.specs.declared.secret.Secret.{Secret}
+use Rattle.fl_rules.specs.declared.endpoint.Mode.{Mode}
+use Rattle.fl_rules.specs.declared.endpoint.Mode.TheVariants.{Read, Write, Both}
+use Rattle.fl_wire.specs.declared.packet.Message.{Message}
 use Rattle.fl_script.specs.Cut.{Word}
 use Rattle.fl_labels.specs.Words.{IsListing}
 
@@ -18,6 +22,12 @@ use Rattle.fl_labels.specs.Words.{IsListing}
 abbrev pub side_text : Side → List ℕ
 side_text Secrecy = codes "S"
 side_text IntegritySide = codes "I"
+
+-- `r`, `w`, `rw`
+abbrev pub mode_text : Mode → List ℕ
+mode_text Read = codes "r"
+mode_text Write = codes "w"
+mode_text Both = codes "rw"
 
 -- the word lists the tags of this label
 pub record ListsLabel (label : SetBy name_cmp) (word : Word) : Type 0 where
@@ -51,3 +61,13 @@ IsSecretWord secret word = HasDigits secret.bytes word
 abbrev pub IsBytesWord : List ℕ → Word → Type 0
 IsBytesWord [] word = word ≡ codes "none"
 IsBytesWord (b ∷ bytes) word = HasDigits (b ∷ bytes) word
+
+-- the words are those of the labels, that of secrecy first
+pub record AreGivenWords (given : GivenLabels) (first second : Word) : Type 0 where
+  pub secrecy : IsLabelWord given.secrecy first
+  pub integrity : IsLabelWord given.integrity second
+
+-- the words are those of the message's capabilities and of its bytes
+pub record AreMessageWords (message : Message) (first second : Word) : Type 0 where
+  pub caps : IsCapsWord message.caps first
+  pub bytes : IsBytesWord message.payload second

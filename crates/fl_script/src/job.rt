@@ -1,14 +1,17 @@
 //! Jobs by the words that spell them.
 ghost use Rattle.std.specs.Prelude.{◌≡◌, ◌∷◌, IfOk, OnErr, map, codes};
 ghost use Rattle.fl_labels.specs.Found.{Finds};
+ghost use Rattle.fl_labels.specs.Text.{endpoint_text, pid_text};
 ghost use Rattle.fl_script.specs.Grammar.{IsListVerb, SpellsJob};
 
 use crate::words::{
-    bytes_from_word, caps_from_word, label_from_word, policy_from_word, secret_from_word,
-    side_from_word,
+    bytes_from_word, caps_from_word, label_from_word, labels_from_words, message_from_words,
+    mode_from_word, policy_from_word, secret_from_word, side_from_word,
 };
-use fl_jobs::job::{Act, Job, Order};
-use fl_labels::text::{read_cap, read_name, read_pid};
+use fl_jobs::job::{Act, Channel, Job, Order};
+use fl_labels::endpoint::Endpoint;
+use fl_labels::pid::Pid;
+use fl_labels::text::{read_cap, read_endpoint, read_name, read_pid};
 use std::alloc::{AllocError, Global};
 
 fn proc_job(rest: &[&str]) -> Option<Job>
@@ -143,6 +146,100 @@ fn emit_job(alloc: Global, rest: &[&str]) -> Result<Option<Job>, AllocError>
     Ok(Some(Job::By(pid, Act::Emit(bytes))))
 }
 
+fn open_job(alloc: Global, rest: &[&str]) -> Result<Option<Job>, AllocError>
+    ensures { IfOk result (λ r. Finds r (λ j. SpellsJob j (codes "open" ∷ map (λ w. w.now) rest.now))) }
+{
+    let [pid, mode, secrecy, integrity] = rest else {
+        return Ok(None);
+    };
+    let Some(pid) = read_pid(pid) else {
+        return Ok(None);
+    };
+    let Some(mode) = mode_from_word(mode) else {
+        return Ok(None);
+    };
+    let Some(given) = labels_from_words(alloc, secrecy, integrity)? else {
+        return Ok(None);
+    };
+    Ok(Some(Job::By(pid, Act::Channel(Channel::Open(mode, given)))))
+}
+
+fn tune_job(alloc: Global, rest: &[&str]) -> Result<Option<Job>, AllocError>
+    ensures { IfOk result (λ r. Finds r (λ j. SpellsJob j (codes "tune" ∷ map (λ w. w.now) rest.now))) }
+{
+    let [pid, endpoint, secrecy, integrity] = rest else {
+        return Ok(None);
+    };
+    let Some(pid) = read_pid(pid) else {
+        return Ok(None);
+    };
+    let Some(endpoint) = read_endpoint(endpoint) else {
+        return Ok(None);
+    };
+    let Some(given) = labels_from_words(alloc, secrecy, integrity)? else {
+        return Ok(None);
+    };
+    Ok(Some(Job::By(pid, Act::Channel(Channel::Tune(endpoint, given)))))
+}
+
+fn close_job(rest: &[&str]) -> Option<Job>
+    ensures { Finds result (λ j. SpellsJob j (codes "close" ∷ map (λ w. w.now) rest.now)) }
+{
+    let [pid, endpoint] = rest else { return None };
+    let pid = read_pid(pid)?;
+    let endpoint = read_endpoint(endpoint)?;
+    Some(Job::By(pid, Act::Channel(Channel::Close(endpoint))))
+}
+
+/// The endpoint from which a message goes, the process that it goes to, and the endpoint of that one.
+#[derive(Clone, Copy)]
+struct Ends {
+    from: Endpoint,
+    receiver: Pid,
+    to: Endpoint,
+}
+
+fn ends_from_words(from: &str, receiver: &str, to: &str) -> Option<Ends>
+    ensures { Finds result (λ ends. (from.now ≡ endpoint_text ends.from) × (receiver.now ≡ pid_text ends.receiver) × (to.now ≡ endpoint_text ends.to)) }
+{
+    let from = read_endpoint(from)?;
+    let receiver = read_pid(receiver)?;
+    let to = read_endpoint(to)?;
+    Some(Ends { from, receiver, to })
+}
+
+fn send_job(alloc: Global, rest: &[&str]) -> Result<Option<Job>, AllocError>
+    ensures { IfOk result (λ r. Finds r (λ j. SpellsJob j (codes "send" ∷ map (λ w. w.now) rest.now))) }
+{
+    let [pid, from, receiver, to, caps, bytes] = rest else {
+        return Ok(None);
+    };
+    let Some(pid) = read_pid(pid) else {
+        return Ok(None);
+    };
+    let Some(ends) = ends_from_words(from, receiver, to) else {
+        return Ok(None);
+    };
+    let Some(message) = message_from_words(alloc, caps, bytes)? else {
+        return Ok(None);
+    };
+    let send = Channel::Send {
+        from: ends.from,
+        receiver: ends.receiver,
+        to: ends.to,
+        message,
+    };
+    Ok(Some(Job::By(pid, Act::Channel(send))))
+}
+
+fn take_job(rest: &[&str]) -> Option<Job>
+    ensures { Finds result (λ j. SpellsJob j (codes "take" ∷ map (λ w. w.now) rest.now)) }
+{
+    let [pid] = rest else { return None };
+    let pid = read_pid(pid)?;
+    Some(Job::By(pid, Act::Channel(Channel::Take)))
+}
+
 fn member_job(rest: &[&str]) -> Option<Job>
     ensures { Finds result (λ j. SpellsJob j (codes "member" ∷ map (λ w. w.now) rest.now)) }
 {
@@ -171,6 +268,11 @@ pub fn job_from_words(alloc: Global, verb: &str, rest: &[&str]) -> Result<Option
         "drop" => Ok(drop_job(rest)),
         "enter" => Ok(enter_job(rest)),
         "emit" => emit_job(alloc, rest),
+        "open" => open_job(alloc, rest),
+        "tune" => tune_job(alloc, rest),
+        "close" => Ok(close_job(rest)),
+        "send" => send_job(alloc, rest),
+        "take" => Ok(take_job(rest)),
         "member" => Ok(member_job(rest)),
         _ => Ok(None),
     }

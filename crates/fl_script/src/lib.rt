@@ -8,8 +8,4 @@ pub mod line;
 mod meaning;
 pub mod reading;
 mod replaced;
-#[cfg(test)]
-mod tests;
-#[cfg(test)]
-mod tests_reading;
 mod words;

@@ -12,7 +12,7 @@ use crate::line::{Line, line_from_words};
 use crate::replaced::{has_dollars, replaced_text};
 use fl_aliases::alias::Alias;
 use fl_aliases::table::Aliases;
-use fl_jobs::job::{Act, Job};
+use fl_jobs::job::{Act, Channel, Job};
 use std::alloc::{AllocError, Global};
 
 /// A line, and the alias that is to stand for what it makes, if one is.
@@ -33,7 +33,10 @@ struct Named<'a, 'b> {
 fn act_makes(act: &Act) -> bool
     ensures { result ≡ act_makes act.now }
 {
-    matches!(act, Act::Order(_) | Act::Spawn(_))
+    matches!(
+        act,
+        Act::Order(_) | Act::Spawn(_) | Act::Channel(Channel::Open(_, _))
+    )
 }
 
 /// Whether an alias can stand for what the line makes.

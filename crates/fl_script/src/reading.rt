@@ -3,9 +3,10 @@ ghost use Rattle.std.specs.Prelude.{◌≡◌, ◌↔◌, IsTrue, IfOk, OnErr};
 ghost use Rattle.fl_script.specs.Reading.{first_mark, IsQuiet, IsReading, MayWant};
 
 use crate::cut::cut_words;
-use crate::line::Line;
+use crate::line::{Line, line_from_words};
 use crate::meaning::meaning_of;
 use fl_aliases::alias::Alias;
+use fl_aliases::expand::has_dollar;
 use fl_aliases::table::Aliases;
 use std::alloc::{AllocError, Global};
 
@@ -47,7 +48,7 @@ fn is_quiet(bytes: &[u8]) -> bool
 /// alias that is not replaced, where fewer than 1,024 are set; else such a line is `Bad`.
 ///
 /// Looks at each byte a few times at most, and takes no memory but that of the replaced words, where an alias is in one, and of
-/// the list of a `label`, `spawn` or `emit` line; where this is refused, the line is not read.
+/// the lists of a `label`, `spawn`, `emit`, `open`, `tune` or `send` line; where this is refused, the line is not read.
 pub fn read_line(alloc: Global, aliases: &Aliases, bytes: &[u8]) -> Result<Reading, AllocError>
     ensures ok { IfOk result (λ reading. IsReading aliases.now bytes.now reading) }
     ensures err { OnErr result (MayWant bytes.now) }
@@ -61,10 +62,18 @@ pub fn read_line(alloc: Global, aliases: &Aliases, bytes: &[u8]) -> Result<Readi
     let Ok(text) = str::from_utf8(bytes) else {
         return Ok(Reading::Bad);
     };
-    let Some(words) = cut_words(text) else {
+    let Some(cut) = cut_words(text) else {
         return Ok(Reading::Bad);
     };
-    let Some(meaning) = meaning_of(alloc, aliases, words.as_slice())? else {
+    let words = cut.as_slice();
+    // Most lines have no alias, and one look at all their bytes is cheaper than one at each word.
+    if !has_dollar(text) {
+        return match line_from_words(alloc, words)? {
+            Some(line) => Ok(Reading::Means { line, alias: None }),
+            None => Ok(Reading::Bad),
+        };
+    }
+    let Some(meaning) = meaning_of(alloc, aliases, words)? else {
         return Ok(Reading::Bad);
     };
     Ok(Reading::Means {

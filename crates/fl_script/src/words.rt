@@ -2,15 +2,17 @@
 ghost use Rattle.std.specs.Prelude.{◌≡◌, IfOk};
 ghost use Rattle.fl_labels.specs.Found.{Finds};
 ghost use Rattle.fl_ops.specs.PolicyText.{policy_text};
-ghost use Rattle.fl_script.specs.Words.{IsBytesWord, IsCapsWord, IsLabelWord, IsSecretWord, side_text};
+ghost use Rattle.fl_script.specs.Words.{AreGivenWords, AreMessageWords, IsBytesWord, IsCapsWord, IsLabelWord, IsSecretWord, mode_text, side_text};
 
-use fl_jobs::job::{Side, TooLong};
-use fl_jobs::payload::Payload;
+use fl_jobs::job::{GivenLabels, Side, TooLong};
 use fl_jobs::secret::Secret;
 use fl_labels::cap_set::CapSet;
 use fl_labels::error::SetError;
 use fl_labels::label::Label;
 use fl_ops::op::Policy;
+use fl_rules::endpoint::Mode;
+use fl_wire::packet::Message;
+use fl_wire::payload::Payload;
 use hex::{FromHex, FromHexError};
 use std::alloc::{AllocError, Global};
 
@@ -37,6 +39,18 @@ pub fn side_from_word(word: &str) -> Option<Side>
     }
 }
 
+/// The mode of an endpoint that a word names: `r`, `w` or `rw`.
+pub fn mode_from_word(word: &str) -> Option<Mode>
+    ensures { Finds result (λ mode. word.now ≡ mode_text mode) }
+{
+    match word {
+        "r" => Some(Mode::Read),
+        "w" => Some(Mode::Write),
+        "rw" => Some(Mode::Both),
+        _ => None,
+    }
+}
+
 /// The label that a word lists, `TooLong` where it lists more tags than a label holds, or none where it lists no tags.
 pub fn label_from_word(
     alloc: Global,
@@ -50,6 +64,24 @@ pub fn label_from_word(
         Err(SetError::BadText) => Ok(None),
         Err(SetError::Memory) => Err(AllocError),
     }
+}
+
+/// The labels that two words list, that of secrecy first, each `TooLong` where it has more tags than a label holds, or none
+/// where a word lists no tags. An error says that there was not enough memory for them.
+pub fn labels_from_words(
+    alloc: Global,
+    secrecy: &str,
+    integrity: &str,
+) -> Result<Option<GivenLabels>, AllocError>
+    ensures { IfOk result (λ r. Finds r (λ given. AreGivenWords given secrecy.now integrity.now)) }
+{
+    let Some(secrecy) = label_from_word(alloc, secrecy)? else {
+        return Ok(None);
+    };
+    let Some(integrity) = label_from_word(alloc, integrity)? else {
+        return Ok(None);
+    };
+    Ok(Some(GivenLabels { secrecy, integrity }))
 }
 
 /// The capabilities that a word lists in braces, in any order, or none where it is no such list. An error says that there
@@ -90,4 +122,22 @@ pub fn bytes_from_word(alloc: Global, word: &str) -> Result<Option<Payload>, All
         Err(FromHexError::OutOfMemory) => Err(AllocError),
         Err(_) => Ok(None),
     }
+}
+
+/// The message whose capabilities one word lists and whose bytes another spells. None where a word is no such one, where there
+/// are more than 64 capabilities, or more than 1,024 bytes. An error says that there was not enough memory for them.
+pub fn message_from_words(
+    alloc: Global,
+    caps: &str,
+    bytes: &str,
+) -> Result<Option<Message>, AllocError>
+    ensures { IfOk result (λ r. Finds r (λ message. AreMessageWords message caps.now bytes.now)) }
+{
+    let Some(caps) = caps_from_word(alloc, caps)? else {
+        return Ok(None);
+    };
+    let Some(payload) = bytes_from_word(alloc, bytes)? else {
+        return Ok(None);
+    };
+    Ok(Message::new(caps, payload))
 }

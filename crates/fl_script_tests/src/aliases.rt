@@ -1,10 +1,11 @@
-//! Lines in which aliases are replaced, and lines that name what they make.
-use crate::reading::{Reading, read_line};
+// Lines in which aliases are replaced, and lines that name what they make.
 use fl_aliases::alias::Alias;
 use fl_aliases::table::Aliases;
 use fl_aliases::target::Target;
+use fl_labels::endpoint::Endpoint;
 use fl_labels::name::Name;
 use fl_labels::pid::Pid;
+use fl_script::reading::{Reading, read_line};
 use std::test::Fail;
 
 const FIRST: Target = Target::Process(Pid {
@@ -16,6 +17,8 @@ const FIRST: Target = Target::Process(Pid {
 const TAG: Target = Target::Operation(Name { node: 1, seq: 4 });
 
 const GROUP: Target = Target::Operation(Name { node: 25, seq: 36 });
+
+const ENDPOINT: Target = Target::Endpoint(Endpoint { number: 64 });
 
 /// Sets the alias that the word spells, if there is room for it.
 fn set(aliases: &mut Aliases, word: &str, target: Target) -> Result<(), Fail> {
@@ -35,6 +38,7 @@ fn sample(rt: &HostRuntime) -> Result<Aliases, Fail> {
     set(&mut aliases, "$a", FIRST)?;
     set(&mut aliases, "$t", TAG)?;
     set(&mut aliases, "$g", GROUP)?;
+    set(&mut aliases, "$e", ENDPOINT)?;
     Ok(aliases)
 }
 
@@ -74,6 +78,18 @@ fn aliases_are_replaced(rt: HostRuntime) -> Result<(), Fail> {
         ),
         ("1 member *$g -$t", "1 member *25.36 -1.4"),
         ("1 put $a 1$t +$t", "1 put p1.2.3 11.4 +1.4"),
+        ("1 open $a rw {$t} {$g}", "1 open p1.2.3 rw {1.4} {25.36}"),
+        ("1 tune $a $e {$t} {$g}", "1 tune p1.2.3 e64 {1.4} {25.36}"),
+        ("1 close $a $e", "1 close p1.2.3 e64"),
+        (
+            "1 send $a $e $a e1 {+$t,*$g} none",
+            "1 send p1.2.3 e64 p1.2.3 e1 {+1.4,*25.36} none",
+        ),
+        (
+            "1 send $a e1 $a $e {+$t,*$g} 0$e",
+            "1 send p1.2.3 e1 p1.2.3 e64 {+1.4,*25.36} 0e64",
+        ),
+        ("1 take $a", "1 take p1.2.3"),
     ] {
         assert!(rt; says(&rt, line, plain, None)?, "{line}");
     }
@@ -107,6 +123,14 @@ fn lines_that_make_are_named(rt: HostRuntime) -> Result<(), Fail> {
             Some("$a")
         )?
     );
+    assert!(rt;
+        says(
+            &rt,
+            "1 open $a w {} {$t} as $e",
+            "1 open p1.2.3 w {} {1.4}",
+            Some("$e")
+        )?
+    );
     assert!(rt; !says(&rt, "1 proc as $x", "1 proc", None)?);
     Ok(())
 }
@@ -119,6 +143,15 @@ fn other_lines_are_bad(rt: HostRuntime) -> Result<(), Fail> {
         "1 label $a S {$t} as $x",
         "1 member *$g -$t as $x",
         "1 text as $x",
+        "1 tune $a $e {} {} as $x",
+        "1 close $a $e as $x",
+        "1 send $a $e $a $e {} none as $x",
+        "1 take $a as $x",
+        "1 deliver 1 as $x",
+        "1 open $a $t {} {}",
+        "1 tune $a $t {} {}",
+        "1 close $a $a",
+        "1 deliver $e",
         "union 1 2 as $x",
         "1 proc as x",
         "1 proc as $",

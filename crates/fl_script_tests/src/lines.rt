@@ -1,8 +1,8 @@
-//! Lines of each form, and lines of none.
-use crate::line::Line;
-use crate::reading::{MOST_BYTES, Reading, read_line};
+// Lines of each form, and lines of none.
 use fl_aliases::table::Aliases;
 use fl_jobs::job::{Act, Job, Order};
+use fl_script::line::Line;
+use fl_script::reading::{MOST_BYTES, Reading, read_line};
 use std::test::Fail;
 
 #[test]
