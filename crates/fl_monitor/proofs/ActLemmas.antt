@@ -1,13 +1,12 @@
 -- What the acts of a process owe.
 use Rattle.std.proofs.Common.{◌≡◌, inl, inr, Bool, true, false, cond, refl, sym, ap, ◌∙◌, subst, Result, Ok, Err, None, Some}
 use Rattle.std.specs.Result.{IsErr, IsErrAnd}
-use Rattle.std.specs.Prelude.{not, ◌&&◌, List, ℕ}
-use Rattle.std.specs.Cmp.{tied_itself, Equal-is}
-use Rattle.std.specs.Ordering.{is_gt, eq_by_cmp}
+use Rattle.std.specs.Prelude.{List, ℕ}
+use Rattle.std.specs.Cmp.{tied_itself}
+use Rattle.std.specs.Ordering.{is_gt}
 use Rattle.fl_labels.specs.Name.{name_cmp}
 use Rattle.fl_labels.specs.Cap.{cap_cmp}
-use Rattle.fl_labels.specs.CapOrder.{cap_total, cap_exact}
-use Rattle.fl_labels.specs.SetBy as set
+use Rattle.fl_labels.specs.CapOrder.{cap_total}
 use Rattle.fl_labels.specs.SetBy.{SetBy, In}
 use Rattle.fl_labels.specs.Found.{Tells}
 use Rattle.fl_labels.specs.declared.name.Name.{Name}
@@ -18,26 +17,30 @@ use Rattle.fl_ops.specs.declared.op.Body.{Body}
 use Rattle.fl_ops.specs.declared.op.Policy.{Policy}
 use Rattle.fl_ops.specs.Registry.{Eff, Global, From}
 use Rattle.fl_jobs.specs.declared.job.Act.{Act}
-use Rattle.fl_jobs.specs.declared.job.Act.TheVariants.{Order, Relabel, Ask, Spawn, Exit, Drop, Enter, Emit}
+use Rattle.fl_jobs.specs.declared.job.Act.TheVariants.{Order, Relabel, Ask, Spawn, Exit, Drop, Enter, Emit, Channel}
+use Rattle.fl_jobs.specs.declared.job.Channel as channels
 use Rattle.fl_jobs.specs.declared.secret.Secret.{Secret}
 use Rattle.fl_jobs.specs.declared.job.Order as orders
 use Rattle.fl_jobs.specs.declared.job.Order.TheVariants.{Tag, Group, Put, MakeLogin}
 use Rattle.fl_jobs.specs.declared.job.Side.{Side}
 use Rattle.fl_jobs.specs.declared.job.TooLong.{TooLong}
 use Rattle.fl_jobs.specs.declared.answer.Refusal.{Refusal}
-use Rattle.fl_jobs.specs.declared.answer.Refusal.TheVariants.{MissingCap, LabelTooLong, Memory, Busy, NotOwned}
+use Rattle.fl_jobs.specs.declared.answer.Refusal.TheVariants.{MissingCap, LabelTooLong, Memory, Busy}
 use Rattle.fl_jobs.specs.declared.answer.Reply.{Reply}
 use Rattle.fl_jobs.specs.declared.answer.Reply.TheVariants.{Done, Yes, NotYet, Out}
 use Rattle.fl_jobs.specs.declared.answer.Outcome.{Outcome}
-use Rattle.fl_rules.specs.Safety.{Takes, Dual}
-use Rattle.fl_monitor.specs.Process.{is_under_way, ordering, side_of, with_side, body_of, OneOf, PutTakes}
+use Rattle.fl_rules.specs.Safety.{Dual}
+use Rattle.fl_rules.specs.declared.labels.Labels.{Labels}
+use Rattle.fl_channels.specs.Channels.{closed}
+use Rattle.fl_channels.specs.declared.channels.Channels.{Channels}
+use Rattle.fl_monitor.specs.Process.{is_under_way, ordering, with_side, body_of, OneOf, PutTakes}
 use Rattle.fl_monitor.specs.Hand.{AtHand, Lacks}
 use Rattle.fl_monitor.specs.Checks.{Check, demand}
-use Rattle.fl_monitor.specs.Jobs.{Answers, order_checks, change_check, spawn_check, emission_check}
-use Rattle.fl_monitor.specs.Acts.{Acts, Checked, Gives, Required, Told, Relabels, GivesUp, Enters, answered}
+use Rattle.fl_monitor.specs.Guards.{grant_check}
+use Rattle.fl_monitor.specs.Jobs.{Answers, order_checks, emission_check}
+use Rattle.fl_monitor.specs.Acts.{Acts, Checked, Gives, Required, Told, Relabels, GivesUp, Enters, Works, answered}
 use Rattle.fl_monitor.specs.declared.process.Holding.{Holding}
 use Rattle.fl_monitor.specs.declared.process.Holding.TheVariants.{Idle, Ordering}
-use Rattle.fl_monitor.specs.declared.process.Labels.{Labels}
 use Rattle.fl_monitor.specs.declared.process.Process.{Process}
 use Rattle.fl_monitor.specs.declared.sequel.Sequel.{Sequel}
 use Rattle.fl_monitor.specs.declared.sequel.Sequel.TheVariants.{Answer, Birth, End}
@@ -81,45 +84,9 @@ any_room (Checked.failed h) = Checked.failed h
 any_room (Checked.no_room h) = Checked.no_room tt
 
 -- who is born
-pub child_given : (check : Check) (l : Labels) (caps : SetBy cap_cmp) {r : Result (Unit {0}) Refusal} → Checked check (Unit {0}) r → (u : Unit {0}) → r ≡ Ok u → (m : Labels) → m ≡ l
-    → Gives check (Unit {0}) (Birth (record { labels = l; owned = Idle caps })) (Ok (Birth (record { labels = m; owned = Idle caps })))
-child_given check l caps h u e m is = gives_passed check (Unit {0}) _ h u e _ (λ i. Birth (record { labels = is i; owned = Idle caps }))
-
--- ---- what is given up
-
--- to remove what is not there changes nothing
-remove_absent : (owned : SetBy cap_cmp) (c : Cap) → set.contains owned c ≡ false → set.remove owned c ≡ owned
-remove_absent owned c out = set.same_set cap_total cap_exact _ _ (λ q. set.contains-remove cap_total owned c q ∙ by_test q (eq_by_cmp cap_cmp q c) refl)
-  where
-    by_test : (q : Cap) (b : Bool) → eq_by_cmp cap_cmp q c ≡ b → (not b && set.contains owned q) ≡ set.contains owned q
-    by_test q true e = sym (ap (set.contains owned) (cap_exact q c ((Equal-is (cap_cmp q c)).0 e)) ∙ out)
-    by_test q false e = refl
-
-module _ (owned after : SetBy cap_cmp) (c : Cap) (removed : after ≡ set.remove owned c) (was : Bool) (told : was ≡ set.contains owned c) where
-  pub gives_up : was ≡ true → GivesUp owned c (Ok (Outcome.Reply Done)) after
-  gives_up e = subst (GivesUp owned c (Ok (Outcome.Reply Done))) (sym removed) (GivesUp.gone (sym told ∙ e))
-
-  pub never_had : was ≡ false → GivesUp owned c (Err (NotOwned c)) after
-  never_had e = subst (GivesUp owned c (Err (NotOwned c))) (sym (removed ∙ remove_absent owned c (sym told ∙ e))) (GivesUp.never (sym told ∙ e))
-
--- ---- changes of labels
-
-module _ (V : Op → Type 0) (owned : SetBy cap_cmp) (old : Labels) (side : Side) (given : Result (SetBy name_cmp) TooLong) (label l : SetBy name_cmp) (fits : given ≡ Ok label) (is : l ≡ side_of side old) where
-  abbrev Tested : Result (Unit {0}) Refusal → Type 0
-  Tested = Checked (change_check (Eff V (In owned)) l label) (Lacks (Takes l label) (AtHand V owned))
-
-  refused_as : {r : Result (Unit {0}) Refusal} (f : Refusal) → r ≡ Err f → Tested r → Relabels V owned old side given (Err f) old
-  refused_as f e (Checked.passed h) = absurd (cc)
-  refused_as f e (Checked.failed {f = g} h) = subst (λ r. Relabels V owned old side given r old) (to_outcome e) (Relabels.unsafe fits (subst (λ l. change_check (Eff V (In owned)) l label (Some g)) is h))
-  refused_as f e (Checked.no_room h) = subst (λ r. Relabels V owned old side given r old) (to_outcome e) (Relabels.no_room fits (subst (λ l. Lacks (Takes l label) (AtHand V owned)) is h))
-
-  pub relabel_refused : {r : Result (Unit {0}) Refusal} → Tested r → (f : Refusal) → r ≡ Err f → (q : Result Outcome Refusal) → IsErr q × IsErrAnd q (λ g. g ≡ f) → Relabels V owned old side given q old
-  relabel_refused h f e q s = subst (λ q. Relabels V owned old side given q old) (sym (passed_on q f s)) (refused_as f e h)
-
-  pub relabel_done : {r : Result (Unit {0}) Refusal} → Tested r → (u : Unit {0}) → r ≡ Ok u → (m : Labels) → m ≡ with_side side label old → Relabels V owned old side given (Ok (Outcome.Reply Done)) m
-  relabel_done (Checked.passed h) u e m is_m = subst (λ m. Relabels V owned old side given (Ok (Outcome.Reply Done)) m) (sym is_m) (Relabels.safe fits (subst (λ l. change_check (Eff V (In owned)) l label None) is h))
-  relabel_done (Checked.failed h) u e m is_m = absurd (cc)
-  relabel_done (Checked.no_room h) u e m is_m = absurd (cc)
+pub child_given : (check : Check) (l : Labels) (caps : SetBy cap_cmp) {r : Result (Unit {0}) Refusal} → Checked check (Unit {0}) r → (u : Unit {0}) → r ≡ Ok u → (m : Labels) → m ≡ l → (ch : Channels) → ch ≡ closed
+    → Gives check (Unit {0}) (Birth (record { labels = l; owned = Idle caps; channels = closed })) (Ok (Birth (record { labels = m; owned = Idle caps; channels = ch })))
+child_given check l caps h u e m is ch none = gives_passed check (Unit {0}) _ h u e _ (λ i. Birth (record { labels = is i; owned = Idle caps; channels = none i }))
 
 -- ---- orders
 
@@ -203,10 +170,10 @@ busy (Ordering owned) n = refl
 pub act_busy : (V : Op → Type 0) (pid : Pid) (p : Process) (act : Act) → ((owned : SetBy cap_cmp) → p.owned ≡ Idle owned → ⊥) → Acts V pid p act (Err Busy) p
 act_busy V pid p act n = Acts.failed (inl (ap (λ b. cond b (Some Busy) None) (sym (busy p.owned n))))
 
-module _ (V : Op → Type 0) (pid : Pid) (l : Labels) (owned : SetBy cap_cmp) where
+module _ (V : Op → Type 0) (pid : Pid) (l : Labels) (owned : SetBy cap_cmp) (ch : Channels) where
   -- of a process that is idle
   abbrev idle : Process
-  idle = record { labels = l; owned = Idle owned }
+  idle = record { labels = l; owned = Idle owned; channels = ch }
 
   order_fails : (order : orders.Order) (f : Refusal) {r : Result (Unit {0}) Refusal} → r ≡ Err f → Checked (order_checks (Eff V (In owned)) order) (Unit {0}) r → Acts V pid idle (Order order) (Err f) idle
   order_fails order f e (Checked.passed h) = absurd (cc)
@@ -218,8 +185,8 @@ module _ (V : Op → Type 0) (pid : Pid) (l : Labels) (owned : SetBy cap_cmp) wh
   order_done order u e (Checked.failed h) = absurd (cc)
   order_done order u e (Checked.no_room h) = absurd (cc)
 
-  relabelled : (side : Side) (given : Result (SetBy name_cmp) TooLong) {r : Result Outcome Refusal} {l' : Labels} → Relabels V owned l side given r l' → Acts V pid idle (Relabel side given) (answered r) (record { labels = l'; owned = Idle owned })
-  relabelled side given (Relabels.safe {label} e h) = subst (λ g. Acts V pid idle (Relabel side g) (Ok (Answer (Outcome.Reply Done))) (record { labels = with_side side label l; owned = Idle owned })) (sym e) (Acts.passed (refl, h) (refl, refl))
+  relabelled : (side : Side) (given : Result (SetBy name_cmp) TooLong) {r : Result Outcome Refusal} {l' : Labels} → Relabels V owned ch.endpoints l side given r l' → Acts V pid idle (Relabel side given) (answered r) (record idle { labels = l' })
+  relabelled side given (Relabels.safe {label} e h) = subst (λ g. Acts V pid idle (Relabel side g) (Ok (Answer (Outcome.Reply Done))) (record idle { labels = with_side side label l })) (sym e) (Acts.passed (refl, h) (refl, refl))
   relabelled side given (Relabels.unsafe {label} {f} e h) = subst (λ g. Acts V pid idle (Relabel side g) (Err f) idle) (sym e) (Acts.failed (inr (refl, h)))
   relabelled side given (Relabels.too_long e) = subst (λ g. Acts V pid idle (Relabel side g) (Err LabelTooLong) idle) (sym e) (Acts.failed (inr (refl, refl)))
   relabelled side given (Relabels.no_room {label} e h) = subst (λ g. Acts V pid idle (Relabel side g) (Err Memory) idle) (sym e) (Acts.no_room refl h)
@@ -228,7 +195,7 @@ module _ (V : Op → Type 0) (pid : Pid) (l : Labels) (owned : SetBy cap_cmp) wh
   asked c (Told.told {outcome} h) = Acts.passed (refl, refl) (outcome, refl, h, refl)
   asked c (Told.no_room h) = Acts.no_room refl h
 
-  spawned : (caps : SetBy cap_cmp) {r : Result Sequel Refusal} → Gives (spawn_check (Eff V (In owned)) caps) (Unit {0}) (Birth (record { labels = l; owned = Idle caps })) r → Acts V pid idle (Spawn caps) r idle
+  spawned : (caps : SetBy cap_cmp) {r : Result Sequel Refusal} → Gives (grant_check (Eff V (In owned)) caps) (Unit {0}) (Birth (record { labels = l; owned = Idle caps; channels = closed })) r → Acts V pid idle (Spawn caps) r idle
   spawned caps (Gives.passed h) = Acts.passed (refl, h) (refl, refl)
   spawned caps (Gives.failed h) = Acts.failed (inr (refl, h))
   spawned caps (Gives.no_room h) = Acts.no_room refl tt
@@ -238,59 +205,72 @@ module _ (V : Op → Type 0) (pid : Pid) (l : Labels) (owned : SetBy cap_cmp) wh
   emitted bytes (Gives.failed h) = Acts.failed (inr (refl, h))
   emitted bytes (Gives.no_room h) = Acts.no_room refl h
 
-  given_up : (c : Cap) {r : Result Outcome Refusal} {s : SetBy cap_cmp} → GivesUp owned c r s → Acts V pid idle (Drop c) (answered r) (record { labels = l; owned = Idle s })
-  given_up c (GivesUp.gone has) = Acts.passed (refl, ap (λ b. cond (not b) (Some (NotOwned c)) None) (sym has)) (refl, refl)
-  given_up c (GivesUp.never out) = Acts.failed (inr (refl, ap (λ b. cond (not b) (Some (NotOwned c)) None) (sym out)))
+  given_up : (c : Cap) {r : Result Outcome Refusal} {s : SetBy cap_cmp} → GivesUp V l ch.endpoints owned c r s → Acts V pid idle (Drop c) (answered r) (record idle { owned = Idle s })
+  given_up c (GivesUp.gone h) = Acts.passed (refl, h) (refl, refl)
+  given_up c (GivesUp.kept h) = Acts.failed (inr (refl, h))
+  given_up c (GivesUp.no_room has e is_open) = Acts.no_room refl (has, e, is_open)
 
-  entered : (login : Name) (secret : Secret) {r : Result Outcome Refusal} {s : SetBy cap_cmp} → Enters V owned login secret r s → Acts V pid idle (Enter login secret) (answered r) (record { labels = l; owned = Idle s })
+  entered : (login : Name) (secret : Secret) {r : Result Outcome Refusal} {s : SetBy cap_cmp} → Enters V owned login secret r s → Acts V pid idle (Enter login secret) (answered r) (record idle { owned = Idle s })
   entered login secret (Enters.enters {c} first) = Acts.passed (refl, (c, first)) (c, first, refl, refl)
   entered login secret (Enters.unknown none) = Acts.failed (inr (refl, inl (refl, none)))
   entered login secret (Enters.wrong {c} {digest} first other) = Acts.failed (inr (refl, inr (refl, c, digest, first, other)))
   entered login secret (Enters.no_room {c} first) = Acts.no_room refl (c, first)
 
+  worked : (work : channels.Channel) {r : Result Outcome Refusal} {ch' : Channels} → Works (Eff V (In owned)) (AtHand V owned) pid l ch work r ch' → Acts V pid idle (Channel work) (answered r) (record idle { channels = ch' })
+  worked work (Works.passed {outcome} {ch'} h does) = Acts.passed (refl, h) (outcome, refl, ch', does, refl)
+  worked work (Works.failed h) = Acts.failed (inr (refl, h))
+  worked work (Works.no_room h) = Acts.no_room refl h
+
 module _ (V : Op → Type 0) (pid : Pid) (p : Process) (act : Act) (owned : SetBy cap_cmp) (is : p.owned ≡ Idle owned) where
+  -- the process, known to be idle
+  abbrev as_idle : Process
+  as_idle = record p { owned = Idle owned }
+
   -- what was shown of an idle process
-  of_idle : {r : Result Sequel Refusal} {p' : Process} → Acts V pid (idle V pid p.labels owned) act r p' → Acts V pid p act r p'
-  of_idle {r} {p'} h = subst (λ o. Acts V pid (record { labels = p.labels; owned = o }) act r p') (sym is) h
+  of_idle : {r : Result Sequel Refusal} {p' : Process} → Acts V pid as_idle act r p' → Acts V pid p act r p'
+  of_idle {r} {p'} h = subst (λ o. Acts V pid (record p { owned = o }) act r p') (sym is) h
 
   -- the act is this one
-  act_is : (a : Act) → act ≡ a → {q : Result Sequel Refusal} {p' : Process} → Acts V pid (idle V pid p.labels owned) a q p' → Acts V pid p act q p'
-  act_is a e {q} {p'} h = of_idle (subst (λ a. Acts V pid (idle V pid p.labels owned) a q p') (sym e) h)
+  act_is : (a : Act) → act ≡ a → {q : Result Sequel Refusal} {p' : Process} → Acts V pid as_idle a q p' → Acts V pid p act q p'
+  act_is a e {q} {p'} h = of_idle (subst (λ a. Acts V pid as_idle a q p') (sym e) h)
 
   -- and is answered alone
-  act_answers : (a : Act) → act ≡ a → (r : Result Outcome Refusal) {p' : Process} → Acts V pid (idle V pid p.labels owned) a (answered r) p' → (q : Result Sequel Refusal) → q ≡ answered r → Acts V pid p act q p'
+  act_answers : (a : Act) → act ≡ a → (r : Result Outcome Refusal) {p' : Process} → Acts V pid as_idle a (answered r) p' → (q : Result Sequel Refusal) → q ≡ answered r → Acts V pid p act q p'
   act_answers a e r {p'} h q is = subst (λ q. Acts V pid p act q p') (sym is) (act_is a e h)
 
   module _ (order : orders.Order) (ordered : act ≡ Order order) {r : Result (Unit {0}) Refusal} (checked : Checked (order_checks (Eff V (In owned)) order) (Unit {0}) r) where
-    pub act_unchecked : (f : Refusal) → r ≡ Err f → {q : Result Sequel Refusal} → IsErr q × IsErrAnd q (λ g. g ≡ f) → Acts V pid p act q (idle V pid p.labels owned)
-    act_unchecked f e {q} h = subst (λ q. Acts V pid p act q (idle V pid p.labels owned)) (sym (passed_on q f h)) (act_is (Order order) ordered (order_fails V pid p.labels owned order f e checked))
+    pub act_unchecked : (f : Refusal) → r ≡ Err f → {q : Result Sequel Refusal} → IsErr q × IsErrAnd q (λ g. g ≡ f) → Acts V pid p act q as_idle
+    act_unchecked f e {q} h = subst (λ q. Acts V pid p act q as_idle) (sym (passed_on q f h)) (act_is (Order order) ordered (order_fails V pid p.labels owned p.channels order f e checked))
 
-    pub act_order : (u : Unit {0}) → r ≡ Ok u → (body : Body) → body ≡ body_of order → (h : Holding) → h ≡ Ordering owned → Acts V pid p act (Ok (Answer (Outcome.Order body pid))) (record { labels = p.labels; owned = h })
+    pub act_order : (u : Unit {0}) → r ≡ Ok u → (body : Body) → body ≡ body_of order → (h : Holding) → h ≡ Ordering owned → Acts V pid p act (Ok (Answer (Outcome.Order body pid))) (record p { owned = h })
     act_order u e body is_body h is_h =
-        subst (λ b. Acts V pid p act (Ok (Answer (Outcome.Order b pid))) (record { labels = p.labels; owned = h })) (sym is_body)
-        (subst (λ o. Acts V pid p act (Ok (Answer (Outcome.Order (body_of order) pid))) (record { labels = p.labels; owned = o })) (sym is_h)
-        (act_is (Order order) ordered (order_done V pid p.labels owned order u e checked)))
+        subst (λ b. Acts V pid p act (Ok (Answer (Outcome.Order b pid))) (record p { owned = h })) (sym is_body)
+        (subst (λ o. Acts V pid p act (Ok (Answer (Outcome.Order (body_of order) pid))) (record p { owned = o })) (sym is_h)
+        (act_is (Order order) ordered (order_done V pid p.labels owned p.channels order u e checked)))
 
-  pub act_full : (order : orders.Order) → act ≡ Order order → (h : Holding) → h ≡ Idle owned → Acts V pid p act (Err Memory) (record { labels = p.labels; owned = h })
-  act_full order e h same = subst (λ o. Acts V pid p act (Err Memory) (record { labels = p.labels; owned = o })) (sym same) (act_is (Order order) e (Acts.no_room refl tt))
+  pub act_full : (order : orders.Order) → act ≡ Order order → (h : Holding) → h ≡ Idle owned → Acts V pid p act (Err Memory) (record p { owned = h })
+  act_full order e h same = subst (λ o. Acts V pid p act (Err Memory) (record p { owned = o })) (sym same) (act_is (Order order) e (Acts.no_room refl tt))
 
-  pub act_relabel : (side : Side) (given : Result (SetBy name_cmp) TooLong) → act ≡ Relabel side given → {r : Result Outcome Refusal} {l' : Labels} → Relabels V owned p.labels side given r l' → (q : Result Sequel Refusal) → q ≡ answered r → Acts V pid p act q (record { labels = l'; owned = Idle owned })
-  act_relabel side given e {r} h q is = act_answers (Relabel side given) e r (relabelled V pid p.labels owned side given h) q is
+  pub act_relabel : (side : Side) (given : Result (SetBy name_cmp) TooLong) → act ≡ Relabel side given → {r : Result Outcome Refusal} {l' : Labels} → Relabels V owned p.channels.endpoints p.labels side given r l' → (q : Result Sequel Refusal) → q ≡ answered r → Acts V pid p act q (record as_idle { labels = l' })
+  act_relabel side given e {r} h q is = act_answers (Relabel side given) e r (relabelled V pid p.labels owned p.channels side given h) q is
 
-  pub act_ask : (c : Cap) → act ≡ Ask c → {r : Result Outcome Refusal} → Told (Eff V (In owned) c) ((¬ In owned c) × (¬ Global V c)) r → (q : Result Sequel Refusal) → q ≡ answered r → Acts V pid p act q (idle V pid p.labels owned)
-  act_ask c e {r} h q is = act_answers (Ask c) e r (asked V pid p.labels owned c h) q is
+  pub act_ask : (c : Cap) → act ≡ Ask c → {r : Result Outcome Refusal} → Told (Eff V (In owned) c) ((¬ In owned c) × (¬ Global V c)) r → (q : Result Sequel Refusal) → q ≡ answered r → Acts V pid p act q as_idle
+  act_ask c e {r} h q is = act_answers (Ask c) e r (asked V pid p.labels owned p.channels c h) q is
 
-  pub act_spawn : (caps : SetBy cap_cmp) → act ≡ Spawn caps → {q : Result Sequel Refusal} → Gives (spawn_check (Eff V (In owned)) caps) (Unit {0}) (Birth (record { labels = p.labels; owned = Idle caps })) q → Acts V pid p act q (idle V pid p.labels owned)
-  act_spawn caps e h = act_is (Spawn caps) e (spawned V pid p.labels owned caps h)
+  pub act_spawn : (caps : SetBy cap_cmp) → act ≡ Spawn caps → {q : Result Sequel Refusal} → Gives (grant_check (Eff V (In owned)) caps) (Unit {0}) (Birth (record { labels = p.labels; owned = Idle caps; channels = closed })) q → Acts V pid p act q as_idle
+  act_spawn caps e h = act_is (Spawn caps) e (spawned V pid p.labels owned p.channels caps h)
 
-  pub act_exit : act ≡ Exit → Acts V pid p act (Ok End) (idle V pid p.labels owned)
+  pub act_exit : act ≡ Exit → Acts V pid p act (Ok End) as_idle
   act_exit e = act_is Exit e (Acts.passed (refl, refl) (refl, refl))
 
-  pub act_drop : (c : Cap) → act ≡ Drop c → {r : Result Outcome Refusal} {s : SetBy cap_cmp} → GivesUp owned c r s → (q : Result Sequel Refusal) → q ≡ answered r → Acts V pid p act q (record { labels = p.labels; owned = Idle s })
-  act_drop c e {r} h q is = act_answers (Drop c) e r (given_up V pid p.labels owned c h) q is
+  pub act_drop : (c : Cap) → act ≡ Drop c → {r : Result Outcome Refusal} {s : SetBy cap_cmp} (l : Labels) → l ≡ p.labels → GivesUp V l p.channels.endpoints owned c r s → (q : Result Sequel Refusal) → q ≡ answered r → Acts V pid p act q (record p { owned = Idle s })
+  act_drop c e {r} {s} l same h q is = act_answers (Drop c) e r (given_up V pid p.labels owned p.channels c (subst (λ l. GivesUp V l p.channels.endpoints owned c r s) same h)) q is
 
-  pub act_enter : (login : Name) (secret : Secret) → act ≡ Enter login secret → {r : Result Outcome Refusal} {s : SetBy cap_cmp} → Enters V owned login secret r s → (q : Result Sequel Refusal) → q ≡ answered r → Acts V pid p act q (record { labels = p.labels; owned = Idle s })
-  act_enter login secret e {r} h q is = act_answers (Enter login secret) e r (entered V pid p.labels owned login secret h) q is
+  pub act_enter : (login : Name) (secret : Secret) → act ≡ Enter login secret → {r : Result Outcome Refusal} {s : SetBy cap_cmp} → Enters V owned login secret r s → (q : Result Sequel Refusal) → q ≡ answered r → Acts V pid p act q (record p { owned = Idle s })
+  act_enter login secret e {r} h q is = act_answers (Enter login secret) e r (entered V pid p.labels owned p.channels login secret h) q is
 
-  pub act_emit : (bytes : List ℕ) → act ≡ Emit bytes → {q : Result Sequel Refusal} → Gives (emission_check (Eff V (In owned)) p.labels.secrecy) (Lacks (In p.labels.secrecy) (Dual (AtHand V owned))) (Answer (Outcome.Reply (Out bytes))) q → Acts V pid p act q (idle V pid p.labels owned)
-  act_emit bytes e h = act_is (Emit bytes) e (emitted V pid p.labels owned bytes h)
+  pub act_emit : (bytes : List ℕ) → act ≡ Emit bytes → {q : Result Sequel Refusal} → Gives (emission_check (Eff V (In owned)) p.labels.secrecy) (Lacks (In p.labels.secrecy) (Dual (AtHand V owned))) (Answer (Outcome.Reply (Out bytes))) q → Acts V pid p act q as_idle
+  act_emit bytes e h = act_is (Emit bytes) e (emitted V pid p.labels owned p.channels bytes h)
+
+  pub act_channel : (work : channels.Channel) → act ≡ Channel work → {r : Result Outcome Refusal} {ch' : Channels} (l : Labels) → l ≡ p.labels → Works (Eff V (In owned)) (AtHand V owned) pid l p.channels work r ch' → (q : Result Sequel Refusal) → q ≡ answered r → Acts V pid p act q (record as_idle { channels = ch' })
+  act_channel work e {r} {ch'} l same h q is = act_answers (Channel work) e r (worked V pid p.labels owned p.channels work (subst (λ l. Works (Eff V (In owned)) (AtHand V owned) pid l p.channels work r ch') same h)) q is

@@ -16,7 +16,7 @@ use Rattle.fl_monitor.specs.Jobs.{Does}
 use Rattle.fl_monitor.specs.declared.process.Holding.{Holding}
 use Rattle.fl_monitor.specs.declared.process.Holding.TheVariants.{Idle, Ordering}
 use Rattle.fl_monitor.specs.declared.process.Process.{Process}
-use Rattle.fl_monitor.proofs.Steps.{Keeps, stays, turns, Changes, keeps, IsOrder, Step, refuses, replies, orders, same_labels, does_step}
+use Rattle.fl_monitor.proofs.Steps.{Keeps, stays, turns, Changes, keeps, IsOrder, Step, refuses, replies, orders, sends, same_labels, does_step}
 use Rattle.fl_monitor.proofs.Orders.{finished_at}
 
 module _ (V : Op → Type 0) where
@@ -36,6 +36,7 @@ module _ (V : Op → Type 0) where
   step_changes refuses = keeps (stays refl)
   step_changes (replies h) = h
   step_changes (orders o) = keeps (order_keeps o)
+  step_changes (sends h is) = keeps (stays is)
 
   pub does_changes : {b after : State} {job : Job} {r : Result Outcome Refusal} → Does V b job r after → Changes V b job after
   does_changes {b} d = step_changes (does_step V b d)

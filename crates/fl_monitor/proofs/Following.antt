@@ -95,7 +95,7 @@ module _ {V : Op → Type 0} {b : State} {pid : Pid} {side : Side} {label : SetB
   does_set (passed s f) = record {
     process = f.0;
     lived = f.1;
-    safe = (passed_by V b pid (Relabel side (Ok label)) f.0 f.1 s).1;
+    safe = (passed_by V b pid (Relabel side (Ok label)) f.0 f.1 s).1.0;
     lives = ap (λ (d : State). map.get d.processes pid) f.2.1 ∙ get_here pid_total b.processes pid _;
   }
 

@@ -16,13 +16,14 @@ use Rattle.fl_labels.specs.declared.pid.Pid.{Pid}
 use Rattle.fl_ops.specs.declared.op.Op.{Op}
 use Rattle.fl_ops.specs.Logins.{IsFirstLogin}
 use Rattle.fl_jobs.specs.declared.job.Act.{Act}
-use Rattle.fl_jobs.specs.declared.job.Act.TheVariants.{Order, Relabel, Ask, Spawn, Exit, Drop, Enter, Emit}
+use Rattle.fl_jobs.specs.declared.job.Act.TheVariants.{Order, Relabel, Ask, Spawn, Exit, Drop, Enter, Emit, Channel}
 use Rattle.fl_jobs.specs.declared.job.Job.{Job}
-use Rattle.fl_jobs.specs.declared.job.Job.TheVariants.{Proc, By, Member}
+use Rattle.fl_jobs.specs.declared.job.Job.TheVariants.{Proc, By, Member, Arrive}
 use Rattle.fl_jobs.specs.declared.answer.Refusal.{Refusal}
 use Rattle.fl_jobs.specs.declared.answer.Outcome.{Outcome}
+use Rattle.fl_wire.specs.declared.packet.Data.{Data}
 use Rattle.fl_monitor.specs.Secrets.{digest_of}
-use Rattle.fl_monitor.specs.Process.{newborn, owns, held, is_busy, is_under_way, ordering, owning, child_of}
+use Rattle.fl_monitor.specs.Process.{newborn, owns, held, is_busy, is_under_way, ordering, owning, child_of, receiving}
 use Rattle.fl_monitor.specs.Bench.{State, IsNext, has_at, gone, born}
 use Rattle.fl_monitor.specs.Gifts.{given, settled, receives, finished, cancelled}
 use Rattle.fl_monitor.specs.Jobs.{act_checks, checks, Performs, Effect, Does, passed, failed, no_room}
@@ -47,6 +48,9 @@ inserted s c d h = elim (or_cases (eq_by_cmp cap_cmp d c) (set.contains s d) (sy
   | inl e ↦ inr (cap_exact d c ((Equal-is (cap_cmp d c)).0 e))
   | inr e ↦ inl e
 ]
+
+joined : (s t : SetBy cap_cmp) (d : Cap) → In (set.union s t) d → In s d ⊎ In t d
+joined s t d h = or_cases (set.contains s d) (set.contains t d) (sym (set.contains-union cap_total s t d) ∙ h)
 
 first_item : (caps : List Cap) (c d : Cap) → d ≡ c → Contains (c ∷ caps) d
 first_item caps c d e = (0, omega arith, sym e)
@@ -128,11 +132,23 @@ module _ (b : State) (pid : Pid) (c : Cap) where
           ]
         ]
     act_owned q p (Emit bytes) x after e h f = as_it_was f.1
+    act_owned q p (Channel work) x after e h f = less q p (record p { channels = f.0 }) e (λ m. m) f.2
+
+    -- the receiver owns what the message brings
+    arrival_owned : (d : Data) (q : Process) {after : State} → map.get b.processes d.receiver ≡ Some q → after ≡ has_at b d.receiver (receiving q d) → Accounted (Arrive d) after
+    arrival_owned d q e is o = elim (put_owns d.receiver (receiving q d) (has_at b d.receiver (receiving q d)) refl (subst (λ x. OwnsAt x pid c) is o)) [
+      | inl o ↦ inl o
+      | inr m ↦ elim (joined (owns q) d.message.caps c m.1) [
+        | inl had ↦ inl (owned_there d.receiver q e m.0 had)
+        | inr came ↦ inr (Gains.arrived refl m.0 came)
+      ]
+    ]
 
     effect_owned : (job : Job) (x : Outcome) (after : State) → checks V b job None → Effect V b job x after → Accounted job after
     effect_owned Proc x after h f = proc_owned f.0 f.3
     effect_owned (By q act) x after h f = act_owned q f.0 act x after f.1 (passed_by V b q act f.0 f.1 h) f.2
     effect_owned (Member root d) x after h f = as_it_was f.1
+    effect_owned (Arrive d) x after h f = arrival_owned d f.0 f.1 f.3
 
     pub does_owned : {job : Job} {r : Result Outcome Refusal} {after : State} → Does V b job r after → Accounted job after
     does_owned {job} (passed {outcome} {b' = after} h f) = effect_owned job outcome after h f

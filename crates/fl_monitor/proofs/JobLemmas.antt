@@ -12,17 +12,19 @@ use Rattle.fl_labels.specs.declared.pid.Pid.{Pid}
 use Rattle.fl_ops.specs.declared.op.Op.{Op}
 use Rattle.fl_ops.specs.Registry.{Reach, From}
 use Rattle.fl_jobs.specs.declared.job.Act.{Act}
-use Rattle.fl_jobs.specs.declared.job.Act.TheVariants.{Order, Relabel, Ask, Spawn, Exit, Drop, Enter, Emit}
-use Rattle.fl_jobs.specs.declared.job.Job.TheVariants.{Proc, By, Member}
+use Rattle.fl_jobs.specs.declared.job.Act.TheVariants.{Order, Relabel, Ask, Spawn, Exit, Drop, Enter, Emit, Channel}
+use Rattle.fl_jobs.specs.declared.job.Job.TheVariants.{Proc, By, Member, Arrive}
 use Rattle.fl_jobs.specs.declared.answer.Refusal.{Refusal}
 use Rattle.fl_jobs.specs.declared.answer.Refusal.TheVariants.{NoProcess, Busy, NamesSpent, Memory}
 use Rattle.fl_jobs.specs.declared.answer.Reply.TheVariants.{Made, Done}
 use Rattle.fl_jobs.specs.declared.answer.Outcome.{Outcome}
+use Rattle.fl_wire.specs.declared.packet.Data.{Data}
+use Rattle.fl_monitor.specs.Channels.{arrival_checks, ChannelDoes}
 use Rattle.fl_monitor.specs.Checks.{with, refuse_if, ◌then◌}
 use Rattle.fl_monitor.specs.Process.{newborn, is_busy, effective, child_of}
 use Rattle.fl_monitor.specs.Bench.{State, IsNext, has_at, gone}
 use Rattle.fl_monitor.specs.Jobs.{act_checks, bench_checks, checks, Answers, Performs, Does, serials_left}
-use Rattle.fl_monitor.specs.Acts.{Acts, ActsAt, Becomes, Births, Told}
+use Rattle.fl_monitor.specs.Acts.{Acts, ActsAt, Becomes, Births, Receives, ReceivesAt, Told}
 use Rattle.fl_monitor.specs.declared.process.Process.{Process}
 use Rattle.fl_monitor.specs.declared.sequel.Sequel.{Sequel}
 use Rattle.fl_monitor.specs.declared.sequel.Sequel.TheVariants.{Answer, Birth, End}
@@ -86,6 +88,7 @@ module _ (V : Op → Type 0) (b : State) (pid : Pid) where
     performs (Drop c) s p' x is h = (same_answer (sym is ∙ h.0), ap (has_at b pid) h.1)
     performs (Enter login secret) s p' x is h = (h.0, h.1, same_answer (sym is ∙ h.2), ap (has_at b pid) h.3)
     performs (Emit bytes) s p' x is h = (same_answer (sym is ∙ h.0), as_before h.1)
+    performs (Channel work) s p' x is h = (h.2, subst (λ o. ChannelDoes pid p.channels work o h.2) (sym (same_answer (sym is ∙ h.1))) h.3, ap (has_at b pid) h.4)
 
     -- nothing is asked of the bench for an act that is answered alone
     bears_nobody : (act : Act) (s : Sequel) (p' : Process) (x : Outcome) → s ≡ Answer x → Becomes V pid p act s p' → bench_checks b act None
@@ -97,6 +100,7 @@ module _ (V : Op → Type 0) (b : State) (pid : Pid) where
     bears_nobody (Drop c) s p' x is h = refl
     bears_nobody (Enter login secret) s p' x is h = refl
     bears_nobody (Emit bytes) s p' x is h = refl
+    bears_nobody (Channel work) s p' x is h = refl
 
     -- a birth
     spawned : (caps : SetBy cap_cmp) → act_checks V p (Spawn caps) None → {q : Result Outcome Refusal} {after : State} → Births b (child_of p caps) q after → Does V b (By pid (Spawn caps)) q after
@@ -115,6 +119,7 @@ module _ (V : Op → Type 0) (b : State) (pid : Pid) where
     bears_child (Drop c) s p' child is h passed births = absurd (no_birth (sym h.0 ∙ is))
     bears_child (Enter login secret) s p' child is h passed births = absurd (no_birth (sym h.2 ∙ is))
     bears_child (Emit bytes) s p' child is h passed births = absurd (no_birth (sym h.0 ∙ is))
+    bears_child (Channel work) s p' child is h passed births = absurd (no_birth (sym h.1 ∙ is))
 
     -- an end
     ends : (act : Act) (s : Sequel) (p' : Process) → s ≡ End → Becomes V pid p act s p' → act_checks V p act None → Does V b (By pid act) (Ok (Outcome.Reply Done)) (gone (has_at b pid p') pid)
@@ -127,6 +132,7 @@ module _ (V : Op → Type 0) (b : State) (pid : Pid) where
     ends (Drop c) s p' is h passed = absurd (no_end (sym is ∙ h.0))
     ends (Enter login secret) s p' is h passed = absurd (no_end (sym is ∙ h.2))
     ends (Emit bytes) s p' is h passed = absurd (no_end (sym is ∙ h.0))
+    ends (Channel work) s p' is h passed = absurd (no_end (sym is ∙ h.1))
 
   -- ---- an act at the processes, and what follows
 
@@ -178,6 +184,31 @@ births_does V b p is {r} {b'} h = alone (subst (λ p. Births b p r b') is h)
     alone (Births.made {pid} c next) = Does.passed c (pid, next, refl, refl)
     alone (Births.spent c) = Does.failed c
     alone (Births.full left) = Does.no_room left
+
+-- a message that comes to the processes of a bench is a job
+module _ (V : Op → Type 0) (b : State) (d : Data) where
+  -- what passes, or fails, for the receiver
+  comes : (q : Process) → map.get b.processes d.receiver ≡ Some q → (v : Option Refusal) → (refuse_if (is_busy q) Busy then arrival_checks q.channels d) v → checks V b (Arrive d) v
+  comes q e v h = subst (λ o. with o (NoProcess d.receiver) (λ q. refuse_if (is_busy q) Busy then arrival_checks q.channels d) v) (sym e) h
+
+  nobody_receives : map.get b.processes d.receiver ≡ None → checks V b (Arrive d) (Some (NoProcess d.receiver))
+  nobody_receives e = subst (λ o. with o (NoProcess d.receiver) (λ q. refuse_if (is_busy q) Busy then arrival_checks q.channels d) (Some (NoProcess d.receiver))) (sym e) refl
+
+  -- at a bench whose receiver is put back as it was
+  put_back : (q : Process) → map.get b.processes d.receiver ≡ Some q → {r : Result Outcome Refusal} → Does V b (Arrive d) r b → Does V b (Arrive d) r (has_at b d.receiver q)
+  put_back q e {r} h = subst (Does V b (Arrive d) r) (sym (stays V b d.receiver q e)) h
+
+  received : (q : Process) → map.get b.processes d.receiver ≡ Some q → {r : Result Outcome Refusal} {q' : Process} → Receives q d r q' → Does V b (Arrive d) r (has_at b d.receiver q')
+  received q e (Receives.arrives h) = Does.passed (comes q e None h) (q, e, refl, refl)
+  received q e (Receives.refused {f} h) = put_back q e (Does.failed (comes q e (Some f) h))
+  received q e (Receives.no_room idle h) = put_back q e (Does.no_room (q, e, idle, h))
+
+  receives : {r : Result Outcome Refusal} {m : map.FinMap pid_cmp Process} → ReceivesAt b.processes d r m → Does V b (Arrive d) r (record b { processes = m })
+  receives (ReceivesAt.nobody e) = Does.failed (nobody_receives e)
+  receives (ReceivesAt.came {p} e h) = received p e h
+
+pub receives_does : (V : Op → Type 0) (a b : State) → a ≡ b → (d : Data) {r : Result Outcome Refusal} {m : map.FinMap pid_cmp Process} → ReceivesAt a.processes d r m → Does V b (Arrive d) r (record a { processes = m })
+receives_does V a b is d {r} {m} h = subst (λ x. Does V x (Arrive d) r (record a { processes = m })) is (receives V a d h)
 
 -- the reply to a question whether a capability is reached is a job
 pub told_does : (V : Op → Type 0) (b : State) (root c : Cap) {r : Result Outcome Refusal} → Told (Reach V (From root) c) (root ≢ c) r → Does V b (Member root c) r b

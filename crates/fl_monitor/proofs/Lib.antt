@@ -11,7 +11,15 @@ pub mod Changes
 pub mod Orderly
 pub mod Following
 pub mod OneCheck
+pub mod OneChannel
 pub mod OneResult
 pub mod Entries
 pub mod Births
 pub mod Gains
+pub mod Guarded
+pub mod Arrivals
+pub mod GuardLemmas
+pub mod CheckLemmas
+pub mod ChangeLemmas
+pub mod ChannelLemmas
+pub mod ArrivalLemmas

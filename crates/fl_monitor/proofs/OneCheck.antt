@@ -1,5 +1,5 @@
 -- A check has one verdict.
-use Rattle.std.proofs.Common.{◌≡◌, ◌∙◌, inl, inr, refl, sym, ap, Option, Some, None}
+use Rattle.std.proofs.Common.{◌≡◌, ◌∙◌, inl, inr, refl, sym, ap, subst, Option, Some, None}
 use Rattle.std.specs.Prelude.{false}
 use Rattle.std.specs.Cmp.{IsTotalOrder}
 use Rattle.std.specs.FinMap.{IsAntisymmetric}
@@ -8,7 +8,7 @@ use Rattle.std.specs.declared.cmp.Ordering.TheVariants.{Less, Equal, Greater}
 use Rattle.std.specs.Ordering.{is_gt, ordering_reverse}
 use Rattle.fl_labels.specs.Found.{IsLeastOutside}
 use Rattle.fl_jobs.specs.declared.answer.Refusal.{Refusal}
-use Rattle.fl_monitor.specs.Checks.{Check, ◌then◌, demand, with}
+use Rattle.fl_monitor.specs.Checks.{Check, ◌then◌, demand, with, with_found}
 
 abbrev pub OneVerdict : Check → Type 0
 OneVerdict check = (v w : Option Refusal) → check v → check w → v ≡ w
@@ -33,7 +33,7 @@ one_then first second one two (Some f) (Some g) (inr h) (inr k) = two (Some f) (
 
 module _ {K : Type 0} {R : K → K → Ordering} (total : IsTotalOrder R) (exact : IsAntisymmetric R) where
   -- of two least offenders each is no greater than the other
-  one_least : {P Q : K → Type 0} (x y : K) → IsLeastOutside R P Q x → IsLeastOutside R P Q y → x ≡ y
+  pub one_least : {P Q : K → Type 0} (x y : K) → IsLeastOutside R P Q x → IsLeastOutside R P Q y → x ≡ y
   one_least x y h k = exact x y (tied (R x y) (R y x) (total.antisymm x y) (h.least y k.member k.lacking) (k.least x h.member h.lacking))
     where
       tied : (o p : Ordering) → o ≡ ordering_reverse p → is_gt o ≡ false → is_gt p ≡ false → o ≡ Equal
@@ -52,3 +52,7 @@ module _ {K : Type 0} {R : K → K → Ordering} (total : IsTotalOrder R) (exact
 pub one_with : {A : Type 0} (found : Option A) (f : Refusal) (more : A → Check) → ((x : A) → OneVerdict (more x)) → OneVerdict (with found f more)
 one_with None f more one = one_said
 one_with (Some x) f more one = one x
+
+-- where one value is found
+pub one_with_found : {A : Type 0} (Finds : Option A → Type 0) (f : Refusal) (more : A → Check) → ((a b : Option A) → Finds a → Finds b → a ≡ b) → ((x : A) → OneVerdict (more x)) → OneVerdict (with_found Finds f more)
+one_with_found Finds f more single one v w h k = one_with k.0 f more one v w (subst (λ o. with o f more v) (single h.0 k.0 h.1 k.1) h.2) k.2

@@ -1,35 +1,44 @@
 -- A job that is not refused for want of memory has one result.
-use Rattle.std.proofs.Common.{◌≡◌, ◌≢◌, ◌∙◌, inl, inr, refl, sym, ap, subst, Option, Some, None, Result, Ok, Err}
+use Rattle.std.proofs.Common.{◌≡◌, ◌≢◌, ◌∙◌, inl, inr, refl, sym, ap, subst, Some, None, Result, Ok, Err}
 use Rattle.std.specs.FinMap as map
 use Rattle.fl_labels.specs.CapOrder.{cap_total, cap_exact}
 use Rattle.fl_labels.specs.NameOrder.{name_total, name_exact}
 use Rattle.fl_labels.specs.SetBy as set
+use Rattle.fl_labels.specs.SetBy.{In}
 use Rattle.fl_labels.specs.PidOrder.{same_pid}
 use Rattle.fl_labels.specs.declared.name.Name.{Name}
 use Rattle.fl_labels.specs.declared.cap.Cap.{Cap}
 use Rattle.fl_labels.specs.declared.pid.Pid.{Pid}
 use Rattle.fl_ops.specs.declared.digest.Digest.{Digest}
 use Rattle.fl_ops.specs.declared.op.Op.{Op}
+use Rattle.fl_ops.specs.Registry.{Eff}
 use Rattle.fl_ops.specs.Logins.{IsFirstLogin}
 use Rattle.fl_ops.proofs.Logins.{one_first}
+use Rattle.fl_rules.specs.declared.labels.Labels.{Labels}
+use Rattle.fl_channels.specs.Endpoints.{Table}
 use Rattle.fl_jobs.specs.declared.secret.Secret.{Secret}
 use Rattle.fl_jobs.specs.declared.job.Order as orders
 use Rattle.fl_jobs.specs.declared.job.Order.TheVariants.{Tag, Group, Put, MakeLogin}
 use Rattle.fl_jobs.specs.declared.job.Act.{Act}
-use Rattle.fl_jobs.specs.declared.job.Act.TheVariants.{Order, Relabel, Ask, Spawn, Exit, Drop, Enter, Emit}
+use Rattle.fl_jobs.specs.declared.job.Act.TheVariants.{Order, Relabel, Ask, Spawn, Exit, Drop, Enter, Emit, Channel}
 use Rattle.fl_jobs.specs.declared.job.Job.{Job}
-use Rattle.fl_jobs.specs.declared.job.Job.TheVariants.{Proc, By, Member}
+use Rattle.fl_jobs.specs.declared.job.Job.TheVariants.{Proc, By, Member, Arrive}
 use Rattle.fl_jobs.specs.declared.answer.Refusal.{Refusal}
 use Rattle.fl_jobs.specs.declared.answer.Refusal.TheVariants.{NoProcess, MissingCap, Secrecy, Busy, Memory}
 use Rattle.fl_jobs.specs.declared.answer.Reply.TheVariants.{Made, Entered}
 use Rattle.fl_jobs.specs.declared.answer.Outcome.{Outcome}
+use Rattle.fl_channels.specs.Offenders.{offender_total, offender_exact}
 use Rattle.fl_monitor.specs.Checks.{refuse_if, ◌then◌}
+use Rattle.fl_monitor.specs.Guards.{endpoints_check, unsafe_by}
+use Rattle.fl_monitor.specs.Channels.{arrival_checks}
 use Rattle.fl_monitor.specs.Secrets.{digest_of}
-use Rattle.fl_monitor.specs.Process.{newborn, owns, owning, child_of, is_busy, effective}
+use Rattle.fl_monitor.specs.Process.{newborn, owns, owning, child_of, is_busy, effective, receiving}
 use Rattle.fl_monitor.specs.Bench.{State, IsNext, has_at, born}
 use Rattle.fl_monitor.specs.Jobs.{order_checks, enter_check, checks_of, act_checks, bench_checks, checks, Answers, Performs, Effect, Does, passed, failed, no_room}
 use Rattle.fl_monitor.specs.declared.process.Process.{Process}
+use Rattle.fl_monitor.proofs.Puts.{same_found}
 use Rattle.fl_monitor.proofs.OneCheck.{OneVerdict, one_said, one_then, one_demand, one_with}
+use Rattle.fl_monitor.proofs.OneChannel.{one_channel_check, one_arrival_check, one_channel_does}
 
 -- ---- each job has one verdict
 
@@ -58,17 +67,21 @@ module _ (V : Op → Type 0) (login : Name) (secret : Secret) where
   one_enter_check (Some f) (Some g) (inr h) (inl k) = absurd (k.1 h.1 h.2 h.3.member)
   one_enter_check (Some f) (Some g) (inr h) (inr k) = ap Some (h.0 ∙ sym k.0)
 
+one_endpoints_check : (E : Cap → Type 0) (process : Labels) (table : Table) → OneVerdict (endpoints_check E process table)
+one_endpoints_check E process table = one_demand offender_total offender_exact _ _ unsafe_by
+
 module _ (V : Op → Type 0) where
   one_check_of : (p : Process) (act : Act) → OneVerdict (checks_of V p act)
   one_check_of p (Order order) = one_order_check (effective V p) order
-  one_check_of p (Relabel side (Ok label)) = one_demand cap_total cap_exact _ _ MissingCap
+  one_check_of p (Relabel side (Ok label)) = one_then _ _ (one_demand cap_total cap_exact _ _ MissingCap) (one_endpoints_check (effective V p) _ _)
   one_check_of p (Relabel side (Err long)) = one_said
   one_check_of p (Ask c) = one_said
   one_check_of p (Spawn caps) = one_demand cap_total cap_exact _ _ MissingCap
   one_check_of p Exit = one_said
-  one_check_of p (Drop c) = one_said
+  one_check_of p (Drop c) = one_then _ _ one_said (one_endpoints_check (Eff V (In (set.remove (owns p) c))) _ _)
   one_check_of p (Enter login secret) = one_enter_check V login secret
   one_check_of p (Emit bytes) = one_demand name_total name_exact _ _ Secrecy
+  one_check_of p (Channel work) = one_channel_check (effective V p) p.labels p.channels work
 
   one_bench_check : (b : State) (act : Act) → OneVerdict (bench_checks b act)
   one_bench_check b (Spawn caps) = one_said
@@ -79,6 +92,7 @@ module _ (V : Op → Type 0) where
   one_bench_check b (Drop c) = one_said
   one_bench_check b (Enter login secret) = one_said
   one_bench_check b (Emit bytes) = one_said
+  one_bench_check b (Channel work) = one_said
 
   one_act_check : (b : State) (act : Act) (p : Process) → OneVerdict (act_checks V p act then bench_checks b act)
   one_act_check b act p = one_then (act_checks V p act) (bench_checks b act) (one_then (refuse_if (is_busy p) Busy) (checks_of V p act) one_said (one_check_of p act)) (one_bench_check b act)
@@ -87,6 +101,7 @@ module _ (V : Op → Type 0) where
   one_check b Proc = one_said
   one_check b (By pid act) = one_with (map.get b.processes pid) (NoProcess pid) (λ p. act_checks V p act then bench_checks b act) (one_act_check b act)
   one_check b (Member root c) = one_said
+  one_check b (Arrive d) = one_with (map.get b.processes d.receiver) (NoProcess d.receiver) (λ q. refuse_if (is_busy q) Busy then arrival_checks q.channels d) (λ q. one_then (refuse_if (is_busy q) Busy) (arrival_checks q.channels d) one_said (one_arrival_check q.channels d))
 
 -- ---- each job that passes has one end
 
@@ -126,18 +141,21 @@ module _ (V : Op → Type 0) (b : State) where
       let e : h.0 ≡ k.0 = let_in_once V login secret h.0 k.0 h.1 k.1 in
       (h.2 ∙ ap (λ cap. Outcome.Reply (Entered cap)) e ∙ sym k.2, h.3 ∙ ap (λ cap. has_at b pid (owning p (set.insert (owns p) cap))) e ∙ sym k.3)
   one_performs pid p (Emit bytes) = one_end
+  one_performs pid p (Channel work) = λ x y c d h k.
+      let e = one_channel_does pid p.channels work x y h.0 k.0 h.1 k.1 in
+      (e.0, h.2 ∙ ap (λ ch. has_at b pid (record p { channels = ch })) e.1 ∙ sym k.2)
 
   one_effect : (job : Job) → OneEnd (Effect V b job)
   one_effect Proc x y c d h k =
       let e : h.0 ≡ k.0 = one_next h.0 k.0 h.1 k.1 in
       (h.2 ∙ ap (λ p. Outcome.Reply (Made p)) e ∙ sym k.2, h.3 ∙ ap (λ p. born b p newborn) e ∙ sym k.3)
   one_effect (By pid act) x y c d h k =
-      let e : k.0 ≡ h.0 = one_found (map.get b.processes pid) h.0 k.0 h.1 k.1 in
+      let e : k.0 ≡ h.0 = same_found k.1 h.1 in
       one_performs pid h.0 act x y c d h.2 (subst (λ p. Performs V b pid p act y d) e k.2)
-    where
-      one_found : (o : Option Process) (p q : Process) → o ≡ Some p → o ≡ Some q → q ≡ p
-      one_found o p q h k = cc
   one_effect (Member root cap) x y c d h k = one_answer x y c d h k
+  one_effect (Arrive message) x y c d h k =
+      let e : h.0 ≡ k.0 = same_found h.1 k.1 in
+      (h.2 ∙ sym k.2, h.3 ∙ ap (λ q. has_at b message.receiver (receiving q message)) e ∙ sym k.3)
 
   -- ---- a job
 

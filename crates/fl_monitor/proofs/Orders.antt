@@ -1,4 +1,4 @@
--- What an order, a refusal, a finish and a cancel leave.
+-- What an order, a packet that is sent, a refusal, a finish and a cancel leave.
 use Rattle.std.proofs.Common.{◌≡◌, ◌∙◌, refl, ap, false, List, Ok, Err, []}
 use Rattle.std.specs.FinMap as map
 use Rattle.fl_labels.specs.SetBy as set
@@ -10,6 +10,7 @@ use Rattle.fl_ops.specs.declared.op.Body.{Body}
 use Rattle.fl_jobs.specs.declared.job.Job.{Job}
 use Rattle.fl_jobs.specs.declared.answer.Refusal.{Refusal}
 use Rattle.fl_jobs.specs.declared.answer.Outcome.{Outcome}
+use Rattle.fl_wire.specs.declared.packet.Packet.{Packet}
 use Rattle.fl_monitor.specs.Process.{owns, is_busy, ordering}
 use Rattle.fl_monitor.specs.Bench.{State, has_at}
 use Rattle.fl_monitor.specs.Gifts.{given, receives, settles, finished, cancelled}
@@ -19,7 +20,7 @@ use Rattle.fl_monitor.specs.declared.process.Holding.TheVariants.{Idle, Ordering
 use Rattle.fl_monitor.specs.declared.process.Process.{Process}
 use Rattle.fl_monitor.proofs.Puts.{get_here, put_twice}
 use Rattle.fl_monitor.proofs.Table.{put_same}
-use Rattle.fl_monitor.proofs.Steps.{IsOrder, Step, refuses, orders, does_step}
+use Rattle.fl_monitor.proofs.Steps.{IsOrder, IsSending, Step, refuses, orders, sends, does_step}
 
 -- a process whose operation is over, and gave it these
 abbrev pub rested : Process → List Cap → Process
@@ -60,6 +61,18 @@ module _ {V : Op → Type 0} {b : State} {job : Job} where
     cancel_back d =
         let o = order_at d in
         settled_at o [] ∙ ap (has_at b pid) (rested_same o.process o.idle) ∙ ap (λ m. record b { processes = m }) (put_same pid_total pid_exact b.processes pid o.process o.lived)
+
+  module _ {packet : Packet} {after : State} where
+    step_sends : Step V b job (Ok (Outcome.Out packet)) after → IsSending V b job packet × (after ≡ b)
+    step_sends (sends h is) = (h, is)
+
+    -- a packet is sent by a process that may
+    pub sending_at : Does V b job (Ok (Outcome.Out packet)) after → IsSending V b job packet
+    sending_at d = (step_sends (does_step V b d)).0
+
+    -- and leaves the bench as it was
+    pub sending_leaves : Does V b job (Ok (Outcome.Out packet)) after → after ≡ b
+    sending_leaves d = (step_sends (does_step V b d)).1
 
 -- a refusal leaves the bench as it was
 refused_same : {V : Op → Type 0} {b : State} {job : Job} {refusal : Refusal} {after : State} → Step V b job (Err refusal) after → after ≡ b

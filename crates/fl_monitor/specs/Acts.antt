@@ -1,5 +1,5 @@
 -- What the parts of a bench do: one process by itself, all of them with it, and a birth.
-use Rattle.std.specs.Prelude.{◌≡◌, ◌≢◌, true, false}
+use Rattle.std.specs.Prelude.{◌≡◌, ◌≢◌, false, not}
 use Rattle.std.specs.declared.option.Option.TheVariants.{None, Some}
 use Rattle.std.specs.declared.result.Result.{Result}
 use Rattle.std.specs.declared.result.Result.TheVariants.{Ok, Err}
@@ -11,28 +11,34 @@ use Rattle.fl_labels.specs.SetBy as set
 use Rattle.fl_labels.specs.SetBy.{SetBy, In}
 use Rattle.fl_labels.specs.declared.name.Name.{Name}
 use Rattle.fl_labels.specs.declared.cap.Cap.{Cap}
+use Rattle.fl_labels.specs.declared.endpoint.Endpoint.{Endpoint}
 use Rattle.fl_labels.specs.declared.pid.Pid.{Pid}
 use Rattle.fl_ops.specs.declared.digest.Digest.{Digest}
 use Rattle.fl_ops.specs.declared.op.Op.{Op}
 use Rattle.fl_jobs.specs.declared.job.Act.{Act}
-use Rattle.fl_jobs.specs.declared.job.Act.TheVariants.{Order, Relabel, Ask, Spawn, Exit, Drop, Enter, Emit}
+use Rattle.fl_jobs.specs.declared.job.Act.TheVariants.{Order, Relabel, Ask, Spawn, Exit, Drop, Enter, Emit, Channel}
+use Rattle.fl_jobs.specs.declared.job.Channel as channels
 use Rattle.fl_jobs.specs.declared.secret.Secret.{Secret}
 use Rattle.fl_jobs.specs.declared.job.Side.{Side}
 use Rattle.fl_jobs.specs.declared.job.TooLong.{TooLong}
 use Rattle.fl_jobs.specs.declared.answer.Refusal.{Refusal}
-use Rattle.fl_jobs.specs.declared.answer.Refusal.TheVariants.{NoProcess, MissingCap, NoLogin, WrongSecret, NamesSpent, LabelTooLong, Memory, NotOwned}
-use Rattle.fl_jobs.specs.declared.answer.Reply.TheVariants.{Made, Done, Entered, Out}
+use Rattle.fl_jobs.specs.declared.answer.Refusal.TheVariants.{NoProcess, MissingCap, NoLogin, WrongSecret, NamesSpent, LabelTooLong, Memory, NotOwned, Busy, NoEndpoint}
+use Rattle.fl_jobs.specs.declared.answer.Reply.TheVariants.{Made, Done, Entered, Out, Arrived}
 use Rattle.fl_jobs.specs.declared.answer.Outcome.{Outcome}
 use Rattle.fl_ops.specs.Registry.{Eff}
 use Rattle.fl_ops.specs.Logins.{IsFirstLogin, HasNoLogin}
-use Rattle.fl_rules.specs.Safety.{Takes}
-use Rattle.fl_monitor.specs.Checks.{Check}
-use Rattle.fl_monitor.specs.Hand.{AtHand, Lacks}
+use Rattle.fl_rules.specs.declared.labels.Labels.{Labels}
+use Rattle.fl_wire.specs.declared.packet.Data.{Data}
+use Rattle.fl_channels.specs.Endpoints.{Table, IsOpen}
+use Rattle.fl_channels.specs.declared.channels.Channels.{Channels}
+use Rattle.fl_channels.specs.declared.endpoints.Opened.{Opened}
+use Rattle.fl_monitor.specs.Checks.{Check, refuse_if, ◌then◌}
+use Rattle.fl_monitor.specs.Guards.{endpoints_check}
+use Rattle.fl_monitor.specs.Channels.{channel_checks, arrival_checks, ChannelDoes, ChannelTakesMemory}
 use Rattle.fl_monitor.specs.Secrets.{digest_of}
-use Rattle.fl_monitor.specs.Process.{owns, is_busy, ordering, owning, child_of, effective, side_of, with_side, body_of}
-use Rattle.fl_monitor.specs.Jobs.{change_check, act_checks, serials_left, Answers, ActTakesMemory}
+use Rattle.fl_monitor.specs.Process.{owns, is_busy, ordering, owning, child_of, effective, receiving, side_of, with_side, body_of}
+use Rattle.fl_monitor.specs.Jobs.{change_check, act_checks, serials_left, Answers, RelabelTakesMemory, ActTakesMemory}
 use Rattle.fl_monitor.specs.Bench.{State, IsNext, born}
-use Rattle.fl_monitor.specs.declared.process.Labels.{Labels}
 use Rattle.fl_monitor.specs.declared.process.Process.{Process}
 use Rattle.fl_monitor.specs.declared.sequel.Sequel.{Sequel}
 use Rattle.fl_monitor.specs.declared.sequel.Sequel.TheVariants.{Answer, Birth, End}
@@ -60,17 +66,18 @@ pub data Told (P Q : Type 0) : Result Outcome Refusal → Type 0 where
   told : {outcome : Outcome} → Answers outcome P → Told P Q (Ok outcome)
   no_room : Q → Told P Q (Err Memory)
 
--- the label of a side is set by who owns these, or the labels stay
-pub data Relabels (V : Op → Type 0) (owned : SetBy cap_cmp) (old : Labels) (side : Side) (given : Result (SetBy name_cmp) TooLong) : Result Outcome Refusal → Labels → Type 0 where
-  safe : {label : SetBy name_cmp} → given ≡ Ok label → change_check (Eff V (In owned)) (side_of side old) label None → Relabels V owned old side given (Ok (Outcome.Reply Done)) (with_side side label old)
-  unsafe : {label : SetBy name_cmp} {f : Refusal} → given ≡ Ok label → change_check (Eff V (In owned)) (side_of side old) label (Some f) → Relabels V owned old side given (Err f) old
-  too_long : {e : TooLong} → given ≡ Err e → Relabels V owned old side given (Err LabelTooLong) old
-  no_room : {label : SetBy name_cmp} → given ≡ Ok label → Lacks (Takes (side_of side old) label) (AtHand V owned) → Relabels V owned old side given (Err Memory) old
+-- the label of a side is set by who owns these and has these endpoints, or the labels stay
+pub data Relabels (V : Op → Type 0) (owned : SetBy cap_cmp) (table : Table) (old : Labels) (side : Side) (given : Result (SetBy name_cmp) TooLong) : Result Outcome Refusal → Labels → Type 0 where
+  safe : {label : SetBy name_cmp} → given ≡ Ok label → (change_check (Eff V (In owned)) (side_of side old) label then endpoints_check (Eff V (In owned)) (with_side side label old) table) None → Relabels V owned table old side given (Ok (Outcome.Reply Done)) (with_side side label old)
+  unsafe : {label : SetBy name_cmp} {f : Refusal} → given ≡ Ok label → (change_check (Eff V (In owned)) (side_of side old) label then endpoints_check (Eff V (In owned)) (with_side side label old) table) (Some f) → Relabels V owned table old side given (Err f) old
+  too_long : {e : TooLong} → given ≡ Err e → Relabels V owned table old side given (Err LabelTooLong) old
+  no_room : {label : SetBy name_cmp} → given ≡ Ok label → RelabelTakesMemory V owned old table side label → Relabels V owned table old side given (Err Memory) old
 
--- who owns these gives c up, or does not own it
-pub data GivesUp (owned : SetBy cap_cmp) (c : Cap) : Result Outcome Refusal → SetBy cap_cmp → Type 0 where
-  gone : set.contains owned c ≡ true → GivesUp owned c (Ok (Outcome.Reply Done)) (set.remove owned c)
-  never : set.contains owned c ≡ false → GivesUp owned c (Err (NotOwned c)) owned
+-- who owns these and has these labels and endpoints gives c up, or keeps it
+pub data GivesUp (V : Op → Type 0) (labels : Labels) (table : Table) (owned : SetBy cap_cmp) (c : Cap) : Result Outcome Refusal → SetBy cap_cmp → Type 0 where
+  gone : (refuse_if (not (set.contains owned c)) (NotOwned c) then endpoints_check (Eff V (In (set.remove owned c))) labels table) None → GivesUp V labels table owned c (Ok (Outcome.Reply Done)) (set.remove owned c)
+  kept : {f : Refusal} → (refuse_if (not (set.contains owned c)) (NotOwned c) then endpoints_check (Eff V (In (set.remove owned c))) labels table) (Some f) → GivesUp V labels table owned c (Err f) owned
+  no_room : In owned c → (e : Endpoint) → IsOpen table e → GivesUp V labels table owned c (Err Memory) owned
 
 -- who owns these enters a login by a secret
 pub data Enters (V : Op → Type 0) (owned : SetBy cap_cmp) (login : Name) (secret : Secret) : Result Outcome Refusal → SetBy cap_cmp → Type 0 where
@@ -78,6 +85,23 @@ pub data Enters (V : Op → Type 0) (owned : SetBy cap_cmp) (login : Name) (secr
   unknown : HasNoLogin V login → Enters V owned login secret (Err (NoLogin login)) owned
   wrong : {c : Cap} {digest : Digest} → IsFirstLogin V login c digest → digest ≢ digest_of secret → Enters V owned login secret (Err WrongSecret) owned
   no_room : {c : Cap} → IsFirstLogin V login c (digest_of secret) → Enters V owned login secret (Err Memory) owned
+
+-- a process of these labels, which has E in effect and H at hand, works with its channels
+pub data Works (E H : Cap → Type 0) (pid : Pid) (labels : Labels) (ch : Channels) (work : channels.Channel) : Result Outcome Refusal → Channels → Type 0 where
+  passed : {outcome : Outcome} {ch' : Channels} → channel_checks E labels ch work None → ChannelDoes pid ch work outcome ch' → Works E H pid labels ch work (Ok outcome) ch'
+  failed : {f : Refusal} → channel_checks E labels ch work (Some f) → Works E H pid labels ch work (Err f) ch
+  no_room : ChannelTakesMemory H labels ch work → Works E H pid labels ch work (Err Memory) ch
+
+-- an endpoint is closed, or was not open
+pub data Closes (ch : Channels) (e : Endpoint) : Result Outcome Refusal → Channels → Type 0 where
+  gone : {opened : Opened} → map.get ch.endpoints e ≡ Some opened → Closes ch e (Ok (Outcome.Reply Done)) (record ch { endpoints = map.remove ch.endpoints e })
+  never : map.get ch.endpoints e ≡ None → Closes ch e (Err (NoEndpoint e)) ch
+
+-- a message comes to the process
+pub data Receives (p : Process) (d : Data) : Result Outcome Refusal → Process → Type 0 where
+  arrives : (refuse_if (is_busy p) Busy then arrival_checks p.channels d) None → Receives p d (Ok (Outcome.Reply (Arrived d.receiver))) (receiving p d)
+  refused : {f : Refusal} → (refuse_if (is_busy p) Busy then arrival_checks p.channels d) (Some f) → Receives p d (Err f) p
+  no_room : is_busy p ≡ false → arrival_checks p.channels d None → Receives p d (Err Memory) p
 
 -- an answer that nothing follows
 abbrev pub answered : Result Outcome Refusal → Result Sequel Refusal
@@ -95,6 +119,7 @@ Becomes V pid p Exit sequel p' = (sequel ≡ End) × (p' ≡ p)
 Becomes V pid p (Drop c) sequel p' = (sequel ≡ Answer (Outcome.Reply Done)) × (p' ≡ owning p (set.remove (owns p) c))
 Becomes V pid p (Enter login secret) sequel p' = (c : Cap) × IsFirstLogin V login c (digest_of secret) × (sequel ≡ Answer (Outcome.Reply (Entered c))) × (p' ≡ owning p (set.insert (owns p) c))
 Becomes V pid p (Emit bytes) sequel p' = (sequel ≡ Answer (Outcome.Reply (Out bytes))) × (p' ≡ p)
+Becomes V pid p (Channel work) sequel p' = (outcome : Outcome) × (sequel ≡ Answer outcome) × (ch : Channels) × ChannelDoes pid p.channels work outcome ch × (p' ≡ record p { channels = ch })
 
 -- the act may have this result, and leaves p'
 pub data Acts (V : Op → Type 0) (pid : Pid) (p : Process) (act : Act) : Result Sequel Refusal → Process → Type 0 where
@@ -106,6 +131,11 @@ pub data Acts (V : Op → Type 0) (pid : Pid) (p : Process) (act : Act) : Result
 pub data ActsAt (V : Op → Type 0) (m : map.FinMap pid_cmp Process) (pid : Pid) (act : Act) : Result Sequel Refusal → map.FinMap pid_cmp Process → Type 0 where
   nobody : map.get m pid ≡ None → ActsAt V m pid act (Err (NoProcess pid)) m
   did : {p p' : Process} {result : Result Sequel Refusal} → map.get m pid ≡ Some p → Acts V pid p act result p' → ActsAt V m pid act result (map.insert m pid p')
+
+-- a message comes to one process of many
+pub data ReceivesAt (m : map.FinMap pid_cmp Process) (d : Data) : Result Outcome Refusal → map.FinMap pid_cmp Process → Type 0 where
+  nobody : map.get m d.receiver ≡ None → ReceivesAt m d (Err (NoProcess d.receiver)) m
+  came : {p p' : Process} {result : Result Outcome Refusal} → map.get m d.receiver ≡ Some p → Receives p d result p' → ReceivesAt m d result (map.insert m d.receiver p')
 
 -- the process p is put as the next, where a serial and room are left
 pub data Births (b : State) (p : Process) : Result Outcome Refusal → State → Type 0 where

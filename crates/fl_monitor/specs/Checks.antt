@@ -36,3 +36,7 @@ demand {K} R P Q refusal (Some f) = (x : K) × (f ≡ refusal x) × IsLeastOutsi
 abbrev pub with : {A : Type 0} → Option A → Refusal → (A → Check) → Check
 with None f more = fails f
 with (Some x) f more = more x
+
+-- the same, with the value that is found so
+abbrev pub with_found : {A : Type 0} → (Option A → Type 0) → Refusal → (A → Check) → Check
+with_found {A} Finds f more verdict = (found : Option A) × Finds found × with found f more verdict

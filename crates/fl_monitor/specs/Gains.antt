@@ -10,10 +10,11 @@ use Rattle.fl_labels.specs.declared.cap.Cap.{Cap}
 use Rattle.fl_labels.specs.declared.pid.Pid.{Pid}
 use Rattle.fl_ops.specs.declared.op.Op.{Op}
 use Rattle.fl_ops.specs.Logins.{IsFirstLogin}
+use Rattle.fl_wire.specs.declared.packet.Data.{Data}
 use Rattle.fl_jobs.specs.declared.secret.Secret.{Secret}
 use Rattle.fl_jobs.specs.declared.job.Act.TheVariants.{Spawn, Enter}
 use Rattle.fl_jobs.specs.declared.job.Job.{Job}
-use Rattle.fl_jobs.specs.declared.job.Job.TheVariants.{By}
+use Rattle.fl_jobs.specs.declared.job.Job.TheVariants.{By, Arrive}
 use Rattle.fl_monitor.specs.Secrets.{digest_of}
 use Rattle.fl_monitor.specs.Process.{owns, is_busy, effective}
 use Rattle.fl_monitor.specs.Bench.{State, IsNext}
@@ -30,6 +31,7 @@ pub record OwnsAt (b : State) (pid : Pid) (c : Cap) : Type 0 where
 pub data Gains (V : Op → Type 0) (b : State) (job : Job) (pid : Pid) (c : Cap) : Type 0 where
   born : {parent : Pid} {p : Process} {caps : SetBy cap_cmp} → job ≡ By parent (Spawn caps) → map.get b.processes parent ≡ Some p → IsNext b pid → In caps c → effective V p c → Gains V b job pid c
   entered : {login : Name} {secret : Secret} → job ≡ By pid (Enter login secret) → IsFirstLogin V login c (digest_of secret) → Gains V b job pid c
+  arrived : {d : Data} → job ≡ Arrive d → pid ≡ d.receiver → In d.message.caps c → Gains V b job pid c
 
 -- the ways in which the end of an operation of maker makes pid the owner of c
 pub data GainsAtEnd (b : State) (maker : Pid) (op : Op) (pid : Pid) (c : Cap) : Type 0 where

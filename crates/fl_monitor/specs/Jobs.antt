@@ -10,26 +10,34 @@ use Rattle.fl_labels.specs.SetBy as set
 use Rattle.fl_labels.specs.SetBy.{SetBy, In}
 use Rattle.fl_labels.specs.declared.name.Name.{Name}
 use Rattle.fl_labels.specs.declared.cap.Cap.{Cap}
+use Rattle.fl_labels.specs.declared.endpoint.Endpoint.{Endpoint}
 use Rattle.fl_labels.specs.declared.pid.Pid.{Pid}
 use Rattle.fl_ops.specs.declared.digest.Digest.{Digest}
 use Rattle.fl_ops.specs.declared.op.Op.{Op}
-use Rattle.fl_ops.specs.Registry.{Reach, From, Global}
+use Rattle.fl_ops.specs.Registry.{Reach, From, Global, Eff}
 use Rattle.fl_ops.specs.Logins.{IsFirstLogin, HasNoLogin}
+use Rattle.fl_jobs.specs.declared.job.Side.{Side}
 use Rattle.fl_jobs.specs.declared.job.Order as orders
 use Rattle.fl_jobs.specs.declared.job.Order.TheVariants.{Tag, Group, Put, MakeLogin}
 use Rattle.fl_jobs.specs.declared.job.Act.{Act}
-use Rattle.fl_jobs.specs.declared.job.Act.TheVariants.{Order, Relabel, Ask, Spawn, Exit, Drop, Enter, Emit}
+use Rattle.fl_jobs.specs.declared.job.Act.TheVariants.{Order, Relabel, Ask, Spawn, Exit, Drop, Enter, Emit, Channel}
 use Rattle.fl_jobs.specs.declared.job.Job.{Job}
-use Rattle.fl_jobs.specs.declared.job.Job.TheVariants.{Proc, By, Member}
+use Rattle.fl_jobs.specs.declared.job.Job.TheVariants.{Proc, By, Member, Arrive}
 use Rattle.fl_jobs.specs.declared.secret.Secret.{Secret}
 use Rattle.fl_jobs.specs.declared.answer.Refusal.{Refusal}
 use Rattle.fl_jobs.specs.declared.answer.Refusal.TheVariants.{NoProcess, MissingCap, Secrecy, NoLogin, WrongSecret, NamesSpent, LabelTooLong, Memory, NotOwned, Busy}
-use Rattle.fl_jobs.specs.declared.answer.Reply.TheVariants.{Made, Done, Yes, NotYet, Entered, Out}
+use Rattle.fl_jobs.specs.declared.answer.Reply.TheVariants.{Made, Done, Yes, NotYet, Entered, Out, Arrived}
 use Rattle.fl_jobs.specs.declared.answer.Outcome.{Outcome}
 use Rattle.fl_rules.specs.Safety.{Takes, Dual}
+use Rattle.fl_rules.specs.declared.labels.Labels.{Labels}
+use Rattle.fl_channels.specs.Endpoints.{Table, IsOpen}
+use Rattle.fl_channels.specs.Offenders.{CrossesAt, DualAt}
+use Rattle.fl_channels.specs.declared.channels.Channels.{Channels}
 use Rattle.fl_monitor.specs.Checks.{Check, no_check, fails, refuse_if, demand, with, ◌then◌}
 use Rattle.fl_monitor.specs.Secrets.{digest_of}
-use Rattle.fl_monitor.specs.Process.{newborn, owns, is_busy, ordering, owning, child_of, effective, side_of, with_side, body_of, PutTakes}
+use Rattle.fl_monitor.specs.Guards.{grant_check, endpoints_check}
+use Rattle.fl_monitor.specs.Channels.{channel_checks, arrival_checks, ChannelDoes, ChannelTakesMemory}
+use Rattle.fl_monitor.specs.Process.{newborn, owns, is_busy, ordering, owning, child_of, effective, side_of, with_side, body_of, receiving, PutTakes}
 use Rattle.fl_monitor.specs.Hand.{AtHand, Lacks}
 use Rattle.fl_monitor.specs.Bench.{State, has_at, gone, IsNext, born}
 use Rattle.fl_monitor.specs.declared.process.Process.{Process}
@@ -47,10 +55,6 @@ order_checks E (MakeLogin c secret) = demand cap_cmp (From c) E MissingCap
 abbrev pub change_check : (Cap → Type 0) → SetBy name_cmp → SetBy name_cmp → Check
 change_check E from to = demand cap_cmp (Takes from to) E MissingCap
 
--- of a birth with these, by who has E in effect
-abbrev pub spawn_check : (Cap → Type 0) → SetBy cap_cmp → Check
-spawn_check E caps = demand cap_cmp (In caps) E MissingCap
-
 -- of an emission under this label, by who has E in effect
 abbrev pub emission_check : (Cap → Type 0) → SetBy name_cmp → Check
 emission_check E secrecy = demand name_cmp (In secrecy) (Dual E) Secrecy
@@ -66,13 +70,14 @@ enter_check V login secret (Some f) =
 abbrev pub checks_of : (Op → Type 0) → Process → Act → Check
 checks_of V p (Order order) = order_checks (effective V p) order
 checks_of V p (Relabel side (Err e)) = fails LabelTooLong
-checks_of V p (Relabel side (Ok label)) = change_check (effective V p) (side_of side p.labels) label
+checks_of V p (Relabel side (Ok label)) = change_check (effective V p) (side_of side p.labels) label then endpoints_check (effective V p) (with_side side label p.labels) p.channels.endpoints
 checks_of V p (Ask c) = no_check
-checks_of V p (Spawn caps) = spawn_check (effective V p) caps
+checks_of V p (Spawn caps) = grant_check (effective V p) caps
 checks_of V p Exit = no_check
-checks_of V p (Drop c) = refuse_if (not (set.contains (owns p) c)) (NotOwned c)
+checks_of V p (Drop c) = refuse_if (not (set.contains (owns p) c)) (NotOwned c) then endpoints_check (Eff V (In (set.remove (owns p) c))) p.labels p.channels.endpoints
 checks_of V p (Enter login secret) = enter_check V login secret
 checks_of V p (Emit bytes) = emission_check (effective V p) p.labels.secrecy
+checks_of V p (Channel c) = channel_checks (effective V p) p.labels p.channels c
 
 -- of an act of the process p, of which no operation may be under way
 abbrev pub act_checks : (Op → Type 0) → Process → Act → Check
@@ -92,6 +97,7 @@ abbrev pub checks : (Op → Type 0) → State → Job → Check
 checks V b Proc = serials_left b
 checks V b (By pid act) = with (map.get b.processes pid) (NoProcess pid) (λ p. act_checks V p act then bench_checks b act)
 checks V b (Member root c) = no_check
+checks V b (Arrive d) = with (map.get b.processes d.receiver) (NoProcess d.receiver) (λ q. refuse_if (is_busy q) Busy then arrival_checks q.channels d)
 
 -- ---- what a job leaves and answers
 
@@ -110,31 +116,40 @@ Performs V b pid p Exit outcome b' = (outcome ≡ Outcome.Reply Done) × (b' ≡
 Performs V b pid p (Drop c) outcome b' = (outcome ≡ Outcome.Reply Done) × (b' ≡ has_at b pid (owning p (set.remove (owns p) c)))
 Performs V b pid p (Enter login secret) outcome b' = (c : Cap) × IsFirstLogin V login c (digest_of secret) × (outcome ≡ Outcome.Reply (Entered c)) × (b' ≡ has_at b pid (owning p (set.insert (owns p) c)))
 Performs V b pid p (Emit bytes) outcome b' = (outcome ≡ Outcome.Reply (Out bytes)) × (b' ≡ b)
+Performs V b pid p (Channel c) outcome b' = (ch : Channels) × ChannelDoes pid p.channels c outcome ch × (b' ≡ has_at b pid (record p { channels = ch }))
 
 -- a job at the bench b, which it leaves as b'
 abbrev pub Effect : (Op → Type 0) → State → Job → Outcome → State → Type 0
 Effect V b Proc outcome b' = (pid : Pid) × IsNext b pid × (outcome ≡ Outcome.Reply (Made pid)) × (b' ≡ born b pid newborn)
 Effect V b (By pid act) outcome b' = (p : Process) × (map.get b.processes pid ≡ Some p) × Performs V b pid p act outcome b'
 Effect V b (Member root c) outcome b' = Answers outcome (Reach V (From root) c) × (b' ≡ b)
+Effect V b (Arrive d) outcome b' = (q : Process) × (map.get b.processes d.receiver ≡ Some q) × (outcome ≡ Outcome.Reply (Arrived d.receiver)) × (b' ≡ has_at b d.receiver (receiving q d))
 
 -- ---- when a job may want memory
+
+-- the change of a label by who owns these and has these labels and endpoints: what it takes is not at hand, or what the endpoints then need
+abbrev pub RelabelTakesMemory : (Op → Type 0) → SetBy cap_cmp → Labels → Table → Side → SetBy name_cmp → Type 0
+RelabelTakesMemory V owned labels table side label =
+    Lacks (Takes (side_of side labels) label) (AtHand V owned) ⊎ Lacks (CrossesAt (with_side side label labels) table) (DualAt (AtHand V owned))
 
 -- an act of the process p
 abbrev pub ActTakesMemory : (Op → Type 0) → Process → Act → Type 0
 ActTakesMemory V p (Order order) = Unit {0}
 ActTakesMemory V p (Relabel side (Err e)) = ⊥
-ActTakesMemory V p (Relabel side (Ok label)) = Lacks (Takes (side_of side p.labels) label) (AtHand V (owns p))
+ActTakesMemory V p (Relabel side (Ok label)) = RelabelTakesMemory V (owns p) p.labels p.channels.endpoints side label
 ActTakesMemory V p (Ask c) = (¬ In (owns p) c) × (¬ Global V c)
 ActTakesMemory V p (Spawn caps) = Unit {0}
 ActTakesMemory V p Exit = ⊥
-ActTakesMemory V p (Drop c) = ⊥
+ActTakesMemory V p (Drop c) = In (owns p) c × (e : Endpoint) × IsOpen p.channels.endpoints e
 ActTakesMemory V p (Enter login secret) = enter_check V login secret None
 ActTakesMemory V p (Emit bytes) = Lacks (In p.labels.secrecy) (Dual (AtHand V (owns p)))
+ActTakesMemory V p (Channel c) = ChannelTakesMemory (AtHand V (owns p)) p.labels p.channels c
 
 abbrev pub TakesMemory : (Op → Type 0) → State → Job → Type 0
 TakesMemory V b Proc = serials_left b None
 TakesMemory V b (By pid act) = (p : Process) × (map.get b.processes pid ≡ Some p) × (is_busy p ≡ false) × ActTakesMemory V p act
 TakesMemory V b (Member root c) = root ≢ c
+TakesMemory V b (Arrive d) = (q : Process) × (map.get b.processes d.receiver ≡ Some q) × (is_busy q ≡ false) × arrival_checks q.channels d None
 
 -- ---- a job
 

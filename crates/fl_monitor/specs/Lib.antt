@@ -1,7 +1,9 @@
 pub mod Checks
 pub mod Secrets
-pub mod Process
 pub mod Hand
+pub mod Guards
+pub mod Channels
+pub mod Process
 pub mod Bench
 pub mod Jobs
 pub mod Gifts
@@ -10,3 +12,4 @@ pub mod Orderly
 pub mod Following
 pub mod Births
 pub mod Gains
+pub mod Guarded

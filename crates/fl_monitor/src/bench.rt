@@ -113,23 +113,31 @@ impl Bench {
     /// Does a job under the view's registry, or says why not and leaves the bench as it was. The reasons, in the order in
     /// which they are looked for:
     ///
-    /// - `NoProcess`: who asks does not stand here.
-    /// - `Busy`: an operation of who asks is under way: it was ordered, and neither finished nor cancelled.
-    /// - `LabelTooLong`: the label that is asked for has more than 256 tags.
+    /// - `NoProcess`: who asks, or is to receive a message, does not stand here.
+    /// - `Busy`: an operation of that process is under way: it was ordered, and neither finished nor cancelled.
+    /// - `LabelTooLong`: a label that is asked for has more than 256 tags.
+    /// - `EndpointsFull`: the process has 64 endpoints.
+    /// - `NoEndpoint`: the endpoint is not open.
+    /// - `NotWritable`, `NotReadable`: it is not for sending from, or not for receiving at.
     /// - `MissingCap`: the least capability that the job takes and that is not in effect for who asks. The change of a label
     ///   takes one for each tag that it gains or loses, a put the right to grow the group, and the capability itself, a new login
-    ///   its capability, and a birth what the child is to own.
+    ///   its capability, a birth what the child is to own, and a message what it brings.
     /// - `NotOwned`: the capability that is to be dropped is not owned.
+    /// - `UnsafeEndpoint`: the least endpoint that would not be safe, with its least tag that may not be both added and removed: the
+    ///   one that is opened or tuned, and of all of them where a label changes or a capability is dropped.
     /// - `NoLogin` and `WrongSecret`: there is no login of the name, or the least one has another secret.
-    /// - `Secrecy`: the least tag of the secrecy that who lets bytes out may not both add and remove.
+    /// - `Secrecy`: the least tag of the secrecy that who lets bytes out may not both add and remove, or that a message has and the
+    ///   receiver's endpoint has not.
+    /// - `Integrity`: the least tag of integrity that the receiver's endpoint has and a message has not.
+    /// - `InboxFull`: 256 messages wait for the receiver.
     /// - `NamesSpent`: the next process would get a serial above 4,294,967,295.
-    /// - `Memory`: there was not enough for a new process, for an order, for the change of a label, for an entry, or to search for
-    ///   a capability that is neither owned nor everybody's.
+    /// - `Memory`: there was not enough for a new process, for an order, for the change of a label, for an entry, for a new endpoint, a
+    ///   packet or a message that comes, or to search for a capability that is neither owned nor everybody's.
     ///
     /// An order becomes the body of an operation and its maker, whose operation is then under way, to be finished or cancelled:
-    /// there is room for what it gives. The change of a label, a birth and an emission look at each tag or capability that they
-    /// take, and where what is at hand does not do ask the view once for all that is in effect, and look again; any other job
-    /// asks the view two questions at most.
+    /// there is room for what it gives. The change of a label, a birth, an emission, an endpoint and a message look at each tag or
+    /// capability that they take, and where what is at hand does not do ask the view once for all that is in effect, and look again;
+    /// any other job asks the view two questions at most. A message that comes looks along the labels of both ends.
     pub fn job<V: View>(
         &mut self,
         alloc: Global,
@@ -143,6 +151,7 @@ impl Bench {
             Job::Proc => self.bear(Process::new(alloc)),
             Job::By(pid, act) => self.act(alloc, view, pid, act),
             Job::Member(root, cap) => member(alloc, view, root, cap),
+            Job::Arrive(data) => self.processes.receive(alloc, data),
         }
     }
 

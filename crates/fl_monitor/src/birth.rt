@@ -1,81 +1,22 @@
 // Births of processes by other ones.
-ghost use Rattle.std.specs.Prelude.{◌≡◌, ⊤, IfOk, MatchOption};
-ghost use Rattle.fl_labels.specs.Cap.{cap_cmp};
-ghost use Rattle.fl_labels.specs.Found.{IsFirst, IsLeastOutside, Within};
+ghost use Rattle.std.specs.Prelude.{◌≡◌, ⊤};
 ghost use Rattle.fl_labels.specs.SetBy.{In};
 ghost use Rattle.fl_ops.specs.Registry.{Eff, Listed};
+ghost use Rattle.fl_channels.specs.Channels.{closed};
 ghost use Rattle.fl_monitor.specs.declared.process.Holding.TheVariants.{Idle};
 ghost use Rattle.fl_monitor.specs.declared.sequel.Sequel.TheVariants.{Birth};
-ghost use Rattle.fl_monitor.specs.Jobs.{spawn_check};
-ghost use Rattle.fl_monitor.specs.Hand.{AtHand, Lacks};
-ghost use Rattle.fl_monitor.specs.Acts.{Checked, Gives};
+ghost use Rattle.fl_monitor.specs.Guards.{grant_check};
+ghost use Rattle.fl_monitor.specs.Acts.{Gives};
 
-use crate::held::Held;
-use crate::process::{Holding, Labels, Process};
+use crate::grant::check_grant;
+use crate::process::{Holding, Process};
 use crate::sequel::Sequel;
 use crate::view::View;
+use fl_channels::channels::Channels;
 use fl_jobs::answer::Refusal;
-use fl_labels::cap::Cap;
 use fl_labels::cap_set::CapSet;
-use fl_rules::has::Has;
-use std::alloc::{AllocError, Global};
-
-// The first of these capabilities that is not in effect, or none where each is. One question for each.
-fn first_unheld<H: Has>(has: &mut H, caps: &[Cap]) -> Option<Cap>
-    ensures first { IsFirst (λ _. ⊤) (H.effective has.old) caps.now result }
-    ensures same { H.keeps has.old has.new }
-{
-    for cap in caps {
-        if !has.has(*cap) {
-            return Some(*cap);
-        }
-    }
-    None
-}
-
-// The least of these capabilities that is neither owned nor everybody's.
-fn first_beyond<V: View>(view: &mut V, owned: &CapSet, caps: &CapSet) -> Option<Cap>
-    ensures found { MatchOption result (Within (In caps.now) (AtHand (Listed (V.list view.old)) owned.now)) (IsLeastOutside cap_cmp (In caps.now) (AtHand (Listed (V.list view.old)) owned.now)) }
-    ensures same { V.list view.new ≡ V.list view.old }
-{
-    let mut held = Held { view, caps: owned };
-    first_unheld(&mut held, caps.as_slice())
-}
-
-// Whether the owner of the first capabilities may bear an owner of the others, or else which is missing. What is owned or
-// everybody's is looked at first, which takes no memory, and all that is reached only where that does not do.
-fn check_spawn<V: View>(
-    alloc: Global,
-    view: &mut V,
-    owned: &CapSet,
-    caps: &CapSet,
-) -> Result<(), Refusal>
-    ensures checked { Checked (spawn_check (Eff (Listed (V.list view.old)) (In owned.now)) caps.now) (Lacks (In caps.now) (AtHand (Listed (V.list view.old)) owned.now)) result }
-    ensures same { V.list view.new ≡ V.list view.old }
-{
-    if first_beyond(view, owned, caps).is_none() {
-        return Ok(());
-    }
-    let Ok(reached) = view.reached(alloc, owned) else {
-        return Err(Refusal::Memory);
-    };
-    match first_beyond(view, &reached, caps) {
-        None => Ok(()),
-        Some(cap) => Err(Refusal::MissingCap(cap)),
-    }
-}
-
-impl Labels {
-    // The same labels again.
-    fn copy(&self, alloc: Global) -> Result<Self, AllocError>
-        ensures { IfOk result (λ made. made ≡ self.now) }
-    {
-        Ok(Labels {
-            secrecy: self.secrecy.copy(alloc)?,
-            integrity: self.integrity.copy(alloc)?,
-        })
-    }
-}
+use fl_rules::labels::Labels;
+use std::alloc::Global;
 
 /// A process with these labels that owns the second capabilities is to be born, where the owner of the first ones has them in
 /// effect.
@@ -86,15 +27,16 @@ pub(crate) fn spawn<V: View>(
     owned: &CapSet,
     caps: CapSet,
 ) -> Result<Sequel, Refusal>
-    ensures gives { Gives (spawn_check (Eff (Listed (V.list view.old)) (In owned.now)) caps) ⊤ (Birth (record { labels = labels.now; owned = Idle caps })) result }
+    ensures gives { Gives (grant_check (Eff (Listed (V.list view.old)) (In owned.now)) caps) ⊤ (Birth (record { labels = labels.now; owned = Idle caps; channels = closed })) result }
     ensures same { V.list view.new ≡ V.list view.old }
 {
-    check_spawn(alloc, view, owned, &caps)?;
+    check_grant(alloc, view, owned, &caps)?;
     let Ok(labels) = labels.copy(alloc) else {
         return Err(Refusal::Memory);
     };
     Ok(Sequel::Birth(Process {
         labels,
         owned: Holding::Idle(caps),
+        channels: Channels::new(alloc),
     }))
 }

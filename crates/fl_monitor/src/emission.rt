@@ -16,11 +16,11 @@ use crate::held::Held;
 use crate::sequel::Sequel;
 use crate::view::View;
 use fl_jobs::answer::{Outcome, Refusal, Reply};
-use fl_jobs::payload::Payload;
 use fl_labels::cap_set::CapSet;
 use fl_labels::label::Label;
 use fl_labels::name::Name;
 use fl_rules::emission::safe_emit;
+use fl_wire::payload::Payload;
 use std::alloc::Global;
 
 // The least tag that may not be both added and removed by what is one of these or everybody's.

@@ -1,6 +1,7 @@
 //! Laws of the jobs of a bench.
-ghost use Rattle.std.specs.Prelude.{◌≡◌, ◌≢◌, ◌⊎◌, ◌<◌, List, ℕ, Option, None, Some, Result, Err};
+ghost use Rattle.std.specs.Prelude.{◌≡◌, ◌≢◌, ◌⊎◌, ◌<◌, List, ℕ, Option, None, Some, Result, Ok, Err};
 ghost use Rattle.std.specs.FinMap as map;
+ghost use Rattle.fl_labels.specs.Found.{Within};
 ghost use Rattle.fl_labels.specs.declared.cap.Cap.{Cap};
 ghost use Rattle.fl_labels.specs.declared.pid.Pid.{Pid};
 ghost use Rattle.fl_ops.specs.Registry.{Listed};
@@ -10,7 +11,10 @@ ghost use Rattle.fl_jobs.specs.declared.answer.Refusal.TheVariants.{Memory};
 ghost use Rattle.fl_jobs.specs.declared.answer.Refusal.{Refusal};
 ghost use Rattle.fl_jobs.specs.declared.job.Act.TheVariants.{Exit};
 ghost use Rattle.fl_jobs.specs.declared.job.Job.{Job};
-ghost use Rattle.fl_jobs.specs.declared.job.Job.TheVariants.{By};
+ghost use Rattle.fl_jobs.specs.declared.job.Job.TheVariants.{By, Arrive};
+ghost use Rattle.fl_rules.specs.Message.{SafeMessage};
+ghost use Rattle.fl_wire.specs.declared.packet.Data.{Data};
+ghost use Rattle.fl_wire.specs.declared.packet.Packet.TheVariants as packets;
 ghost use Rattle.fl_monitor.specs.Bench.{State, opened};
 ghost use Rattle.fl_monitor.specs.Following.{Follows};
 ghost use Rattle.fl_monitor.specs.Gifts.{cancelled, finished};
@@ -18,6 +22,8 @@ ghost use Rattle.fl_monitor.specs.Jobs.{Does};
 ghost use Rattle.fl_monitor.specs.Orderly.{IsOrderly};
 ghost use Rattle.fl_monitor.specs.Births.{IsBirth, GoesOn};
 ghost use Rattle.fl_monitor.specs.Gains.{OwnsAt, Gains, GainsAtEnd};
+ghost use Rattle.fl_monitor.specs.Guarded.{IsGuarded};
+ghost use Rattle.fl_monitor.specs.Process.{effective};
 ghost use Rattle.fl_monitor.specs.declared.process.Process.{Process};
 
 /// Where memory is not wanted, a job at a bench has one result and leaves one bench.
@@ -67,12 +73,32 @@ pub fn law_exits()
         map.get b.processes pid ≡ Some old → map.get (cancelled b maker).processes pid ≡ None → ⊥ }
 {}
 
-/// What a process owns after a job it owned before, was born with as a part of what its parent has in effect, or entered by a secret. After
-/// its operation it owns besides what that gives its maker, and nothing more where the operation is cancelled.
+/// What a process owns after a job it owned before, was born with as a part of what its parent has in effect, entered by a secret, or got
+/// in a message that came. After its operation it owns besides what that gives its maker, and nothing more where the operation is cancelled.
 pub fn law_owned()
     ensures job { (ops : List Op) (b after : State) (job : Job) (result : Result Outcome Refusal) (pid : Pid) (cap : Cap) →
         Does (Listed ops) b job result after → OwnsAt after pid cap → OwnsAt b pid cap ⊎ Gains (Listed ops) b job pid cap }
     ensures finish { (b : State) (maker pid : Pid) (op : Op) (cap : Cap) →
         OwnsAt (finished b maker op) pid cap → OwnsAt b pid cap ⊎ GainsAtEnd b maker op pid cap }
     ensures cancel { (b : State) (maker pid : Pid) (cap : Cap) → OwnsAt (cancelled b maker) pid cap → OwnsAt b pid cap }
+{}
+
+/// From the opening of a bench on, each open endpoint of its processes is safe by what its process has in effect: whatever a job is
+/// answered, when an operation is finished or cancelled, and when the registry grows.
+pub fn law_endpoints()
+    ensures opened { (ops : List Op) (number boot index stride : ℕ) → IsGuarded (Listed ops) (opened number boot index stride) }
+    ensures job { (ops : List Op) (b after : State) (job : Job) (result : Result Outcome Refusal) →
+        IsGuarded (Listed ops) b → Does (Listed ops) b job result after → IsGuarded (Listed ops) after }
+    ensures finish { (ops : List Op) (b : State) (maker : Pid) (op : Op) → IsGuarded (Listed ops) b → IsGuarded (Listed ops) (finished b maker op) }
+    ensures cancel { (ops : List Op) (b : State) (maker : Pid) → IsGuarded (Listed ops) b → IsGuarded (Listed ops) (cancelled b maker) }
+    ensures grown { (ops more : List Op) (b : State) → Within (Listed ops) (Listed more) → IsGuarded (Listed ops) b → IsGuarded (Listed more) b }
+{}
+
+/// A message that a job sent and another took in, at benches whose open endpoints are safe, is safe from its sender to its receiver, by the
+/// labels that each had then and by what each had in effect.
+pub fn law_arrivals()
+    ensures { (earlier ops : List Op) (a sent b after : State) (job : Job) (message : Data) (outcome : Outcome) (p q : Process) →
+        IsGuarded (Listed earlier) a → map.get a.processes message.sender ≡ Some p → Does (Listed earlier) a job (Ok (Outcome.Out (packets.Data message))) sent →
+        IsGuarded (Listed ops) b → map.get b.processes message.receiver ≡ Some q → Does (Listed ops) b (Arrive message) (Ok outcome) after →
+        SafeMessage (effective (Listed earlier) p) p.labels (effective (Listed ops) q) q.labels }
 {}

@@ -1,19 +1,19 @@
 //! The reference monitor: processes, and what they may do.
 #![tactic(auto)]
 
+mod arrival;
 pub mod bench;
 mod birth;
+mod change;
+mod channel;
+mod disown;
 mod emission;
+mod grant;
+mod guard;
 mod held;
 pub mod laws;
 mod login;
 pub mod process;
 mod processes;
 mod sequel;
-#[cfg(test)]
-mod tests;
-#[cfg(test)]
-mod tests_births;
-#[cfg(test)]
-mod tests_change;
 pub mod view;

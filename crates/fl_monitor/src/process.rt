@@ -1,47 +1,39 @@
 // Processes, and what each does by itself.
-ghost use Rattle.std.specs.Prelude.{◌≡◌, ⊤, [], false, cond, OnOk, OnErr, MatchOption};
+ghost use Rattle.std.specs.Prelude.{◌≡◌, ⊤, [], false, cond, OnOk, OnErr};
 ghost use Rattle.std.specs.Ordering.{is_gt};
 ghost use Rattle.fl_labels.specs.Cap.{cap_cmp};
 ghost use Rattle.fl_labels.specs.SetBy as set;
 ghost use Rattle.fl_labels.specs.SetBy.{In};
-ghost use Rattle.fl_labels.specs.Found.{IsLeastOutside};
-ghost use Rattle.fl_rules.specs.Safety.{Takes, SafeChange};
 ghost use Rattle.fl_ops.specs.Registry.{Eff, Global as IsGlobal, Listed};
 ghost use Rattle.fl_jobs.specs.declared.answer.Refusal.TheVariants.{MissingCap};
 ghost use Rattle.fl_jobs.specs.declared.answer.Reply.TheVariants.{Yes, NotYet};
 ghost use Rattle.fl_monitor.specs.declared.process.Holding.TheVariants.{Ordering};
-ghost use Rattle.fl_monitor.specs.Process.{newborn, held, side_of, with_side, body_of, OneOf, PutTakes};
+ghost use Rattle.fl_monitor.specs.Process.{newborn, held, body_of, OneOf, PutTakes};
 ghost use Rattle.fl_monitor.specs.Checks.{demand};
-ghost use Rattle.fl_monitor.specs.Jobs.{order_checks, change_check};
-ghost use Rattle.fl_monitor.specs.Hand.{AtHand, Lacks};
-ghost use Rattle.fl_monitor.specs.Acts.{Checked, Required, Told, Relabels, GivesUp, Acts};
+ghost use Rattle.fl_monitor.specs.Jobs.{order_checks};
+ghost use Rattle.fl_monitor.specs.Acts.{Checked, Required, Told, Acts};
 ghost use Rattle.fl_monitor.specs.Gifts.{given, settled};
 
 use crate::birth::spawn;
+use crate::change::relabel;
+use crate::channel::work;
+use crate::disown::give_up;
 use crate::emission::emit;
-use crate::held::Held;
 use crate::login::{digest_of_secret, enter};
 use crate::sequel::{Sequel, answer_alone};
 use crate::view::View;
+use fl_channels::channels::Channels;
 use fl_jobs::answer::{Outcome, Refusal, Reply};
-use fl_jobs::job::{Act, Order, Side, TooLong};
+use fl_jobs::job::{Act, Order};
 use fl_labels::cap::Cap;
 use fl_labels::cap_set::CapSet;
-use fl_labels::label::Label;
 use fl_labels::name::Name;
 use fl_labels::pid::Pid;
 use fl_labels::roomy::RoomyCapSet;
 use fl_ops::op::{Body, Op};
-use fl_rules::change::safe_change;
+use fl_rules::labels::Labels;
 use std::alloc::{AllocError, Global};
 use std::mem::replace;
-
-/// The two labels of a process.
-#[derive(Debug, Drop)]
-pub struct Labels {
-    pub secrecy: Label,
-    pub integrity: Label,
-}
 
 /// The capabilities that a process owns.
 #[derive(Debug, Drop)]
@@ -52,84 +44,12 @@ pub enum Holding {
     Ordering(RoomyCapSet),
 }
 
-/// A process: its labels, and the capabilities that it owns.
+/// A process: its labels, the capabilities that it owns, its open endpoints, and the messages that wait for it.
 #[derive(Debug, Drop)]
 pub struct Process {
     pub labels: Labels,
     pub owned: Holding,
-}
-
-// The least capability that the change of a label takes and that is neither one of these nor everybody's.
-fn first_lacking<V: View>(view: &mut V, caps: &CapSet, from: &Label, to: &Label) -> Option<Cap>
-    ensures found { MatchOption result (SafeChange (AtHand (Listed (V.list view.old)) caps.now) from.now to.now) (IsLeastOutside cap_cmp (Takes from.now to.now) (AtHand (Listed (V.list view.old)) caps.now)) }
-    ensures same { V.list view.new ≡ V.list view.old }
-{
-    let mut held = Held { view, caps };
-    safe_change(&mut held, from, to)
-}
-
-// Whether the owner of these capabilities may turn the one label into the other, or else which is missing. What is owned or
-// everybody's is looked at first, which takes no memory, and all that is reached only where that does not do.
-fn check_change<V: View>(
-    alloc: Global,
-    view: &mut V,
-    owned: &CapSet,
-    from: &Label,
-    to: &Label,
-) -> Result<(), Refusal>
-    ensures checked { Checked (change_check (Eff (Listed (V.list view.old)) (In owned.now)) from.now to.now) (Lacks (Takes from.now to.now) (AtHand (Listed (V.list view.old)) owned.now)) result }
-    ensures same { V.list view.new ≡ V.list view.old }
-{
-    if first_lacking(view, owned, from, to).is_none() {
-        return Ok(());
-    }
-    let Ok(reached) = view.reached(alloc, owned) else {
-        return Err(Refusal::Memory);
-    };
-    match first_lacking(view, &reached, from, to) {
-        None => Ok(()),
-        Some(cap) => Err(Refusal::MissingCap(cap)),
-    }
-}
-
-impl Labels {
-    fn side(&self, side: Side) -> &Label
-        ensures { result.now ≡ side_of side self.now }
-    {
-        match side {
-            Side::Secrecy => &self.secrecy,
-            Side::Integrity => &self.integrity,
-        }
-    }
-
-    fn set_side(&mut self, side: Side, label: Label)
-        ensures { self.new ≡ with_side side label self.old }
-    {
-        match side {
-            Side::Secrecy => self.secrecy = label,
-            Side::Integrity => self.integrity = label,
-        }
-    }
-
-    // A label of too many tags is refused before anything is asked.
-    fn relabel<V: View>(
-        &mut self,
-        alloc: Global,
-        view: &mut V,
-        owned: &CapSet,
-        side: Side,
-        label: Result<Label, TooLong>,
-    ) -> Result<Outcome, Refusal>
-        ensures relabels { Relabels (Listed (V.list view.old)) owned.now self.old side label result self.new }
-        ensures same { V.list view.new ≡ V.list view.old }
-    {
-        let Ok(label) = label else {
-            return Err(Refusal::LabelTooLong);
-        };
-        check_change(alloc, view, owned, self.side(side), &label)?;
-        self.set_side(side, label);
-        Ok(Outcome::Reply(Reply::Done))
-    }
+    pub channels: Channels,
 }
 
 impl Holding {
@@ -291,27 +211,15 @@ fn ask<V: View>(alloc: Global, view: &mut V, owned: &CapSet, cap: Cap) -> Result
     Ok(Outcome::Reply(reply_of(yes)))
 }
 
-// Takes the capability away, where it is owned.
-fn give_up(owned: &mut CapSet, cap: Cap) -> Result<Outcome, Refusal>
-    ensures { GivesUp owned.old cap result owned.new }
-{
-    if !owned.remove(cap) {
-        return Err(Refusal::NotOwned(cap));
-    }
-    Ok(Outcome::Reply(Reply::Done))
-}
-
 impl Process {
     /// A process with nothing. Takes no memory.
     pub(crate) fn new(alloc: Global) -> Self
         ensures { result ≡ newborn }
     {
         Process {
-            labels: Labels {
-                secrecy: Label::new(alloc),
-                integrity: Label::new(alloc),
-            },
+            labels: Labels::new(alloc),
             owned: Holding::Idle(CapSet::new(alloc)),
+            channels: Channels::new(alloc),
         }
     }
 
@@ -338,14 +246,25 @@ impl Process {
                 Ok(Sequel::Answer(Outcome::Order(body_of_order(order), pid)))
             }
             Act::Relabel(side, label) => {
-                answer_alone(self.labels.relabel(alloc, view, owned, side, label))
+                let endpoints = &self.channels.endpoints;
+                let labels = &mut self.labels;
+                answer_alone(relabel(alloc, view, owned, endpoints, labels, side, label))
             }
             Act::Ask(cap) => answer_alone(ask(alloc, view, owned, cap)),
             Act::Spawn(caps) => spawn(alloc, view, &self.labels, owned, caps),
             Act::Exit => Ok(Sequel::End),
-            Act::Drop(cap) => answer_alone(give_up(owned, cap)),
+            Act::Drop(cap) => {
+                let endpoints = &self.channels.endpoints;
+                let labels = self.labels.lend();
+                answer_alone(give_up(alloc, view, labels, endpoints, owned, cap))
+            }
             Act::Enter(login, secret) => answer_alone(enter(view, owned, login, secret)),
             Act::Emit(bytes) => emit(alloc, view, owned, &self.labels.secrecy, bytes),
+            Act::Channel(channel) => {
+                let channels = &mut self.channels;
+                let labels = self.labels.lend();
+                answer_alone(work(alloc, view, pid, owned, labels, channels, channel))
+            }
         }
     }
 

@@ -3,16 +3,17 @@ ghost use Rattle.std.specs.Option.{option_copied};
 ghost use Rattle.std.specs.Prelude.{◌≡◌, [], OnOk, OnErr};
 ghost use Rattle.std.specs.FinMap as map;
 ghost use Rattle.fl_ops.specs.Registry.{Listed};
-ghost use Rattle.fl_monitor.specs.Acts.{ActsAt};
+ghost use Rattle.fl_monitor.specs.Acts.{ActsAt, ReceivesAt};
 ghost use Rattle.fl_monitor.specs.Gifts.{given, receives};
 
 use crate::process::Process;
 use crate::sequel::Sequel;
 use crate::view::View;
-use fl_jobs::answer::Refusal;
+use fl_jobs::answer::{Outcome, Refusal};
 use fl_jobs::job::Act;
 use fl_labels::pid::Pid;
 use fl_ops::op::Op;
+use fl_wire::packet::Data;
 use std::alloc::{AllocError, Global};
 use std::collections::BTreeMap;
 use std::marker::Model;
@@ -87,6 +88,16 @@ impl Processes {
             return Err(Refusal::NoProcess(pid));
         };
         process.act(alloc, view, pid, act)
+    }
+
+    /// Brings a message to its receiver.
+    pub fn receive(&mut self, alloc: Global, data: Data) -> Result<Outcome, Refusal>
+        ensures { ReceivesAt self.old «data» result self.new }
+    {
+        let Some(process) = self.all.get_mut(&data.receiver) else {
+            return Err(Refusal::NoProcess(data.receiver));
+        };
+        process.receive(alloc, data)
     }
 
     /// Gives a process what the operation gives its maker, if there is that process and its operation is under way.

@@ -1,4 +1,4 @@
-use Rattle.fl_monitor.proofs.ActLemmas.{act_busy, act_unchecked, act_full, act_order, act_relabel, act_ask, act_spawn, act_exit, act_drop, act_enter, act_emit}
+use Rattle.fl_monitor.proofs.ActLemmas.{act_busy, act_unchecked, act_full, act_order, act_relabel, act_ask, act_spawn, act_exit, act_drop, act_enter, act_emit, act_channel}
 use Rattle.fl_monitor.proofs.process.Process.act.Goals as goal
 
 pub returns-in_default-clause-acts : goal.returns-in_default-clause-acts
@@ -26,10 +26,13 @@ pub returns-in-Exit-clause-acts : goal.returns-in-Exit-clause-acts
 returns-in-Exit-clause-acts g c = act_exit _ c.args.pid c.args.self.now c.args.act _ c.in-Idle.is c.in-Exit.is
 
 pub returns-in-Drop-clause-acts : goal.returns-in-Drop-clause-acts
-returns-in-Drop-clause-acts g c = act_drop _ c.args.pid c.args.self.now c.args.act _ c.in-Idle.is _ c.in-Drop.is c.give_up.ensures _ c.answer_alone-in-Drop.ensures
+returns-in-Drop-clause-acts g c = act_drop _ c.args.pid c.args.self.now c.args.act _ c.in-Idle.is _ c.in-Drop.is _ c.lend-labels.ensures c.give_up.ensures.gives_up _ c.answer_alone-in-Drop.ensures
 
 pub returns-in-Enter-clause-acts : goal.returns-in-Enter-clause-acts
 returns-in-Enter-clause-acts g c = act_enter _ c.args.pid c.args.self.now c.args.act _ c.in-Idle.is _ _ c.in-Enter.is c.enter.ensures.enters _ c.answer_alone-in-Enter.ensures
 
 pub returns-in-Emit-clause-acts : goal.returns-in-Emit-clause-acts
 returns-in-Emit-clause-acts g c = act_emit _ c.args.pid c.args.self.now c.args.act _ c.in-Idle.is _ c.in-Emit.is c.emit.ensures.gives
+
+pub returns-in-Channel-clause-acts : goal.returns-in-Channel-clause-acts
+returns-in-Channel-clause-acts g c = act_channel _ c.args.pid c.args.self.now c.args.act _ c.in-Idle.is _ c.in-Channel.is _ c.lend-labels-in-Channel.ensures c.work.ensures.works _ c.answer_alone-in-Channel.ensures

@@ -1,0 +1,15 @@
+use Rattle.fl_monitor.specs.Acts.{Relabels}
+use Rattle.fl_monitor.proofs.ChangeLemmas.{change_refused, relabel_refused, relabel_done}
+use Rattle.fl_monitor.proofs.change.relabel.Goals as goal
+
+pub returns-in_default-clause-relabels : goal.returns-in_default-clause-relabels
+returns-in_default-clause-relabels g c = Relabels.too_long c.in_default.is
+
+pub returns-in_err-check_change-clause-relabels : goal.returns-in_err-check_change-clause-relabels
+returns-in_err-check_change-clause-relabels g c = change_refused _ c.args.owned.now c.args.endpoints.now c.args.labels.now c.args.side c.args.label _ _ c.in-Ok.is c.label_of.ensures c.check_change.ensures.checked _ c.in_err-check_change.was c.from_residual.result c.from_residual.ensures
+
+pub returns-in_err-check_endpoints-clause-relabels : goal.returns-in_err-check_endpoints-clause-relabels
+returns-in_err-check_endpoints-clause-relabels g c = relabel_refused _ c.args.owned.now c.args.endpoints.now c.args.labels.now c.args.side c.args.label _ _ c.in-Ok.is c.label_of.ensures c.check_change.ensures.checked _ c.in_ok-check_change.was _ c.check_change.ensures.same _ c.with_label-as_changed.ensures c.check_endpoints.ensures.checked _ c.in_err-check_endpoints.was c.from_residual-in_err-check_endpoints.result c.from_residual-in_err-check_endpoints.ensures
+
+pub returns-clause-relabels : goal.returns-clause-relabels
+returns-clause-relabels g c = relabel_done _ c.args.owned.now c.args.endpoints.now c.args.labels.now c.args.side c.args.label _ _ c.in-Ok.is c.label_of.ensures c.check_change.ensures.checked _ c.in_ok-check_change.was _ c.check_change.ensures.same _ c.with_label-as_changed.ensures c.check_endpoints.ensures.checked _ c.in_ok-check_endpoints.was _ c.set_label.ensures

@@ -1,0 +1,11 @@
+//! Tests of the reference monitor.
+#![tactic(auto)]
+
+#[cfg(test)]
+mod births;
+#[cfg(test)]
+mod changes;
+#[cfg(test)]
+mod channels;
+#[cfg(test)]
+mod orders;
