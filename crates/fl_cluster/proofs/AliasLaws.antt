@@ -45,7 +45,7 @@ module _ (table : Table) (alias : List ℕ) (target : Target) where
 
 -- ---- what a line leaves
 
-renamed_none : (table : Table) (alias : Option (List ℕ)) (made : Option Target) → made ≡ None → renamed table alias made ≡ table
+pub renamed_none : (table : Table) (alias : Option (List ℕ)) (made : Option Target) → made ≡ None → renamed table alias made ≡ table
 renamed_none table None made e = refl
 renamed_none table (Some alias) None e = refl
 renamed_none table (Some alias) (Some target) e = absurd (cc)
@@ -66,7 +66,7 @@ turn_named number old bytes said alias a m reads (inl h) =
     let e = one_reading old.aliases bytes h.reading (reading.Means said alias) h.says reads in
     (by_reading e h.answered).named
   where
-    by_reading : {r : Reading} → r ≡ reading.Means said alias → AnswersReading number old r a m → AnswersNamed old said alias a m
+    by_reading : {r : Reading} → r ≡ reading.Means said alias → AnswersReading number old r a m → AnswersNamed number old said alias a m
     by_reading e h = subst (λ r. AnswersReading number old r a m) e h
 turn_named number old bytes said alias a m reads (inr h) = turn_starved alias
   where

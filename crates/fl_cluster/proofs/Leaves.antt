@@ -1,5 +1,5 @@
 -- What a job leaves of the bench of its node, and is answered with.
-use Rattle.std.proofs.Common.{◌≡◌, ◌≤◌, ◌∙◌, ◌⊎◌, ◌&&◌, ◌||◌, inl, inr, refl, sym, subst, Bool, true, false, not, List, [], ◌∷◌, Some, None, Result, Ok, arith}
+use Rattle.std.proofs.Common.{◌≡◌, ◌≤◌, ◌∙◌, ◌⊎◌, ◌&&◌, ◌||◌, inl, inr, refl, sym, ap, subst, Bool, true, false, not, List, [], ◌∷◌, Some, None, Result, Ok, arith}
 use Rattle.std.proofs.lemmas.Bool.{false≢true}
 use Rattle.std.specs.Cmp.{Equal-is}
 use Rattle.std.specs.Ordering.{eq_by_cmp}
@@ -14,15 +14,17 @@ use Rattle.fl_labels.specs.declared.cap.Cap.{Cap}
 use Rattle.fl_labels.specs.declared.name.Name.{Name}
 use Rattle.fl_labels.specs.declared.pid.Pid.{Pid}
 use Rattle.fl_ops.specs.declared.op.Op.{Op}
+use Rattle.fl_wire.specs.declared.packet.Data.{Data}
+use Rattle.fl_wire.specs.declared.packet.Packet.{Packet}
 use Rattle.fl_ops.specs.declared.op.Body.{Body}
 use Rattle.fl_jobs.specs.declared.job.Act.{Act}
-use Rattle.fl_jobs.specs.declared.job.Act.TheVariants.{Order, Relabel, Ask, Spawn, Exit, Drop, Enter, Emit}
+use Rattle.fl_jobs.specs.declared.job.Act.TheVariants.{Order, Relabel, Ask, Spawn, Exit, Drop, Enter, Emit, Channel}
 use Rattle.fl_jobs.specs.declared.job.Job.{Job}
-use Rattle.fl_jobs.specs.declared.job.Job.TheVariants.{Proc, By, Member}
+use Rattle.fl_jobs.specs.declared.job.Job.TheVariants.{Proc, By, Member, Arrive}
 use Rattle.fl_jobs.specs.declared.answer.Refusal.{Refusal}
 use Rattle.fl_jobs.specs.declared.answer.Refusal.TheVariants.{NoProcess}
 use Rattle.fl_jobs.specs.declared.answer.Reply.{Reply}
-use Rattle.fl_jobs.specs.declared.answer.Reply.TheVariants.{Made, Done, Entered}
+use Rattle.fl_jobs.specs.declared.answer.Reply.TheVariants.{Made, Done, Entered, Arrived}
 use Rattle.fl_jobs.specs.declared.answer.Outcome.{Outcome}
 use Rattle.fl_monitor.specs.Births.{IsBirth, alone, of}
 use Rattle.fl_monitor.specs.Bench as bench
@@ -30,13 +32,13 @@ use Rattle.fl_monitor.specs.Bench.{has_at, gone, born}
 use Rattle.fl_monitor.specs.Checks.{with, ◌then◌}
 use Rattle.fl_monitor.specs.Gifts.{given_by, given, finished}
 use Rattle.fl_monitor.specs.Jobs.{act_checks, bench_checks, checks, Performs, Effect, Does, passed}
-use Rattle.fl_monitor.specs.Process.{newborn, owns, owning, child_of}
+use Rattle.fl_monitor.specs.Process.{newborn, owns, owning, child_of, receiving}
 use Rattle.fl_monitor.specs.declared.process.Process.{Process}
-use Rattle.fl_monitor.proofs.Orders.{rested, order_at, finished_at}
+use Rattle.fl_monitor.proofs.Orders.{rested, order_at, finished_at, sending_leaves}
 use Rattle.fl_cluster.specs.State.{NodeState}
-use Rattle.fl_cluster.specs.Answer.{Answer, replied, named}
-use Rattle.fl_cluster.specs.NodeStep.{view_of, AnswersResult, replies, refuses, makes, spends, Works}
-use Rattle.fl_cluster.specs.Owned.{Gives, made, entered}
+use Rattle.fl_cluster.specs.Answer.{Answer, replied, named, on_arrival}
+use Rattle.fl_cluster.specs.NodeStep.{view_of, AnswersResult, replies, refuses, makes, spends, Works, Sends}
+use Rattle.fl_cluster.specs.Owned.{Gives, made, born as born_to, entered, arrived}
 
 -- the bench is as it was, or one process of it changed, came or went
 pub data Leaves (V : Op → Type 0) (b : bench.State) (job : Job) (answer : Answer) (after : bench.State) : Type 0 where
@@ -55,6 +57,13 @@ from_insert s k c h = by_test (eq_by_cmp cap_cmp c k) refl (sym (set.contains-in
   where
     by_test : (b : Bool) → eq_by_cmp cap_cmp c k ≡ b → (b || set.contains s c) ≡ true → (c ≡ k) ⊎ In s c
     by_test true e h = inl (same_cap c k e)
+    by_test false e h = inr h
+
+from_union : (s t : SetBy cap_cmp) (c : Cap) → In (set.union s t) c → In s c ⊎ In t c
+from_union s t c h = by_test (set.contains s c) refl (sym (set.contains-union cap_total s t c) ∙ h)
+  where
+    by_test : (b : Bool) → set.contains s c ≡ b → (b || set.contains t c) ≡ true → In s c ⊎ In t c
+    by_test true e h = inl e
     by_test false e h = inr h
 
 from_remove : (s : SetBy cap_cmp) (k c : Cap) → In (set.remove s k) c → In s c
@@ -97,11 +106,16 @@ module _ (V : Op → Type 0) (b : bench.State) where
       entry : {c k : Cap} → c ≡ k → replied (Entered c) ≡ replied (Entered k)
       entry e = cc
   act_leaves pid p (Emit bytes) reply after e h f = stays f.1
+  act_leaves pid p (Channel c) reply after e h f = turns pid p (record p { channels = f.0 }) e (λ c old. inl old) f.2
 
   job_leaves : (job : Job) (reply : Reply) (after : bench.State) → checks V b job None → Effect V b job (Outcome.Reply reply) after → Leaves V b job (replied reply) after
   job_leaves Proc reply after h f = bears f.0 newborn (record { next = f.1; child_is = alone refl }) (same_reply f.2) f.3
   job_leaves (By pid act) reply after h f = act_leaves pid f.0 act reply after f.1 (subst (λ o. with o (NoProcess pid) (λ p. act_checks V p act then bench_checks b act) None) f.1 h) f.2
   job_leaves (Member root c) reply after h f = stays f.1
+  job_leaves (Arrive d) reply after h f = turns d.receiver f.0 (receiving f.0 d) f.1 gains f.3
+    where
+      gains : (c : Cap) → In (owns (receiving f.0 d)) c → In (owns f.0) c ⊎ Gives (Arrive d) (replied reply) d.receiver c
+      gains c h = elim (from_union (owns f.0) d.message.caps c h) [ inl old ↦ inl old | inr came ↦ inr (arrived refl (same_reply f.2) came) ]
 
   does_leaves : {job : Job} {reply : Reply} {after : bench.State} → Does V b job (Ok (Outcome.Reply reply)) after → Leaves V b job (replied reply) after
   does_leaves {job} {reply} {after} (passed h f) = job_leaves job reply after h f
@@ -125,6 +139,25 @@ module _ (node : NodeState) (job : Job) where
 
   pub work_leaves : (a : Answer) (m : NodeState) → Works node job a m → Leaves (view_of node) node.bench job a m.bench
   work_leaves a m w = answered_leaves w.result w.after a m w.does w.answered
+
+  -- a job that sends leaves the bench as it was
+  pub send_leaves : {packet : Packet} {m : NodeState} (a : Answer) → Sends node job packet m → Leaves (view_of node) node.bench job a m.bench
+  send_leaves {m} a s = subst (λ (x : NodeState). Leaves (view_of node) node.bench job a x.bench) (sym s.left) (stays (sending_leaves s.does))
+
+-- ---- a message that comes
+
+gives_arrival : {job : Job} {a : Answer} {pid : Pid} {c : Cap} → Gives job a pid c → Gives job (on_arrival a) pid c
+gives_arrival (made asked is there) = made asked (ap on_arrival is) there
+gives_arrival (born_to asked is there) = born_to asked (ap on_arrival is) there
+gives_arrival (entered asked is) = entered asked (ap on_arrival is)
+gives_arrival (arrived asked is there) = arrived asked (ap on_arrival is) there
+
+-- what is said of it leaves the same
+pub arrival_leaves : {V : Op → Type 0} {b : bench.State} {job : Job} {a : Answer} {after : bench.State} → Leaves V b job a after → Leaves V b job (on_arrival a) after
+arrival_leaves (stays e) = stays e
+arrival_leaves {job} {a} (turns pid old new lived gains e) = turns pid old new lived (λ c h. elim (gains c h) [ inl there ↦ inl there | inr gives ↦ inr (gives_arrival gives) ]) e
+arrival_leaves (bears pid child birth is e) = bears pid child birth (ap on_arrival is) e
+arrival_leaves (loses pid asked is e) = loses pid asked (ap on_arrival is) e
 
 -- ---- serials
 

@@ -23,3 +23,4 @@ pub mod Lives
 pub mod Owned
 pub mod KeptTags
 pub mod Equals
+pub mod Packets

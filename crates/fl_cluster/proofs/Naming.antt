@@ -14,7 +14,7 @@ use Rattle.fl_cluster.specs.NodeStep.{AnswersResult, replies, refuses, makes, sp
 use Rattle.fl_cluster.specs.Session.{Session}
 use Rattle.fl_cluster.specs.Answer.{Answer, shown, listed}
 use Rattle.fl_cluster.specs.Naming.{with_alias, IsPlaced, as_last, in_place}
-use Rattle.fl_cluster.specs.Turn.{Answers, works, tells, unites, lists}
+use Rattle.fl_cluster.specs.Turn.{Answers, works, sends, brings, no_room, never_sent, tells, unites, lists}
 use Rattle.fl_cluster.specs.declared.response.Response.{Response}
 use Rattle.fl_cluster.specs.declared.response.Response.TheVariants as response
 
@@ -64,18 +64,24 @@ result_no_list (makes next) e = absurd (cc)
 result_no_list (spends last) e = absurd (cc)
 
 -- nor is a line that makes something
-no_list : {table other : Table} {old : State} {said : Line} {answer : Answer} {new : State} → is_making said ≡ true → Answers table old said answer new → answer ≢ listed other
+no_list : {place : ℕ} {table other : Table} {old : State} {said : Line} {answer : Answer} {new : State} → is_making said ≡ true → Answers place table old said answer new → answer ≢ listed other
 no_list made (works w) e = result_no_list w.answered e
+no_list made (sends s) e = absurd (cc)
+no_list made (brings found w) e = absurd (cc)
+no_list made (no_room found) e = absurd (cc)
+no_list made (never_sent none) e = absurd (cc)
 no_list made tells e = absurd (cc)
 no_list made unites e = absurd (cc)
 no_list made lists e = absurd (cc)
 
 -- so that its answer is the same whatever the aliases are when it is written
-pub shown_apart : {old new : State} {said : Line} (table other : Table) (r : Response) → is_making said ≡ true → Answers table old said (shown (record { state = new; aliases = table }) r) new → Answers table old said (shown (record { state = new; aliases = other }) r) new
+pub shown_apart : {place : ℕ} {old new : State} {said : Line} (table other : Table) (r : Response) → is_making said ≡ true → Answers place table old said (shown (record { state = new; aliases = table }) r) new → Answers place table old said (shown (record { state = new; aliases = other }) r) new
 shown_apart table other response.Aliases made h = absurd (no_list made h refl)
 shown_apart table other response.Silence made h = h
 shown_apart table other (response.Reply reply) made h = h
 shown_apart table other (response.Named name) made h = h
+shown_apart table other (response.Sent number) made h = h
+shown_apart table other (response.Dropped refusal) made h = h
 shown_apart table other (response.Text node) made h = h
 shown_apart table other (response.Union registry) made h = h
 shown_apart table other (response.Refused refusal) made h = h

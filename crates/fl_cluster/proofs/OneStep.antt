@@ -1,5 +1,5 @@
 -- Where memory is not wanted, a job has one answer at its node.
-use Rattle.std.proofs.Common.{◌≡◌, ◌≢◌, ◌+◌, ◌≤◌, ◌∙◌, inl, inr, refl, sym, ap, subst, ℕ, Result, Err, arith}
+use Rattle.std.proofs.Common.{◌≡◌, ◌≢◌, ◌+◌, ◌≤◌, ◌∙◌, inl, inr, refl, sym, ap, subst, ℕ, Result, Ok, Err, arith}
 use Rattle.std.proofs.lemmas.Bool.{cases_lt}
 use Rattle.fl_labels.specs.SetBy.{SetBy, In}
 use Rattle.fl_labels.specs.NameOrder.{same_name}
@@ -10,12 +10,13 @@ use Rattle.fl_jobs.specs.declared.job.Job.{Job}
 use Rattle.fl_jobs.specs.declared.answer.Outcome.{Outcome}
 use Rattle.fl_jobs.specs.declared.answer.Refusal.{Refusal}
 use Rattle.fl_jobs.specs.declared.answer.Refusal.TheVariants.{Memory}
+use Rattle.fl_wire.specs.declared.packet.Packet.{Packet}
 use Rattle.fl_monitor.specs.Bench as bench
 use Rattle.fl_monitor.proofs.OneResult.{one_result}
 use Rattle.fl_cluster.specs.State.{NodeState}
-use Rattle.fl_cluster.specs.Answer.{Answer, named, refused}
+use Rattle.fl_cluster.specs.Answer.{Answer, silence, replied, named, sent, text, listed, refused, dropped, bad_line, IsStarved, on_arrival}
 use Rattle.fl_cluster.specs.LastName.{IsLast}
-use Rattle.fl_cluster.specs.NodeStep.{view_of, with_operation, IsNextName, AnswersResult, replies, refuses, makes, spends, Works}
+use Rattle.fl_cluster.specs.NodeStep.{view_of, with_operation, IsNextName, AnswersResult, replies, refuses, makes, spends, Works, Sends}
 
 -- one last name's number is no less than the other
 no_less : (s : SetBy op_cmp) (node l m : ℕ) → IsLast s node l → IsLast s node m → m ≤ l
@@ -70,12 +71,69 @@ one_work node job a b m n h k =
     let e = one_result (view_of node) node.bench job h.result k.result h.after k.after h.does k.does (ample h.answered) (ample k.answered) in
     one_answer h.answered (subst (λ after. AnswersResult node h.result after b n) (sym e.1) (subst (λ r. AnswersResult node r k.after b n) (sym e.0) k.answered))
 
--- nor is what is answered to a job
-ample_answer : {node : NodeState} {r : Result Outcome Refusal} {after : bench.State} {a : Answer} {m : NodeState} → AnswersResult node r after a m → a ≢ refused Memory
-ample_answer replies = λ e. cc
-ample_answer (refuses more) = λ e. more (cc)
-ample_answer (makes next) = λ e. cc
-ample_answer (spends last) = λ e. cc
+-- ---- a job that sends
 
-pub ample_work : {node : NodeState} {job : Job} {a : Answer} {m : NodeState} → Works node job a m → a ≢ refused Memory
-ample_work w = ample_answer w.answered
+no_send : {node : NodeState} {r : Result Outcome Refusal} {after : bench.State} {a : Answer} {m : NodeState} {packet : Packet} → AnswersResult node r after a m → r ≢ Ok (Outcome.Out packet)
+no_send replies = λ e. cc
+no_send (refuses more) = λ e. cc
+no_send (makes next) = λ e. cc
+no_send (spends last) = λ e. cc
+
+is_ok : {x : Outcome} → Ok x ≢ Err Memory
+is_ok e = absurd (cc)
+
+-- is not answered by the node
+pub work_or_send : (node : NodeState) (job : Job) (a : Answer) (packet : Packet) (m n : NodeState) → Works node job a m → Sends node job packet n → ⊥
+work_or_send node job a packet m n h k =
+    no_send h.answered (one_result (view_of node) node.bench job h.result (Ok (Outcome.Out packet)) h.after k.after h.does k.does (ample h.answered) is_ok).0
+
+abbrev ok_out : Packet → Result Outcome Refusal
+ok_out packet = Ok (Outcome.Out packet)
+
+-- and sends one packet
+pub one_send : (node : NodeState) (job : Job) (a b : Packet) (m n : NodeState) → Sends node job a m → Sends node job b n → (a ≡ b) × (m ≡ n)
+one_send node job a b m n h k =
+    let e = one_result (view_of node) node.bench job (Ok (Outcome.Out a)) (Ok (Outcome.Out b)) h.after k.after h.does k.does is_ok is_ok in
+    (same_packet a b e.0, h.left ∙ ap (λ after. record node { bench = after }) e.1 ∙ sym k.left)
+  where
+    same_packet : (x y : Packet) → ok_out x ≡ ok_out y → x ≡ y
+    same_packet x y e = cc
+
+-- ---- nor is what is answered to a job want of memory
+
+fed_answer : {node : NodeState} {r : Result Outcome Refusal} {after : bench.State} {a : Answer} {m : NodeState} → AnswersResult node r after a m → ¬ IsStarved a
+fed_answer replies (inl e) = absurd (cc)
+fed_answer replies (inr e) = absurd (cc)
+fed_answer (refuses more) (inl e) = more (cc)
+fed_answer (refuses more) (inr e) = absurd (cc)
+fed_answer (makes next) (inl e) = absurd (cc)
+fed_answer (makes next) (inr e) = absurd (cc)
+fed_answer (spends last) (inl e) = absurd (cc)
+fed_answer (spends last) (inr e) = absurd (cc)
+
+pub fed_work : {node : NodeState} {job : Job} {a : Answer} {m : NodeState} → Works node job a m → ¬ IsStarved a
+fed_work w = fed_answer w.answered
+
+-- a message that comes is said to be dropped where the job would be said to be refused
+from_arrival : (a : Answer) → IsStarved (on_arrival a) → IsStarved a
+from_arrival silence (inl e) = absurd (cc)
+from_arrival silence (inr e) = absurd (cc)
+from_arrival (replied reply) (inl e) = absurd (cc)
+from_arrival (replied reply) (inr e) = absurd (cc)
+from_arrival (named name) (inl e) = absurd (cc)
+from_arrival (named name) (inr e) = absurd (cc)
+from_arrival (sent number) (inl e) = absurd (cc)
+from_arrival (sent number) (inr e) = absurd (cc)
+from_arrival (text registry) (inl e) = absurd (cc)
+from_arrival (text registry) (inr e) = absurd (cc)
+from_arrival (listed table) (inl e) = absurd (cc)
+from_arrival (listed table) (inr e) = absurd (cc)
+from_arrival (refused refusal) (inl e) = absurd (cc)
+from_arrival (refused refusal) (inr e) = inl (let same : refusal ≡ Memory = cc in ap refused same)
+from_arrival (dropped refusal) (inl e) = absurd (cc)
+from_arrival (dropped refusal) (inr e) = inr e
+from_arrival (bad_line number) (inl e) = absurd (cc)
+from_arrival (bad_line number) (inr e) = absurd (cc)
+
+pub fed_arrival : {node : NodeState} {job : Job} {a : Answer} {m : NodeState} → Works node job a m → ¬ IsStarved (on_arrival a)
+fed_arrival {a} w h = fed_work w (from_arrival a h)

@@ -3,7 +3,9 @@ use Rattle.std.proofs.Common.{◌≡◌, ◌+◌, ◌⊎◌, inl, inr, sym, subs
 use Rattle.std.specs.FinMap as map
 use Rattle.std.specs.Ordering.{nat_cmp}
 use Rattle.fl_aliases.specs.Table.{Table}
+use Rattle.fl_wire.specs.declared.packet.Packet.{Packet}
 use Rattle.fl_jobs.specs.declared.job.Job.{Job}
+use Rattle.fl_jobs.specs.declared.job.Job.TheVariants.{Arrive}
 use Rattle.fl_jobs.specs.declared.answer.Refusal.{Refusal}
 use Rattle.fl_jobs.specs.declared.answer.Outcome.{Outcome}
 use Rattle.fl_monitor.specs.Bench as bench
@@ -11,14 +13,15 @@ use Rattle.fl_monitor.specs.Gifts.{given}
 use Rattle.fl_monitor.specs.Jobs.{Does}
 use Rattle.fl_monitor.specs.Orderly.{IsOrderly}
 use Rattle.fl_monitor.proofs.Orderly.{opened_orderly, does_orderly, settles_orderly}
+use Rattle.fl_monitor.proofs.Orders.{sending_leaves}
 use Rattle.fl_script.specs.declared.line.Line.{Line}
 use Rattle.fl_script.specs.declared.reading.Reading.{Reading}
 use Rattle.fl_script.specs.declared.reading.Reading.TheVariants as reading
-use Rattle.fl_cluster.specs.State.{State, NodeState, opened, start, node_or_opened, node_at, with_node, with_open}
+use Rattle.fl_cluster.specs.State.{State, NodeState, opened, start, node_or_opened, node_at, with_node, with_open, with_packet}
 use Rattle.fl_cluster.specs.Session.{Session, begun}
 use Rattle.fl_cluster.specs.Answer.{Answer}
-use Rattle.fl_cluster.specs.NodeStep.{view_of, AnswersResult, replies, refuses, makes, spends, Works}
-use Rattle.fl_cluster.specs.Turn.{Answers, works, tells, unites, lists, AnswersReading, Turn}
+use Rattle.fl_cluster.specs.NodeStep.{view_of, AnswersResult, replies, refuses, makes, spends, Works, Sends}
+use Rattle.fl_cluster.specs.Turn.{Answers, works, sends, brings, no_room, never_sent, tells, unites, lists, AnswersReading, Turn}
 use Rattle.fl_cluster.specs.Output.{Run}
 use Rattle.fl_cluster.proofs.Idle.{IsIdle, opened_idle, replied_idle, finished_idle}
 use Rattle.fl_cluster.proofs.NodePuts.{node_put}
@@ -43,11 +46,14 @@ module _ {number : ℕ} (node : NodeState) (job : Job) (h : IsOrdered number nod
   work_ordered : (a : Answer) (m : NodeState) → Works node job a m → IsOrdered number m.bench
   work_ordered a m w = result_ordered w.result w.after a m w.does w.answered
 
+  send_ordered : {packet : Packet} {m : NodeState} → Sends node job packet m → IsOrdered number m.bench
+  send_ordered s = subst (λ (x : NodeState). IsOrdered number x.bench) (sym s.left) (subst (IsOrdered number) (sym (sending_leaves s.does)) h)
+
 -- each node of the state has such a bench
 pub record HasOrder (s : State) : Type 0 where
   pub bench_is : (number : ℕ) → IsOrdered number (node_at s number).bench
 
-start_order : HasOrder start
+pub start_order : HasOrder start
 start_order = record { bench_is = λ number. subst (λ o. IsOrdered number (node_or_opened number o).bench) (sym (map.get-empty nat_cmp number)) (opened_ordered number) }
 
 with_order : (s : State) (number : ℕ) (node : NodeState) → HasOrder s → IsOrdered number node.bench → HasOrder (with_node s number node)
@@ -60,8 +66,15 @@ with_order s number node h k = record { bench_is = λ m. by_place m (node_put s 
 open_order : (s : State) (number : ℕ) → HasOrder s → HasOrder (with_open s number)
 open_order s number h = with_order s number (node_at s number) h (h.bench_is number)
 
-answers_order : {table : Table} {old : State} {l : Line} {a : Answer} {m : State} → HasOrder old → Answers table old l a m → HasOrder m
+packet_order : (s : State) (packet : Packet) → HasOrder s → HasOrder (with_packet s packet)
+packet_order s packet h = record { bench_is = h.bench_is }
+
+answers_order : {place : ℕ} {table : Table} {old : State} {l : Line} {a : Answer} {m : State} → HasOrder old → Answers place table old l a m → HasOrder m
 answers_order {old} {a = a} h (works {number} {job} {after} k) = with_order old number after h (work_ordered (node_at old number) job (h.bench_is number) a after k)
+answers_order {old} h (sends {number} {job} {packet} {after} k) = packet_order (with_node old number after) packet (with_order old number after h (send_ordered (node_at old number) job (h.bench_is number) k))
+answers_order {old} h (brings {number} {d} {answer} {after} found k) = with_order old number after h (work_ordered (node_at old number) (Arrive d) (h.bench_is number) answer after k)
+answers_order h (no_room found) = h
+answers_order h (never_sent none) = h
 answers_order {old} h (tells {number}) = open_order old number h
 answers_order {old} h (unites {first} {second}) = open_order (with_open old first) second (open_order old first h)
 answers_order h lists = h

@@ -15,12 +15,11 @@ use Rattle.fl_monitor.specs.Bench as bench
 use Rattle.fl_monitor.specs.Births.{IsChild, alone, of}
 use Rattle.fl_monitor.specs.Process.{owns}
 use Rattle.fl_monitor.specs.declared.process.Process.{Process}
-use Rattle.fl_script.specs.declared.line.Line.TheVariants as lines
 use Rattle.fl_cluster.specs.State.{node_or_opened, start}
 use Rattle.fl_cluster.specs.Session.{Session, begun}
 use Rattle.fl_cluster.specs.Answer.{Answer, replied}
 use Rattle.fl_cluster.specs.Living.{living, process_at}
-use Rattle.fl_cluster.specs.Lives.{Says}
+use Rattle.fl_cluster.specs.Lives.{HasDo}
 use Rattle.fl_cluster.specs.Output.{Run}
 use Rattle.fl_cluster.specs.Owned.{Gives, born, WasGiven}
 use Rattle.fl_cluster.specs.Turn.{Turn}
@@ -57,14 +56,14 @@ module _ (pid : Pid) (c : Cap) where
   -- this line gave it
   record GivenAt (old : Session) (line : List ℕ) (a : Answer) : Type 0 where
     job : Job
-    says : Says old line (lines.Job pid.node job)
+    does : HasDo old line pid.node job
     gives : Gives job a pid c
 
   at_owned : {old : Session} {line : List ℕ} {a : Answer} {after : bench.State} → TurnAt old line a pid.node after → OwnedBy (map.get after.processes pid) → OwnedBy (living old.state pid) ⊎ GivenAt old line a
   at_owned (rests e) h = inl (subst (λ (x : bench.State). OwnedBy (map.get x.processes pid)) e h)
   at_owned (works_at job says l) h = elim (fate_owned (fate_at pid l) h) [
     | inl old ↦ inl old
-    | inr gives ↦ inr (record { job = job; says = says; gives = gives })
+    | inr gives ↦ inr (record { job = job; does = says; gives = gives })
   ]
 
   turn_owned : (number : ℕ) (old : Session) (line : List ℕ) (a : Answer) (new : Session) → Turn number old line a new → OwnedBy (living new.state pid) → OwnedBy (living old.state pid) ⊎ GivenAt old line a
@@ -73,7 +72,7 @@ module _ (pid : Pid) (c : Cap) where
   -- ---- over a run
 
   given_first : (number : ℕ) (old : Session) (l : List ℕ) (ls : List (List ℕ)) (b : Answer) (bs : List Answer) → GivenAt old l b → WasGiven number old (l ∷ ls) (b ∷ bs) pid c
-  given_first number old l ls b bs g = record { first = []; line = l; later = ls; script_is = refl; front = []; answer = b; rest = bs; answers_are = refl; mid = old; run = refl; job = g.job; says = g.says; gives = g.gives }
+  given_first number old l ls b bs g = record { first = []; line = l; later = ls; script_is = refl; front = []; answer = b; rest = bs; answers_are = refl; mid = old; run = refl; job = g.job; does = g.does; gives = g.gives }
 
   given_later : (number : ℕ) (old mid : Session) (l : List ℕ) (ls : List (List ℕ)) (b : Answer) (bs : List Answer) → Turn number old l b mid → WasGiven (number + 1) mid ls bs pid c → WasGiven number old (l ∷ ls) (b ∷ bs) pid c
   given_later number old mid l ls b bs turn g = record {
@@ -88,7 +87,7 @@ module _ (pid : Pid) (c : Cap) where
     mid = g.mid;
     run = (mid, turn, g.run);
     job = g.job;
-    says = g.says;
+    does = g.does;
     gives = g.gives;
   }
 

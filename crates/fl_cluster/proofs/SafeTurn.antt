@@ -5,10 +5,11 @@ use Rattle.fl_labels.specs.Name.{name_cmp}
 use Rattle.fl_labels.specs.SetBy.{SetBy}
 use Rattle.fl_labels.specs.declared.pid.Pid.{Pid}
 use Rattle.fl_aliases.specs.Table.{Table}
+use Rattle.fl_wire.specs.declared.packet.Packet.{Packet}
 use Rattle.fl_jobs.specs.declared.job.Side.{Side}
 use Rattle.fl_jobs.specs.declared.job.Act.TheVariants.{Relabel}
 use Rattle.fl_jobs.specs.declared.job.Job.{Job}
-use Rattle.fl_jobs.specs.declared.job.Job.TheVariants.{By}
+use Rattle.fl_jobs.specs.declared.job.Job.TheVariants.{By, Arrive}
 use Rattle.fl_jobs.specs.declared.answer.Reply.TheVariants.{Done}
 use Rattle.fl_jobs.specs.declared.answer.Outcome.{Outcome}
 use Rattle.fl_jobs.specs.declared.answer.Refusal.{Refusal}
@@ -17,16 +18,17 @@ use Rattle.fl_monitor.specs.Following.{Follows}
 use Rattle.fl_monitor.specs.Jobs.{Does}
 use Rattle.fl_monitor.specs.Orderly.{IsOrderly}
 use Rattle.fl_monitor.proofs.Following.{follows_same, follows_does, follows_finished, Set, does_set, set_is_no_order}
+use Rattle.fl_monitor.proofs.Orders.{sending_leaves}
 use Rattle.fl_script.specs.declared.line.Line.{Line}
 use Rattle.fl_script.specs.declared.line.Line.TheVariants as line
 use Rattle.fl_script.specs.declared.reading.Reading.{Reading}
 use Rattle.fl_script.specs.declared.reading.Reading.TheVariants as reading
 use Rattle.fl_script.proofs.OneReading.{one_reading}
-use Rattle.fl_cluster.specs.State.{State, NodeState, node_at, with_node}
+use Rattle.fl_cluster.specs.State.{State, NodeState, node_at, with_node, with_open}
 use Rattle.fl_cluster.specs.Session.{Session}
 use Rattle.fl_cluster.specs.Answer.{Answer, replied}
-use Rattle.fl_cluster.specs.NodeStep.{view_of, AnswersResult, replies, refuses, makes, spends, Works}
-use Rattle.fl_cluster.specs.Turn.{Answers, works, tells, unites, lists, AnswersReading, Turn}
+use Rattle.fl_cluster.specs.NodeStep.{view_of, AnswersResult, replies, refuses, makes, spends, Works, Sends}
+use Rattle.fl_cluster.specs.Turn.{Answers, works, sends, brings, no_room, never_sent, tells, unites, lists, AnswersReading, Turn}
 use Rattle.fl_cluster.specs.LabelChange.{SetsSafely, AsksForLabel}
 use Rattle.fl_cluster.specs.Living.{living, view_at}
 use Rattle.fl_cluster.proofs.Orderly.{HasOrder}
@@ -46,6 +48,9 @@ module _ (node : NodeState) (q : Pid) where
   follows_work : (job : Job) (a : Answer) (m : NodeState) {number : ℕ} → IsOrderly number node.bench → Works node job a m → To m
   follows_work job a m h w = follows_result job w.result w.after a m h w.does w.answered
 
+  follows_send : {job : Job} {packet : Packet} {m : NodeState} → Sends node job packet m → To m
+  follows_send s = subst To (sym s.left) (subst (λ (b : bench.State). Follows (view_of node) (map.get node.bench.processes q) (map.get b.processes q)) (sym (sending_leaves s.does)) (follows_same _ _))
+
 -- what becomes of q
 abbrev From : State → Pid → State → Type 0
 From old q new = Follows (view_at old q) (living old q) (living new q)
@@ -63,11 +68,15 @@ follows_put old number after q h = elim (node_put old number after q.node) [
   | inr e ↦ follows_node old (with_node old number after) q e
 ]
 
-follows_answer : {table : Table} {old : State} {l : Line} {a : Answer} {m : State} (q : Pid) → HasOrder old → Answers table old l a m → From old q m
+follows_answer : {place : ℕ} {table : Table} {old : State} {l : Line} {a : Answer} {m : State} (q : Pid) → HasOrder old → Answers place table old l a m → From old q m
 follows_answer {old} {a = a} q h (works {number} {job} {after} k) = follows_put old number after q (follows_work (node_at old number) q job a after (h.bench_is number).orderly k)
-follows_answer {old} q h (tells {number}) = follows_node old _ q (node_open old number q.node)
-follows_answer {old} q h (unites {first} {second}) = follows_node old _ q (node_open_both old first second q.node)
-follows_answer {old} q h lists = follows_node old _ q refl
+follows_answer {old} q h (sends {number} {after} k) = follows_put old number after q (follows_send (node_at old number) q k)
+follows_answer {old} q h (brings {number} {d} {answer} {after} found k) = follows_put old number after q (follows_work (node_at old number) q (Arrive d) answer after (h.bench_is number).orderly k)
+follows_answer {old} q h (no_room found) = follows_node old old q refl
+follows_answer {old} q h (never_sent none) = follows_node old old q refl
+follows_answer {old} q h (tells {number}) = follows_node old (with_open old number) q (node_open old number q.node)
+follows_answer {old} q h (unites {first} {second}) = follows_node old (with_open (with_open old first) second) q (node_open_both old first second q.node)
+follows_answer {old} q h lists = follows_node old old q refl
 
 follows_left : (old m : Session) (q : Pid) → m ≡ old → From old.state q m.state
 follows_left old m q e = follows_node old.state m.state q (ap (λ (s : Session). node_at s.state q.node) e)
@@ -97,13 +106,17 @@ module _ (pid : Pid) (side : Side) (label : SetBy name_cmp) where
   work_set : (node : NodeState) (a : Answer) (m : NodeState) → Works node Setting a m → a ≡ replied Done → Set (view_of node) node.bench pid side label m.bench
   work_set node a m w e = result_set node w.result w.after a m w.does w.answered e
 
-  answer_set : {table : Table} {old : State} {l : Line} {a : Answer} {m : State} (asked : ℕ) → Answers table old l a m → l ≡ line.Job asked Setting → a ≡ replied Done → SetsSafely (node_at old asked) pid side label (node_at m asked)
+  answer_set : {place : ℕ} {table : Table} {old : State} {l : Line} {a : Answer} {m : State} (asked : ℕ) → Answers place table old l a m → l ≡ line.Job asked Setting → a ≡ replied Done → SetsSafely (node_at old asked) pid side label (node_at m asked)
   answer_set {old} {a = a} asked (works {number} {job} {after} k) is e =
       let same : job ≡ Setting = cc in
       let here : number ≡ asked = cc in
       let s = work_set (node_at old number) a after (subst (λ j. Works (node_at old number) j a after) same k) e in
       subst (λ n. SetsSafely (node_at old n) pid side label (node_at (with_node old number after) n)) here
       (subst (SetsSafely (node_at old number) pid side label) (sym (node_here old number after)) (record { process = s.process; lived = s.lived; safe = s.safe; lives = s.lives }))
+  answer_set asked (sends s) is e = absurd (cc)
+  answer_set asked (brings found w) is e = absurd (cc)
+  answer_set asked (no_room found) is e = absurd (cc)
+  answer_set asked (never_sent none) is e = absurd (cc)
   answer_set asked tells is e = absurd (cc)
   answer_set asked unites is e = absurd (cc)
   answer_set asked lists is e = absurd (cc)

@@ -5,6 +5,7 @@ pub mod Naming
 pub mod AnswerText
 pub mod LastName
 pub mod NodeStep
+pub mod Worked
 pub mod Turn
 pub mod Output
 pub mod Served
@@ -16,4 +17,5 @@ pub mod Living
 pub mod LabelChange
 pub mod Lives
 pub mod Owned
+pub mod Sent
 pub mod Equal

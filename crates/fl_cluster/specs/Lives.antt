@@ -1,9 +1,11 @@
 -- Who a line bears, and who goes at one.
-use Rattle.std.specs.Prelude.{◌≡◌, ℕ, List, Option}
+use Rattle.std.specs.Prelude.{◌≡◌, ℕ, List, Option, Some}
 use Rattle.fl_labels.specs.declared.pid.Pid.{Pid}
+use Rattle.fl_wire.specs.declared.packet.Data.{Data}
+use Rattle.fl_wire.specs.declared.packet.Packet.TheVariants as packets
 use Rattle.fl_jobs.specs.declared.job.Act.TheVariants.{Exit}
 use Rattle.fl_jobs.specs.declared.job.Job.{Job}
-use Rattle.fl_jobs.specs.declared.job.Job.TheVariants.{By}
+use Rattle.fl_jobs.specs.declared.job.Job.TheVariants.{By, Arrive}
 use Rattle.fl_jobs.specs.declared.answer.Reply.TheVariants.{Made, Done}
 use Rattle.fl_monitor.specs.Births.{IsBirth}
 use Rattle.fl_monitor.specs.declared.process.Process.{Process}
@@ -11,7 +13,7 @@ use Rattle.fl_script.specs.Reading.{IsReading}
 use Rattle.fl_script.specs.declared.line.Line.{Line}
 use Rattle.fl_script.specs.declared.line.Line.TheVariants as lines
 use Rattle.fl_script.specs.declared.reading.Reading.TheVariants.{Means}
-use Rattle.fl_cluster.specs.State.{node_at}
+use Rattle.fl_cluster.specs.State.{node_at, packet_at}
 use Rattle.fl_cluster.specs.Session.{Session}
 use Rattle.fl_cluster.specs.Answer.{Answer, replied}
 use Rattle.fl_cluster.specs.Living.{view_at}
@@ -20,6 +22,11 @@ use Rattle.fl_cluster.specs.Living.{view_at}
 pub record Says (session : Session) (bytes : List ℕ) (line : Line) : Type 0 where
   pub alias : Option (List ℕ)
   pub reads : IsReading session.aliases bytes (Means line alias)
+
+-- the line has the node of this number do the job: it asks for it, or brings the message of a packet that was sent
+pub data HasDo (session : Session) (bytes : List ℕ) (number : ℕ) : Job → Type 0 where
+  asks : {job : Job} → Says session bytes (lines.Job number job) → HasDo session bytes number job
+  brings : {k : ℕ} {d : Data} → Says session bytes (lines.Deliver number k) → packet_at session.state.sent k ≡ Some (packets.Data d) → HasDo session bytes number (Arrive d)
 
 -- the line has the process's own node bear it under the next serial, and is answered with its identifier
 pub record IsBorn (old : Session) (bytes : List ℕ) (answer : Answer) (pid : Pid) (child : Process) : Type 0 where

@@ -1,15 +1,16 @@
 -- What a line's alias is to stand for.
 use Rattle.std.specs.Prelude.{◌≡◌, ◌≢◌, ◌++◌, ◌∷◌, [], ℕ, Bool, true, false, List, Option, None, Some, IsSome, is_some, if◌then◌else◌}
 use Rattle.std.specs.Map.{keys_of}
-use Rattle.fl_jobs.specs.declared.answer.Reply.TheVariants.{Made}
+use Rattle.fl_jobs.specs.declared.answer.Reply.TheVariants.{Made, Opened}
 use Rattle.fl_aliases.specs.Table.{Table, target_of, retargeted}
 use Rattle.fl_aliases.specs.declared.target.Target.{Target}
-use Rattle.fl_aliases.specs.declared.target.Target.TheVariants.{Process, Operation}
+use Rattle.fl_aliases.specs.declared.target.Target.TheVariants.{Process, Operation, Endpoint}
 use Rattle.fl_cluster.specs.Answer.{Answer, replied, named}
 
--- the process or the operation that the answer says was made
+-- the process, the endpoint or the operation that the answer says was made
 abbrev pub made_by : Answer → Option Target
 made_by (replied (Made pid)) = Some (Process pid)
+made_by (replied (Opened endpoint)) = Some (Endpoint endpoint)
 made_by (named name) = Some (Operation name)
 made_by answer = None
 

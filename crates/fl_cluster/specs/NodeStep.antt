@@ -14,6 +14,7 @@ use Rattle.fl_jobs.specs.declared.answer.Refusal.TheVariants.{NamesSpent, Memory
 use Rattle.fl_jobs.specs.declared.answer.Reply.{Reply}
 use Rattle.fl_jobs.specs.declared.answer.Outcome.{Outcome}
 use Rattle.fl_jobs.specs.declared.answer.Outcome.TheVariants as outcome
+use Rattle.fl_wire.specs.declared.packet.Packet.{Packet}
 use Rattle.fl_monitor.specs.Bench as bench
 use Rattle.fl_monitor.specs.Gifts.{finished, cancelled}
 use Rattle.fl_monitor.specs.Jobs.{Does}
@@ -53,3 +54,9 @@ pub record Works (node : NodeState) (job : Job) (answer : Answer) (new : NodeSta
   pub after : bench.State
   pub does : Does (view_of node) node.bench job result after
   pub answered : AnswersResult node result after answer new
+
+-- the node does a job that sends the packet, and is left so
+pub record Sends (node : NodeState) (job : Job) (packet : Packet) (new : NodeState) : Type 0 where
+  pub after : bench.State
+  pub does : Does (view_of node) node.bench job (Ok (outcome.Out packet)) after
+  pub left : new ≡ record node { bench = after }

@@ -1,11 +1,10 @@
 -- What is written for a script.
-use Rattle.std.specs.Prelude.{◌≡◌, ◌≢◌, ◌+◌, ◌++◌, ◌∷◌, [], ℕ, List, Option, if◌then◌else◌}
+use Rattle.std.specs.Prelude.{◌≡◌, ◌+◌, ◌++◌, ◌∷◌, [], ℕ, List, Option, if◌then◌else◌}
 use Rattle.std.specs.List.{flat_map, list_any}
 use Rattle.std.specs.Str.Lines.{lines}
 use Rattle.std.specs.Io.KnownBytes.{Appends}
 use Rattle.fl_cluster.specs.Session.{Session, begun}
-use Rattle.fl_jobs.specs.declared.answer.Refusal.TheVariants.{Memory}
-use Rattle.fl_cluster.specs.Answer.{Answer, refused, is_bad}
+use Rattle.fl_cluster.specs.Answer.{Answer, IsStarved, is_bad}
 use Rattle.fl_cluster.specs.AnswerText.{text_of}
 use Rattle.fl_cluster.specs.Turn.{Turn}
 
@@ -45,4 +44,4 @@ pub record WritesFront (old new : Option (List ℕ)) (script : List ℕ) : Type 
 -- no answer is for want of memory
 abbrev pub IsAmple : List Answer → Type 0
 IsAmple [] = Unit {0}
-IsAmple (answer ∷ answers) = (answer ≢ refused Memory) × IsAmple answers
+IsAmple (answer ∷ answers) = (¬ IsStarved answer) × IsAmple answers

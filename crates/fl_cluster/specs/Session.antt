@@ -5,7 +5,7 @@ use Rattle.fl_aliases.specs.Table.{Table}
 use Rattle.fl_aliases.specs.contracts.target.Target as targets_row
 use Rattle.fl_cluster.specs.State.{State, start, coded_state}
 
--- the nodes that are open, and the aliases that are set
+-- what the lines have made, and the aliases that are set
 pub record Session : Type 0 where
   pub state : State
   pub aliases : Table

@@ -1,6 +1,7 @@
 -- What the lines of a script have made.
-use Rattle.std.specs.Prelude.{ℕ, Bool, is_some, refl}
-use Rattle.std.specs.Coded.{Coded, code_by, coded×, coded_ℕ}
+use Rattle.std.specs.Prelude.{◌++◌, ◌∷◌, [], ℕ, zero, suc, Bool, List, is_some, refl}
+use Rattle.std.specs.Coded.{Coded, code_by, coded×, coded_ℕ, coded_list}
+use Rattle.std.specs.List.{slice_get}
 use Rattle.std.specs.FinMap as map
 use Rattle.std.specs.Ordering.{nat_cmp}
 use Rattle.std.specs.declared.option.Option.{Option}
@@ -8,6 +9,8 @@ use Rattle.std.specs.declared.option.Option.TheVariants.{None, Some}
 use Rattle.fl_labels.specs.SetBy as set
 use Rattle.fl_ops.specs.OpOrder.{op_cmp}
 use Rattle.fl_ops.specs.OpLaws.{coded_op}
+use Rattle.fl_wire.specs.declared.packet.Packet.{Packet}
+use Rattle.fl_wire.specs.contracts.packet.Packet as packets_row
 use Rattle.fl_monitor.specs.Bench as bench
 
 -- a node: its number, its operations, and its processes
@@ -16,9 +19,10 @@ pub record NodeState : Type 0 where
   pub registry : set.SetBy op_cmp
   pub bench : bench.State
 
--- the nodes that are open, by their numbers
+-- the nodes that are open, by their numbers, and the packets that were sent, in their order
 pub record State : Type 0 where
   pub nodes : map.FinMap nat_cmp NodeState
+  pub sent : List Packet
 
 -- a node at its first opening: no operation, and one bench, with no process
 abbrev pub opened : ℕ → NodeState
@@ -26,7 +30,7 @@ opened number = record { number = number; registry = set.empty; bench = bench.op
 
 -- before the first line
 abbrev pub start : State
-start = record { nodes = map.empty }
+start = record { nodes = map.empty; sent = [] }
 
 -- some line has named the node of this number
 abbrev pub is_open : State → ℕ → Bool
@@ -43,11 +47,20 @@ node_at state number = node_or_opened number (map.get state.nodes number)
 
 -- the node of this number is now this one
 abbrev pub with_node : State → ℕ → NodeState → State
-with_node state number node = record { nodes = map.insert state.nodes number node }
+with_node state number node = record state { nodes = map.insert state.nodes number node }
 
 -- the node of this number is open, and else all is as before
 abbrev pub with_open : State → ℕ → State
 with_open state number = with_node state number (node_at state number)
+
+-- the packet was sent as the last one
+abbrev pub with_packet : State → Packet → State
+with_packet state packet = record state { sent = state.sent ++ packet ∷ [] }
+
+-- the packet of this number, counted from 1, if so many were sent
+abbrev pub packet_at : List Packet → ℕ → Option Packet
+packet_at sent zero = None
+packet_at sent (suc before) = slice_get sent before
 
 -- states are stored as the tuples of their fields
 abbrev pub coded_node : Coded NodeState
@@ -57,5 +70,12 @@ coded_node =
     (λ t. record { number = t.0; registry = t.1.0; bench = t.1.1 })
     (λ _. refl)
 
+abbrev pub coded_sent : Coded (List Packet)
+coded_sent = coded_list (packets_row.the_row).coded
+
 abbrev pub coded_state : Coded State
-coded_state = code_by (map.FinMap nat_cmp NodeState) (map.code coded_ℕ coded_node) (λ s. s.nodes) (λ n. record { nodes = n }) (λ _. refl)
+coded_state =
+    code_by (map.FinMap nat_cmp NodeState × List Packet) (coded× (map.code coded_ℕ coded_node) coded_sent)
+    (λ s. (s.nodes, s.sent))
+    (λ t. record { nodes = t.0; sent = t.1 })
+    (λ _. refl)

@@ -7,7 +7,7 @@ ghost use Rattle.fl_cluster.specs.AnswerText.{text_of};
 
 use crate::response::Response;
 use crate::session::Session;
-use fl_answers::text::{write_name, write_refusal, write_reply};
+use fl_answers::text::{write_dropped, write_name, write_refusal, write_reply, write_sent};
 use fl_sink::sink::{Sink, WriteFault};
 use itoa::Buffer;
 use std::io::Write;
@@ -26,10 +26,12 @@ pub fn write_response<W: Write>(
         Response::Silence => sink.put_all(output, &[]),
         Response::Reply(reply) => write_reply(reply, sink, output),
         Response::Named(name) => write_name(b"ok ", *name, sink, output),
+        Response::Sent(number) => write_sent(*number, sink, output),
         Response::Text(node) => session.nodes().write_text(*node, sink, output),
         Response::Union(registry) => registry.write_text(sink, output),
         Response::Aliases => session.aliases().write_text(sink, output),
         Response::Refused(refusal) => write_refusal(*refusal, sink, output),
+        Response::Dropped(refusal) => write_dropped(*refusal, sink, output),
         Response::BadLine(number) => write_bad_line(*number, sink, output),
     }
 }

@@ -8,10 +8,12 @@ ghost use Rattle.fl_labels.specs.declared.cap.Cap.{Cap};
 ghost use Rattle.fl_labels.specs.declared.name.Name.{Name};
 ghost use Rattle.fl_labels.specs.declared.pid.Pid.{Pid};
 ghost use Rattle.fl_aliases.specs.declared.target.Target.{Target};
+ghost use Rattle.fl_wire.specs.declared.packet.Data.{Data};
+ghost use Rattle.fl_wire.specs.declared.packet.Packet.TheVariants as packets;
 ghost use Rattle.fl_ops.specs.Logins.{IsFirstLogin};
 ghost use Rattle.fl_ops.specs.declared.digest.Digest.{Digest};
 ghost use Rattle.fl_jobs.specs.declared.answer.Refusal.TheVariants.{Busy};
-ghost use Rattle.fl_jobs.specs.declared.answer.Reply.TheVariants.{Done};
+ghost use Rattle.fl_jobs.specs.declared.answer.Reply.TheVariants.{Arrived, Done};
 ghost use Rattle.fl_jobs.specs.declared.job.Side.{Side};
 ghost use Rattle.fl_jobs.specs.declared.job.Act.TheVariants.{Ask};
 ghost use Rattle.fl_jobs.specs.declared.job.Job.TheVariants.{By, Member};
@@ -22,9 +24,9 @@ ghost use Rattle.fl_monitor.specs.declared.process.Process.{Process};
 ghost use Rattle.fl_script.specs.Reading.{IsReading};
 ghost use Rattle.fl_script.specs.declared.line.Line.{Line};
 ghost use Rattle.fl_script.specs.declared.reading.Reading.TheVariants.{Means};
-ghost use Rattle.fl_cluster.specs.State.{NodeState, node_at};
+ghost use Rattle.fl_cluster.specs.State.{NodeState, node_at, packet_at};
 ghost use Rattle.fl_cluster.specs.Session.{Session, begun};
-ghost use Rattle.fl_cluster.specs.Answer.{Answer, refused, replied};
+ghost use Rattle.fl_cluster.specs.Answer.{Answer, dropped, refused, replied};
 ghost use Rattle.fl_cluster.specs.Naming.{SetsAlias, made_by};
 ghost use Rattle.fl_cluster.specs.Turn.{Turn};
 ghost use Rattle.fl_cluster.specs.Output.{IsAmple, Run};
@@ -34,6 +36,7 @@ ghost use Rattle.fl_cluster.specs.LabelChange.{AsksForLabel, SetsSafely, SetsSaf
 ghost use Rattle.fl_cluster.specs.Living.{HasTag, Lacks, living, process_at, view_at};
 ghost use Rattle.fl_cluster.specs.Lives.{Exits, IsBorn};
 ghost use Rattle.fl_cluster.specs.Owned.{WasGiven};
+ghost use Rattle.fl_cluster.specs.Sent.{Delivers, WasSent};
 ghost use Rattle.fl_cluster.specs.NodeStep.{Works, view_of};
 ghost use Rattle.fl_cluster.specs.Equal.{SameMembers};
 
@@ -53,10 +56,10 @@ pub fn law_own_nodes()
     ensures { (before : List (List ℕ)) (answers : List Answer) (end : Session) (node : ℕ) (pid : Pid) (process : Process) → Run 1 begun before answers end → process_at (node_at end.state node) pid ≡ Some process → pid.node ≡ node }
 {}
 
-/// Between two lines of a script no process is busy, so that no line is refused for one that is.
+/// Between two lines of a script no process is busy, so that no line is refused, nor a message dropped, for one that is.
 pub fn law_idle()
     ensures idle { (before : List (List ℕ)) (answers : List Answer) (end : Session) (node : ℕ) (pid : Pid) (process : Process) → Run 1 begun before answers end → process_at (node_at end.state node) pid ≡ Some process → is_busy process ≡ false }
-    ensures answered { (before : List (List ℕ)) (answers : List Answer) (old new : Session) (line : List ℕ) (answer : Answer) → Run 1 begun before answers old → Turn (1 + length before) old line answer new → answer ≢ refused Busy }
+    ensures answered { (before : List (List ℕ)) (answers : List Answer) (old new : Session) (line : List ℕ) (answer : Answer) → Run 1 begun before answers old → Turn (1 + length before) old line answer new → (answer ≢ refused Busy) × (answer ≢ dropped Busy) }
 {}
 
 /// A line that sets a label is answered `ok` only where the process had in effect what this takes, at the line's node, under its registry of that
@@ -90,10 +93,18 @@ pub fn law_exits()
         Turn (1 + length before) old line answer new → living old.state pid ≡ Some process → living new.state pid ≡ None → Exits old line answer pid }
 {}
 
-/// What a process owns was given to it, by a line of the script: its own operation gave it, it was born with it, or it entered it.
+/// What a process owns was given to it, by a line of the script: its own operation gave it, it was born with it, it entered it, or it came in a
+/// message.
 pub fn law_owned()
     ensures { (lines : List (List ℕ)) (answers : List Answer) (end : Session) (pid : Pid) (process : Process) (c : Cap) →
         Run 1 begun lines answers end → living end.state pid ≡ Some process → In (owns process) c → WasGiven 1 begun lines answers pid c }
+{}
+
+/// A message comes to a process only by a line that brings it the message of a packet that was sent to it, which an earlier line sent: that of its sender, who
+/// had an open endpoint to write to with the labels of the packet, and had in effect what the message carries.
+pub fn law_sent()
+    ensures delivered { (number : ℕ) (old new : Session) (line : List ℕ) (pid : Pid) → Turn number old line (replied (Arrived pid)) new → Delivers old line pid }
+    ensures sent { (before : List (List ℕ)) (answers : List Answer) (old : Session) (k : ℕ) (d : Data) → Run 1 begun before answers old → packet_at old.state.sent k ≡ Some (packets.Data d) → WasSent 1 begun before answers k d }
 {}
 
 /// As long as a process is there, a tag stays in its label where the process never has the tag's minus in effect, and out of it where it never has

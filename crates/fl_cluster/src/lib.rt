@@ -9,6 +9,7 @@ pub mod node;
 pub mod nodes;
 pub mod response;
 pub mod run;
+pub mod sent;
 pub mod session;
 pub mod split;
 pub mod stream;

@@ -5,9 +5,10 @@ ghost use Rattle.fl_cluster.specs.State.{opened};
 ghost use Rattle.fl_cluster.specs.Session.{Session};
 ghost use Rattle.fl_cluster.specs.Answer.{shown};
 ghost use Rattle.fl_cluster.specs.LastName.{IsLast};
-ghost use Rattle.fl_cluster.specs.NodeStep.{AnswersResult, IsNextName, Works, with_operation, without_order};
+ghost use Rattle.fl_cluster.specs.NodeStep.{AnswersResult, IsNextName, with_operation, without_order};
+ghost use Rattle.fl_cluster.specs.Worked.{Worked};
 
-use crate::response::Response;
+use crate::response::{Response, Work};
 use fl_closure::index::Index;
 use fl_jobs::answer::{Outcome, Refusal};
 use fl_jobs::job::Job;
@@ -71,15 +72,16 @@ impl Node {
         self.index.ops()
     }
 
-    /// Does a job, and gives a new operation its name. Want of memory leaves the node.
-    pub fn work(&mut self, alloc: Global, job: Job) -> Result<Response, AllocError>
-        ensures ok { IfOk result (λ response. (session : Session) → Works self.old job (shown session response) self.new) }
+    /// Does a job, and gives a new operation its name. A packet that it sends is for the caller to keep. Want of memory leaves the node.
+    pub fn work(&mut self, alloc: Global, job: Job) -> Result<Work, AllocError>
+        ensures ok { IfOk result (λ work. Worked self.old job work self.new) }
         ensures err { OnErr result (self.new ≡ self.old) }
     {
         match self.bench.job(alloc, &mut self.index, job) {
-            Ok(Outcome::Reply(reply)) => Ok(Response::Reply(reply)),
-            Ok(Outcome::Order(body, pid)) => self.order(body, pid),
-            Err(refusal) => refused(refusal),
+            Ok(Outcome::Reply(reply)) => Ok(Work::Answer(Response::Reply(reply))),
+            Ok(Outcome::Order(body, pid)) => Ok(Work::Answer(self.order(body, pid)?)),
+            Ok(Outcome::Out(packet)) => Ok(Work::Packet(packet)),
+            Err(refusal) => Ok(Work::Answer(refused(refusal)?)),
         }
     }
 

@@ -1,30 +1,34 @@
-//! The nodes of a script, line by line.
-ghost use Rattle.std.specs.Prelude.{◌≡◌, ◌<◌, All, IfOk, MatchOption, OnErr, OnOk, false, not};
+//! The nodes of a script and the packets between them, line by line.
+ghost use Rattle.std.specs.Prelude.{◌≡◌, ◌+◌, ◌<◌, All, IfOk, MatchOption, OnErr, OnOk, ℕ, false, length, not};
 ghost use Rattle.std.specs.FinMap as map;
 ghost use Rattle.fl_labels.specs.SetBy as set;
 ghost use Rattle.fl_aliases.specs.Table.{Table};
 ghost use Rattle.fl_opset.specs.RegistryText.{registry_text};
 ghost use Rattle.fl_sink.specs.Sink.{Cuts, Passes};
 ghost use Rattle.fl_script.specs.Grammar.{nodes_of};
-ghost use Rattle.fl_cluster.specs.State.{is_open, node_at, start, with_open};
+ghost use Rattle.fl_cluster.specs.State.{is_open, node_at, start, with_open, with_packet};
 ghost use Rattle.fl_cluster.specs.Answer.{shown};
 ghost use Rattle.fl_cluster.specs.Turn.{Answers};
 
 use crate::node::Node;
-use crate::response::Response;
+use crate::response::{Response, Work};
+use crate::sent::Sent;
+use fl_jobs::answer::Refusal;
 use fl_jobs::job::Job;
 use fl_opset::set::OpSet;
 use fl_script::line::Line;
 use fl_sink::sink::{Sink, WriteFault};
+use fl_wire::packet::Packet;
 use std::alloc::{AllocError, Global};
 use std::collections::BTreeMap;
 use std::io::Write;
 use std::marker::Model;
 
-/// The nodes of a script by their numbers. Each has its own registry, and is opened by the first line that names it.
+/// The nodes of a script by their numbers, and the packets that they sent. Each node has its own registry, and is opened by the first line that names it.
 #[derive(Debug, Drop)]
 pub struct Nodes {
     all: BTreeMap<u16, Node>,
+    sent: Sent,
 }
 
 impl Model for Nodes {
@@ -35,27 +39,29 @@ impl Model for Nodes {
 
     ghost coded = { coded_state };
 
-    ghost view = { λ n. record { nodes = map.from_entries n.all.entries } };
+    ghost view = { λ n. record { nodes = map.from_entries n.all.entries; sent = n.sent } };
 }
 
 impl Nodes {
-    /// None, before the first line. Takes no memory.
+    /// No node and no packet, before the first line. Takes no memory.
     pub fn new(alloc: Global) -> Self
         ensures { result ≡ start }
     {
         Nodes {
             all: BTreeMap::new(alloc),
+            sent: Sent::new(alloc),
         }
     }
 
-    /// Answers a line, whatever the aliases are. Want of memory leaves all as it was: a node that the line would open is then not open.
-    pub fn answer(&mut self, alloc: Global, line: Line) -> Result<Response, AllocError>
+    /// Answers the line in this place, whatever the aliases are. Want of memory leaves all as it was: a node that the line would open is then not open.
+    pub fn answer(&mut self, alloc: Global, place: u64, line: Line) -> Result<Response, AllocError>
         requires { All (λ node. 0 < node) (nodes_of line) }
-        ensures ok { IfOk result (λ response. (aliases : Table) → Answers aliases self.old line (shown (record { state = self.new; aliases = aliases }) response) self.new) }
+        ensures ok { IfOk result (λ response. (aliases : Table) → Answers place aliases self.old line (shown (record { state = self.new; aliases = aliases }) response) self.new) }
         ensures err { OnErr result (self.new ≡ self.old) }
     {
         match line {
             Line::Job { node, job } => self.work(alloc, node, job),
+            Line::Deliver { node, packet } => Ok(self.deliver(alloc, place, node, packet)),
             Line::Text { node } => self.tell(alloc, node),
             Line::Union { first, second } => self.unite(alloc, first, second),
             Line::Aliases => Ok(Response::Aliases),
@@ -65,31 +71,63 @@ impl Nodes {
     // Has the node do the job, and opens it where it is not open.
     fn work(&mut self, alloc: Global, number: u16, job: Job) -> Result<Response, AllocError>
         requires { 0 < number }
-        ensures ok { IfOk result (λ response. (aliases : Table) → Answers aliases self.old (Line.Job number job) (shown (record { state = self.new; aliases = aliases }) response) self.new) }
+        ensures ok { IfOk result (λ response. (place : ℕ) (aliases : Table) → Answers place aliases self.old (Line.Job number job) (shown (record { state = self.new; aliases = aliases }) response) self.new) }
         ensures err { OnErr result (self.new ≡ self.old) }
     {
         let Some(node) = self.all.get_mut(&number) else {
             return self.open_at_work(alloc, number, job);
         };
-        node.work(alloc, job)
+        match node.work(alloc, job)? {
+            Work::Answer(response) => Ok(response),
+            Work::Packet(packet) => self.send(packet),
+        }
+    }
+
+    // Keeps a packet as the last that was sent.
+    fn send(&mut self, packet: Packet) -> Result<Response, AllocError>
+        ensures ok { OnOk result (self.new ≡ with_packet self.old packet) }
+        ensures number { IfOk result (λ response. response ≡ Response.Sent (length self.old.sent + 1)) }
+        ensures err { OnErr result (self.new ≡ self.old) }
+    {
+        let number = self.sent.push(packet)?;
+        Ok(Response::Sent(number))
     }
 
     // Opens a node by the first line that names it, which has it do a job.
     fn open_at_work(&mut self, alloc: Global, number: u16, job: Job) -> Result<Response, AllocError>
         requires known { 0 < number }
         requires new { is_open self.old number ≡ false }
-        ensures ok { IfOk result (λ response. (aliases : Table) → Answers aliases self.old (Line.Job number job) (shown (record { state = self.new; aliases = aliases }) response) self.new) }
+        ensures ok { IfOk result (λ response. (place : ℕ) (aliases : Table) → Answers place aliases self.old (Line.Job number job) (shown (record { state = self.new; aliases = aliases }) response) self.new) }
         ensures err { OnErr result (self.new ≡ self.old) }
     {
         let mut node = Node::new(alloc, number);
-        let response = node.work(alloc, job)?;
+        let Work::Answer(response) = node.work(alloc, job)? else {
+            unreachable!("a new node has no process that sends");
+        };
         self.all.insert(number, node)?;
         Ok(response)
     }
 
+    // Has the node take the message of the packet of this number, which stays. Where there is no memory, the message is dropped.
+    fn deliver(&mut self, alloc: Global, place: u64, number: u16, packet: u32) -> Response
+        requires { 0 < number }
+        ensures { (aliases : Table) → Answers place aliases self.old (Line.Deliver number packet) (shown (record { state = self.new; aliases = aliases }) result) self.new }
+    {
+        let Some(Packet::Data(sent)) = self.sent.get(packet) else {
+            return Response::BadLine(place);
+        };
+        let Ok(message) = sent.copy(alloc) else {
+            return Response::Dropped(Refusal::Memory);
+        };
+        match self.work(alloc, number, Job::Arrive(message)) {
+            Ok(response) => response.of_arrival(),
+            Err(AllocError) => Response::Dropped(Refusal::Memory),
+        }
+    }
+
     fn tell(&mut self, alloc: Global, number: u16) -> Result<Response, AllocError>
         requires { 0 < number }
-        ensures ok { IfOk result (λ response. (aliases : Table) → Answers aliases self.old (Line.Text number) (shown (record { state = self.new; aliases = aliases }) response) self.new) }
+        ensures ok { IfOk result (λ response. (place : ℕ) (aliases : Table) → Answers place aliases self.old (Line.Text number) (shown (record { state = self.new; aliases = aliases }) response) self.new) }
         ensures err { OnErr result (self.new ≡ self.old) }
     {
         self.open(alloc, number)?;
@@ -100,7 +138,7 @@ impl Nodes {
     fn unite(&mut self, alloc: Global, first: u16, second: u16) -> Result<Response, AllocError>
         requires first { 0 < first }
         requires second { 0 < second }
-        ensures ok { IfOk result (λ response. (aliases : Table) → Answers aliases self.old (Line.Union first second) (shown (record { state = self.new; aliases = aliases }) response) self.new) }
+        ensures ok { IfOk result (λ response. (place : ℕ) (aliases : Table) → Answers place aliases self.old (Line.Union first second) (shown (record { state = self.new; aliases = aliases }) response) self.new) }
         ensures err { OnErr result (self.new ≡ self.old) }
     {
         let mut all = OpSet::new(alloc);
@@ -160,7 +198,7 @@ impl Nodes {
     }
 
     fn close(&mut self, number: u16)
-        ensures { self.new.nodes ≡ map.remove self.old.nodes number }
+        ensures { self.new ≡ record self.old { nodes = map.remove self.old.nodes number } }
     {
         self.all.remove(&number);
     }

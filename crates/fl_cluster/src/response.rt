@@ -5,6 +5,7 @@ use fl_aliases::target::Target;
 use fl_jobs::answer::{Refusal, Reply};
 use fl_labels::name::Name;
 use fl_opset::set::OpSet;
+use fl_wire::packet::Packet;
 
 /// What is answered to a line.
 #[derive(Debug, Drop)]
@@ -15,6 +16,8 @@ pub enum Response {
     Reply(Reply),
     /// The name of the operation that the line made.
     Named(Name),
+    /// The number of the packet that was sent.
+    Sent(u64),
     /// The lines of the operations of the node of this number, which are written from the node itself.
     Text(u16),
     /// The lines of these operations of two nodes.
@@ -23,13 +26,24 @@ pub enum Response {
     Aliases,
     /// The job was refused, and nothing changed.
     Refused(Refusal),
+    /// The message does not arrive, and nothing changed but that its node is open, where there was memory.
+    Dropped(Refusal),
     /// The line of this number is none of the script, and nothing changed.
     BadLine(u64),
 }
 
+/// What comes of a job at its node.
+#[derive(Debug, Drop)]
+pub enum Work {
+    /// It is answered.
+    Answer(Response),
+    /// It sends the packet.
+    Packet(Packet),
+}
+
 impl Response {
     ghost use Rattle.fl_cluster.specs.Session.{Session};
-    ghost use Rattle.fl_cluster.specs.Answer.{is_bad, shown};
+    ghost use Rattle.fl_cluster.specs.Answer.{is_bad, on_arrival, shown};
     ghost use Rattle.fl_cluster.specs.Naming.{made_by};
 
     /// Whether the line was none of the script.
@@ -39,14 +53,25 @@ impl Response {
         matches!(self, Response::BadLine(_))
     }
 
-    /// The process or the operation that the line made, for which its alias is to stand.
+    /// The process, the endpoint or the operation that the line made, for which its alias is to stand.
     pub fn made(&self) -> Option<Target>
         ensures { (session : Session) → result ≡ made_by (shown session self.now) }
     {
         match self {
             Response::Reply(Reply::Made(pid)) => Some(Target::Process(*pid)),
+            Response::Reply(Reply::Opened(endpoint)) => Some(Target::Endpoint(*endpoint)),
             Response::Named(name) => Some(Target::Operation(*name)),
             _ => None,
+        }
+    }
+
+    /// The same of a message that comes: where the job was refused, the message is dropped.
+    pub fn of_arrival(self) -> Self
+        ensures { (session : Session) → shown session result ≡ on_arrival (shown session self) }
+    {
+        match self {
+            Response::Refused(refusal) => Response::Dropped(refusal),
+            response => response,
         }
     }
 }

@@ -1,4 +1,4 @@
-//! The nodes of a script, and the aliases of what its lines made.
+//! What the lines of a script made, and the aliases of it.
 ghost use Rattle.std.specs.Prelude.{◌≡◌, ◌<◌, All, IfOk, IsSome, OnErr, Some, length, true};
 ghost use Rattle.fl_aliases.specs.Table.{Table, target_of};
 ghost use Rattle.fl_script.specs.Grammar.{nodes_of};
@@ -38,7 +38,7 @@ fn settle(aliases: &mut Aliases, alias: Alias, is_new: bool, made: Option<Target
     }
 }
 
-/// The nodes of a script by their numbers, and the aliases of what its lines made.
+/// The nodes of a script by their numbers with the packets that they sent, and the aliases of what its lines made.
 #[derive(Drop)]
 pub struct Session {
     nodes: Nodes,
@@ -56,7 +56,7 @@ impl Model for Session {
 }
 
 impl Session {
-    /// No node and no alias, before the first line. Takes no memory.
+    /// No node, no packet and no alias, before the first line. Takes no memory.
     pub fn new(alloc: Global) -> Self
         ensures { result ≡ begun }
     {
@@ -66,7 +66,7 @@ impl Session {
         }
     }
 
-    /// Its nodes.
+    /// Its nodes, with the packets that they sent.
     pub fn nodes(&self) -> &Nodes
         ensures { result.now ≡ self.now.state }
     {
@@ -105,27 +105,28 @@ impl Session {
             Reading::Quiet => Ok(Response::Silence),
             Reading::Bad => Ok(Response::BadLine(number)),
             Reading::Means { line, alias } => match alias {
-                None => self.nodes.answer(alloc, line),
-                Some(alias) => self.answer_named(alloc, line, alias),
+                None => self.nodes.answer(alloc, number, line),
+                Some(alias) => self.answer_named(alloc, number, line, alias),
             },
         }
     }
 
-    // Answers a line, and has the alias stand for what it made. The alias is placed first, so that there is room for it once something is made.
+    // Answers the line of this number, and has the alias stand for what it made. The alias is placed first, so that there is room for it once something is made.
     fn answer_named(
         &mut self,
         alloc: Global,
+        number: u64,
         line: Line,
         alias: Alias,
     ) -> Result<Response, AllocError>
         requires nodes { All (λ node. 0 < node) (nodes_of line) }
         requires makes { makes line ≡ true }
         requires room { length self.old.aliases < 1024 }
-        ensures ok { IfOk result (λ response. AnswersNamed self.old line (Some alias) (shown self.new response) self.new) }
+        ensures ok { IfOk result (λ response. AnswersNamed number self.old line (Some alias) (shown self.new response) self.new) }
         ensures err { OnErr result (self.new ≡ self.old) }
     {
         let is_new = self.aliases.place(alias, UNMADE)?;
-        match self.nodes.answer(alloc, line) {
+        match self.nodes.answer(alloc, number, line) {
             Ok(response) => {
                 settle(&mut self.aliases, alias, is_new, response.made());
                 Ok(response)

@@ -14,7 +14,7 @@ returns-in-Ok-clause-ok c =
     let set = placed _ _ _ _ _ c.in_ok-is_new.ensures.new c.in_ok-is_new.ensures.ok in
     rw (← c.self.view_is) (record {
       answered = shown_apart c.self.inside.aliases c.settle.new.aliases c.in-Ok.response c.requires.makes (c.in-Ok.ensures.ok c.self.inside.aliases);
-      named = c.settle.ensures c.self.inside.aliases set ∙ ap (renamed c.self.inside.aliases (Some c.args.alias)) (c.made.ensures _);
+      named = c.settle.ensures c.self.inside.aliases set ∙ ap (renamed c.self.inside.aliases (Some c.args.alias)) (c.made.ensures (record { state = c.answer.new.self; aliases = c.settle.new.aliases }));
     })
 
 pub returns-in-Err-clause-err : goal.returns-in-Err-clause-err
