@@ -4,6 +4,10 @@
 #[cfg(test)]
 mod rows;
 #[cfg(test)]
+mod rows_messages;
+#[cfg(test)]
 mod streams;
 #[cfg(test)]
 mod tests;
+#[cfg(test)]
+mod tests_messages;

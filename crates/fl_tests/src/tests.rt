@@ -14,7 +14,7 @@ use std::process::Abort;
 use std::test::Fail;
 
 /// The row as it stands, in pieces of all sizes, with each read and with each byte of writing failing once.
-fn check_row(rt: &(impl Abort + AllocGlobal), row: &Row) -> Result<(), Fail> {
+pub(crate) fn check_row(rt: &(impl Abort + AllocGlobal), row: &Row) -> Result<(), Fail> {
     check_once(rt, row)?;
     for piece in 1..=row.script.len() {
         check_pieces(rt, row, piece)?;
@@ -27,7 +27,7 @@ fn check_row(rt: &(impl Abort + AllocGlobal), row: &Row) -> Result<(), Fail> {
 }
 
 /// The row as it stands.
-fn check_once(rt: &(impl Abort + AllocGlobal), row: &Row) -> Result<(), Fail> {
+pub(crate) fn check_once(rt: &(impl Abort + AllocGlobal), row: &Row) -> Result<(), Fail> {
     let mut input = row.script;
     let mut output = Vec::new(rt.alloc());
     assert_eq!(rt; run(rt, &mut input, &mut output)?, row.status);
