@@ -32,7 +32,7 @@ use Rattle.fl_jobs.specs.declared.answer.Refusal.TheVariants.{NoProcess, Busy, N
 use Rattle.fl_jobs.specs.declared.answer.Outcome.{Outcome}
 use Rattle.fl_monitor.specs.Checks.{Check, refuse_if, with, with_found, ◌then◌}
 use Rattle.fl_monitor.specs.Channels.{channel_checks, arrival_checks}
-use Rattle.fl_monitor.specs.Guards.{grant_check, endpoint_check, endpoints_check, pair_check, entry_refusal}
+use Rattle.fl_monitor.specs.Guards.{grant_check, endpoint_check, pair_check, entry_refusal}
 use Rattle.fl_monitor.specs.Process.{newborn, owns, is_busy, child_of, receiving, effective}
 use Rattle.fl_monitor.specs.Bench.{State, opened, has_at, gone, born}
 use Rattle.fl_monitor.specs.Gifts.{given, finished}

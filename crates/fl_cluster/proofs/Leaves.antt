@@ -14,7 +14,6 @@ use Rattle.fl_labels.specs.declared.cap.Cap.{Cap}
 use Rattle.fl_labels.specs.declared.name.Name.{Name}
 use Rattle.fl_labels.specs.declared.pid.Pid.{Pid}
 use Rattle.fl_ops.specs.declared.op.Op.{Op}
-use Rattle.fl_wire.specs.declared.packet.Data.{Data}
 use Rattle.fl_wire.specs.declared.packet.Packet.{Packet}
 use Rattle.fl_ops.specs.declared.op.Body.{Body}
 use Rattle.fl_jobs.specs.declared.job.Act.{Act}
@@ -24,7 +23,7 @@ use Rattle.fl_jobs.specs.declared.job.Job.TheVariants.{Proc, By, Member, Arrive}
 use Rattle.fl_jobs.specs.declared.answer.Refusal.{Refusal}
 use Rattle.fl_jobs.specs.declared.answer.Refusal.TheVariants.{NoProcess}
 use Rattle.fl_jobs.specs.declared.answer.Reply.{Reply}
-use Rattle.fl_jobs.specs.declared.answer.Reply.TheVariants.{Made, Done, Entered, Arrived}
+use Rattle.fl_jobs.specs.declared.answer.Reply.TheVariants.{Made, Done, Entered}
 use Rattle.fl_jobs.specs.declared.answer.Outcome.{Outcome}
 use Rattle.fl_monitor.specs.Births.{IsBirth, alone, of}
 use Rattle.fl_monitor.specs.Bench as bench

@@ -24,3 +24,5 @@ pub mod Owned
 pub mod KeptTags
 pub mod Equals
 pub mod Packets
+pub mod Guards
+pub mod Arrivals

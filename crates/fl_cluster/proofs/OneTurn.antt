@@ -9,9 +9,9 @@ use Rattle.fl_script.specs.declared.line.Line.{Line}
 use Rattle.fl_script.specs.declared.reading.Reading.{Reading}
 use Rattle.fl_script.specs.declared.reading.Reading.TheVariants as reading
 use Rattle.fl_script.proofs.OneReading.{one_reading}
-use Rattle.fl_cluster.specs.State.{State, NodeState, node_at, packet_at, with_node, with_packet}
+use Rattle.fl_cluster.specs.State.{State, NodeState, node_at, with_node, with_packet}
 use Rattle.fl_cluster.specs.Session.{Session}
-use Rattle.fl_cluster.specs.Answer.{Answer, sent, IsStarved, on_arrival}
+use Rattle.fl_cluster.specs.Answer.{Answer, IsStarved, on_arrival}
 use Rattle.fl_cluster.specs.Naming.{made_by, renamed}
 use Rattle.fl_cluster.specs.Turn.{Answers, works, sends, brings, no_room, never_sent, tells, unites, lists, AnswersNamed, AnswersReading, Turn}
 use Rattle.fl_cluster.specs.NodeStep.{Works}

@@ -1,11 +1,10 @@
 -- What was sent, and what is delivered.
-use Rattle.std.proofs.Common.{◌≡◌, ◌<◌, ◌≤◌, ◌+◌, ◌++◌, ◌∙◌, ◌⊎◌, inl, inr, refl, sym, ap, subst, List, [], ◌∷◌, ℕ, zero, suc, length, get_or, Option, Some, None, Result, Ok, arith}
+use Rattle.std.proofs.Common.{◌≡◌, ◌<◌, ◌+◌, ◌++◌, ◌∙◌, ◌⊎◌, inl, inr, refl, sym, ap, subst, List, [], ◌∷◌, ℕ, zero, suc, length, get_or, Option, Some, None, Result, Ok, arith}
 use Rattle.std.proofs.lemmas.Bool.{cases_lt}
 use Rattle.std.proofs.lemmas.List.{get_or_append_left, length-append}
 use Rattle.std.proofs.lemmas.Option.{get_or_from_slice_get, slice_get-get_or, slice_get_past, slice_get_within}
 use Rattle.std.proofs.Math.Seq.{get_or-append_seam}
 use Rattle.std.specs.List.{slice_get}
-use Rattle.std.specs.FinMap as map
 use Rattle.fl_labels.specs.Found.{Within}
 use Rattle.fl_labels.specs.SetBy.{In}
 use Rattle.fl_labels.specs.declared.pid.Pid.{Pid}
@@ -22,7 +21,6 @@ use Rattle.fl_jobs.specs.declared.job.Channel as works_of
 use Rattle.fl_jobs.specs.declared.job.Channel.TheVariants.{Open, Tune, Close, Send, Take}
 use Rattle.fl_jobs.specs.declared.job.Job.{Job}
 use Rattle.fl_jobs.specs.declared.job.Job.TheVariants.{Proc, By, Member, Arrive}
-use Rattle.fl_jobs.specs.declared.answer.Reply.{Reply}
 use Rattle.fl_jobs.specs.declared.answer.Reply.TheVariants.{Arrived}
 use Rattle.fl_jobs.specs.declared.answer.Refusal.{Refusal}
 use Rattle.fl_jobs.specs.declared.answer.Outcome.{Outcome}
@@ -40,11 +38,11 @@ use Rattle.fl_script.specs.declared.line.Line.{Line}
 use Rattle.fl_script.specs.declared.line.Line.TheVariants as lines
 use Rattle.fl_script.specs.declared.reading.Reading.{Reading}
 use Rattle.fl_script.specs.declared.reading.Reading.TheVariants as reading
-use Rattle.fl_cluster.specs.State.{State, NodeState, node_at, packet_at, with_node, with_packet}
+use Rattle.fl_cluster.specs.State.{State, NodeState, node_at, packet_at}
 use Rattle.fl_cluster.specs.Session.{Session, begun}
 use Rattle.fl_cluster.specs.Answer.{Answer, silence, replied, named, sent, text, listed, refused, dropped, bad_line, on_arrival}
 use Rattle.fl_cluster.specs.NodeStep.{view_of, AnswersResult, replies, refuses, makes, spends, Works, Sends}
-use Rattle.fl_cluster.specs.Living.{living, process_at}
+use Rattle.fl_cluster.specs.Living.{process_at}
 use Rattle.fl_cluster.specs.Lives.{Says}
 use Rattle.fl_cluster.specs.Sent.{MaySend, WasSent, Delivers}
 use Rattle.fl_cluster.specs.Turn.{Answers, works, sends, brings, no_room, never_sent, tells, unites, lists, AnswersReading, Turn}
@@ -221,17 +219,34 @@ module _ (V : Op → Type 0) (b : bench.State) (pid : Pid) where
   does_arrival : {job : Job} {after : bench.State} → Does V b job (Ok (Outcome.Reply (Arrived pid))) after → IsArrival job pid
   does_arrival {job} {after} (passed h f) = effect_arrival job after f
 
-module _ (pid : Pid) where
-  result_arrival : (node : NodeState) (job : Job) (r : Result Outcome Refusal) (after : bench.State) (a : Answer) (m : NodeState) → Does (view_of node) node.bench job r after → AnswersResult node r after a m → a ≡ replied (Arrived pid) → IsArrival job pid
-  result_arrival node job r after a m d (replies {reply}) e =
-      let same : reply ≡ Arrived pid = cc in
-      does_arrival (view_of node) node.bench pid (subst (λ x. Does (view_of node) node.bench job (Ok (Outcome.Reply x)) after) same d)
-  result_arrival node job r after a m d (refuses more) e = absurd (cc)
-  result_arrival node job r after a m d (makes next) e = absurd (cc)
-  result_arrival node job r after a m d (spends last) e = absurd (cc)
+-- the node does the job, which brings the process a message
+pub record TakesIn (node : NodeState) (job : Job) (pid : Pid) : Type 0 where
+  pub after : bench.State
+  pub does : Does (view_of node) node.bench job (Ok (Outcome.Reply (Arrived pid))) after
 
-  work_arrival : {node : NodeState} {job : Job} {a : Answer} {m : NodeState} → Works node job a m → a ≡ replied (Arrived pid) → IsArrival job pid
-  work_arrival {node} {job} {a} {m} w e = result_arrival node job w.result w.after a m w.does w.answered e
+-- the line brings it the message of a packet that was sent, and its node takes it in
+pub record Comes (old : Session) (line : List ℕ) (pid : Pid) : Type 0 where
+  pub number : ℕ
+  pub k : ℕ
+  pub packet : Data
+  pub says : Says old line (lines.Deliver number k)
+  pub was_sent : packet_at old.state.sent k ≡ Some (packets.Data packet)
+  pub takes_in : TakesIn (node_at old.state number) (Arrive packet) pid
+
+module _ (pid : Pid) where
+  result_takes_in : (node : NodeState) (job : Job) (r : Result Outcome Refusal) (after : bench.State) (a : Answer) (m : NodeState) → Does (view_of node) node.bench job r after → AnswersResult node r after a m → a ≡ replied (Arrived pid) → TakesIn node job pid
+  result_takes_in node job r after a m d (replies {reply}) e =
+      let same : reply ≡ Arrived pid = cc in
+      record { after = after; does = subst (λ x. Does (view_of node) node.bench job (Ok (Outcome.Reply x)) after) same d }
+  result_takes_in node job r after a m d (refuses more) e = absurd (cc)
+  result_takes_in node job r after a m d (makes next) e = absurd (cc)
+  result_takes_in node job r after a m d (spends last) e = absurd (cc)
+
+  work_takes_in : {node : NodeState} {job : Job} {a : Answer} {m : NodeState} → Works node job a m → a ≡ replied (Arrived pid) → TakesIn node job pid
+  work_takes_in {node} {job} {a} {m} w e = result_takes_in node job w.result w.after a m w.does w.answered e
+
+  arrival_of : {node : NodeState} {job : Job} → TakesIn node job pid → IsArrival job pid
+  arrival_of {node} t = does_arrival (view_of node) node.bench pid t.does
 
   from_arrival : (a : Answer) → on_arrival a ≡ replied (Arrived pid) → a ≡ replied (Arrived pid)
   from_arrival silence e = absurd (cc)
@@ -258,29 +273,30 @@ module _ (pid : Pid) where
     asked_none : {n : ℕ} {job : Job} → Says old line (lines.Job n job) → IsArrival job pid → ⊥
     asked_none {n} says is = let reads = subst (λ j. Says old line (lines.Job n j)) is.job_is says in said_none old.aliases n is.arriving reads.alias _ reads.reads.said
 
-    brought : {number k : ℕ} {d : Data} → Says old line (lines.Deliver number k) → packet_at old.state.sent k ≡ Some (packets.Data d) → IsArrival (Arrive d) pid → Delivers old line pid
-    brought {number} {k} {d} says found is =
-        let same : is.arriving ≡ d = same_data (sym is.job_is) in
-        record { number = number; k = k; packet = d; says = says; was_sent = found; receiver_is = is.receiver_is ∙ ap (λ (x : Data). x.receiver) same }
-      where
-        same_data : {x y : Data} → Arrive x ≡ Arrive y → x ≡ y
-        same_data e = cc
+    answers_comes : {place : ℕ} {l : Line} {a : Answer} {m : State} → Says old line l → Answers place old.aliases old.state l a m → a ≡ replied (Arrived pid) → Comes old line pid
+    answers_comes says (works w) e = absurd (asked_none says (arrival_of (work_takes_in w e)))
+    answers_comes says (sends s) e = absurd (cc)
+    answers_comes says (brings {number} {k} {d} {answer} found w) e = record { number = number; k = k; packet = d; says = says; was_sent = found; takes_in = work_takes_in w (from_arrival answer e) }
+    answers_comes says (no_room found) e = absurd (cc)
+    answers_comes says (never_sent none) e = absurd (cc)
+    answers_comes says tells e = absurd (cc)
+    answers_comes says unites e = absurd (cc)
+    answers_comes says lists e = absurd (cc)
 
-    answers_delivers : {place : ℕ} {l : Line} {a : Answer} {m : State} → Says old line l → Answers place old.aliases old.state l a m → a ≡ replied (Arrived pid) → Delivers old line pid
-    answers_delivers says (works w) e = absurd (asked_none says (work_arrival w e))
-    answers_delivers says (sends s) e = absurd (cc)
-    answers_delivers says (brings {answer} found w) e = brought says found (work_arrival w (from_arrival answer e))
-    answers_delivers says (no_room found) e = absurd (cc)
-    answers_delivers says (never_sent none) e = absurd (cc)
-    answers_delivers says tells e = absurd (cc)
-    answers_delivers says unites e = absurd (cc)
-    answers_delivers says lists e = absurd (cc)
+    reading_comes : (number : ℕ) (r : Reading) (a : Answer) (m : Session) → IsReading old.aliases line r → AnswersReading number old r a m → a ≡ replied (Arrived pid) → Comes old line pid
+    reading_comes number reading.Quiet a m says t e = let is = t.0 in absurd (cc)
+    reading_comes number reading.Bad a m says t e = let is = t.0 in absurd (cc)
+    reading_comes number (reading.Means l alias) a m says t e = answers_comes (record { alias = alias; reads = says }) t.answered e
 
-    reading_delivers : (number : ℕ) (r : Reading) (a : Answer) (m : Session) → IsReading old.aliases line r → AnswersReading number old r a m → a ≡ replied (Arrived pid) → Delivers old line pid
-    reading_delivers number reading.Quiet a m says t e = let is = t.0 in absurd (cc)
-    reading_delivers number reading.Bad a m says t e = let is = t.0 in absurd (cc)
-    reading_delivers number (reading.Means l alias) a m says t e = answers_delivers (record { alias = alias; reads = says }) t.answered e
+    pub turn_comes : (number : ℕ) (m : Session) → Turn number old line (replied (Arrived pid)) m → Comes old line pid
+    turn_comes number m (inl t) = reading_comes number t.reading (replied (Arrived pid)) m t.says t.answered refl
+    turn_comes number m (inr t) = let is = t.answered in absurd (cc)
 
-    pub turn_delivers : (number : ℕ) (m : Session) → Turn number old line (replied (Arrived pid)) m → Delivers old line pid
-    turn_delivers number m (inl t) = reading_delivers number t.reading (replied (Arrived pid)) m t.says t.answered refl
-    turn_delivers number m (inr t) = let is = t.answered in absurd (cc)
+    same_data : {x y : Data} → Arrive x ≡ Arrive y → x ≡ y
+    same_data e = cc
+
+    pub comes_to : (c : Comes old line pid) → pid ≡ c.packet.receiver
+    comes_to c = let is = arrival_of c.takes_in in is.receiver_is ∙ ap (λ (x : Data). x.receiver) (same_data (sym is.job_is))
+
+    abbrev pub comes_delivers : Comes old line pid → Delivers old line pid
+    comes_delivers c = record { number = c.number; k = c.k; packet = c.packet; says = c.says; was_sent = c.was_sent; receiver_is = comes_to c }

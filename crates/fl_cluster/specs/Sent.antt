@@ -5,6 +5,7 @@ use Rattle.fl_labels.specs.Found.{Within}
 use Rattle.fl_labels.specs.SetBy.{In}
 use Rattle.fl_labels.specs.declared.pid.Pid.{Pid}
 use Rattle.fl_rules.specs.Endpoint.{writes}
+use Rattle.fl_rules.specs.Message.{SafeMessage}
 use Rattle.fl_wire.specs.declared.packet.Data.{Data}
 use Rattle.fl_wire.specs.declared.packet.Packet.TheVariants as packets
 use Rattle.fl_channels.specs.declared.endpoints.Opened.{Opened}
@@ -15,7 +16,7 @@ use Rattle.fl_monitor.specs.Process.{effective}
 use Rattle.fl_monitor.specs.declared.process.Process.{Process}
 use Rattle.fl_script.specs.declared.line.Line.TheVariants as lines
 use Rattle.fl_cluster.specs.State.{State, packet_at}
-use Rattle.fl_cluster.specs.Session.{Session}
+use Rattle.fl_cluster.specs.Session.{Session, begun}
 use Rattle.fl_cluster.specs.Answer.{Answer, sent}
 use Rattle.fl_cluster.specs.Living.{living, view_at}
 use Rattle.fl_cluster.specs.Lives.{Says}
@@ -54,3 +55,12 @@ pub record Delivers (old : Session) (bytes : List ℕ) (pid : Pid) : Type 0 wher
   pub says : Says old bytes (lines.Deliver number k)
   pub was_sent : packet_at old.state.sent k ≡ Some (packets.Data packet)
   pub receiver_is : pid ≡ packet.receiver
+
+-- after these lines, the line brings the process a message that is safe from its sender to it, by the labels of each and by what each had in effect, the
+-- sender when it sent and the receiver now
+pub record ComesSafely (before : List (List ℕ)) (answers : List Answer) (old : Session) (line : List ℕ) (pid : Pid) : Type 0 where
+  pub delivers : Delivers old line pid
+  pub was_sent : WasSent 1 begun before answers delivers.k delivers.packet
+  pub receiver : Process
+  pub lives : living old.state pid ≡ Some receiver
+  pub safe : SafeMessage (effective (view_at was_sent.mid.state delivers.packet.sender) was_sent.might.process) was_sent.might.process.labels (effective (view_at old.state pid) receiver) receiver.labels

@@ -20,7 +20,7 @@ use Rattle.fl_cluster.specs.Naming.{made_by, renamed}
 use Rattle.fl_cluster.specs.NodeStep.{Works, Sends}
 
 -- Where these aliases are set, the line in this place is answered so, and leaves the nodes and the packets so. A node that the line names is open from then
--- on, but for a line that brings no message to it: one that names a packet that was never sent, and one for whose message there is no memory.
+-- on, unless the line is to bring it the message of a packet that was never sent, or one for which there is no memory.
 pub data Answers (place : ℕ) (aliases : Table) (old : State) : Line → Answer → State → Type 0 where
   works : {number : ℕ} {job : Job} {answer : Answer} {after : NodeState} → Works (node_at old number) job answer after → Answers place aliases old (line.Job number job) answer (with_node old number after)
   sends : {number : ℕ} {job : Job} {packet : Packet} {after : NodeState} → Sends (node_at old number) job packet after → Answers place aliases old (line.Job number job) (sent (length old.sent + 1)) (with_packet (with_node old number after) packet)

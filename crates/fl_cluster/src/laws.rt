@@ -19,6 +19,7 @@ ghost use Rattle.fl_jobs.specs.declared.job.Act.TheVariants.{Ask};
 ghost use Rattle.fl_jobs.specs.declared.job.Job.TheVariants.{By, Member};
 ghost use Rattle.fl_opset.specs.RegistryText.{registry_text};
 ghost use Rattle.fl_monitor.specs.Following.{Follows};
+ghost use Rattle.fl_monitor.specs.Guarded.{IsGuarded};
 ghost use Rattle.fl_monitor.specs.Process.{effective, is_busy, owns, side_of};
 ghost use Rattle.fl_monitor.specs.declared.process.Process.{Process};
 ghost use Rattle.fl_script.specs.Reading.{IsReading};
@@ -36,7 +37,7 @@ ghost use Rattle.fl_cluster.specs.LabelChange.{AsksForLabel, SetsSafely, SetsSaf
 ghost use Rattle.fl_cluster.specs.Living.{HasTag, Lacks, living, process_at, view_at};
 ghost use Rattle.fl_cluster.specs.Lives.{Exits, IsBorn};
 ghost use Rattle.fl_cluster.specs.Owned.{WasGiven};
-ghost use Rattle.fl_cluster.specs.Sent.{Delivers, WasSent};
+ghost use Rattle.fl_cluster.specs.Sent.{ComesSafely, Delivers, WasSent};
 ghost use Rattle.fl_cluster.specs.NodeStep.{Works, view_of};
 ghost use Rattle.fl_cluster.specs.Equal.{SameMembers};
 
@@ -100,10 +101,18 @@ pub fn law_owned()
         Run 1 begun lines answers end → living end.state pid ≡ Some process → In (owns process) c → WasGiven 1 begun lines answers pid c }
 {}
 
-/// A message comes to a process only by a line that brings it the message of a packet that was sent to it, which an earlier line sent: that of its sender, who
-/// had an open endpoint to write to with the labels of the packet, and had in effect what the message carries.
+/// Between two lines of a script each open endpoint of each process is safe, by what its process has in effect at its node.
+pub fn law_endpoints()
+    ensures { (before : List (List ℕ)) (answers : List Answer) (end : Session) (node : ℕ) → Run 1 begun before answers end → IsGuarded (view_of (node_at end.state node)) (node_at end.state node).bench }
+{}
+
+/// A message comes to a process only by a line that brings it the message of a packet that was sent to it. An earlier line sent each packet: its
+/// sender asked for it, who had an open endpoint to write to, with the labels of the packet, and in effect what the message carries. So whatever
+/// message comes in a script is safe from its sender to its receiver.
 pub fn law_sent()
     ensures delivered { (number : ℕ) (old new : Session) (line : List ℕ) (pid : Pid) → Turn number old line (replied (Arrived pid)) new → Delivers old line pid }
+    ensures safe { (before : List (List ℕ)) (answers : List Answer) (old new : Session) (line : List ℕ) (pid : Pid) → Run 1 begun before answers old →
+        Turn (1 + length before) old line (replied (Arrived pid)) new → ComesSafely before answers old line pid }
     ensures sent { (before : List (List ℕ)) (answers : List Answer) (old : Session) (k : ℕ) (d : Data) → Run 1 begun before answers old → packet_at old.state.sent k ≡ Some (packets.Data d) → WasSent 1 begun before answers k d }
 {}
 

@@ -24,7 +24,8 @@ use std::collections::BTreeMap;
 use std::io::Write;
 use std::marker::Model;
 
-/// The nodes of a script by their numbers, and the packets that they sent. Each node has its own registry, and is opened by the first line that names it.
+/// The nodes of a script by their numbers, and the packets that they sent. Each node has its own registry, and is opened by the first line that
+/// names it.
 #[derive(Debug, Drop)]
 pub struct Nodes {
     all: BTreeMap<u16, Node>,
@@ -53,7 +54,8 @@ impl Nodes {
         }
     }
 
-    /// Answers the line in this place, whatever the aliases are. Want of memory leaves all as it was: a node that the line would open is then not open.
+    /// Answers the line in this place, whatever the aliases are. Want of memory leaves all as it was: a node that the line would open is then not
+    /// open. A message for which there is no memory is dropped, and leaves all as it was too.
     pub fn answer(&mut self, alloc: Global, place: u64, line: Line) -> Result<Response, AllocError>
         requires { All (λ node. 0 < node) (nodes_of line) }
         ensures ok { IfOk result (λ response. (aliases : Table) → Answers place aliases self.old line (shown (record { state = self.new; aliases = aliases }) response) self.new) }
@@ -102,7 +104,8 @@ impl Nodes {
     {
         let mut node = Node::new(alloc, number);
         let Work::Answer(response) = node.work(alloc, job)? else {
-            unreachable!("a new node has no process that sends");
+            // A new node has no process that sends.
+            unreachable!();
         };
         self.all.insert(number, node)?;
         Ok(response)

@@ -26,7 +26,7 @@ pub enum Response {
     Aliases,
     /// The job was refused, and nothing changed.
     Refused(Refusal),
-    /// The message does not arrive, and nothing changed but that its node is open, where there was memory.
+    /// The message does not arrive. Its node is open, unless memory was wanted, and nothing else changed.
     Dropped(Refusal),
     /// The line of this number is none of the script, and nothing changed.
     BadLine(u64),

@@ -111,7 +111,8 @@ impl Session {
         }
     }
 
-    // Answers the line of this number, and has the alias stand for what it made. The alias is placed first, so that there is room for it once something is made.
+    // Answers the line of this number, and has the alias stand for what it made. The alias is placed first, so that there is room for it once
+    // something is made.
     fn answer_named(
         &mut self,
         alloc: Global,

@@ -1,10 +1,6 @@
 use Rattle.std.proofs.Common.{◌≡◌, ◌∙◌, sym, ap, rules, Some}
-use Rattle.fl_wire.specs.declared.packet.Packet.{Packet}
-use Rattle.fl_wire.specs.declared.packet.Packet.TheVariants as kinds
-use Rattle.fl_jobs.specs.declared.job.Job.TheVariants.{Arrive}
-use Rattle.fl_cluster.specs.Answer.{shown}
 use Rattle.fl_cluster.specs.State.{State, packet_at}
-use Rattle.fl_cluster.specs.Turn.{Answers, no_room, never_sent}
+use Rattle.fl_cluster.specs.Turn.{no_room, never_sent}
 use Rattle.fl_cluster.proofs.NodesTable.{data_of, is_data, took}
 use Rattle.fl_cluster.proofs.nodes.Nodes.deliver.Goals as goal
 
