@@ -8,7 +8,7 @@ ghost use Rattle.fl_ops.specs.Registry.{Eff, Global as IsGlobal, Listed};
 ghost use Rattle.fl_jobs.specs.declared.answer.Refusal.TheVariants.{MissingCap};
 ghost use Rattle.fl_jobs.specs.declared.answer.Reply.TheVariants.{Yes, NotYet};
 ghost use Rattle.fl_monitor.specs.declared.process.Holding.TheVariants.{Ordering};
-ghost use Rattle.fl_monitor.specs.Process.{newborn, held, body_of, OneOf, PutTakes};
+ghost use Rattle.fl_monitor.specs.Process.{newborn, held, is_under_way, body_of, OneOf, PutTakes};
 ghost use Rattle.fl_monitor.specs.Checks.{demand};
 ghost use Rattle.fl_monitor.specs.Jobs.{order_checks};
 ghost use Rattle.fl_monitor.specs.Acts.{Checked, Required, Told, Acts};
@@ -60,10 +60,11 @@ impl Holding {
         replace(self, Holding::Idle(CapSet::new(alloc)))
     }
 
-    // With an operation under way, or as before where there is no room for what it may give.
+    // With an operation under way, or as before where none was and there is no room for what it may give.
     fn begun(self) -> (Self, Result<(), AllocError>)
         ensures ok { OnOk result.1 (result.0 ≡ Ordering (held self)) }
         ensures err { OnErr result.1 (result.0 ≡ self) }
+        ensures idle { OnErr result.1 (is_under_way self ≡ false) }
     {
         match self {
             Holding::Idle(owned) => match owned.with_room() {
@@ -78,6 +79,7 @@ impl Holding {
     fn begin(&mut self, alloc: Global) -> Result<(), AllocError>
         ensures ok { OnOk result (self.new ≡ Ordering (held self.old)) }
         ensures err { OnErr result (self.new ≡ self.old) }
+        ensures idle { OnErr result (is_under_way self.old ≡ false) }
     {
         let (begun, result) = self.take(alloc).begun();
         *self = begun;
