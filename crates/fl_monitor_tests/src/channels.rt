@@ -78,10 +78,31 @@ fn given(alloc: Global, secrecy: &str, integrity: &str) -> Result<GivenLabels, F
     })
 }
 
+// Both labels, of which one is too long.
+fn too_long_secrecy(alloc: Global) -> GivenLabels {
+    GivenLabels {
+        secrecy: Err(TooLong),
+        integrity: Ok(Label::new(alloc)),
+    }
+}
+
+fn too_long_integrity(alloc: Global) -> GivenLabels {
+    GivenLabels {
+        secrecy: Ok(Label::new(alloc)),
+        integrity: Err(TooLong),
+    }
+}
+
 // The job of a process that opens an endpoint of this mode, with this label of secrecy.
 fn open(alloc: Global, pid: Pid, mode: Mode, secrecy: &str) -> Result<Job, Fail> {
     let given = given(alloc, secrecy, "{}")?;
     Ok(Job::By(pid, Act::Channel(Channel::Open(mode, given))))
+}
+
+// The job of the owner who wants this label of secrecy for an endpoint.
+fn tune(alloc: Global, endpoint: Endpoint, secrecy: &str) -> Result<Job, Fail> {
+    let given = given(alloc, secrecy, "{}")?;
+    Ok(Job::By(OWNER, Act::Channel(Channel::Tune(endpoint, given))))
 }
 
 fn close(pid: Pid, endpoint: Endpoint) -> Job {
@@ -141,6 +162,47 @@ fn sent(
     }
 }
 
+// Whether the job has this answer.
+fn answers(
+    alloc: Global,
+    ops: &mut Index,
+    bench: &mut Bench,
+    job: Job,
+    answer: Result<Outcome, Refusal>,
+) -> bool {
+    bench.job(alloc, ops, job) == answer
+}
+
+// Whether the process has the capability in effect.
+fn has(alloc: Global, ops: &mut Index, bench: &mut Bench, pid: Pid, cap: Cap) -> bool {
+    let yes = Ok(Outcome::Reply(Reply::Yes));
+    answers(alloc, ops, bench, Job::By(pid, Act::Ask(cap)), yes)
+}
+
+// Whether the message that waited longest for the second process is this one of the owner, which is then taken.
+fn took(
+    alloc: Global,
+    ops: &mut Index,
+    bench: &mut Bench,
+    caps: &str,
+    number: u16,
+) -> Result<bool, Fail> {
+    let letter = Letter {
+        sender: OWNER,
+        message: message(alloc, caps, number)?,
+    };
+    let taken = Ok(Outcome::Reply(Reply::Taken(letter)));
+    Ok(answers(alloc, ops, bench, take(), taken))
+}
+
+// The same, with an endpoint of the owner for writing, and one of the second process for reading.
+fn connected(alloc: Global, ops: &mut Index) -> Result<Bench, Fail> {
+    let mut bench = started(alloc, ops)?;
+    bench.job(alloc, ops, open(alloc, OWNER, Mode::Write, "{}")?)?;
+    bench.job(alloc, ops, open(alloc, SECOND, Mode::Read, "{}")?)?;
+    Ok(bench)
+}
+
 #[test]
 fn numbers_endpoints(rt: HostRuntime) -> Result<(), Fail> {
     let alloc = rt.alloc();
@@ -148,25 +210,34 @@ fn numbers_endpoints(rt: HostRuntime) -> Result<(), Fail> {
     let mut bench = started(alloc, &mut ops)?;
     for number in 1..=LAST_ENDPOINT {
         let job = open(alloc, OWNER, Mode::Both, "{}")?;
-        assert!(rt; bench.job(alloc, &mut ops, job) == opened(Endpoint { number }));
+        let answer = opened(Endpoint { number });
+        assert!(rt; answers(alloc, &mut ops, &mut bench, job, answer));
     }
     let job = open(alloc, OWNER, Mode::Both, "{}")?;
-    assert!(rt; bench.job(alloc, &mut ops, job) == Err(Refusal::EndpointsFull));
-    let middle = Endpoint { number: 17 };
-    let greater = Endpoint { number: 40 };
-    for (endpoint, answer) in [
-        (greater, done()),
-        (middle, done()),
-        (middle, Err(Refusal::NoEndpoint(middle))),
-    ] {
-        assert!(rt; bench.job(alloc, &mut ops, close(OWNER, endpoint)) == answer);
-    }
-    for answer in [opened(middle), opened(greater), Err(Refusal::EndpointsFull)] {
-        let job = open(alloc, OWNER, Mode::Read, "{}")?;
-        assert!(rt; bench.job(alloc, &mut ops, job) == answer);
-    }
+    let full = Err(Refusal::EndpointsFull);
+    assert!(rt; answers(alloc, &mut ops, &mut bench, job, full));
     let job = open(alloc, SECOND, Mode::Read, "{}")?;
-    assert!(rt; bench.job(alloc, &mut ops, job) == opened(E1));
+    assert!(rt; answers(alloc, &mut ops, &mut bench, job, opened(E1)));
+    Ok(())
+}
+
+#[test]
+fn opens_the_least_free(rt: HostRuntime) -> Result<(), Fail> {
+    let alloc = rt.alloc();
+    let mut ops = Index::new(alloc);
+    let mut bench = started(alloc, &mut ops)?;
+    for _ in 0..4 {
+        bench.job(alloc, &mut ops, open(alloc, OWNER, Mode::Both, "{}")?)?;
+    }
+    for closed in [E3, E2] {
+        assert!(rt; answers(alloc, &mut ops, &mut bench, close(OWNER, closed), done()));
+    }
+    let never = Err(Refusal::NoEndpoint(E2));
+    assert!(rt; answers(alloc, &mut ops, &mut bench, close(OWNER, E2), never));
+    for endpoint in [E2, E3, Endpoint { number: 5 }] {
+        let job = open(alloc, OWNER, Mode::Read, "{}")?;
+        assert!(rt; answers(alloc, &mut ops, &mut bench, job, opened(endpoint)));
+    }
     Ok(())
 }
 
@@ -175,31 +246,22 @@ fn opens_what_is_safe(rt: HostRuntime) -> Result<(), Fail> {
     let alloc = rt.alloc();
     let mut ops = Index::new(alloc);
     let mut bench = started(alloc, &mut ops)?;
-    for (pid, mode, label, answer) in [
-        (OWNER, Mode::Both, "{1.1}", opened(E1)),
-        (OWNER, Mode::Write, "{1.2}", opened(E2)),
-        (
-            OWNER,
-            Mode::Read,
-            "{1.1,1.2,1.3}",
-            Err(Refusal::UnsafeEndpoint(E3, EXPORT)),
-        ),
-        (
-            OWNER,
-            Mode::Both,
-            "{1.3}",
-            Err(Refusal::UnsafeEndpoint(E3, OTHER_EXPORT)),
-        ),
-        (
-            SECOND,
-            Mode::Read,
-            "{1.1}",
-            Err(Refusal::UnsafeEndpoint(E1, TAG)),
-        ),
-        (SECOND, Mode::Write, "{1.1}", opened(E1)),
+    for (pid, mode, label, endpoint) in [
+        (OWNER, Mode::Both, "{1.1}", E1),
+        (OWNER, Mode::Write, "{1.2}", E2),
+        (SECOND, Mode::Write, "{1.1}", E1),
     ] {
         let job = open(alloc, pid, mode, label)?;
-        assert!(rt; bench.job(alloc, &mut ops, job) == answer);
+        assert!(rt; answers(alloc, &mut ops, &mut bench, job, opened(endpoint)));
+    }
+    for (pid, mode, label, endpoint, tag) in [
+        (OWNER, Mode::Read, "{1.1,1.2,1.3}", E3, EXPORT),
+        (OWNER, Mode::Both, "{1.3}", E3, OTHER_EXPORT),
+        (SECOND, Mode::Read, "{1.1}", E2, TAG),
+    ] {
+        let job = open(alloc, pid, mode, label)?;
+        let refused = Err(Refusal::UnsafeEndpoint(endpoint, tag));
+        assert!(rt; answers(alloc, &mut ops, &mut bench, job, refused));
     }
     Ok(())
 }
@@ -211,14 +273,14 @@ fn tunes_labels_alone(rt: HostRuntime) -> Result<(), Fail> {
     let mut bench = started(alloc, &mut ops)?;
     bench.job(alloc, &mut ops, open(alloc, OWNER, Mode::Write, "{}")?)?;
     bench.job(alloc, &mut ops, open(alloc, OWNER, Mode::Read, "{1.1}")?)?;
-    for (endpoint, label, answer) in [
-        (E1, "{1.3}", done()),
-        (E2, "{1.3}", Err(Refusal::UnsafeEndpoint(E2, OTHER_EXPORT))),
-        (E3, "{1.3}", Err(Refusal::NoEndpoint(E3))),
+    let tuned = tune(alloc, E1, "{1.3}")?;
+    assert!(rt; answers(alloc, &mut ops, &mut bench, tuned, done()));
+    for (endpoint, refusal) in [
+        (E2, Refusal::UnsafeEndpoint(E2, OTHER_EXPORT)),
+        (E3, Refusal::NoEndpoint(E3)),
     ] {
-        let tune = Channel::Tune(endpoint, given(alloc, label, "{}")?);
-        let answered = bench.job(alloc, &mut ops, Job::By(OWNER, Act::Channel(tune)));
-        assert!(rt; answered == answer);
+        let tuned = tune(alloc, endpoint, "{1.3}")?;
+        assert!(rt; answers(alloc, &mut ops, &mut bench, tuned, Err(refusal)));
     }
     let Some(process) = bench.process(OWNER) else {
         return Err(Fail::from("no process"));
@@ -238,57 +300,75 @@ fn refuses_long_labels(rt: HostRuntime) -> Result<(), Fail> {
     let mut ops = Index::new(alloc);
     let mut bench = started(alloc, &mut ops)?;
     bench.job(alloc, &mut ops, open(alloc, OWNER, Mode::Both, "{}")?)?;
-    for endpoint in [None, Some(E1), Some(E2)] {
-        for too_long_in_secrecy in [true, false] {
-            let mut given = given(alloc, "{}", "{}")?;
-            if too_long_in_secrecy {
-                given.secrecy = Err(TooLong);
-            } else {
-                given.integrity = Err(TooLong);
-            }
-            let channel = match endpoint {
-                None => Channel::Open(Mode::Write, given),
-                Some(endpoint) => Channel::Tune(endpoint, given),
-            };
+    for endpoint in [E1, E2] {
+        for channel in [
+            Channel::Open(Mode::Write, too_long_secrecy(alloc)),
+            Channel::Open(Mode::Write, too_long_integrity(alloc)),
+            Channel::Tune(endpoint, too_long_secrecy(alloc)),
+            Channel::Tune(endpoint, too_long_integrity(alloc)),
+        ] {
             let job = Job::By(OWNER, Act::Channel(channel));
-            assert!(rt; bench.job(alloc, &mut ops, job) == Err(Refusal::LabelTooLong));
+            let refused = Err(Refusal::LabelTooLong);
+            assert!(rt; answers(alloc, &mut ops, &mut bench, job, refused));
         }
     }
     Ok(())
 }
 
 #[test]
-fn keeps_endpoints_safe(rt: HostRuntime) -> Result<(), Fail> {
+fn changes_labels_safely(rt: HostRuntime) -> Result<(), Fail> {
     let alloc = rt.alloc();
     let mut ops = Index::new(alloc);
     let mut bench = started(alloc, &mut ops)?;
-    for (mode, label) in [
-        (Mode::Read, "{}"),
-        (Mode::Write, "{}"),
-        (Mode::Both, "{}"),
-        (Mode::Read, "{1.1}"),
-    ] {
-        bench.job(alloc, &mut ops, open(alloc, OWNER, mode, label)?)?;
+    for mode in [Mode::Read, Mode::Write, Mode::Both] {
+        bench.job(alloc, &mut ops, open(alloc, OWNER, mode, "{}")?)?;
     }
-    for (closed, answer) in [
-        (E2, Err(Refusal::UnsafeEndpoint(E2, EXPORT))),
-        (E3, Err(Refusal::UnsafeEndpoint(E3, EXPORT))),
-        (E1, done()),
-    ] {
+    for endpoint in [E2, E3] {
         let job = secrecy(alloc, "{1.1,1.2,1.3}")?;
-        assert!(rt; bench.job(alloc, &mut ops, job) == answer);
-        bench.job(alloc, &mut ops, close(OWNER, closed))?;
+        let refused = Err(Refusal::UnsafeEndpoint(endpoint, EXPORT));
+        assert!(rt; answers(alloc, &mut ops, &mut bench, job, refused));
+        bench.job(alloc, &mut ops, close(OWNER, endpoint))?;
     }
-    let job = secrecy(alloc, "{1.2,1.3}")?;
-    assert!(rt; bench.job(alloc, &mut ops, job) == done());
-    let drop = Job::By(OWNER, Act::Drop(Cap::Minus(TAG)));
-    let unsafe_then = Err(Refusal::UnsafeEndpoint(E4, TAG));
-    assert!(rt; bench.job(alloc, &mut ops, drop) == unsafe_then);
-    let ask = Job::By(OWNER, Act::Ask(Cap::Minus(TAG)));
-    assert!(rt; bench.job(alloc, &mut ops, ask) == Ok(Outcome::Reply(Reply::Yes)));
-    bench.job(alloc, &mut ops, close(OWNER, E4))?;
-    let drop = Job::By(OWNER, Act::Drop(Cap::Minus(TAG)));
-    assert!(rt; bench.job(alloc, &mut ops, drop) == done());
+    let job = secrecy(alloc, "{1.1,1.2,1.3}")?;
+    assert!(rt; answers(alloc, &mut ops, &mut bench, job, done()));
+    Ok(())
+}
+
+#[test]
+fn drops_safely(rt: HostRuntime) -> Result<(), Fail> {
+    let alloc = rt.alloc();
+    let mut ops = Index::new(alloc);
+    let mut bench = started(alloc, &mut ops)?;
+    for label in ["{}", "{1.1}"] {
+        bench.job(alloc, &mut ops, open(alloc, OWNER, Mode::Read, label)?)?;
+    }
+    let cap = Cap::Minus(TAG);
+    let refused = Err(Refusal::UnsafeEndpoint(E2, TAG));
+    let drop = Job::By(OWNER, Act::Drop(cap));
+    assert!(rt; answers(alloc, &mut ops, &mut bench, drop, refused));
+    assert!(rt; has(alloc, &mut ops, &mut bench, OWNER, cap));
+    bench.job(alloc, &mut ops, close(OWNER, E2))?;
+    let drop = Job::By(OWNER, Act::Drop(cap));
+    assert!(rt; answers(alloc, &mut ops, &mut bench, drop, done()));
+    assert!(rt; !has(alloc, &mut ops, &mut bench, OWNER, cap));
+    Ok(())
+}
+
+#[test]
+fn refuses_to_send(rt: HostRuntime) -> Result<(), Fail> {
+    let alloc = rt.alloc();
+    let mut ops = Index::new(alloc);
+    let mut bench = connected(alloc, &mut ops)?;
+    bench.job(alloc, &mut ops, open(alloc, OWNER, Mode::Read, "{}")?)?;
+    let missing = Refusal::MissingCap(Cap::Minus(EXPORT));
+    for (from, caps, refusal) in [
+        (E2, "{}", Refusal::NotWritable(E2)),
+        (E3, "{}", Refusal::NoEndpoint(E3)),
+        (E1, "{+1.1,-1.3,-1.2}", missing),
+    ] {
+        let job = send(alloc, from, caps, 1)?;
+        assert!(rt; answers(alloc, &mut ops, &mut bench, job, Err(refusal)));
+    }
     Ok(())
 }
 
@@ -298,29 +378,14 @@ fn sends_under_its_endpoint(rt: HostRuntime) -> Result<(), Fail> {
     let mut ops = Index::new(alloc);
     let mut bench = started(alloc, &mut ops)?;
     bench.job(alloc, &mut ops, open(alloc, OWNER, Mode::Write, "{1.1}")?)?;
-    bench.job(alloc, &mut ops, open(alloc, OWNER, Mode::Read, "{}")?)?;
-    for (from, caps, refusal) in [
-        (E2, "{}", Refusal::NotWritable(E2)),
-        (E3, "{}", Refusal::NoEndpoint(E3)),
-        (
-            E1,
-            "{+1.1,-1.3,-1.2}",
-            Refusal::MissingCap(Cap::Minus(EXPORT)),
-        ),
-    ] {
-        let job = send(alloc, from, caps, 1)?;
-        assert!(rt; bench.job(alloc, &mut ops, job) == Err(refusal));
-    }
-    let expected = Data {
-        sender: OWNER,
-        from: E1,
-        receiver: SECOND,
-        to: E1,
-        secrecy: Label::from_text(alloc, "{1.1}")?,
-        integrity: Label::new(alloc),
-        message: message(alloc, "{+1.1,+1.2}", 1)?,
-    };
-    assert!(rt; sent(alloc, &mut ops, &mut bench, "{+1.1,+1.2}", 1)? == expected);
+    let data = sent(alloc, &mut ops, &mut bench, "{+1.1,+1.2}", 1)?;
+    assert!(rt; data.sender == OWNER);
+    assert!(rt; data.from == E1);
+    assert!(rt; data.receiver == SECOND);
+    assert!(rt; data.to == E1);
+    assert!(rt; data.secrecy == Label::from_text(alloc, "{1.1}")?);
+    assert!(rt; data.integrity.is_empty());
+    assert!(rt; data.message == message(alloc, "{+1.1,+1.2}", 1)?);
     Ok(())
 }
 
@@ -328,27 +393,19 @@ fn sends_under_its_endpoint(rt: HostRuntime) -> Result<(), Fail> {
 fn waits_in_order(rt: HostRuntime) -> Result<(), Fail> {
     let alloc = rt.alloc();
     let mut ops = Index::new(alloc);
-    let mut bench = started(alloc, &mut ops)?;
-    bench.job(alloc, &mut ops, open(alloc, OWNER, Mode::Write, "{}")?)?;
-    bench.job(alloc, &mut ops, open(alloc, SECOND, Mode::Read, "{}")?)?;
-    for number in 1..=257u16 {
-        let data = sent(alloc, &mut ops, &mut bench, "{}", number)?;
-        let answer = bench.job(alloc, &mut ops, Job::Arrive(data));
-        if number <= 256 {
-            assert!(rt; answer == Ok(Outcome::Reply(Reply::Arrived(SECOND))));
-        } else {
-            assert!(rt; answer == Err(Refusal::InboxFull));
-        }
-    }
+    let mut bench = connected(alloc, &mut ops)?;
     for number in 1..=256u16 {
-        let letter = Letter {
-            sender: OWNER,
-            message: message(alloc, "{}", number)?,
-        };
-        let answer = bench.job(alloc, &mut ops, take());
-        assert!(rt; answer == Ok(Outcome::Reply(Reply::Taken(letter))));
+        let data = sent(alloc, &mut ops, &mut bench, "{}", number)?;
+        bench.job(alloc, &mut ops, Job::Arrive(data))?;
     }
-    assert!(rt; bench.job(alloc, &mut ops, take()) == Ok(Outcome::Reply(Reply::Empty)));
+    let data = sent(alloc, &mut ops, &mut bench, "{}", 257)?;
+    let full = Err(Refusal::InboxFull);
+    assert!(rt; answers(alloc, &mut ops, &mut bench, Job::Arrive(data), full));
+    for number in 1..=256u16 {
+        assert!(rt; took(alloc, &mut ops, &mut bench, "{}", number)?);
+    }
+    let empty = Ok(Outcome::Reply(Reply::Empty));
+    assert!(rt; answers(alloc, &mut ops, &mut bench, take(), empty));
     Ok(())
 }
 
@@ -356,28 +413,14 @@ fn waits_in_order(rt: HostRuntime) -> Result<(), Fail> {
 fn brings_capabilities(rt: HostRuntime) -> Result<(), Fail> {
     let alloc = rt.alloc();
     let mut ops = Index::new(alloc);
-    let mut bench = started(alloc, &mut ops)?;
-    bench.job(alloc, &mut ops, open(alloc, OWNER, Mode::Write, "{}")?)?;
-    bench.job(alloc, &mut ops, open(alloc, SECOND, Mode::Read, "{}")?)?;
-    let ask = Job::By(SECOND, Act::Ask(Cap::Plus(TAG)));
-    assert!(rt; bench.job(alloc, &mut ops, ask) == Ok(Outcome::Reply(Reply::NotYet)));
+    let mut bench = connected(alloc, &mut ops)?;
     let data = sent(alloc, &mut ops, &mut bench, "{+1.1}", 1)?;
-    let drop = Job::By(OWNER, Act::Drop(Cap::Plus(TAG)));
-    assert!(rt; bench.job(alloc, &mut ops, drop) == done());
-    bench.job(alloc, &mut ops, Job::Arrive(data))?;
-    for (cap, reply) in [
-        (Cap::Plus(TAG), Reply::Yes),
-        (Cap::Minus(TAG), Reply::NotYet),
-    ] {
-        let ask = Job::By(SECOND, Act::Ask(cap));
-        assert!(rt; bench.job(alloc, &mut ops, ask) == Ok(Outcome::Reply(reply)));
-    }
-    let letter = Letter {
-        sender: OWNER,
-        message: message(alloc, "{+1.1}", 1)?,
-    };
-    let answer = bench.job(alloc, &mut ops, take());
-    assert!(rt; answer == Ok(Outcome::Reply(Reply::Taken(letter))));
+    assert!(rt; !has(alloc, &mut ops, &mut bench, SECOND, Cap::Plus(TAG)));
+    let arrived = Ok(Outcome::Reply(Reply::Arrived(SECOND)));
+    assert!(rt; answers(alloc, &mut ops, &mut bench, Job::Arrive(data), arrived));
+    assert!(rt; has(alloc, &mut ops, &mut bench, SECOND, Cap::Plus(TAG)));
+    assert!(rt; !has(alloc, &mut ops, &mut bench, SECOND, Cap::Minus(TAG)));
+    assert!(rt; took(alloc, &mut ops, &mut bench, "{+1.1}", 1)?);
     Ok(())
 }
 
@@ -385,24 +428,15 @@ fn brings_capabilities(rt: HostRuntime) -> Result<(), Fail> {
 fn lets_in_what_is_safe(rt: HostRuntime) -> Result<(), Fail> {
     let alloc = rt.alloc();
     let mut ops = Index::new(alloc);
-    let mut bench = started(alloc, &mut ops)?;
-    bench.job(
-        alloc,
-        &mut ops,
-        open(alloc, OWNER, Mode::Write, "{1.2,1.3}")?,
-    )?;
-    for (mode, secrecy, integrity) in [
-        (Mode::Write, "{1.2,1.3}", "{}"),
-        (Mode::Read, "{}", "{}"),
-        (Mode::Read, "{}", "{1.2,1.3}"),
-    ] {
-        let channel = Channel::Open(mode, given(alloc, secrecy, integrity)?);
-        bench.job(alloc, &mut ops, Job::By(SECOND, Act::Channel(channel)))?;
-    }
+    let mut bench = connected(alloc, &mut ops)?;
+    let writer = Channel::Open(Mode::Write, given(alloc, "{}", "{}")?);
+    bench.job(alloc, &mut ops, Job::By(SECOND, Act::Channel(writer)))?;
+    let trusting = Channel::Open(Mode::Read, given(alloc, "{}", "{1.2,1.3}")?);
+    bench.job(alloc, &mut ops, Job::By(SECOND, Act::Channel(trusting)))?;
     for (receiver, to, secrecy, refusal) in [
-        (NOBODY, E2, "{}", Refusal::NoProcess(NOBODY)),
-        (SECOND, E1, "{1.2,1.3}", Refusal::NotReadable(E1)),
-        (SECOND, E2, "{1.2,1.3}", Refusal::Secrecy(EXPORT)),
+        (NOBODY, E1, "{}", Refusal::NoProcess(NOBODY)),
+        (SECOND, E1, "{1.2,1.3}", Refusal::Secrecy(EXPORT)),
+        (SECOND, E2, "{1.2,1.3}", Refusal::NotReadable(E2)),
         (SECOND, E3, "{}", Refusal::Integrity(EXPORT)),
         (SECOND, E4, "{}", Refusal::NoEndpoint(E4)),
     ] {
@@ -410,11 +444,11 @@ fn lets_in_what_is_safe(rt: HostRuntime) -> Result<(), Fail> {
         data.receiver = receiver;
         data.to = to;
         data.secrecy = Label::from_text(alloc, secrecy)?;
-        assert!(rt; bench.job(alloc, &mut ops, Job::Arrive(data)) == Err(refusal));
+        assert!(rt; answers(alloc, &mut ops, &mut bench, Job::Arrive(data), Err(refusal)));
     }
-    let ask = Job::By(SECOND, Act::Ask(Cap::Plus(TAG)));
-    assert!(rt; bench.job(alloc, &mut ops, ask) == Ok(Outcome::Reply(Reply::NotYet)));
-    assert!(rt; bench.job(alloc, &mut ops, take()) == Ok(Outcome::Reply(Reply::Empty)));
+    assert!(rt; !has(alloc, &mut ops, &mut bench, SECOND, Cap::Plus(TAG)));
+    let empty = Ok(Outcome::Reply(Reply::Empty));
+    assert!(rt; answers(alloc, &mut ops, &mut bench, take(), empty));
     Ok(())
 }
 
@@ -422,17 +456,15 @@ fn lets_in_what_is_safe(rt: HostRuntime) -> Result<(), Fail> {
 fn lets_nothing_in_while_busy(rt: HostRuntime) -> Result<(), Fail> {
     let alloc = rt.alloc();
     let mut ops = Index::new(alloc);
-    let mut bench = started(alloc, &mut ops)?;
-    bench.job(alloc, &mut ops, open(alloc, OWNER, Mode::Write, "{}")?)?;
-    bench.job(alloc, &mut ops, open(alloc, SECOND, Mode::Both, "{}")?)?;
-    bench.job(alloc, &mut ops, Job::By(SECOND, Act::Order(Order::Group)))?;
-    for answer in [
-        Err(Refusal::Busy),
-        Ok(Outcome::Reply(Reply::Arrived(SECOND))),
-    ] {
-        let data = sent(alloc, &mut ops, &mut bench, "{}", 1)?;
-        assert!(rt; bench.job(alloc, &mut ops, Job::Arrive(data)) == answer);
-        bench.cancel(SECOND);
-    }
+    let mut bench = connected(alloc, &mut ops)?;
+    let order = Job::By(SECOND, Act::Order(Order::Group));
+    bench.job(alloc, &mut ops, order)?;
+    let data = sent(alloc, &mut ops, &mut bench, "{}", 1)?;
+    let busy = Err(Refusal::Busy);
+    assert!(rt; answers(alloc, &mut ops, &mut bench, Job::Arrive(data), busy));
+    bench.cancel(SECOND);
+    let data = sent(alloc, &mut ops, &mut bench, "{}", 2)?;
+    bench.job(alloc, &mut ops, Job::Arrive(data))?;
+    assert!(rt; took(alloc, &mut ops, &mut bench, "{}", 2)?);
     Ok(())
 }
