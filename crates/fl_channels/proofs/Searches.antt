@@ -18,7 +18,7 @@ use Rattle.fl_rules.specs.declared.endpoint.Mode.{Mode}
 use Rattle.fl_rules.specs.declared.endpoint.Mode.TheVariants.{Read, Write, Both}
 use Rattle.fl_rules.specs.declared.labels.Labels.{Labels}
 use Rattle.fl_rules.specs.Endpoint.{Crosses, SafeEndpoint}
-use Rattle.fl_rules.specs.Safety.{Dual}
+use Rattle.fl_labels.specs.Caps.{Dual}
 use Rattle.fl_rules.proofs.Duals.{dual_same}
 use Rattle.fl_channels.specs.Endpoints.{Table}
 use Rattle.fl_channels.specs.Offenders.{offender_cmp, CrossesAt, DualAt}

@@ -19,7 +19,7 @@ use Rattle.fl_ops.specs.declared.op.Body.{Body}
 use Rattle.fl_ops.specs.declared.op.Body.TheVariants.{MakeTag, MakeGroup, Put, MakeLogin}
 use Rattle.fl_ops.specs.OpOrder.{op_cmp}
 use Rattle.fl_ops.specs.OpLaws.{op_total, op_exact}
-use Rattle.fl_ops.specs.Registry.{Puts, Chain, here, into, Reach, From, Global, Eff}
+use Rattle.fl_ops.specs.Registry.{Puts, Chain, here, into, Reach, From, IsGlobal, InEffect}
 use Rattle.fl_ops.proofs.Reaching.{root_reached, owned_eff, reach_more, global_more}
 use Rattle.fl_closure.specs.Met.{Has, IsMet}
 use Rattle.fl_closure.specs.Rows.{IsPut}
@@ -99,7 +99,7 @@ module _ (U : Op → Type 0) where
       fails = λ h r. apart (to c (s.missed h c refl (reach_more (λ o m. m) from c r)));
     }
 
-    pub told_eff : (asked c → ⊥) → (Global U c → ⊥) → Tells found (Eff U asked c)
+    pub told_eff : (asked c → ⊥) → (IsGlobal U c → ⊥) → Tells found (InEffect U asked c)
     told_eff apart closed =
         let told = told_reach apart in
         record {
@@ -108,10 +108,10 @@ module _ (U : Op → Type 0) where
         }
 
 -- whoever owns a capability or is everybody has it in effect
-pub told_owned : {U : Op → Type 0} {owned : Cap → Type 0} (c : Cap) → owned c → Tells true (Eff U owned c)
+pub told_owned : {U : Op → Type 0} {owned : Cap → Type 0} (c : Cap) → owned c → Tells true (InEffect U owned c)
 told_owned c h = record { holds = λ _. owned_eff c h; fails = λ never. absurd (false≢true (sym never)) }
 
-pub told_global : {U : Op → Type 0} {owned : Cap → Type 0} (c : Cap) → Global U c → Tells true (Eff U owned c)
+pub told_global : {U : Op → Type 0} {owned : Cap → Type 0} (c : Cap) → IsGlobal U c → Tells true (InEffect U owned c)
 told_global c g = record { holds = λ _. inr g; fails = λ never. absurd (false≢true (sym never)) }
 
 pub if_ok : {A E : Type 0} {P Q : A → Type 0} (r : Result A E) → ((x : A) → P x → Q x) → IfOk r P → IfOk r Q
@@ -157,15 +157,15 @@ module _ (s : SetBy op_cmp) (owned : SetBy cap_cmp) where
 
     -- with what everybody has
     module _ (ops : List Op) (same : ops ≡ members s) (all : List Cap) (adds : AddsGlobals (Has ops) caps all) (result : SetBy cap_cmp) (is : result ≡ set.of_list all) where
-      to_eff : (c : Cap) → Has caps c ⊎ Global (Has ops) c → Eff (In s) (In owned) c
+      to_eff : (c : Cap) → Has caps c ⊎ IsGlobal (Has ops) c → InEffect (In s) (In owned) c
       to_eff c (inl h) = inl ((whole c).0 h)
       to_eff c (inr g) = inr (global_more (λ o h. has_in op_total op_exact s o (subst (λ l. Has l o) same h)) c g)
 
-      from_eff : (c : Cap) → Eff (In s) (In owned) c → Has caps c ⊎ Global (Has ops) c
+      from_eff : (c : Cap) → InEffect (In s) (In owned) c → Has caps c ⊎ IsGlobal (Has ops) c
       from_eff c (inl r) = inl ((whole c).1 r)
       from_eff c (inr g) = inr (global_more (λ o h. subst (λ l. Has l o) (sym same) (in_has op_total op_exact s o h)) c g)
 
-      pub closes : (c : Cap) → In result c ↔ Eff (In s) (In owned) c
+      pub closes : (c : Cap) → In result c ↔ InEffect (In s) (In owned) c
       closes c =
           let listed = in_listed cap_total cap_exact all c in
           (λ h. to_eff c ((adds.has c).0 (listed.0 (sym (ap (λ (r : SetBy cap_cmp). set.contains r c) is) ∙ h))), λ e. ap (λ (r : SetBy cap_cmp). set.contains r c) is ∙ listed.1 ((adds.has c).1 (from_eff c e)))

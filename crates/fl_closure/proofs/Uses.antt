@@ -11,7 +11,7 @@ use Rattle.fl_labels.specs.declared.cap.Cap.{Cap}
 use Rattle.fl_labels.specs.declared.cap.Cap.TheVariants.{Use}
 use Rattle.fl_labels.specs.declared.name.Name.{Name}
 use Rattle.fl_ops.specs.declared.op.Op.{Op}
-use Rattle.fl_ops.specs.Registry.{Chain, here, into, Global, Eff}
+use Rattle.fl_ops.specs.Registry.{Chain, here, into, IsGlobal, InEffect}
 use Rattle.fl_closure.specs.Met.{Has}
 use Rattle.fl_closure.proofs.Members.{has_all, has_at, has_split, has_one, in_has}
 
@@ -45,7 +45,7 @@ alone : {U : Op → Type 0} (owned : SetBy cap_cmp) {a c : Cap} → Chain U a c 
 alone owned here h none = h
 alone owned (into {group} u p rest) h none = absurd (none group (in_has cap_total cap_exact owned (Use group) h))
 
-pub told_alone : {U : Op → Type 0} (owned : SetBy cap_cmp) (c : Cap) → NoUse (members owned) → (In owned c → ⊥) → (Global U c → ⊥) → Tells false (Eff U (In owned) c)
+pub told_alone : {U : Op → Type 0} (owned : SetBy cap_cmp) (c : Cap) → NoUse (members owned) → (In owned c → ⊥) → (IsGlobal U c → ⊥) → Tells false (InEffect U (In owned) c)
 told_alone owned c none not_owned not_global = record {
   holds = λ never. absurd (false≢true never);
   fails = λ _ e. elim e [ inl r ↦ not_owned (alone owned r.2 r.1 none) | inr g ↦ not_global g ];

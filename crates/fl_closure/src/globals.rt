@@ -2,7 +2,7 @@
 ghost use Rattle.std.specs.Prelude.{◌≡◌, ◌↔◌, Some, OnOk};
 ghost use Rattle.fl_labels.specs.declared.cap.Cap.{Cap};
 ghost use Rattle.fl_ops.specs.Registry as spec;
-ghost use Rattle.fl_ops.specs.Registry.{Global as IsGlobal};
+ghost use Rattle.fl_ops.specs.Registry.{IsGlobal};
 ghost use Rattle.fl_closure.specs.Globals.{Only, AddsGlobals};
 ghost use Rattle.fl_closure.specs.Met.{Has};
 

@@ -8,7 +8,7 @@ ghost use Rattle.fl_labels.specs.declared.cap.Cap.TheVariants.{Use};
 ghost use Rattle.fl_labels.specs.declared.name.Name.{Name};
 ghost use Rattle.fl_ops.specs.OpOrder.{op_cmp};
 ghost use Rattle.fl_ops.specs.Logins.{IsFirstLogin, HasNoLogin};
-ghost use Rattle.fl_ops.specs.Registry.{Reach, From, Global as IsGlobal, Eff};
+ghost use Rattle.fl_ops.specs.Registry.{Reach, From, IsGlobal, InEffect};
 ghost use Rattle.fl_closure.specs.Met.{Has};
 ghost use Rattle.fl_closure.specs.Search.{IsSearched};
 
@@ -124,7 +124,7 @@ impl Index {
     ///
     /// Two binary searches; where the use of a group is owned, then as `reaches`, from all that is owned.
     pub fn effective(&self, alloc: Global, owned: &CapSet, cap: Cap) -> Result<bool, AllocError>
-        ensures ok { IfOk result (λ yes. Tells yes (Eff (In self.now) (In owned.now) cap)) }
+        ensures ok { IfOk result (λ yes. Tells yes (InEffect (In self.now) (In owned.now) cap)) }
         ensures err { OnErr result ((¬ In owned.now cap) × (¬ IsGlobal (In self.now) cap)) }
     {
         if owned.contains(cap) || self.global(cap) {
@@ -152,7 +152,7 @@ impl Index {
     ///
     /// As `reached`, and a look at each operation.
     pub fn closed(&self, alloc: Global, owned: &CapSet) -> Result<CapSet, AllocError>
-        ensures { IfOk result (λ closed. (cap : Cap) → In closed cap ↔ Eff (In self.now) (In owned.now) cap) }
+        ensures { IfOk result (λ closed. (cap : Cap) → In closed cap ↔ InEffect (In self.now) (In owned.now) cap) }
     {
         let mut caps = self.found(alloc, owned)?;
         push_globals(&mut caps, self.ops.as_slice())?;

@@ -7,7 +7,7 @@ use Rattle.fl_labels.specs.declared.cap.Cap.{Cap}
 use Rattle.fl_labels.specs.declared.name.Name.{Name}
 use Rattle.fl_labels.specs.declared.pid.Pid.{Pid}
 use Rattle.fl_ops.specs.Logins.{IsFirstLogin}
-use Rattle.fl_ops.specs.Registry.{Eff, From, Listed, Reach}
+use Rattle.fl_ops.specs.Registry.{InEffect, From, Listed, Reach}
 use Rattle.fl_ops.specs.declared.digest.Digest.{Digest}
 use Rattle.fl_ops.specs.declared.op.Op.{Op}
 use Rattle.fl_ops.specs.OpLaws.{op_total, op_exact}
@@ -37,7 +37,7 @@ same_registry a b e = same_members op_total op_exact a.registry b.registry e
 
 -- what is in effect stays so at an equal node, for a process that owns the same
 in_effect : (a b : NodeState) (p q : Process) (cap : Cap) → a.registry ≡ b.registry → owns p ≡ owns q → effective (view_of a) p cap → effective (view_of b) q cap
-in_effect a b p q cap e f h = subst (λ o. Eff (Listed (members b.registry)) (In o) cap) f (subst (λ r. Eff (Listed (members r)) (In (owns p)) cap) e h)
+in_effect a b p q cap e f h = subst (λ o. InEffect (Listed (members b.registry)) (In o) cap) f (subst (λ r. InEffect (Listed (members r)) (In (owns p)) cap) e h)
 
 pub same_effect : (a b : NodeState) (p q : Process) (cap : Cap) → SameMembers a.registry b.registry → SameMembers (owns p) (owns q) → effective (view_of a) p cap ↔ effective (view_of b) q cap
 same_effect a b p q cap e f =

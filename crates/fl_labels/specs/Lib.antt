@@ -4,6 +4,7 @@ pub mod SetEquality
 pub mod Found
 pub mod NameOrder
 pub mod Cap
+pub mod Caps
 pub mod CapOrder
 pub mod Label
 pub mod Pid

@@ -15,7 +15,7 @@ use Rattle.fl_labels.specs.declared.pid.Pid.{Pid}
 use Rattle.fl_ops.specs.declared.op.Op.{Op}
 use Rattle.fl_ops.specs.declared.op.Body.{Body}
 use Rattle.fl_ops.specs.declared.op.Policy.{Policy}
-use Rattle.fl_ops.specs.Registry.{Eff, Global, From}
+use Rattle.fl_ops.specs.Registry.{InEffect, IsGlobal, From}
 use Rattle.fl_jobs.specs.declared.job.Act.{Act}
 use Rattle.fl_jobs.specs.declared.job.Act.TheVariants.{Order, Relabel, Ask, Spawn, Exit, Drop, Enter, Emit, Channel}
 use Rattle.fl_jobs.specs.declared.job.Channel as channels
@@ -29,7 +29,7 @@ use Rattle.fl_jobs.specs.declared.answer.Refusal.TheVariants.{MissingCap, LabelT
 use Rattle.fl_jobs.specs.declared.answer.Reply.{Reply}
 use Rattle.fl_jobs.specs.declared.answer.Reply.TheVariants.{Done, Yes, NotYet, Out}
 use Rattle.fl_jobs.specs.declared.answer.Outcome.{Outcome}
-use Rattle.fl_rules.specs.Safety.{Dual}
+use Rattle.fl_labels.specs.Caps.{Dual}
 use Rattle.fl_rules.specs.declared.labels.Labels.{Labels}
 use Rattle.fl_channels.specs.Channels.{closed}
 use Rattle.fl_channels.specs.declared.channels.Channels.{Channels}
@@ -175,12 +175,12 @@ module _ (V : Op → Type 0) (pid : Pid) (l : Labels) (owned : SetBy cap_cmp) (c
   abbrev idle : Process
   idle = record { labels = l; owned = Idle owned; channels = ch }
 
-  order_fails : (order : orders.Order) (f : Refusal) {r : Result (Unit {0}) Refusal} → r ≡ Err f → Checked (order_checks (Eff V (In owned)) order) (Unit {0}) r → Acts V pid idle (Order order) (Err f) idle
+  order_fails : (order : orders.Order) (f : Refusal) {r : Result (Unit {0}) Refusal} → r ≡ Err f → Checked (order_checks (InEffect V (In owned)) order) (Unit {0}) r → Acts V pid idle (Order order) (Err f) idle
   order_fails order f e (Checked.passed h) = absurd (cc)
   order_fails order f e (Checked.failed h) = subst (λ r. Acts V pid idle (Order order) r idle) (to_outcome e) (Acts.failed (inr (refl, h)))
   order_fails order f e (Checked.no_room h) = subst (λ r. Acts V pid idle (Order order) r idle) (to_outcome e) (Acts.no_room refl tt)
 
-  order_done : (order : orders.Order) (u : Unit {0}) {r : Result (Unit {0}) Refusal} → r ≡ Ok u → Checked (order_checks (Eff V (In owned)) order) (Unit {0}) r → Acts V pid idle (Order order) (Ok (Answer (Outcome.Order (body_of order) pid))) (ordering idle)
+  order_done : (order : orders.Order) (u : Unit {0}) {r : Result (Unit {0}) Refusal} → r ≡ Ok u → Checked (order_checks (InEffect V (In owned)) order) (Unit {0}) r → Acts V pid idle (Order order) (Ok (Answer (Outcome.Order (body_of order) pid))) (ordering idle)
   order_done order u e (Checked.passed h) = Acts.passed (refl, h) (refl, refl)
   order_done order u e (Checked.failed h) = absurd (cc)
   order_done order u e (Checked.no_room h) = absurd (cc)
@@ -191,16 +191,16 @@ module _ (V : Op → Type 0) (pid : Pid) (l : Labels) (owned : SetBy cap_cmp) (c
   relabelled side given (Relabels.too_long e) = subst (λ g. Acts V pid idle (Relabel side g) (Err LabelTooLong) idle) (sym e) (Acts.failed (inr (refl, refl)))
   relabelled side given (Relabels.no_room {label} e h) = subst (λ g. Acts V pid idle (Relabel side g) (Err Memory) idle) (sym e) (Acts.no_room refl h)
 
-  asked : (c : Cap) {r : Result Outcome Refusal} → Told (Eff V (In owned) c) ((¬ In owned c) × (¬ Global V c)) r → Acts V pid idle (Ask c) (answered r) idle
+  asked : (c : Cap) {r : Result Outcome Refusal} → Told (InEffect V (In owned) c) ((¬ In owned c) × (¬ IsGlobal V c)) r → Acts V pid idle (Ask c) (answered r) idle
   asked c (Told.told {outcome} h) = Acts.passed (refl, refl) (outcome, refl, h, refl)
   asked c (Told.no_room h) = Acts.no_room refl h
 
-  spawned : (caps : SetBy cap_cmp) {r : Result Sequel Refusal} → Gives (grant_check (Eff V (In owned)) caps) (Unit {0}) (Birth (record { labels = l; owned = Idle caps; channels = closed })) r → Acts V pid idle (Spawn caps) r idle
+  spawned : (caps : SetBy cap_cmp) {r : Result Sequel Refusal} → Gives (grant_check (InEffect V (In owned)) caps) (Unit {0}) (Birth (record { labels = l; owned = Idle caps; channels = closed })) r → Acts V pid idle (Spawn caps) r idle
   spawned caps (Gives.passed h) = Acts.passed (refl, h) (refl, refl)
   spawned caps (Gives.failed h) = Acts.failed (inr (refl, h))
   spawned caps (Gives.no_room h) = Acts.no_room refl tt
 
-  emitted : (bytes : List ℕ) {r : Result Sequel Refusal} → Gives (emission_check (Eff V (In owned)) l.secrecy) (Lacks (In l.secrecy) (Dual (AtHand V owned))) (Answer (Outcome.Reply (Out bytes))) r → Acts V pid idle (Emit bytes) r idle
+  emitted : (bytes : List ℕ) {r : Result Sequel Refusal} → Gives (emission_check (InEffect V (In owned)) l.secrecy) (Lacks (In l.secrecy) (Dual (AtHand V owned))) (Answer (Outcome.Reply (Out bytes))) r → Acts V pid idle (Emit bytes) r idle
   emitted bytes (Gives.passed h) = Acts.passed (refl, h) (refl, refl)
   emitted bytes (Gives.failed h) = Acts.failed (inr (refl, h))
   emitted bytes (Gives.no_room h) = Acts.no_room refl h
@@ -216,7 +216,7 @@ module _ (V : Op → Type 0) (pid : Pid) (l : Labels) (owned : SetBy cap_cmp) (c
   entered login secret (Enters.wrong {c} {digest} first other) = Acts.failed (inr (refl, inr (refl, c, digest, first, other)))
   entered login secret (Enters.no_room {c} first) = Acts.no_room refl (c, first)
 
-  worked : (work : channels.Channel) {r : Result Outcome Refusal} {ch' : Channels} → Works (Eff V (In owned)) (AtHand V owned) pid l ch work r ch' → Acts V pid idle (Channel work) (answered r) (record idle { channels = ch' })
+  worked : (work : channels.Channel) {r : Result Outcome Refusal} {ch' : Channels} → Works (InEffect V (In owned)) (AtHand V owned) pid l ch work r ch' → Acts V pid idle (Channel work) (answered r) (record idle { channels = ch' })
   worked work (Works.passed {outcome} {ch'} h does) = Acts.passed (refl, h) (outcome, refl, ch', does, refl)
   worked work (Works.failed h) = Acts.failed (inr (refl, h))
   worked work (Works.no_room h) = Acts.no_room refl h
@@ -238,7 +238,7 @@ module _ (V : Op → Type 0) (pid : Pid) (p : Process) (act : Act) (owned : SetB
   act_answers : (a : Act) → act ≡ a → (r : Result Outcome Refusal) {p' : Process} → Acts V pid as_idle a (answered r) p' → (q : Result Sequel Refusal) → q ≡ answered r → Acts V pid p act q p'
   act_answers a e r {p'} h q is = subst (λ q. Acts V pid p act q p') (sym is) (act_is a e h)
 
-  module _ (order : orders.Order) (ordered : act ≡ Order order) {r : Result (Unit {0}) Refusal} (checked : Checked (order_checks (Eff V (In owned)) order) (Unit {0}) r) where
+  module _ (order : orders.Order) (ordered : act ≡ Order order) {r : Result (Unit {0}) Refusal} (checked : Checked (order_checks (InEffect V (In owned)) order) (Unit {0}) r) where
     pub act_unchecked : (f : Refusal) → r ≡ Err f → {q : Result Sequel Refusal} → IsErr q × IsErrAnd q (λ g. g ≡ f) → Acts V pid p act q as_idle
     act_unchecked f e {q} h = subst (λ q. Acts V pid p act q as_idle) (sym (passed_on q f h)) (act_is (Order order) ordered (order_fails V pid p.labels owned p.channels order f e checked))
 
@@ -254,10 +254,10 @@ module _ (V : Op → Type 0) (pid : Pid) (p : Process) (act : Act) (owned : SetB
   pub act_relabel : (side : Side) (given : Result (SetBy name_cmp) TooLong) → act ≡ Relabel side given → {r : Result Outcome Refusal} {l' : Labels} → Relabels V owned p.channels.endpoints p.labels side given r l' → (q : Result Sequel Refusal) → q ≡ answered r → Acts V pid p act q (record as_idle { labels = l' })
   act_relabel side given e {r} h q is = act_answers (Relabel side given) e r (relabelled V pid p.labels owned p.channels side given h) q is
 
-  pub act_ask : (c : Cap) → act ≡ Ask c → {r : Result Outcome Refusal} → Told (Eff V (In owned) c) ((¬ In owned c) × (¬ Global V c)) r → (q : Result Sequel Refusal) → q ≡ answered r → Acts V pid p act q as_idle
+  pub act_ask : (c : Cap) → act ≡ Ask c → {r : Result Outcome Refusal} → Told (InEffect V (In owned) c) ((¬ In owned c) × (¬ IsGlobal V c)) r → (q : Result Sequel Refusal) → q ≡ answered r → Acts V pid p act q as_idle
   act_ask c e {r} h q is = act_answers (Ask c) e r (asked V pid p.labels owned p.channels c h) q is
 
-  pub act_spawn : (caps : SetBy cap_cmp) → act ≡ Spawn caps → {q : Result Sequel Refusal} → Gives (grant_check (Eff V (In owned)) caps) (Unit {0}) (Birth (record { labels = p.labels; owned = Idle caps; channels = closed })) q → Acts V pid p act q as_idle
+  pub act_spawn : (caps : SetBy cap_cmp) → act ≡ Spawn caps → {q : Result Sequel Refusal} → Gives (grant_check (InEffect V (In owned)) caps) (Unit {0}) (Birth (record { labels = p.labels; owned = Idle caps; channels = closed })) q → Acts V pid p act q as_idle
   act_spawn caps e h = act_is (Spawn caps) e (spawned V pid p.labels owned p.channels caps h)
 
   pub act_exit : act ≡ Exit → Acts V pid p act (Ok End) as_idle
@@ -269,8 +269,8 @@ module _ (V : Op → Type 0) (pid : Pid) (p : Process) (act : Act) (owned : SetB
   pub act_enter : (login : Name) (secret : Secret) → act ≡ Enter login secret → {r : Result Outcome Refusal} {s : SetBy cap_cmp} → Enters V owned login secret r s → (q : Result Sequel Refusal) → q ≡ answered r → Acts V pid p act q (record p { owned = Idle s })
   act_enter login secret e {r} h q is = act_answers (Enter login secret) e r (entered V pid p.labels owned p.channels login secret h) q is
 
-  pub act_emit : (bytes : List ℕ) → act ≡ Emit bytes → {q : Result Sequel Refusal} → Gives (emission_check (Eff V (In owned)) p.labels.secrecy) (Lacks (In p.labels.secrecy) (Dual (AtHand V owned))) (Answer (Outcome.Reply (Out bytes))) q → Acts V pid p act q as_idle
+  pub act_emit : (bytes : List ℕ) → act ≡ Emit bytes → {q : Result Sequel Refusal} → Gives (emission_check (InEffect V (In owned)) p.labels.secrecy) (Lacks (In p.labels.secrecy) (Dual (AtHand V owned))) (Answer (Outcome.Reply (Out bytes))) q → Acts V pid p act q as_idle
   act_emit bytes e h = act_is (Emit bytes) e (emitted V pid p.labels owned p.channels bytes h)
 
-  pub act_channel : (work : channels.Channel) → act ≡ Channel work → {r : Result Outcome Refusal} {ch' : Channels} (l : Labels) → l ≡ p.labels → Works (Eff V (In owned)) (AtHand V owned) pid l p.channels work r ch' → (q : Result Sequel Refusal) → q ≡ answered r → Acts V pid p act q (record as_idle { channels = ch' })
-  act_channel work e {r} {ch'} l same h q is = act_answers (Channel work) e r (worked V pid p.labels owned p.channels work (subst (λ l. Works (Eff V (In owned)) (AtHand V owned) pid l p.channels work r ch') same h)) q is
+  pub act_channel : (work : channels.Channel) → act ≡ Channel work → {r : Result Outcome Refusal} {ch' : Channels} (l : Labels) → l ≡ p.labels → Works (InEffect V (In owned)) (AtHand V owned) pid l p.channels work r ch' → (q : Result Sequel Refusal) → q ≡ answered r → Acts V pid p act q (record as_idle { channels = ch' })
+  act_channel work e {r} {ch'} l same h q is = act_answers (Channel work) e r (worked V pid p.labels owned p.channels work (subst (λ l. Works (InEffect V (In owned)) (AtHand V owned) pid l p.channels work r ch') same h)) q is

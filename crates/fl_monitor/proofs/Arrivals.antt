@@ -10,7 +10,7 @@ use Rattle.fl_ops.specs.declared.op.Op.{Op}
 use Rattle.fl_rules.specs.Endpoint.{Crosses, SafeEndpoint}
 use Rattle.fl_rules.specs.Message.{SafeMessage}
 use Rattle.fl_rules.specs.Pair.{SafePair}
-use Rattle.fl_rules.specs.Safety.{Dual}
+use Rattle.fl_labels.specs.Caps.{Dual}
 use Rattle.fl_rules.specs.declared.endpoint.Mode.{Mode}
 use Rattle.fl_rules.specs.declared.endpoint.Mode.TheVariants.{Read, Write, Both}
 use Rattle.fl_rules.specs.declared.labels.Labels.{Labels}

@@ -10,7 +10,7 @@ use Rattle.fl_labels.specs.SetBy.{SetBy, In}
 use Rattle.fl_labels.specs.declared.cap.Cap.{Cap}
 use Rattle.fl_labels.specs.declared.endpoint.Endpoint.{Endpoint}
 use Rattle.fl_ops.specs.declared.op.Op.{Op}
-use Rattle.fl_ops.specs.Registry.{Eff, Listed}
+use Rattle.fl_ops.specs.Registry.{InEffect, Listed}
 use Rattle.fl_jobs.specs.declared.job.Side.{Side}
 use Rattle.fl_jobs.specs.declared.job.TooLong.{TooLong}
 use Rattle.fl_jobs.specs.declared.answer.Refusal.{Refusal}
@@ -34,18 +34,18 @@ use Rattle.fl_monitor.proofs.CheckLemmas.{why_refused, has_passed}
 
 -- the change of a label, as it is checked under these operations
 abbrev pub ChangeChecked : List Op → SetBy cap_cmp → SetBy name_cmp → SetBy name_cmp → Result (Unit {0}) Refusal → Type 0
-ChangeChecked ops owned from to = Checked (change_check (Eff (Listed ops) (In owned)) from to) (Lacks (Takes from to) (AtHand (Listed ops) owned))
+ChangeChecked ops owned from to = Checked (change_check (InEffect (Listed ops) (In owned)) from to) (Lacks (Takes from to) (AtHand (Listed ops) owned))
 
 -- all endpoints, as they are checked under these operations
 abbrev pub EndpointsChecked : List Op → SetBy cap_cmp → Labels → Table → Result (Unit {0}) Refusal → Type 0
-EndpointsChecked ops owned labels table = Checked (endpoints_check (Eff (Listed ops) (In owned)) labels table) (Lacks (CrossesAt labels table) (DualAt (AtHand (Listed ops) owned)))
+EndpointsChecked ops owned labels table = Checked (endpoints_check (InEffect (Listed ops) (In owned)) labels table) (Lacks (CrossesAt labels table) (DualAt (AtHand (Listed ops) owned)))
 
 module _ (ops : List Op) (owned : SetBy cap_cmp) (table : Table) (old : Labels) (side : Side) (given : Result (SetBy name_cmp) TooLong) (label from : SetBy name_cmp) (fits : given ≡ Ok label) (is : from ≡ side_of side old) where
   abbrev IsRelabelled : Result Outcome Refusal → Labels → Type 0
   IsRelabelled = Relabels (Listed ops) owned table old side given
 
-  change_fails : (f : Refusal) → change_check (Eff (Listed ops) (In owned)) from label (Some f) ⊎ ((f ≡ Memory) × Lacks (Takes from label) (AtHand (Listed ops) owned)) → IsRelabelled (Err f) old
-  change_fails f (inl h) = Relabels.unsafe fits (inl (subst (λ l. change_check (Eff (Listed ops) (In owned)) l label (Some f)) is h))
+  change_fails : (f : Refusal) → change_check (InEffect (Listed ops) (In owned)) from label (Some f) ⊎ ((f ≡ Memory) × Lacks (Takes from label) (AtHand (Listed ops) owned)) → IsRelabelled (Err f) old
+  change_fails f (inl h) = Relabels.unsafe fits (inl (subst (λ l. change_check (InEffect (Listed ops) (In owned)) l label (Some f)) is h))
   change_fails f (inr h) = subst (λ f. IsRelabelled (Err f) old) (sym h.0) (Relabels.no_room fits (inl (subst (λ l. Lacks (Takes l label) (AtHand (Listed ops) owned)) is h.1)))
 
   module _ {r : Result (Unit {0}) Refusal} (change : ChangeChecked ops owned from label r) where
@@ -54,13 +54,13 @@ module _ (ops : List Op) (owned : SetBy cap_cmp) (table : Table) (old : Labels) 
 
     -- the change passes, and the endpoints are looked at
     module _ (u : Unit {0}) (passes : r ≡ Ok u) (now : List Op) (same : now ≡ ops) (labels : Labels) (as_changed : labels ≡ with_side side label old) where
-      change_passed : change_check (Eff (Listed ops) (In owned)) (side_of side old) label None
-      change_passed = subst (λ l. change_check (Eff (Listed ops) (In owned)) l label None) is (has_passed change u passes)
+      change_passed : change_check (InEffect (Listed ops) (In owned)) (side_of side old) label None
+      change_passed = subst (λ l. change_check (InEffect (Listed ops) (In owned)) l label None) is (has_passed change u passes)
 
       looked_at : {q : Result (Unit {0}) Refusal} → EndpointsChecked now owned labels table q → EndpointsChecked ops owned (with_side side label old) table q
       looked_at {q} h = subst (λ l. EndpointsChecked ops owned l table q) as_changed (subst (λ ops. EndpointsChecked ops owned labels table q) same h)
 
-      endpoints_fail : (f : Refusal) → endpoints_check (Eff (Listed ops) (In owned)) (with_side side label old) table (Some f) ⊎ ((f ≡ Memory) × Lacks (CrossesAt (with_side side label old) table) (DualAt (AtHand (Listed ops) owned))) → IsRelabelled (Err f) old
+      endpoints_fail : (f : Refusal) → endpoints_check (InEffect (Listed ops) (In owned)) (with_side side label old) table (Some f) ⊎ ((f ≡ Memory) × Lacks (CrossesAt (with_side side label old) table) (DualAt (AtHand (Listed ops) owned))) → IsRelabelled (Err f) old
       endpoints_fail f (inl h) = Relabels.unsafe fits (inr (change_passed, h))
       endpoints_fail f (inr h) = subst (λ f. IsRelabelled (Err f) old) (sym h.0) (Relabels.no_room fits (inr h.1))
 
@@ -102,7 +102,7 @@ module _ (ops : List Op) (labels : Labels) (table : Table) (owned : SetBy cap_cm
         looked : {r : Result (Unit {0}) Refusal} → EndpointsChecked ops rest labels table r → EndpointsChecked ops (set.remove owned c) labels table r
         looked {r} = subst (λ s. EndpointsChecked ops s labels table r) is_rest
 
-        kept_as : (f : Refusal) → endpoints_check (Eff (Listed ops) (In (set.remove owned c))) labels table (Some f) ⊎ ((f ≡ Memory) × Lacks (CrossesAt labels table) (DualAt (AtHand (Listed ops) (set.remove owned c)))) → IsGivenUp (Err f) owned
+        kept_as : (f : Refusal) → endpoints_check (InEffect (Listed ops) (In (set.remove owned c))) labels table (Some f) ⊎ ((f ≡ Memory) × Lacks (CrossesAt labels table) (DualAt (AtHand (Listed ops) (set.remove owned c)))) → IsGivenUp (Err f) owned
         kept_as f (inl h) = GivesUp.kept (inr (is_owned, h))
         kept_as f (inr h) = subst (λ f. IsGivenUp (Err f) owned) (sym h.0) (GivesUp.no_room (sym told ∙ e) h.1.what.endpoint (h.1.member.0, h.1.member.1))
 

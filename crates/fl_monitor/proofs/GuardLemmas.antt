@@ -8,7 +8,7 @@ use Rattle.fl_rules.specs.declared.endpoint.Mode.{Mode}
 use Rattle.fl_rules.specs.declared.endpoint.Mode.TheVariants.{Read, Write, Both}
 use Rattle.fl_rules.specs.declared.labels.Labels.{Labels}
 use Rattle.fl_rules.specs.Endpoint.{Crosses, SafeEndpoint}
-use Rattle.fl_rules.specs.Safety.{Dual}
+use Rattle.fl_labels.specs.Caps.{Dual}
 use Rattle.fl_channels.specs.Offenders.{DualAt}
 use Rattle.fl_monitor.proofs.Hand.{dual_more}
 

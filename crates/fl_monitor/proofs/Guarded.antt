@@ -18,7 +18,7 @@ use Rattle.fl_labels.specs.declared.pid.Pid.{Pid}
 use Rattle.fl_ops.specs.declared.op.Op.{Op}
 use Rattle.fl_ops.proofs.Reaching.{eff_more}
 use Rattle.fl_rules.specs.Endpoint.{Crosses}
-use Rattle.fl_rules.specs.Safety.{Dual}
+use Rattle.fl_labels.specs.Caps.{Dual}
 use Rattle.fl_rules.specs.declared.endpoint.Mode.{Mode}
 use Rattle.fl_rules.specs.declared.labels.Labels.{Labels}
 use Rattle.fl_channels.specs.Endpoints.{Table, IsLeastFree, one_least_free}

@@ -11,34 +11,34 @@ use Rattle.fl_labels.proofs.Searches.{found_as, searched_set}
 use Rattle.fl_labels.specs.declared.cap.Cap.{Cap}
 use Rattle.fl_labels.specs.declared.cap.Cap.TheVariants.{Plus, Minus}
 use Rattle.fl_ops.specs.declared.op.Op.{Op}
-use Rattle.fl_ops.specs.Registry.{Reach, Eff, Listed}
+use Rattle.fl_ops.specs.Registry.{Reach, InEffect, Listed}
 use Rattle.fl_ops.proofs.Reaching.{owned_eff}
 use Rattle.fl_jobs.specs.declared.answer.Refusal.{Refusal}
 use Rattle.fl_jobs.specs.declared.answer.Refusal.TheVariants.{Memory}
-use Rattle.fl_rules.specs.Safety.{Dual}
+use Rattle.fl_labels.specs.Caps.{Dual}
 use Rattle.fl_monitor.specs.Checks.{demand}
 use Rattle.fl_monitor.specs.Hand.{AtHand, Lacks}
 use Rattle.fl_monitor.specs.Acts.{Checked}
 
 module _ {V : Op → Type 0} (owned : SetBy cap_cmp) where
-  hand_effective : Within (AtHand V owned) (Eff V (In owned))
+  hand_effective : Within (AtHand V owned) (InEffect V (In owned))
   hand_effective c (inl h) = owned_eff c h
   hand_effective c (inr g) = inr g
 
   -- who holds all that is reached has at hand what is in effect
   module _ (reached : SetBy cap_cmp) (all : (c : Cap) → In reached c ↔ Reach V (In owned) c) where
-    all_effective : Within (AtHand V reached) (Eff V (In owned))
+    all_effective : Within (AtHand V reached) (InEffect V (In owned))
     all_effective c (inl h) = inl ((all c).0 h)
     all_effective c (inr g) = inr g
 
-    effective_all : Within (Eff V (In owned)) (AtHand V reached)
+    effective_all : Within (InEffect V (In owned)) (AtHand V reached)
     effective_all c (inl h) = inl ((all c).1 h)
     effective_all c (inr g) = inr g
 
 -- a demand for what E makes of capabilities, where more capabilities make no less
 module _ {K : Type 0} (R : K → K → Ordering) (P : K → Type 0) (made : (Cap → Type 0) → K → Type 0) (more : (E F : Cap → Type 0) → Within E F → Within (made E) (made F)) (refusal : K → Refusal) (ops : List Op) (owned : SetBy cap_cmp) where
   abbrev IsChecked : Result (Unit {0}) Refusal → Type 0
-  IsChecked = Checked (demand R P (made (Eff (Listed ops) (In owned))) refusal) (Lacks P (made (AtHand (Listed ops) owned)))
+  IsChecked = Checked (demand R P (made (InEffect (Listed ops) (In owned))) refusal) (Lacks P (made (AtHand (Listed ops) owned)))
 
   -- what is at hand does
   pub hand_does : (r : Option K) (none : Bool) → is_some r ≡ not none → none ≡ true → MatchOption r (Within P (made (AtHand (Listed ops) owned))) (IsLeastOutside R P (made (AtHand (Listed ops) owned))) → IsChecked (Ok tt)

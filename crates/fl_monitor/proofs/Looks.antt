@@ -11,7 +11,7 @@ use Rattle.fl_labels.specs.declared.cap.Cap.{Cap}
 use Rattle.fl_ops.specs.declared.digest.Digest.{Digest}
 use Rattle.fl_ops.specs.OpOrder.{op_cmp}
 use Rattle.fl_ops.specs.OpLaws.{op_total, op_exact}
-use Rattle.fl_ops.specs.Registry.{Reach, From, Eff, Global, Listed}
+use Rattle.fl_ops.specs.Registry.{Reach, From, InEffect, IsGlobal, Listed}
 use Rattle.fl_ops.specs.Logins.{IsFirstLogin, HasNoLogin}
 use Rattle.fl_ops.proofs.Logins.{answer_kept}
 use Rattle.fl_ops.proofs.Reaching.{eff_more, global_more, reach_more}
@@ -27,17 +27,17 @@ told b to from t = record { holds = λ e. to (t.holds e); fails = λ e h. t.fail
 
 module _ (s : SetBy op_cmp) where
   module _ (owned : SetBy cap_cmp) (c : Cap) where
-    to_listed : Eff (In s) (In owned) c → Eff (Listed (members s)) (In owned) c
+    to_listed : InEffect (In s) (In owned) c → InEffect (Listed (members s)) (In owned) c
     to_listed h = eff_more (listed s) (λ c h. h) c h
 
-    from_listed : Eff (Listed (members s)) (In owned) c → Eff (In s) (In owned) c
+    from_listed : InEffect (Listed (members s)) (In owned) c → InEffect (In s) (In owned) c
     from_listed h = eff_more (unlisted s) (λ c h. h) c h
 
-    pub told_effective : {E : Type 0} (r : Result Bool E) → IfOk r (λ yes. Tells yes (Eff (In s) (In owned) c)) → IfOk r (λ yes. Tells yes (Eff (Listed (members s)) (In owned) c))
+    pub told_effective : {E : Type 0} (r : Result Bool E) → IfOk r (λ yes. Tells yes (InEffect (In s) (In owned) c)) → IfOk r (λ yes. Tells yes (InEffect (Listed (members s)) (In owned) c))
     told_effective (Ok b) t = told b to_listed from_listed t
     told_effective (Err e) t = t
 
-    pub searched : {E : Type 0} (r : Result Bool E) → OnErr r ((¬ In owned c) × (¬ Global (In s) c)) → OnErr r ((¬ In owned c) × (¬ Global (Listed (members s)) c))
+    pub searched : {E : Type 0} (r : Result Bool E) → OnErr r ((¬ In owned c) × (¬ IsGlobal (In s) c)) → OnErr r ((¬ In owned c) × (¬ IsGlobal (Listed (members s)) c))
     searched (Ok b) h = h
     searched (Err e) h = (h.0, λ g. h.1 (global_more (unlisted s) c g))
 
@@ -49,7 +49,7 @@ module _ (s : SetBy op_cmp) where
   told_all_reached owned (Ok reached) h = λ c. (λ m. reach_more (listed s) (λ c h. h) c ((h c).0 m), λ e. (h c).1 (reach_more (unlisted s) (λ c h. h) c e))
   told_all_reached owned (Err e) h = h
 
-  pub told_global : (c : Cap) (b : Bool) → Tells b (Global (In s) c) → Tells b (Global (Listed (members s)) c)
+  pub told_global : (c : Cap) (b : Bool) → Tells b (IsGlobal (In s) c) → Tells b (IsGlobal (Listed (members s)) c)
   told_global c b t = told b (global_more (listed s) c) (global_more (unlisted s) c) t
 
   pub told_login : (login : Name) (r : Option (Cap × Digest)) → MatchOption r (HasNoLogin (In s) login) (λ l. IsFirstLogin (In s) login l.0 l.1) → MatchOption r (HasNoLogin (Listed (members s)) login) (λ l. IsFirstLogin (Listed (members s)) login l.0 l.1)

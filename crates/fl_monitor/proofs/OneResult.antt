@@ -11,7 +11,7 @@ use Rattle.fl_labels.specs.declared.cap.Cap.{Cap}
 use Rattle.fl_labels.specs.declared.pid.Pid.{Pid}
 use Rattle.fl_ops.specs.declared.digest.Digest.{Digest}
 use Rattle.fl_ops.specs.declared.op.Op.{Op}
-use Rattle.fl_ops.specs.Registry.{Eff}
+use Rattle.fl_ops.specs.Registry.{InEffect}
 use Rattle.fl_ops.specs.Logins.{IsFirstLogin}
 use Rattle.fl_ops.proofs.Logins.{one_first}
 use Rattle.fl_rules.specs.declared.labels.Labels.{Labels}
@@ -78,7 +78,7 @@ module _ (V : Op → Type 0) where
   one_check_of p (Ask c) = one_said
   one_check_of p (Spawn caps) = one_demand cap_total cap_exact _ _ MissingCap
   one_check_of p Exit = one_said
-  one_check_of p (Drop c) = one_then _ _ one_said (one_endpoints_check (Eff V (In (set.remove (owns p) c))) _ _)
+  one_check_of p (Drop c) = one_then _ _ one_said (one_endpoints_check (InEffect V (In (set.remove (owns p) c))) _ _)
   one_check_of p (Enter login secret) = one_enter_check V login secret
   one_check_of p (Emit bytes) = one_demand name_total name_exact _ _ Secrecy
   one_check_of p (Channel work) = one_channel_check (effective V p) p.labels p.channels work

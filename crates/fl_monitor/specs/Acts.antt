@@ -25,7 +25,7 @@ use Rattle.fl_jobs.specs.declared.answer.Refusal.{Refusal}
 use Rattle.fl_jobs.specs.declared.answer.Refusal.TheVariants.{NoProcess, MissingCap, NoLogin, WrongSecret, NamesSpent, LabelTooLong, Memory, NotOwned, Busy, NoEndpoint}
 use Rattle.fl_jobs.specs.declared.answer.Reply.TheVariants.{Made, Done, Entered, Out, Arrived}
 use Rattle.fl_jobs.specs.declared.answer.Outcome.{Outcome}
-use Rattle.fl_ops.specs.Registry.{Eff}
+use Rattle.fl_ops.specs.Registry.{InEffect}
 use Rattle.fl_ops.specs.Logins.{IsFirstLogin, HasNoLogin}
 use Rattle.fl_rules.specs.declared.labels.Labels.{Labels}
 use Rattle.fl_wire.specs.declared.packet.Data.{Data}
@@ -68,15 +68,15 @@ pub data Told (P Q : Type 0) : Result Outcome Refusal → Type 0 where
 
 -- the label of a side is set by who owns these and has these endpoints, or the labels stay
 pub data Relabels (V : Op → Type 0) (owned : SetBy cap_cmp) (table : Table) (old : Labels) (side : Side) (given : Result (SetBy name_cmp) TooLong) : Result Outcome Refusal → Labels → Type 0 where
-  safe : {label : SetBy name_cmp} → given ≡ Ok label → (change_check (Eff V (In owned)) (side_of side old) label then endpoints_check (Eff V (In owned)) (with_side side label old) table) None → Relabels V owned table old side given (Ok (Outcome.Reply Done)) (with_side side label old)
-  unsafe : {label : SetBy name_cmp} {f : Refusal} → given ≡ Ok label → (change_check (Eff V (In owned)) (side_of side old) label then endpoints_check (Eff V (In owned)) (with_side side label old) table) (Some f) → Relabels V owned table old side given (Err f) old
+  safe : {label : SetBy name_cmp} → given ≡ Ok label → (change_check (InEffect V (In owned)) (side_of side old) label then endpoints_check (InEffect V (In owned)) (with_side side label old) table) None → Relabels V owned table old side given (Ok (Outcome.Reply Done)) (with_side side label old)
+  unsafe : {label : SetBy name_cmp} {f : Refusal} → given ≡ Ok label → (change_check (InEffect V (In owned)) (side_of side old) label then endpoints_check (InEffect V (In owned)) (with_side side label old) table) (Some f) → Relabels V owned table old side given (Err f) old
   too_long : {e : TooLong} → given ≡ Err e → Relabels V owned table old side given (Err LabelTooLong) old
   no_room : {label : SetBy name_cmp} → given ≡ Ok label → RelabelTakesMemory V owned old table side label → Relabels V owned table old side given (Err Memory) old
 
 -- who owns these and has these labels and endpoints gives c up, or keeps it
 pub data GivesUp (V : Op → Type 0) (labels : Labels) (table : Table) (owned : SetBy cap_cmp) (c : Cap) : Result Outcome Refusal → SetBy cap_cmp → Type 0 where
-  gone : (refuse_if (not (set.contains owned c)) (NotOwned c) then endpoints_check (Eff V (In (set.remove owned c))) labels table) None → GivesUp V labels table owned c (Ok (Outcome.Reply Done)) (set.remove owned c)
-  kept : {f : Refusal} → (refuse_if (not (set.contains owned c)) (NotOwned c) then endpoints_check (Eff V (In (set.remove owned c))) labels table) (Some f) → GivesUp V labels table owned c (Err f) owned
+  gone : (refuse_if (not (set.contains owned c)) (NotOwned c) then endpoints_check (InEffect V (In (set.remove owned c))) labels table) None → GivesUp V labels table owned c (Ok (Outcome.Reply Done)) (set.remove owned c)
+  kept : {f : Refusal} → (refuse_if (not (set.contains owned c)) (NotOwned c) then endpoints_check (InEffect V (In (set.remove owned c))) labels table) (Some f) → GivesUp V labels table owned c (Err f) owned
   no_room : In owned c → (e : Endpoint) → IsOpen table e → GivesUp V labels table owned c (Err Memory) owned
 
 -- who owns these enters a login by a secret

@@ -7,7 +7,7 @@ use Rattle.fl_labels.specs.declared.cap.Cap.{Cap}
 use Rattle.fl_labels.specs.declared.endpoint.Endpoint.{Endpoint}
 use Rattle.fl_labels.specs.declared.pid.Pid.{Pid}
 use Rattle.fl_rules.specs.Endpoint.{writes, Crosses}
-use Rattle.fl_rules.specs.Safety.{Dual}
+use Rattle.fl_labels.specs.Caps.{Dual}
 use Rattle.fl_rules.specs.declared.labels.Labels.{Labels}
 use Rattle.fl_wire.specs.declared.packet.Data.{Data}
 use Rattle.fl_wire.specs.declared.packet.Letter.{Letter}

@@ -9,7 +9,7 @@ use Rattle.fl_labels.specs.declared.endpoint.Endpoint.{Endpoint}
 use Rattle.fl_rules.specs.Endpoint.{Crosses}
 use Rattle.fl_rules.specs.Pair as pairs
 use Rattle.fl_rules.specs.Pair.{SafePair, PairFails}
-use Rattle.fl_rules.specs.Safety.{Dual}
+use Rattle.fl_labels.specs.Caps.{Dual}
 use Rattle.fl_rules.specs.declared.endpoint.Mode.{Mode}
 use Rattle.fl_rules.specs.declared.endpoint.Mode.TheVariants.{Write}
 use Rattle.fl_rules.specs.declared.labels.Labels.{Labels}

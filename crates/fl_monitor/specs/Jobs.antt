@@ -14,7 +14,7 @@ use Rattle.fl_labels.specs.declared.endpoint.Endpoint.{Endpoint}
 use Rattle.fl_labels.specs.declared.pid.Pid.{Pid}
 use Rattle.fl_ops.specs.declared.digest.Digest.{Digest}
 use Rattle.fl_ops.specs.declared.op.Op.{Op}
-use Rattle.fl_ops.specs.Registry.{Reach, From, Global, Eff}
+use Rattle.fl_ops.specs.Registry.{Reach, From, IsGlobal, InEffect}
 use Rattle.fl_ops.specs.Logins.{IsFirstLogin, HasNoLogin}
 use Rattle.fl_jobs.specs.declared.job.Side.{Side}
 use Rattle.fl_jobs.specs.declared.job.Order as orders
@@ -28,7 +28,8 @@ use Rattle.fl_jobs.specs.declared.answer.Refusal.{Refusal}
 use Rattle.fl_jobs.specs.declared.answer.Refusal.TheVariants.{NoProcess, MissingCap, Secrecy, NoLogin, WrongSecret, NamesSpent, LabelTooLong, Memory, NotOwned, Busy}
 use Rattle.fl_jobs.specs.declared.answer.Reply.TheVariants.{Made, Done, Yes, NotYet, Entered, Out, Arrived}
 use Rattle.fl_jobs.specs.declared.answer.Outcome.{Outcome}
-use Rattle.fl_rules.specs.Safety.{Takes, Dual}
+use Rattle.fl_rules.specs.Safety.{Takes}
+use Rattle.fl_labels.specs.Caps.{Dual}
 use Rattle.fl_rules.specs.declared.labels.Labels.{Labels}
 use Rattle.fl_channels.specs.Endpoints.{Table, IsOpen}
 use Rattle.fl_channels.specs.Offenders.{CrossesAt, DualAt}
@@ -74,7 +75,7 @@ checks_of V p (Relabel side (Ok label)) = change_check (effective V p) (side_of 
 checks_of V p (Ask c) = no_check
 checks_of V p (Spawn caps) = grant_check (effective V p) caps
 checks_of V p Exit = no_check
-checks_of V p (Drop c) = refuse_if (not (set.contains (owns p) c)) (NotOwned c) then endpoints_check (Eff V (In (set.remove (owns p) c))) p.labels p.channels.endpoints
+checks_of V p (Drop c) = refuse_if (not (set.contains (owns p) c)) (NotOwned c) then endpoints_check (InEffect V (In (set.remove (owns p) c))) p.labels p.channels.endpoints
 checks_of V p (Enter login secret) = enter_check V login secret
 checks_of V p (Emit bytes) = emission_check (effective V p) p.labels.secrecy
 checks_of V p (Channel c) = channel_checks (effective V p) p.labels p.channels c
@@ -137,7 +138,7 @@ abbrev pub ActTakesMemory : (Op → Type 0) → Process → Act → Type 0
 ActTakesMemory V p (Order order) = Unit {0}
 ActTakesMemory V p (Relabel side (Err e)) = ⊥
 ActTakesMemory V p (Relabel side (Ok label)) = RelabelTakesMemory V (owns p) p.labels p.channels.endpoints side label
-ActTakesMemory V p (Ask c) = (¬ In (owns p) c) × (¬ Global V c)
+ActTakesMemory V p (Ask c) = (¬ In (owns p) c) × (¬ IsGlobal V c)
 ActTakesMemory V p (Spawn caps) = Unit {0}
 ActTakesMemory V p Exit = ⊥
 ActTakesMemory V p (Drop c) = In (owns p) c × (e : Endpoint) × IsOpen p.channels.endpoints e

@@ -10,7 +10,7 @@ use Rattle.fl_labels.specs.declared.cap.Cap.TheVariants.{Grow}
 use Rattle.fl_ops.specs.declared.op.Op.{Op}
 use Rattle.fl_ops.specs.declared.op.Body.{Body}
 use Rattle.fl_ops.specs.declared.op.Body.TheVariants as bodies
-use Rattle.fl_ops.specs.Registry.{Eff}
+use Rattle.fl_ops.specs.Registry.{InEffect}
 use Rattle.fl_jobs.specs.declared.job.Side.{Side}
 use Rattle.fl_jobs.specs.declared.job.Side.TheVariants.{Secrecy, Integrity}
 use Rattle.fl_jobs.specs.declared.job.Order.{Order}
@@ -62,7 +62,7 @@ receiving p d = record p { owned = Idle (set.union (owns p) d.message.caps); cha
 
 -- what the process has in effect under the registry V
 abbrev pub effective : (Op → Type 0) → Process → Cap → Type 0
-effective V p = Eff V (In (owns p))
+effective V p = InEffect V (In (owns p))
 
 abbrev pub side_of : Side → Labels → set.SetBy name_cmp
 side_of Secrecy l = l.secrecy

@@ -1,7 +1,7 @@
 // Births of processes by other ones.
 ghost use Rattle.std.specs.Prelude.{◌≡◌, ⊤};
 ghost use Rattle.fl_labels.specs.SetBy.{In};
-ghost use Rattle.fl_ops.specs.Registry.{Eff, Listed};
+ghost use Rattle.fl_ops.specs.Registry.{InEffect, Listed};
 ghost use Rattle.fl_channels.specs.Channels.{closed};
 ghost use Rattle.fl_monitor.specs.declared.process.Holding.TheVariants.{Idle};
 ghost use Rattle.fl_monitor.specs.declared.sequel.Sequel.TheVariants.{Birth};
@@ -27,7 +27,7 @@ pub(crate) fn spawn<V: View>(
     owned: &CapSet,
     caps: CapSet,
 ) -> Result<Sequel, Refusal>
-    ensures gives { Gives (grant_check (Eff (Listed (V.list view.old)) (In owned.now)) caps) ⊤ (Birth (record { labels = labels.now; owned = Idle caps; channels = closed })) result }
+    ensures gives { Gives (grant_check (InEffect (Listed (V.list view.old)) (In owned.now)) caps) ⊤ (Birth (record { labels = labels.now; owned = Idle caps; channels = closed })) result }
     ensures same { V.list view.new ≡ V.list view.old }
 {
     check_grant(alloc, view, owned, &caps)?;

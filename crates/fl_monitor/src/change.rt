@@ -3,7 +3,7 @@ ghost use Rattle.std.specs.Prelude.{◌≡◌, MatchOption};
 ghost use Rattle.fl_labels.specs.Cap.{cap_cmp};
 ghost use Rattle.fl_labels.specs.Found.{IsLeastOutside};
 ghost use Rattle.fl_labels.specs.SetBy.{In};
-ghost use Rattle.fl_ops.specs.Registry.{Eff, Listed};
+ghost use Rattle.fl_ops.specs.Registry.{InEffect, Listed};
 ghost use Rattle.fl_rules.specs.Labels.{sets_of};
 ghost use Rattle.fl_rules.specs.Safety.{Takes, SafeChange};
 ghost use Rattle.fl_monitor.specs.Process.{side_of, with_side};
@@ -42,7 +42,7 @@ fn check_change<V: View>(
     from: &Label,
     to: &Label,
 ) -> Result<(), Refusal>
-    ensures checked { Checked (change_check (Eff (Listed (V.list view.old)) (In owned.now)) from.now to.now) (Lacks (Takes from.now to.now) (AtHand (Listed (V.list view.old)) owned.now)) result }
+    ensures checked { Checked (change_check (InEffect (Listed (V.list view.old)) (In owned.now)) from.now to.now) (Lacks (Takes from.now to.now) (AtHand (Listed (V.list view.old)) owned.now)) result }
     ensures same { V.list view.new ≡ V.list view.old }
 {
     if first_lacking(view, owned, from, to).is_none() {

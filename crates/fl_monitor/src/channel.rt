@@ -3,7 +3,7 @@ ghost use Rattle.std.specs.Prelude.{◌≡◌, IfOk};
 ghost use Rattle.fl_labels.specs.SetBy.{In};
 ghost use Rattle.fl_channels.specs.Channels.{oldest, without_oldest};
 ghost use Rattle.fl_jobs.specs.declared.answer.Outcome.TheVariants as outcomes;
-ghost use Rattle.fl_ops.specs.Registry.{Eff, Listed};
+ghost use Rattle.fl_ops.specs.Registry.{InEffect, Listed};
 ghost use Rattle.fl_rules.specs.Labels.{sets_of};
 ghost use Rattle.fl_jobs.specs.declared.job.Channel.TheVariants.{Open, Tune, Send};
 ghost use Rattle.fl_monitor.specs.Channels.{IsSent, taken};
@@ -36,7 +36,7 @@ fn begin<V: View>(
     mode: Mode,
     given: GivenLabels,
 ) -> Result<Outcome, Refusal>
-    ensures works { (pid : Pid) → Works (Eff (Listed (V.list view.old)) (In owned.now)) (AtHand (Listed (V.list view.old)) owned.now) pid (sets_of process.entry) channels.old (Open mode given) result channels.new }
+    ensures works { (pid : Pid) → Works (InEffect (Listed (V.list view.old)) (In owned.now)) (AtHand (Listed (V.list view.old)) owned.now) pid (sets_of process.entry) channels.old (Open mode given) result channels.new }
     ensures same { V.list view.new ≡ V.list view.old }
 {
     let Some(labels) = given.labels() else {
@@ -63,7 +63,7 @@ fn tune<V: View>(
     endpoint: Endpoint,
     given: GivenLabels,
 ) -> Result<Outcome, Refusal>
-    ensures works { (pid : Pid) → Works (Eff (Listed (V.list view.old)) (In owned.now)) (AtHand (Listed (V.list view.old)) owned.now) pid (sets_of process.entry) channels.old (Tune endpoint given) result channels.new }
+    ensures works { (pid : Pid) → Works (InEffect (Listed (V.list view.old)) (In owned.now)) (AtHand (Listed (V.list view.old)) owned.now) pid (sets_of process.entry) channels.old (Tune endpoint given) result channels.new }
     ensures same { V.list view.new ≡ V.list view.old }
 {
     let Some(labels) = given.labels() else {
@@ -129,7 +129,7 @@ fn send<V: View>(
     to: Endpoint,
     message: Message,
 ) -> Result<Outcome, Refusal>
-    ensures works { (process : Labels) → Works (Eff (Listed (V.list view.old)) (In owned.now)) (AtHand (Listed (V.list view.old)) owned.now) sender process channels.now (Send from receiver to message) result channels.now }
+    ensures works { (process : Labels) → Works (InEffect (Listed (V.list view.old)) (In owned.now)) (AtHand (Listed (V.list view.old)) owned.now) sender process channels.now (Send from receiver to message) result channels.now }
     ensures same { V.list view.new ≡ V.list view.old }
 {
     let Some(opened) = channels.endpoints.get(from) else {
@@ -166,7 +166,7 @@ pub(crate) fn work<V: View>(
     channels: &mut Channels,
     channel: Channel,
 ) -> Result<Outcome, Refusal>
-    ensures works { Works (Eff (Listed (V.list view.old)) (In owned.now)) (AtHand (Listed (V.list view.old)) owned.now) pid (sets_of process.entry) channels.old channel result channels.new }
+    ensures works { Works (InEffect (Listed (V.list view.old)) (In owned.now)) (AtHand (Listed (V.list view.old)) owned.now) pid (sets_of process.entry) channels.old channel result channels.new }
     ensures same { V.list view.new ≡ V.list view.old }
 {
     match channel {

@@ -3,8 +3,9 @@ ghost use Rattle.std.specs.Prelude.{◌≡◌, MatchOption};
 ghost use Rattle.fl_labels.specs.Name.{name_cmp};
 ghost use Rattle.fl_labels.specs.Found.{IsLeastOutside};
 ghost use Rattle.fl_labels.specs.SetBy.{In};
-ghost use Rattle.fl_ops.specs.Registry.{Eff, Listed};
-ghost use Rattle.fl_rules.specs.Safety.{Dual, SafeEmission};
+ghost use Rattle.fl_ops.specs.Registry.{InEffect, Listed};
+ghost use Rattle.fl_rules.specs.Safety.{SafeEmission};
+ghost use Rattle.fl_labels.specs.Caps.{Dual};
 ghost use Rattle.fl_jobs.specs.declared.answer.Outcome.TheVariants as outcomes;
 ghost use Rattle.fl_jobs.specs.declared.answer.Reply.TheVariants.{Out};
 ghost use Rattle.fl_monitor.specs.declared.sequel.Sequel.TheVariants.{Answer};
@@ -40,7 +41,7 @@ fn check_emission<V: View>(
     owned: &CapSet,
     secrecy: &Label,
 ) -> Result<(), Refusal>
-    ensures checked { Checked (emission_check (Eff (Listed (V.list view.old)) (In owned.now)) secrecy.now) (Lacks (In secrecy.now) (Dual (AtHand (Listed (V.list view.old)) owned.now))) result }
+    ensures checked { Checked (emission_check (InEffect (Listed (V.list view.old)) (In owned.now)) secrecy.now) (Lacks (In secrecy.now) (Dual (AtHand (Listed (V.list view.old)) owned.now))) result }
     ensures same { V.list view.new ≡ V.list view.old }
 {
     if first_kept(view, owned, secrecy).is_none() {
@@ -63,7 +64,7 @@ pub(crate) fn emit<V: View>(
     secrecy: &Label,
     bytes: Payload,
 ) -> Result<Sequel, Refusal>
-    ensures gives { Gives (emission_check (Eff (Listed (V.list view.old)) (In owned.now)) secrecy.now) (Lacks (In secrecy.now) (Dual (AtHand (Listed (V.list view.old)) owned.now))) (Answer (outcomes.Reply (Out bytes))) result }
+    ensures gives { Gives (emission_check (InEffect (Listed (V.list view.old)) (In owned.now)) secrecy.now) (Lacks (In secrecy.now) (Dual (AtHand (Listed (V.list view.old)) owned.now))) (Answer (outcomes.Reply (Out bytes))) result }
     ensures same { V.list view.new ≡ V.list view.old }
 {
     check_emission(alloc, view, owned, secrecy)?;

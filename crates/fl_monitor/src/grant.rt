@@ -3,7 +3,7 @@ ghost use Rattle.std.specs.Prelude.{◌≡◌, ⊤, MatchOption};
 ghost use Rattle.fl_labels.specs.Cap.{cap_cmp};
 ghost use Rattle.fl_labels.specs.Found.{IsFirst, IsLeastOutside, Within};
 ghost use Rattle.fl_labels.specs.SetBy.{In};
-ghost use Rattle.fl_ops.specs.Registry.{Eff, Listed};
+ghost use Rattle.fl_ops.specs.Registry.{InEffect, Listed};
 ghost use Rattle.fl_monitor.specs.Guards.{grant_check};
 ghost use Rattle.fl_monitor.specs.Hand.{AtHand, Lacks};
 ghost use Rattle.fl_monitor.specs.Acts.{Checked};
@@ -46,7 +46,7 @@ pub(crate) fn check_grant<V: View>(
     owned: &CapSet,
     caps: &CapSet,
 ) -> Result<(), Refusal>
-    ensures checked { Checked (grant_check (Eff (Listed (V.list view.old)) (In owned.now)) caps.now) (Lacks (In caps.now) (AtHand (Listed (V.list view.old)) owned.now)) result }
+    ensures checked { Checked (grant_check (InEffect (Listed (V.list view.old)) (In owned.now)) caps.now) (Lacks (In caps.now) (AtHand (Listed (V.list view.old)) owned.now)) result }
     ensures same { V.list view.new ≡ V.list view.old }
 {
     if first_beyond(view, owned, caps).is_none() {

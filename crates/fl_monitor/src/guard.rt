@@ -3,10 +3,10 @@ ghost use Rattle.std.specs.Prelude.{◌≡◌, MatchOption};
 ghost use Rattle.fl_labels.specs.Name.{name_cmp};
 ghost use Rattle.fl_labels.specs.Found.{IsLeastOutside, Within};
 ghost use Rattle.fl_labels.specs.SetBy.{In};
-ghost use Rattle.fl_ops.specs.Registry.{Eff, Listed};
+ghost use Rattle.fl_ops.specs.Registry.{InEffect, Listed};
 ghost use Rattle.fl_rules.specs.Endpoint.{Crosses, SafeEndpoint};
 ghost use Rattle.fl_rules.specs.Labels.{sets_of};
-ghost use Rattle.fl_rules.specs.Safety.{Dual};
+ghost use Rattle.fl_labels.specs.Caps.{Dual};
 ghost use Rattle.fl_channels.specs.Offenders.{offender_cmp, CrossesAt, DualAt};
 ghost use Rattle.fl_monitor.specs.Guards.{endpoint_check, endpoints_check};
 ghost use Rattle.fl_monitor.specs.Hand.{AtHand, Lacks};
@@ -49,7 +49,7 @@ pub(crate) fn check_endpoint<V: View>(
     endpoint: Endpoint,
     end: EndpointRef<'_>,
 ) -> Result<(), Refusal>
-    ensures checked { Checked (endpoint_check (Eff (Listed (V.list view.old)) (In owned.now)) (sets_of process.entry) endpoint end.entry.mode (sets_of end.entry.labels)) (Lacks (Crosses end.entry.mode (sets_of process.entry) (sets_of end.entry.labels)) (Dual (AtHand (Listed (V.list view.old)) owned.now))) result }
+    ensures checked { Checked (endpoint_check (InEffect (Listed (V.list view.old)) (In owned.now)) (sets_of process.entry) endpoint end.entry.mode (sets_of end.entry.labels)) (Lacks (Crosses end.entry.mode (sets_of process.entry) (sets_of end.entry.labels)) (Dual (AtHand (Listed (V.list view.old)) owned.now))) result }
     ensures same { V.list view.new ≡ V.list view.old }
 {
     if first_crossing(view, owned, process, end).is_none() {
@@ -87,7 +87,7 @@ pub(crate) fn check_endpoints<V: View>(
     process: LabelsRef<'_>,
     endpoints: &Endpoints,
 ) -> Result<(), Refusal>
-    ensures checked { Checked (endpoints_check (Eff (Listed (V.list view.old)) (In owned.now)) (sets_of process.entry) endpoints.now) (Lacks (CrossesAt (sets_of process.entry) endpoints.now) (DualAt (AtHand (Listed (V.list view.old)) owned.now))) result }
+    ensures checked { Checked (endpoints_check (InEffect (Listed (V.list view.old)) (In owned.now)) (sets_of process.entry) endpoints.now) (Lacks (CrossesAt (sets_of process.entry) endpoints.now) (DualAt (AtHand (Listed (V.list view.old)) owned.now))) result }
     ensures same { V.list view.new ≡ V.list view.old }
 {
     if first_offender(view, owned, process, endpoints).is_none() {

@@ -4,7 +4,7 @@ ghost use Rattle.std.specs.Ordering.{is_gt};
 ghost use Rattle.fl_labels.specs.Cap.{cap_cmp};
 ghost use Rattle.fl_labels.specs.SetBy as set;
 ghost use Rattle.fl_labels.specs.SetBy.{In};
-ghost use Rattle.fl_ops.specs.Registry.{Eff, Global as IsGlobal, Listed};
+ghost use Rattle.fl_ops.specs.Registry.{InEffect, IsGlobal, Listed};
 ghost use Rattle.fl_jobs.specs.declared.answer.Refusal.TheVariants.{MissingCap};
 ghost use Rattle.fl_jobs.specs.declared.answer.Reply.TheVariants.{Yes, NotYet};
 ghost use Rattle.fl_monitor.specs.declared.process.Holding.TheVariants.{Ordering};
@@ -139,7 +139,7 @@ pub(crate) fn reply_of(yes: bool) -> Reply
 
 // Whether a capability is in effect, or else that it is missing.
 fn require<V: View>(alloc: Global, view: &mut V, owned: &CapSet, cap: Cap) -> Result<(), Refusal>
-    ensures required { Required (Eff (Listed (V.list view.old)) (In owned.now)) cap result }
+    ensures required { Required (InEffect (Listed (V.list view.old)) (In owned.now)) cap result }
     ensures same { V.list view.new ≡ V.list view.old }
 {
     match view.effective(alloc, owned, cap) {
@@ -158,7 +158,7 @@ fn require_both<V: View>(
     greater: Cap,
 ) -> Result<(), Refusal>
     requires in_order { is_gt (cap_cmp lesser greater) ≡ false }
-    ensures checked { Checked (demand cap_cmp (OneOf lesser greater) (Eff (Listed (V.list view.old)) (In owned.now)) MissingCap) ⊤ result }
+    ensures checked { Checked (demand cap_cmp (OneOf lesser greater) (InEffect (Listed (V.list view.old)) (In owned.now)) MissingCap) ⊤ result }
     ensures same { V.list view.new ≡ V.list view.old }
 {
     require(alloc, view, owned, lesser)?;
@@ -173,7 +173,7 @@ fn check_put<V: View>(
     group: Name,
     cap: Cap,
 ) -> Result<(), Refusal>
-    ensures checked { Checked (demand cap_cmp (PutTakes group cap) (Eff (Listed (V.list view.old)) (In owned.now)) MissingCap) ⊤ result }
+    ensures checked { Checked (demand cap_cmp (PutTakes group cap) (InEffect (Listed (V.list view.old)) (In owned.now)) MissingCap) ⊤ result }
     ensures same { V.list view.new ≡ V.list view.old }
 {
     let grow = Cap::Grow(group);
@@ -191,7 +191,7 @@ fn check_order<V: View>(
     owned: &CapSet,
     order: Order,
 ) -> Result<(), Refusal>
-    ensures checked { Checked (order_checks (Eff (Listed (V.list view.old)) (In owned.now)) order) ⊤ result }
+    ensures checked { Checked (order_checks (InEffect (Listed (V.list view.old)) (In owned.now)) order) ⊤ result }
     ensures same { V.list view.new ≡ V.list view.old }
 {
     match order {
@@ -204,7 +204,7 @@ fn check_order<V: View>(
 
 // The reply to whether the capability is in effect.
 fn ask<V: View>(alloc: Global, view: &mut V, owned: &CapSet, cap: Cap) -> Result<Outcome, Refusal>
-    ensures told { Told (Eff (Listed (V.list view.old)) (In owned.now) cap) ((¬ In owned.now cap) × (¬ IsGlobal (Listed (V.list view.old)) cap)) result }
+    ensures told { Told (InEffect (Listed (V.list view.old)) (In owned.now) cap) ((¬ In owned.now cap) × (¬ IsGlobal (Listed (V.list view.old)) cap)) result }
     ensures same { V.list view.new ≡ V.list view.old }
 {
     let Ok(yes) = view.effective(alloc, owned, cap) else {

@@ -13,7 +13,7 @@ pub trait View {
     ghost use Rattle.fl_labels.specs.SetBy.{In};
     ghost use Rattle.fl_labels.specs.declared.cap.Cap.{Cap};
     ghost use Rattle.fl_ops.specs.declared.op.Op.{Op};
-    ghost use Rattle.fl_ops.specs.Registry.{Reach, From, Global as IsGlobal, Eff, Listed};
+    ghost use Rattle.fl_ops.specs.Registry.{Reach, From, IsGlobal, InEffect, Listed};
     ghost use Rattle.fl_ops.specs.Logins.{IsFirstLogin, HasNoLogin};
 
     // the operations
@@ -22,7 +22,7 @@ pub trait View {
     /// Whether the owner of these capabilities has this one in effect. An error says that there was not enough memory for a
     /// search: none for a capability that is owned, or everybody's.
     fn effective(&mut self, alloc: Global, owned: &CapSet, cap: Cap) -> Result<bool, AllocError>
-        ensures answer { IfOk result (λ yes. Tells yes (Eff (Listed (list self.old)) (In owned.now) cap)) }
+        ensures answer { IfOk result (λ yes. Tells yes (InEffect (Listed (list self.old)) (In owned.now) cap)) }
         ensures err { OnErr result ((¬ In owned.now cap) × (¬ IsGlobal (Listed (list self.old)) cap)) }
         ensures same { list self.new ≡ list self.old };
 

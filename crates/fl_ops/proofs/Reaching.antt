@@ -4,7 +4,8 @@ use Rattle.fl_labels.specs.declared.cap.Cap.{Cap}
 use Rattle.fl_labels.specs.declared.cap.Cap.TheVariants.{Plus, Minus, Use, Grow}
 use Rattle.fl_labels.specs.Found.{Within}
 use Rattle.fl_ops.specs.declared.op.Op.{Op}
-use Rattle.fl_ops.specs.Registry.{Chain, here, into, Reach, From, IsClosed, Global, Eff, Dual}
+use Rattle.fl_ops.specs.Registry.{Chain, here, into, Reach, From, IsClosed, IsGlobal, InEffect}
+use Rattle.fl_labels.specs.Caps.{Dual}
 
 -- one chain goes on where another ends
 pub chain_on : {U : Op → Type 0} {a b c : Cap} → Chain U a b → Chain U b c → Chain U a c
@@ -35,7 +36,7 @@ module _ {U : Op → Type 0} {roots : Cap → Type 0} where
   pub reach_again : Within (Reach U (Reach U roots)) (Reach U roots)
   reach_again c h = reach_on h.1 h.2
 
-  pub owned_eff : (c : Cap) → roots c → Eff U roots c
+  pub owned_eff : (c : Cap) → roots c → InEffect U roots c
   owned_eff c h = inl (root_reached c h)
 
 -- what is reached from one root is at the end of a chain from it
@@ -51,7 +52,7 @@ module _ {U V : Op → Type 0} (more : Within U V) where
   chain_more here = here
   chain_more (into h puts rest) = into (more _ h) puts (chain_more rest)
 
-  pub global_more : Within (Global U) (Global V)
+  pub global_more : Within (IsGlobal U) (IsGlobal V)
   global_more (Plus tag) h = more _ h
   global_more (Minus tag) h = more _ h
   global_more (Use group) h = absurd h
@@ -61,7 +62,7 @@ module _ {U V : Op → Type 0} (more : Within U V) where
     pub reach_more : Within (Reach U O) (Reach V P)
     reach_more c h = (h.0, owned _ h.1, chain_more h.2)
 
-    pub eff_more : Within (Eff U O) (Eff V P)
+    pub eff_more : Within (InEffect U O) (InEffect V P)
     eff_more c (inl h) = inl (reach_more c h)
     eff_more c (inr h) = inr (global_more c h)
 

@@ -2,6 +2,7 @@
 -- a finite set, the items of a list and a union of both are then all registries.
 use Rattle.std.specs.Prelude.{◌≡◌, ◌⊎◌, List, Bool, true}
 use Rattle.std.specs.List.{Contains}
+use Rattle.fl_labels.specs.Caps.{Caps}
 use Rattle.fl_labels.specs.declared.name.Name.{Name}
 use Rattle.fl_labels.specs.declared.cap.Cap.{Cap}
 use Rattle.fl_labels.specs.declared.cap.Cap.TheVariants.{Plus, Minus, Use, Grow}
@@ -11,6 +12,10 @@ use Rattle.fl_ops.specs.declared.op.Body.{Body}
 use Rattle.fl_ops.specs.declared.op.Body.TheVariants.{MakeTag, MakeGroup, Put, MakeLogin}
 use Rattle.fl_ops.specs.declared.op.Policy.{Policy}
 use Rattle.fl_ops.specs.declared.op.Policy.TheVariants.{Export, Integrity}
+
+-- a registry, which tells what operations it has
+abbrev pub Registry : Type 1
+Registry = Op → Type 0
 
 -- the operation that makes a tag
 abbrev pub tag_op : Name → Policy → Op
@@ -24,45 +29,41 @@ Puts (Put into what) group c = (into ≡ group) × (what ≡ c)
 Puts (MakeLogin cap digest) group c = ⊥
 
 -- A chain leads from the first capability to the last: each but the last is the use of a group into which the registry puts the next one.
-pub data Chain (U : Op → Type 0) : Cap → Cap → Type 0 where
+pub data Chain (U : Registry) : Cap → Cap → Type 0 where
   here : {c : Cap} → Chain U c c
   into : {op : Op} {group : Name} {b c : Cap} → U op → Puts op.body group b → Chain U b c → Chain U (Use group) c
 
 -- a chain leads to c from some root
-abbrev pub Reach : (Op → Type 0) → (Cap → Type 0) → Cap → Type 0
+abbrev pub Reach : Registry → Caps → Caps
 Reach U roots c = (a : Cap) × roots a × Chain U a c
 
 -- the root alone
-abbrev pub From : Cap → Cap → Type 0
+abbrev pub From : Cap → Caps
 From root c = c ≡ root
 
 -- those that a test tells
-abbrev pub Among : (Cap → Bool) → Cap → Type 0
+abbrev pub Among : (Cap → Bool) → Caps
 Among chosen c = chosen c ≡ true
 
 -- with the use of a group, all that the registry puts into the group
-pub record IsClosed (U : Op → Type 0) (P : Cap → Type 0) : Type 0 where
+pub record IsClosed (U : Registry) (P : Caps) : Type 0 where
   pub step : (op : Op) (group : Name) (c : Cap) → U op → Puts op.body group c → P (Use group) → P c
 
 -- everybody may add an export tag, and remove an integrity tag
-abbrev pub Global : (Op → Type 0) → Cap → Type 0
-Global U (Plus tag) = U (tag_op tag Export)
-Global U (Minus tag) = U (tag_op tag Integrity)
-Global U (Use group) = ⊥
-Global U (Grow group) = ⊥
+abbrev pub IsGlobal : Registry → Caps
+IsGlobal U (Plus tag) = U (tag_op tag Export)
+IsGlobal U (Minus tag) = U (tag_op tag Integrity)
+IsGlobal U (Use group) = ⊥
+IsGlobal U (Grow group) = ⊥
 
 -- what the owner of these capabilities has in effect
-abbrev pub Eff : (Op → Type 0) → (Cap → Type 0) → Cap → Type 0
-Eff U owned c = Reach U owned c ⊎ Global U c
-
--- the tags that may be both added and removed by who has E in effect
-abbrev pub Dual : (Cap → Type 0) → Name → Type 0
-Dual E tag = E (Plus tag) × E (Minus tag)
+abbrev pub InEffect : Registry → Caps → Caps
+InEffect U owned c = Reach U owned c ⊎ IsGlobal U c
 
 -- the registry has a login of this name, to this capability, whose secret has this digest
-abbrev pub IsLogin : (Op → Type 0) → Name → Cap → Digest → Type 0
+abbrev pub IsLogin : Registry → Name → Cap → Digest → Type 0
 IsLogin U login cap digest = U (record { name = login; body = MakeLogin cap digest })
 
 -- the registry of a list's items
-abbrev pub Listed : List Op → Op → Type 0
+abbrev pub Listed : List Op → Registry
 Listed ops = λ op. Contains ops op

@@ -9,7 +9,8 @@ use Rattle.fl_labels.specs.NameOrder.{name_total, name_exact}
 use Rattle.fl_labels.specs.SetBy.{SetBy, In, members}
 use Rattle.fl_labels.specs.Found.{Found, FoundAs, IsFirst, Within, IsLeastOutside}
 use Rattle.fl_labels.proofs.Searches.{found_as, searched_set}
-use Rattle.fl_rules.specs.Safety.{Dual, SafeEmission}
+use Rattle.fl_rules.specs.Safety.{SafeEmission}
+use Rattle.fl_labels.specs.Caps.{Dual}
 
 pub dual_same : {E F : Cap → Type 0} → ((cap : Cap) → E cap ↔ F cap) → (tag : Name) → Dual E tag ↔ Dual F tag
 dual_same same tag = (λ d. ((same (Plus tag)).0 d.0, (same (Minus tag)).0 d.1), λ d. ((same (Plus tag)).1 d.0, (same (Minus tag)).1 d.1))

@@ -10,7 +10,7 @@ use Rattle.fl_labels.specs.Found.{Found, Within, IsLeastOutside, lesser_of}
 use Rattle.fl_labels.proofs.Searches.{found_as, both_found}
 use Rattle.fl_rules.specs.declared.endpoint.Mode.{Mode}
 use Rattle.fl_rules.specs.declared.endpoint.Mode.TheVariants.{Read, Write, Both}
-use Rattle.fl_rules.specs.Safety.{Dual}
+use Rattle.fl_labels.specs.Caps.{Dual}
 use Rattle.fl_rules.specs.declared.labels.Labels.{Labels}
 use Rattle.fl_rules.specs.Endpoint.{Crosses, SafeEndpoint}
 use Rattle.fl_rules.specs.Walk.{OnlyIn}

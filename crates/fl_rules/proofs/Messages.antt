@@ -7,7 +7,7 @@ use Rattle.fl_labels.specs.Name.{name_cmp}
 use Rattle.fl_labels.specs.SetBy.{SetBy, In, IsMissing, contains}
 use Rattle.fl_labels.specs.Found.{Within}
 use Rattle.fl_rules.specs.declared.endpoint.Mode.{Mode}
-use Rattle.fl_rules.specs.Safety.{Dual}
+use Rattle.fl_labels.specs.Caps.{Dual}
 use Rattle.fl_rules.specs.declared.labels.Labels.{Labels}
 use Rattle.fl_rules.specs.Endpoint.{SafeEndpoint, SafeRead, SafeWrite}
 use Rattle.fl_rules.specs.Pair.{Endpoint, SafePair}

@@ -6,7 +6,7 @@ use Rattle.fl_labels.specs.SetBy.{IsMissing}
 use Rattle.fl_labels.specs.Found.{Within}
 use Rattle.fl_rules.specs.declared.endpoint.Mode.{Mode}
 use Rattle.fl_rules.specs.declared.endpoint.Mode.TheVariants.{Read, Write, Both}
-use Rattle.fl_rules.specs.Safety.{Dual}
+use Rattle.fl_labels.specs.Caps.{Dual}
 use Rattle.fl_rules.specs.declared.labels.Labels.{Labels}
 
 -- messages go to the process

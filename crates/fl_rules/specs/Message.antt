@@ -3,7 +3,7 @@ use Rattle.std.specs.Prelude.{◌≡◌, ◌⊎◌, Bool, true}
 use Rattle.fl_labels.specs.declared.name.Name.{Name}
 use Rattle.fl_labels.specs.declared.cap.Cap.{Cap}
 use Rattle.fl_labels.specs.SetBy.{In}
-use Rattle.fl_rules.specs.Safety.{Dual}
+use Rattle.fl_labels.specs.Caps.{Dual}
 use Rattle.fl_rules.specs.declared.labels.Labels.{Labels}
 
 -- p has E in effect, and sends; q has F in effect, and receives

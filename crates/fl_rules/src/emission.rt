@@ -3,7 +3,8 @@ ghost use Rattle.std.specs.Prelude.{⊤, MatchOption};
 ghost use Rattle.fl_labels.specs.Name.{name_cmp};
 ghost use Rattle.fl_labels.specs.SetBy.{In};
 ghost use Rattle.fl_labels.specs.Found.{IsFirst, IsLeastOutside};
-ghost use Rattle.fl_rules.specs.Safety.{Dual, SafeEmission};
+ghost use Rattle.fl_rules.specs.Safety.{SafeEmission};
+ghost use Rattle.fl_labels.specs.Caps.{Dual};
 
 use crate::has::{Has, has_both};
 use fl_labels::label::Label;

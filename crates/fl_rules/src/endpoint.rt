@@ -4,7 +4,7 @@ ghost use Rattle.fl_labels.specs.Name.{name_cmp};
 ghost use Rattle.fl_labels.specs.declared.cap.Cap.TheVariants.{Minus};
 ghost use Rattle.fl_labels.specs.SetBy.{IsMissing};
 ghost use Rattle.fl_labels.specs.Found.{Found, Finds, IsLeastOutside, lesser_of};
-ghost use Rattle.fl_rules.specs.Safety.{Dual};
+ghost use Rattle.fl_labels.specs.Caps.{Dual};
 ghost use Rattle.fl_rules.specs.Labels.{sets_of};
 ghost use Rattle.fl_rules.specs.Endpoint.{reads, writes, Loosens, Crosses, SafeEndpoint};
 

@@ -1,6 +1,6 @@
 // Who has capabilities in effect.
 ghost use Rattle.fl_labels.specs.Found.{Tells};
-ghost use Rattle.fl_rules.specs.Safety.{Dual};
+ghost use Rattle.fl_labels.specs.Caps.{Dual};
 
 use fl_labels::cap::Cap;
 use fl_labels::cap_set::CapSet;

@@ -1,7 +1,7 @@
 use Rattle.fl_labels.specs.Name.{name_cmp}
 use Rattle.fl_labels.specs.SetBy.{In}
 use Rattle.fl_jobs.specs.declared.answer.Refusal.TheVariants.{Secrecy}
-use Rattle.fl_rules.specs.Safety.{Dual}
+use Rattle.fl_labels.specs.Caps.{Dual}
 use Rattle.fl_monitor.proofs.Hand.{hand_does, hand_lacks, reach_does, reach_lacks, dual_more}
 use Rattle.fl_monitor.proofs.emission.check_emission.Goals as goal
 

@@ -2,7 +2,7 @@ use Rattle.fl_labels.specs.Name.{name_cmp}
 use Rattle.fl_jobs.specs.declared.answer.Refusal.TheVariants.{UnsafeEndpoint}
 use Rattle.fl_rules.specs.Endpoint.{Crosses}
 use Rattle.fl_rules.specs.Labels.{sets_of}
-use Rattle.fl_rules.specs.Safety.{Dual}
+use Rattle.fl_labels.specs.Caps.{Dual}
 use Rattle.fl_monitor.proofs.GuardLemmas.{crossing_found, none_crosses}
 use Rattle.fl_monitor.proofs.Hand.{hand_does, hand_lacks, reach_does, reach_lacks, dual_more}
 use Rattle.fl_monitor.proofs.guard.check_endpoint.Goals as goal

@@ -1,6 +1,6 @@
 use Rattle.std.specs.Prelude.{⊤}
 use Rattle.fl_labels.proofs.Searches.{passed_by, stopped_at, at_end}
-use Rattle.fl_rules.specs.Safety.{Dual}
+use Rattle.fl_labels.specs.Caps.{Dual}
 use Rattle.fl_rules.proofs.Duals.{dual_same}
 use Rattle.fl_rules.proofs.emission.first_kept.Goals as goal
 

@@ -2,7 +2,7 @@ use Rattle.std.proofs.Common.{drop, Option}
 use Rattle.std.specs.Prelude.{⊤}
 use Rattle.fl_labels.specs.declared.name.Name.{Name}
 use Rattle.fl_labels.specs.Found.{IsFirst}
-use Rattle.fl_rules.specs.Safety.{Dual}
+use Rattle.fl_labels.specs.Caps.{Dual}
 use Rattle.fl_rules.proofs.emission.first_kept.Given as goal
 
 -- what is first in the rest is first in all

@@ -2,7 +2,7 @@ use Rattle.fl_rules.proofs.Duals.{dual_same}
 use Rattle.fl_rules.proofs.Losses.{passed, skipped, stopped, at_end}
 use Rattle.fl_rules.proofs.Walks.{members_up}
 use Rattle.fl_rules.proofs.Endpoints.{missing_found}
-use Rattle.fl_rules.specs.Safety.{Dual}
+use Rattle.fl_labels.specs.Caps.{Dual}
 use Rattle.fl_rules.proofs.endpoint.first_lost.Goals as goal
 use Rattle.fl_rules.proofs.endpoint.first_lost.Goals.{in-Some-tag_lost+else-not-has_both, in_default-tag_lost}
 

@@ -4,7 +4,7 @@ use Rattle.fl_labels.specs.declared.name.Name.{Name}
 use Rattle.fl_labels.specs.Name.{name_cmp}
 use Rattle.fl_labels.specs.SetBy.{IsMissing}
 use Rattle.fl_labels.specs.Found.{Found}
-use Rattle.fl_rules.specs.Safety.{Dual}
+use Rattle.fl_labels.specs.Caps.{Dual}
 use Rattle.fl_rules.specs.Walk.{OnlyIn}
 use Rattle.fl_rules.proofs.endpoint.first_lost.Given as goal
 

@@ -1,7 +1,7 @@
 use Rattle.std.proofs.Common.{sym, subst}
 use Rattle.fl_labels.specs.Name.{name_cmp}
 use Rattle.fl_labels.specs.Found.{Found}
-use Rattle.fl_rules.specs.Safety.{Dual}
+use Rattle.fl_labels.specs.Caps.{Dual}
 use Rattle.fl_rules.specs.Labels.{sets_of}
 use Rattle.fl_rules.specs.Endpoint.{Crosses}
 use Rattle.fl_rules.proofs.Endpoints.{either_found, endpoint_found}
