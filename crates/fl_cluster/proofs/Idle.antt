@@ -14,16 +14,16 @@ use Rattle.fl_rules.specs.declared.pair.PairFault.{PairFault}
 use Rattle.fl_rules.specs.declared.pair.PairFault.TheVariants as faults
 use Rattle.fl_rules.specs.Endpoint.{writes}
 use Rattle.fl_wire.specs.declared.packet.Data.{Data}
-use Rattle.fl_channels.specs.declared.channels.Channels.{Channels}
-use Rattle.fl_channels.specs.declared.endpoints.Opened.{Opened}
+use Rattle.fl_mailbox.specs.declared.mailbox.Mailbox.{Mailbox}
+use Rattle.fl_mailbox.specs.declared.endpoints.OpenEndpoint.{OpenEndpoint}
 use Rattle.fl_jobs.specs.Given.{labels_of}
 use Rattle.fl_ops.specs.declared.op.Body.{Body}
 use Rattle.fl_jobs.specs.declared.job.Order as orders
 use Rattle.fl_jobs.specs.declared.job.Order.TheVariants.{Tag, Group, Put, MakeLogin}
 use Rattle.fl_jobs.specs.declared.job.Act.{Act}
-use Rattle.fl_jobs.specs.declared.job.Act.TheVariants.{Order, Relabel, Ask, Spawn, Exit, Drop, Enter, Emit, Channel}
-use Rattle.fl_jobs.specs.declared.job.Channel as works
-use Rattle.fl_jobs.specs.declared.job.Channel.TheVariants.{Open, Tune, Close, Send, Take}
+use Rattle.fl_jobs.specs.declared.job.Act.TheVariants.{Order, Relabel, Ask, Spawn, Exit, Drop, Enter, Emit, Mail}
+use Rattle.fl_jobs.specs.declared.job.Mail as works
+use Rattle.fl_jobs.specs.declared.job.Mail.TheVariants.{Open, Tune, Close, Send, Take}
 use Rattle.fl_jobs.specs.declared.job.Job.{Job}
 use Rattle.fl_jobs.specs.declared.job.Job.TheVariants.{Proc, By, Member, Arrive}
 use Rattle.fl_jobs.specs.declared.answer.Reply.{Reply}
@@ -31,7 +31,7 @@ use Rattle.fl_jobs.specs.declared.answer.Refusal.{Refusal}
 use Rattle.fl_jobs.specs.declared.answer.Refusal.TheVariants.{NoProcess, Busy, NoEndpoint, EndpointsFull, NotWritable, NamesSpent, LabelTooLong, NotOwned, InboxFull}
 use Rattle.fl_jobs.specs.declared.answer.Outcome.{Outcome}
 use Rattle.fl_monitor.specs.Checks.{Check, refuse_if, with, with_found, ◌then◌}
-use Rattle.fl_monitor.specs.Channels.{channel_checks, arrival_checks}
+use Rattle.fl_monitor.specs.Mailbox.{mail_checks, arrival_checks}
 use Rattle.fl_monitor.specs.Guards.{grant_check, endpoint_check, pair_check, entry_refusal}
 use Rattle.fl_monitor.specs.Process.{newborn, owns, is_busy, child_of, receiving, effective}
 use Rattle.fl_monitor.specs.Bench.{State, opened, has_at, gone, born}
@@ -84,7 +84,7 @@ module _ (V : Op → Type 0) {b : State} (h : IsIdle b) where
   performs_idle pid p (Drop c) reply after e f = subst IsIdle (sym f.1) (has_idle pid _ refl h)
   performs_idle pid p (Enter login secret) reply after e f = subst IsIdle (sym f.3) (has_idle pid _ refl h)
   performs_idle pid p (Emit bytes) reply after e f = subst IsIdle (sym f.1) h
-  performs_idle pid p (Channel c) reply after e f = subst IsIdle (sym f.2) (has_idle pid (record p { channels = f.0 }) (h.each pid p e) h)
+  performs_idle pid p (Mail c) reply after e f = subst IsIdle (sym f.2) (has_idle pid (record p { mailbox = f.0 }) (h.each pid p e) h)
 
   effect_idle : (job : Job) (reply : Reply) (after : State) → Effect V b job (Outcome.Reply reply) after → IsIdle after
   effect_idle Proc reply after f = subst IsIdle (sym f.3) (born_idle f.0 newborn refl h)
@@ -118,7 +118,7 @@ refuse_other : (test : Bool) (f : Refusal) → f ≢ Busy → refuse_if test f (
 refuse_other false f other s = absurd (cc)
 refuse_other true f other s = other (cc)
 
--- ---- nor is a channel's, or a message's
+-- ---- nor is a mail's, or a message's
 
 with_not : {A : Type 0} (o : Option A) (f : Refusal) (more : A → Check) → f ≢ Busy → ((x : A) → more x (Some Busy) → ⊥) → with o f more (Some Busy) → ⊥
 with_not None f more other each s = other (cc)
@@ -130,18 +130,18 @@ found_one_not Finds f more other each s = with_not s.0 f more other each s.2
 endpoint_not : (E : Cap → Type 0) (labels : Labels) (e : Endpoint) (mode : Mode) (own : Labels) → endpoint_check E labels e mode own (Some Busy) → ⊥
 endpoint_not E labels e mode own s = let is = s.1 in absurd (cc)
 
-channel_not : (E : Cap → Type 0) (labels : Labels) (ch : Channels) (c : works.Channel) → channel_checks E labels ch c (Some Busy) → ⊥
-channel_not E labels ch (Open mode given) s =
+mail_not : (E : Cap → Type 0) (labels : Labels) (ch : Mailbox) (c : works.Mail) → mail_checks E labels ch c (Some Busy) → ⊥
+mail_not E labels ch (Open mode given) s =
     with_not (labels_of given) LabelTooLong _ (λ e. cc) (λ own s. found_one_not _ EndpointsFull _ (λ e. cc) (λ e s. endpoint_not E labels e mode own s) s) s
-channel_not E labels ch (Tune e given) s =
+mail_not E labels ch (Tune e given) s =
     with_not (labels_of given) LabelTooLong _ (λ e. cc) (λ own s. with_not (map.get ch.endpoints e) (NoEndpoint e) _ (λ e. cc) (λ opened s. endpoint_not E labels e opened.mode own s) s) s
-channel_not E labels ch (Close e) s = with_not (map.get ch.endpoints e) (NoEndpoint e) _ (λ e. cc) (λ opened s. absurd (cc)) s
-channel_not E labels ch (Send from receiver to message) s = with_not (map.get ch.endpoints from) (NoEndpoint from) _ (λ e. cc) sends_not s
+mail_not E labels ch (Close e) s = with_not (map.get ch.endpoints e) (NoEndpoint e) _ (λ e. cc) (λ opened s. absurd (cc)) s
+mail_not E labels ch (Send from receiver to message) s = with_not (map.get ch.endpoints from) (NoEndpoint from) _ (λ e. cc) sends_not s
   where
-    sends_not : (opened : Opened) → (refuse_if (not (writes opened.mode)) (NotWritable from) then grant_check E message.caps) (Some Busy) → ⊥
+    sends_not : (opened : OpenEndpoint) → (refuse_if (not (writes opened.mode)) (NotWritable from) then grant_check E message.caps) (Some Busy) → ⊥
     sends_not opened (inl s) = refuse_other (not (writes opened.mode)) (NotWritable from) (λ e. cc) s
     sends_not opened (inr s) = let is = s.1.1 in absurd (cc)
-channel_not E labels ch Take s = absurd (cc)
+mail_not E labels ch Take s = absurd (cc)
 
 entry_not : (e : Endpoint) (fault : PairFault) → Busy ≡ entry_refusal e fault → ⊥
 entry_not e faults.NotWritable is = absurd (cc)
@@ -149,10 +149,10 @@ entry_not e faults.NotReadable is = absurd (cc)
 entry_not e (faults.Secrecy tag) is = absurd (cc)
 entry_not e (faults.Integrity tag) is = absurd (cc)
 
-arrival_not : (ch : Channels) (d : Data) → arrival_checks ch d (Some Busy) → ⊥
+arrival_not : (ch : Mailbox) (d : Data) → arrival_checks ch d (Some Busy) → ⊥
 arrival_not ch d s = with_not (map.get ch.endpoints d.to) (NoEndpoint d.to) _ (λ e. cc) enters_not s
   where
-    enters_not : (opened : Opened) → (pair_check d opened then refuse_if (nat_le 256 (length ch.inbox)) InboxFull) (Some Busy) → ⊥
+    enters_not : (opened : OpenEndpoint) → (pair_check d opened then refuse_if (nat_le 256 (length ch.inbox)) InboxFull) (Some Busy) → ⊥
     enters_not opened (inl s) = entry_not d.to s.0 s.1
     enters_not opened (inr s) = refuse_other (nat_le 256 (length ch.inbox)) InboxFull (λ e. cc) s.1
 
@@ -165,7 +165,7 @@ bench_not b Exit s = absurd (cc)
 bench_not b (Drop c) s = absurd (cc)
 bench_not b (Enter login secret) s = absurd (cc)
 bench_not b (Emit bytes) s = absurd (cc)
-bench_not b (Channel c) s = absurd (cc)
+bench_not b (Mail c) s = absurd (cc)
 
 module _ (V : Op → Type 0) where
   check_not : (p : Process) (act : Act) → checks_of V p act (Some Busy) → ⊥
@@ -181,7 +181,7 @@ module _ (V : Op → Type 0) where
   check_not p (Enter login secret) (inl s) = let is = s.0 in absurd (cc)
   check_not p (Enter login secret) (inr s) = let is = s.0 in absurd (cc)
   check_not p (Emit bytes) s = let is = s.1 in absurd (cc)
-  check_not p (Channel c) s = channel_not (effective V p) p.labels p.channels c s
+  check_not p (Mail c) s = mail_not (effective V p) p.labels p.mailbox c s
 
   act_not : (p : Process) (act : Act) → is_busy p ≡ false → act_checks V p act (Some Busy) → ⊥
   act_not p act idle (inl s) = refuse_idle (is_busy p) idle s
@@ -192,10 +192,10 @@ module _ (V : Op → Type 0) where
   found_not h pid act (Some p) e (inl s) = act_not p act (h.each pid p e) s
   found_not {b} h pid act (Some p) e (inr s) = bench_not b act s.1
 
-  comes_not : {b : State} → IsIdle b → (d : Data) (o : Option Process) → map.get b.processes d.receiver ≡ o → with o (NoProcess d.receiver) (λ q. refuse_if (is_busy q) Busy then arrival_checks q.channels d) (Some Busy) → ⊥
+  comes_not : {b : State} → IsIdle b → (d : Data) (o : Option Process) → map.get b.processes d.receiver ≡ o → with o (NoProcess d.receiver) (λ q. refuse_if (is_busy q) Busy then arrival_checks q.mailbox d) (Some Busy) → ⊥
   comes_not h d None e s = absurd (cc)
   comes_not h d (Some q) e (inl s) = refuse_idle (is_busy q) (h.each d.receiver q e) s
-  comes_not h d (Some q) e (inr s) = arrival_not q.channels d s.1
+  comes_not h d (Some q) e (inr s) = arrival_not q.mailbox d s.1
 
   checks_not : (b : State) (job : Job) → IsIdle b → checks V b job (Some Busy) → ⊥
   checks_not b Proc h s = refuse_other _ NamesSpent (λ e. cc) s

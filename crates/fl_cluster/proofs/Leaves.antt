@@ -17,7 +17,7 @@ use Rattle.fl_ops.specs.declared.op.Op.{Op}
 use Rattle.fl_wire.specs.declared.packet.Packet.{Packet}
 use Rattle.fl_ops.specs.declared.op.Body.{Body}
 use Rattle.fl_jobs.specs.declared.job.Act.{Act}
-use Rattle.fl_jobs.specs.declared.job.Act.TheVariants.{Order, Relabel, Ask, Spawn, Exit, Drop, Enter, Emit, Channel}
+use Rattle.fl_jobs.specs.declared.job.Act.TheVariants.{Order, Relabel, Ask, Spawn, Exit, Drop, Enter, Emit, Mail}
 use Rattle.fl_jobs.specs.declared.job.Job.{Job}
 use Rattle.fl_jobs.specs.declared.job.Job.TheVariants.{Proc, By, Member, Arrive}
 use Rattle.fl_jobs.specs.declared.answer.Refusal.{Refusal}
@@ -105,7 +105,7 @@ module _ (V : Op → Type 0) (b : bench.State) where
       entry : {c k : Cap} → c ≡ k → replied (Entered c) ≡ replied (Entered k)
       entry e = cc
   act_leaves pid p (Emit bytes) reply after e h f = stays f.1
-  act_leaves pid p (Channel c) reply after e h f = turns pid p (record p { channels = f.0 }) e (λ c old. inl old) f.2
+  act_leaves pid p (Mail c) reply after e h f = turns pid p (record p { mailbox = f.0 }) e (λ c old. inl old) f.2
 
   job_leaves : (job : Job) (reply : Reply) (after : bench.State) → checks V b job None → Effect V b job (Outcome.Reply reply) after → Leaves V b job (replied reply) after
   job_leaves Proc reply after h f = bears f.0 newborn (record { next = f.1; child_is = alone refl }) (same_reply f.2) f.3

@@ -13,19 +13,19 @@ use Rattle.fl_wire.specs.declared.packet.Data.{Data}
 use Rattle.fl_wire.specs.declared.packet.Letter.{Letter}
 use Rattle.fl_wire.specs.declared.packet.Packet.{Packet}
 use Rattle.fl_wire.specs.declared.packet.Packet.TheVariants as packets
-use Rattle.fl_channels.specs.Channels.{oldest}
-use Rattle.fl_channels.specs.declared.channels.Channels.{Channels}
+use Rattle.fl_mailbox.specs.Mailbox.{oldest}
+use Rattle.fl_mailbox.specs.declared.mailbox.Mailbox.{Mailbox}
 use Rattle.fl_jobs.specs.declared.job.Act.{Act}
-use Rattle.fl_jobs.specs.declared.job.Act.TheVariants.{Order, Relabel, Ask, Spawn, Exit, Drop, Enter, Emit, Channel}
-use Rattle.fl_jobs.specs.declared.job.Channel as works_of
-use Rattle.fl_jobs.specs.declared.job.Channel.TheVariants.{Open, Tune, Close, Send, Take}
+use Rattle.fl_jobs.specs.declared.job.Act.TheVariants.{Order, Relabel, Ask, Spawn, Exit, Drop, Enter, Emit, Mail}
+use Rattle.fl_jobs.specs.declared.job.Mail as works_of
+use Rattle.fl_jobs.specs.declared.job.Mail.TheVariants.{Open, Tune, Close, Send, Take}
 use Rattle.fl_jobs.specs.declared.job.Job.{Job}
 use Rattle.fl_jobs.specs.declared.job.Job.TheVariants.{Proc, By, Member, Arrive}
 use Rattle.fl_jobs.specs.declared.answer.Reply.TheVariants.{Arrived}
 use Rattle.fl_jobs.specs.declared.answer.Refusal.{Refusal}
 use Rattle.fl_jobs.specs.declared.answer.Outcome.{Outcome}
 use Rattle.fl_monitor.specs.Bench as bench
-use Rattle.fl_monitor.specs.Channels.{taken, ChannelDoes}
+use Rattle.fl_monitor.specs.Mailbox.{taken, MailDoes}
 use Rattle.fl_monitor.specs.Jobs.{Answers as Tells, Performs, Effect, Does, passed}
 use Rattle.fl_monitor.specs.Process.{effective}
 use Rattle.fl_monitor.specs.declared.process.Process.{Process}
@@ -74,7 +74,7 @@ none_at_first p (suc n) h = let none = slice_get_past {X = Packet} [] n (omega a
 -- the line sent it
 record SentAt (old : Session) (line : List ℕ) (a : Answer) (k : ℕ) (d : Data) : Type 0 where
   is_said : a ≡ sent k
-  says : Says old line (lines.Job d.sender.node (By d.sender (Channel (Send d.from d.receiver d.to d.message))))
+  says : Says old line (lines.Job d.sender.node (By d.sender (Mail (Send d.from d.receiver d.to d.message))))
   might : MaySend old.state d
 
 module _ (old : Session) (line : List ℕ) (h : HasOrder old.state) where
@@ -83,7 +83,7 @@ module _ (old : Session) (line : List ℕ) (h : HasOrder old.state) where
       let own : number ≡ s.sent.sender.node = sym ((h.bench_is number).orderly.each s.sent.sender s.process s.lived).own in
       record {
         is_said = is;
-        says = subst (λ n. Says old line (lines.Job n (By s.sent.sender (Channel (Send s.sent.from s.sent.receiver s.sent.to s.sent.message))))) own (subst (λ j. Says old line (lines.Job number j)) s.asked says);
+        says = subst (λ n. Says old line (lines.Job n (By s.sent.sender (Mail (Send s.sent.from s.sent.receiver s.sent.to s.sent.message))))) own (subst (λ j. Says old line (lines.Job number j)) s.asked says);
         might = record {
           process = s.process;
           lives = subst (λ n. process_at (node_at old.state n) s.sent.sender ≡ Some s.process) own s.lived;
@@ -184,12 +184,12 @@ module _ (V : Op → Type 0) (b : bench.State) (pid : Pid) where
   taken_not None e = absurd (cc)
   taken_not (Some letter) e = absurd (cc)
 
-  channel_not : (own : Pid) (ch : Channels) (c : works_of.Channel) (after : Channels) → ChannelDoes own ch c (Outcome.Reply (Arrived pid)) after → ⊥
-  channel_not own ch (Open mode given) after f = let is = f.4 in absurd (cc)
-  channel_not own ch (Tune e given) after f = let is = f.4 in absurd (cc)
-  channel_not own ch (Close e) after f = let is = f.0 in absurd (cc)
-  channel_not own ch (Send from receiver to message) after f = let is = f.4 in absurd (cc)
-  channel_not own ch Take after f = taken_not (oldest ch.inbox) f.0
+  mail_not : (own : Pid) (ch : Mailbox) (c : works_of.Mail) (after : Mailbox) → MailDoes own ch c (Outcome.Reply (Arrived pid)) after → ⊥
+  mail_not own ch (Open mode given) after f = let is = f.4 in absurd (cc)
+  mail_not own ch (Tune e given) after f = let is = f.4 in absurd (cc)
+  mail_not own ch (Close e) after f = let is = f.0 in absurd (cc)
+  mail_not own ch (Send from receiver to message) after f = let is = f.4 in absurd (cc)
+  mail_not own ch Take after f = taken_not (oldest ch.inbox) f.0
 
   told_not : (P : Type 0) → Tells (Outcome.Reply (Arrived pid)) P → ⊥
   told_not P (inl e) = let is = e.0 in absurd (cc)
@@ -205,7 +205,7 @@ module _ (V : Op → Type 0) (b : bench.State) (pid : Pid) where
   act_not own p (Drop c) after f = let is = f.0 in absurd (cc)
   act_not own p (Enter login secret) after f = let is = f.2 in absurd (cc)
   act_not own p (Emit bytes) after f = let is = f.0 in absurd (cc)
-  act_not own p (Channel c) after f = channel_not own p.channels c f.0 f.1
+  act_not own p (Mail c) after f = mail_not own p.mailbox c f.0 f.1
 
   effect_arrival : (job : Job) (after : bench.State) → Effect V b job (Outcome.Reply (Arrived pid)) after → IsArrival job pid
   effect_arrival Proc after f = let is = f.2 in absurd (cc)

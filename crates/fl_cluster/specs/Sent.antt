@@ -8,9 +8,9 @@ use Rattle.fl_rules.specs.Endpoint.{writes}
 use Rattle.fl_rules.specs.Message.{SafeMessage}
 use Rattle.fl_wire.specs.declared.packet.Data.{Data}
 use Rattle.fl_wire.specs.declared.packet.Packet.TheVariants as packets
-use Rattle.fl_channels.specs.declared.endpoints.Opened.{Opened}
-use Rattle.fl_jobs.specs.declared.job.Act.TheVariants.{Channel}
-use Rattle.fl_jobs.specs.declared.job.Channel.TheVariants.{Send}
+use Rattle.fl_mailbox.specs.declared.endpoints.OpenEndpoint.{OpenEndpoint}
+use Rattle.fl_jobs.specs.declared.job.Act.TheVariants.{Mail}
+use Rattle.fl_jobs.specs.declared.job.Mail.TheVariants.{Send}
 use Rattle.fl_jobs.specs.declared.job.Job.TheVariants.{By}
 use Rattle.fl_monitor.specs.Process.{effective}
 use Rattle.fl_monitor.specs.declared.process.Process.{Process}
@@ -26,8 +26,8 @@ use Rattle.fl_cluster.specs.Output.{Run}
 pub record MaySend (state : State) (d : Data) : Type 0 where
   pub process : Process
   pub lives : living state d.sender ≡ Some process
-  pub opened : Opened
-  pub is_open : map.get process.channels.endpoints d.from ≡ Some opened
+  pub opened : OpenEndpoint
+  pub is_open : map.get process.mailbox.endpoints d.from ≡ Some opened
   pub writes_it : writes opened.mode ≡ true
   pub secrecy_is : d.secrecy ≡ opened.labels.secrecy
   pub integrity_is : d.integrity ≡ opened.labels.integrity
@@ -44,7 +44,7 @@ pub record WasSent (number : ℕ) (old : Session) (script : List (List ℕ)) (an
   pub answers_are : answers ≡ front ++ (sent k ∷ rest)
   pub mid : Session
   pub run : Run number old first front mid
-  pub says : Says mid line (lines.Job d.sender.node (By d.sender (Channel (Send d.from d.receiver d.to d.message))))
+  pub says : Says mid line (lines.Job d.sender.node (By d.sender (Mail (Send d.from d.receiver d.to d.message))))
   pub might : MaySend mid.state d
 
 -- the line brings the process the message of a packet that was sent to it

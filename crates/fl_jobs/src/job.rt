@@ -60,7 +60,7 @@ pub enum Order {
 
 /// What a process does with its endpoints, and with the messages that wait for it.
 #[derive(Debug, Drop)]
-pub enum Channel {
+pub enum Mail {
     /// A new endpoint of this mode, with these labels.
     Open(Mode, GivenLabels),
     /// The labels of the endpoint become these.
@@ -96,7 +96,7 @@ pub enum Act {
     Enter(Name, Secret),
     /// These bytes go to the outside.
     Emit(Payload),
-    Channel(Channel),
+    Mail(Mail),
 }
 
 /// One job of the reference monitor.

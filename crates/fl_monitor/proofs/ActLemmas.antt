@@ -17,8 +17,8 @@ use Rattle.fl_ops.specs.declared.op.Body.{Body}
 use Rattle.fl_ops.specs.declared.op.Policy.{Policy}
 use Rattle.fl_ops.specs.Registry.{InEffect, IsGlobal, From}
 use Rattle.fl_jobs.specs.declared.job.Act.{Act}
-use Rattle.fl_jobs.specs.declared.job.Act.TheVariants.{Order, Relabel, Ask, Spawn, Exit, Drop, Enter, Emit, Channel}
-use Rattle.fl_jobs.specs.declared.job.Channel as channels
+use Rattle.fl_jobs.specs.declared.job.Act.TheVariants.{Order, Relabel, Ask, Spawn, Exit, Drop, Enter, Emit, Mail}
+use Rattle.fl_jobs.specs.declared.job.Mail as mailbox
 use Rattle.fl_jobs.specs.declared.secret.Secret.{Secret}
 use Rattle.fl_jobs.specs.declared.job.Order as orders
 use Rattle.fl_jobs.specs.declared.job.Order.TheVariants.{Tag, Group, Put, MakeLogin}
@@ -31,8 +31,8 @@ use Rattle.fl_jobs.specs.declared.answer.Reply.TheVariants.{Done, Yes, NotYet, O
 use Rattle.fl_jobs.specs.declared.answer.Outcome.{Outcome}
 use Rattle.fl_labels.specs.Caps.{Dual}
 use Rattle.fl_rules.specs.declared.labels.Labels.{Labels}
-use Rattle.fl_channels.specs.Channels.{closed}
-use Rattle.fl_channels.specs.declared.channels.Channels.{Channels}
+use Rattle.fl_mailbox.specs.Mailbox.{closed}
+use Rattle.fl_mailbox.specs.declared.mailbox.Mailbox.{Mailbox}
 use Rattle.fl_monitor.specs.Process.{is_under_way, ordering, with_side, body_of, OneOf, PutTakes}
 use Rattle.fl_monitor.specs.Hand.{AtHand, Lacks}
 use Rattle.fl_monitor.specs.Checks.{Check, demand}
@@ -84,9 +84,9 @@ any_room (Checked.failed h) = Checked.failed h
 any_room (Checked.no_room h) = Checked.no_room tt
 
 -- who is born
-pub child_given : (check : Check) (l : Labels) (caps : SetBy cap_cmp) {r : Result (Unit {0}) Refusal} → Checked check (Unit {0}) r → (u : Unit {0}) → r ≡ Ok u → (m : Labels) → m ≡ l → (ch : Channels) → ch ≡ closed
-    → Gives check (Unit {0}) (Birth (record { labels = l; owned = Idle caps; channels = closed })) (Ok (Birth (record { labels = m; owned = Idle caps; channels = ch })))
-child_given check l caps h u e m is ch none = gives_passed check (Unit {0}) _ h u e _ (λ i. Birth (record { labels = is i; owned = Idle caps; channels = none i }))
+pub child_given : (check : Check) (l : Labels) (caps : SetBy cap_cmp) {r : Result (Unit {0}) Refusal} → Checked check (Unit {0}) r → (u : Unit {0}) → r ≡ Ok u → (m : Labels) → m ≡ l → (ch : Mailbox) → ch ≡ closed
+    → Gives check (Unit {0}) (Birth (record { labels = l; owned = Idle caps; mailbox = closed })) (Ok (Birth (record { labels = m; owned = Idle caps; mailbox = ch })))
+child_given check l caps h u e m is ch none = gives_passed check (Unit {0}) _ h u e _ (λ i. Birth (record { labels = is i; owned = Idle caps; mailbox = none i }))
 
 -- ---- orders
 
@@ -170,10 +170,10 @@ busy (Ordering owned) n = refl
 pub act_busy : (V : Op → Type 0) (pid : Pid) (p : Process) (act : Act) → ((owned : SetBy cap_cmp) → p.owned ≡ Idle owned → ⊥) → Acts V pid p act (Err Busy) p
 act_busy V pid p act n = Acts.failed (inl (ap (λ b. cond b (Some Busy) None) (sym (busy p.owned n))))
 
-module _ (V : Op → Type 0) (pid : Pid) (l : Labels) (owned : SetBy cap_cmp) (ch : Channels) where
+module _ (V : Op → Type 0) (pid : Pid) (l : Labels) (owned : SetBy cap_cmp) (ch : Mailbox) where
   -- of a process that is idle
   abbrev idle : Process
-  idle = record { labels = l; owned = Idle owned; channels = ch }
+  idle = record { labels = l; owned = Idle owned; mailbox = ch }
 
   order_fails : (order : orders.Order) (f : Refusal) {r : Result (Unit {0}) Refusal} → r ≡ Err f → Checked (order_checks (InEffect V (In owned)) order) (Unit {0}) r → Acts V pid idle (Order order) (Err f) idle
   order_fails order f e (Checked.passed h) = absurd (cc)
@@ -195,7 +195,7 @@ module _ (V : Op → Type 0) (pid : Pid) (l : Labels) (owned : SetBy cap_cmp) (c
   asked c (Told.told {outcome} h) = Acts.passed (refl, refl) (outcome, refl, h, refl)
   asked c (Told.no_room h) = Acts.no_room refl h
 
-  spawned : (caps : SetBy cap_cmp) {r : Result Sequel Refusal} → Gives (grant_check (InEffect V (In owned)) caps) (Unit {0}) (Birth (record { labels = l; owned = Idle caps; channels = closed })) r → Acts V pid idle (Spawn caps) r idle
+  spawned : (caps : SetBy cap_cmp) {r : Result Sequel Refusal} → Gives (grant_check (InEffect V (In owned)) caps) (Unit {0}) (Birth (record { labels = l; owned = Idle caps; mailbox = closed })) r → Acts V pid idle (Spawn caps) r idle
   spawned caps (Gives.passed h) = Acts.passed (refl, h) (refl, refl)
   spawned caps (Gives.failed h) = Acts.failed (inr (refl, h))
   spawned caps (Gives.no_room h) = Acts.no_room refl tt
@@ -216,7 +216,7 @@ module _ (V : Op → Type 0) (pid : Pid) (l : Labels) (owned : SetBy cap_cmp) (c
   entered login secret (Enters.wrong {c} {digest} first other) = Acts.failed (inr (refl, inr (refl, c, digest, first, other)))
   entered login secret (Enters.no_room {c} first) = Acts.no_room refl (c, first)
 
-  worked : (work : channels.Channel) {r : Result Outcome Refusal} {ch' : Channels} → Works (InEffect V (In owned)) (AtHand V owned) pid l ch work r ch' → Acts V pid idle (Channel work) (answered r) (record idle { channels = ch' })
+  worked : (work : mailbox.Mail) {r : Result Outcome Refusal} {ch' : Mailbox} → Works (InEffect V (In owned)) (AtHand V owned) pid l ch work r ch' → Acts V pid idle (Mail work) (answered r) (record idle { mailbox = ch' })
   worked work (Works.passed {outcome} {ch'} h does) = Acts.passed (refl, h) (outcome, refl, ch', does, refl)
   worked work (Works.failed h) = Acts.failed (inr (refl, h))
   worked work (Works.no_room h) = Acts.no_room refl h
@@ -240,37 +240,37 @@ module _ (V : Op → Type 0) (pid : Pid) (p : Process) (act : Act) (owned : SetB
 
   module _ (order : orders.Order) (ordered : act ≡ Order order) {r : Result (Unit {0}) Refusal} (checked : Checked (order_checks (InEffect V (In owned)) order) (Unit {0}) r) where
     pub act_unchecked : (f : Refusal) → r ≡ Err f → {q : Result Sequel Refusal} → IsErr q × IsErrAnd q (λ g. g ≡ f) → Acts V pid p act q as_idle
-    act_unchecked f e {q} h = subst (λ q. Acts V pid p act q as_idle) (sym (passed_on q f h)) (act_is (Order order) ordered (order_fails V pid p.labels owned p.channels order f e checked))
+    act_unchecked f e {q} h = subst (λ q. Acts V pid p act q as_idle) (sym (passed_on q f h)) (act_is (Order order) ordered (order_fails V pid p.labels owned p.mailbox order f e checked))
 
     pub act_order : (u : Unit {0}) → r ≡ Ok u → (body : Body) → body ≡ body_of order → (h : Holding) → h ≡ Ordering owned → Acts V pid p act (Ok (Answer (Outcome.Order body pid))) (record p { owned = h })
     act_order u e body is_body h is_h =
         subst (λ b. Acts V pid p act (Ok (Answer (Outcome.Order b pid))) (record p { owned = h })) (sym is_body)
         (subst (λ o. Acts V pid p act (Ok (Answer (Outcome.Order (body_of order) pid))) (record p { owned = o })) (sym is_h)
-        (act_is (Order order) ordered (order_done V pid p.labels owned p.channels order u e checked)))
+        (act_is (Order order) ordered (order_done V pid p.labels owned p.mailbox order u e checked)))
 
   pub act_full : (order : orders.Order) → act ≡ Order order → (h : Holding) → h ≡ Idle owned → Acts V pid p act (Err Memory) (record p { owned = h })
   act_full order e h same = subst (λ o. Acts V pid p act (Err Memory) (record p { owned = o })) (sym same) (act_is (Order order) e (Acts.no_room refl tt))
 
-  pub act_relabel : (side : Side) (given : Result (SetBy name_cmp) TooLong) → act ≡ Relabel side given → {r : Result Outcome Refusal} {l' : Labels} → Relabels V owned p.channels.endpoints p.labels side given r l' → (q : Result Sequel Refusal) → q ≡ answered r → Acts V pid p act q (record as_idle { labels = l' })
-  act_relabel side given e {r} h q is = act_answers (Relabel side given) e r (relabelled V pid p.labels owned p.channels side given h) q is
+  pub act_relabel : (side : Side) (given : Result (SetBy name_cmp) TooLong) → act ≡ Relabel side given → {r : Result Outcome Refusal} {l' : Labels} → Relabels V owned p.mailbox.endpoints p.labels side given r l' → (q : Result Sequel Refusal) → q ≡ answered r → Acts V pid p act q (record as_idle { labels = l' })
+  act_relabel side given e {r} h q is = act_answers (Relabel side given) e r (relabelled V pid p.labels owned p.mailbox side given h) q is
 
   pub act_ask : (c : Cap) → act ≡ Ask c → {r : Result Outcome Refusal} → Told (InEffect V (In owned) c) ((¬ In owned c) × (¬ IsGlobal V c)) r → (q : Result Sequel Refusal) → q ≡ answered r → Acts V pid p act q as_idle
-  act_ask c e {r} h q is = act_answers (Ask c) e r (asked V pid p.labels owned p.channels c h) q is
+  act_ask c e {r} h q is = act_answers (Ask c) e r (asked V pid p.labels owned p.mailbox c h) q is
 
-  pub act_spawn : (caps : SetBy cap_cmp) → act ≡ Spawn caps → {q : Result Sequel Refusal} → Gives (grant_check (InEffect V (In owned)) caps) (Unit {0}) (Birth (record { labels = p.labels; owned = Idle caps; channels = closed })) q → Acts V pid p act q as_idle
-  act_spawn caps e h = act_is (Spawn caps) e (spawned V pid p.labels owned p.channels caps h)
+  pub act_spawn : (caps : SetBy cap_cmp) → act ≡ Spawn caps → {q : Result Sequel Refusal} → Gives (grant_check (InEffect V (In owned)) caps) (Unit {0}) (Birth (record { labels = p.labels; owned = Idle caps; mailbox = closed })) q → Acts V pid p act q as_idle
+  act_spawn caps e h = act_is (Spawn caps) e (spawned V pid p.labels owned p.mailbox caps h)
 
   pub act_exit : act ≡ Exit → Acts V pid p act (Ok End) as_idle
   act_exit e = act_is Exit e (Acts.passed (refl, refl) (refl, refl))
 
-  pub act_drop : (c : Cap) → act ≡ Drop c → {r : Result Outcome Refusal} {s : SetBy cap_cmp} (l : Labels) → l ≡ p.labels → GivesUp V l p.channels.endpoints owned c r s → (q : Result Sequel Refusal) → q ≡ answered r → Acts V pid p act q (record p { owned = Idle s })
-  act_drop c e {r} {s} l same h q is = act_answers (Drop c) e r (given_up V pid p.labels owned p.channels c (subst (λ l. GivesUp V l p.channels.endpoints owned c r s) same h)) q is
+  pub act_drop : (c : Cap) → act ≡ Drop c → {r : Result Outcome Refusal} {s : SetBy cap_cmp} (l : Labels) → l ≡ p.labels → GivesUp V l p.mailbox.endpoints owned c r s → (q : Result Sequel Refusal) → q ≡ answered r → Acts V pid p act q (record p { owned = Idle s })
+  act_drop c e {r} {s} l same h q is = act_answers (Drop c) e r (given_up V pid p.labels owned p.mailbox c (subst (λ l. GivesUp V l p.mailbox.endpoints owned c r s) same h)) q is
 
   pub act_enter : (login : Name) (secret : Secret) → act ≡ Enter login secret → {r : Result Outcome Refusal} {s : SetBy cap_cmp} → Enters V owned login secret r s → (q : Result Sequel Refusal) → q ≡ answered r → Acts V pid p act q (record p { owned = Idle s })
-  act_enter login secret e {r} h q is = act_answers (Enter login secret) e r (entered V pid p.labels owned p.channels login secret h) q is
+  act_enter login secret e {r} h q is = act_answers (Enter login secret) e r (entered V pid p.labels owned p.mailbox login secret h) q is
 
   pub act_emit : (bytes : List ℕ) → act ≡ Emit bytes → {q : Result Sequel Refusal} → Gives (emission_check (InEffect V (In owned)) p.labels.secrecy) (Lacks (In p.labels.secrecy) (Dual (AtHand V owned))) (Answer (Outcome.Reply (Out bytes))) q → Acts V pid p act q as_idle
-  act_emit bytes e h = act_is (Emit bytes) e (emitted V pid p.labels owned p.channels bytes h)
+  act_emit bytes e h = act_is (Emit bytes) e (emitted V pid p.labels owned p.mailbox bytes h)
 
-  pub act_channel : (work : channels.Channel) → act ≡ Channel work → {r : Result Outcome Refusal} {ch' : Channels} (l : Labels) → l ≡ p.labels → Works (InEffect V (In owned)) (AtHand V owned) pid l p.channels work r ch' → (q : Result Sequel Refusal) → q ≡ answered r → Acts V pid p act q (record as_idle { channels = ch' })
-  act_channel work e {r} {ch'} l same h q is = act_answers (Channel work) e r (worked V pid p.labels owned p.channels work (subst (λ l. Works (InEffect V (In owned)) (AtHand V owned) pid l p.channels work r ch') same h)) q is
+  pub act_mail : (work : mailbox.Mail) → act ≡ Mail work → {r : Result Outcome Refusal} {ch' : Mailbox} (l : Labels) → l ≡ p.labels → Works (InEffect V (In owned)) (AtHand V owned) pid l p.mailbox work r ch' → (q : Result Sequel Refusal) → q ≡ answered r → Acts V pid p act q (record as_idle { mailbox = ch' })
+  act_mail work e {r} {ch'} l same h q is = act_answers (Mail work) e r (worked V pid p.labels owned p.mailbox work (subst (λ l. Works (InEffect V (In owned)) (AtHand V owned) pid l p.mailbox work r ch') same h)) q is

@@ -10,15 +10,15 @@ use Rattle.fl_rules.specs.Pair.{SafePair, PairFails}
 use Rattle.fl_rules.specs.declared.pair.PairFault.{PairFault}
 use Rattle.fl_wire.specs.declared.packet.Data.{Data}
 use Rattle.fl_wire.specs.declared.packet.Letter.{Letter}
-use Rattle.fl_channels.specs.Endpoints.{endpoint_of}
-use Rattle.fl_channels.specs.declared.endpoints.Opened.{Opened}
+use Rattle.fl_mailbox.specs.Endpoints.{end_of}
+use Rattle.fl_mailbox.specs.declared.endpoints.OpenEndpoint.{OpenEndpoint}
 use Rattle.fl_jobs.specs.declared.answer.Refusal.{Refusal}
 use Rattle.fl_jobs.specs.declared.answer.Refusal.TheVariants.{Busy, NoEndpoint, InboxFull, Memory}
 use Rattle.fl_jobs.specs.declared.answer.Reply.TheVariants.{Arrived}
 use Rattle.fl_jobs.specs.declared.answer.Outcome.{Outcome}
 use Rattle.fl_monitor.specs.Checks.{refuse_if, ◌then◌}
 use Rattle.fl_monitor.specs.Guards.{sent_from, entry_refusal, pair_check}
-use Rattle.fl_monitor.specs.Channels.{arrival_checks, entered}
+use Rattle.fl_monitor.specs.Mailbox.{arrival_checks, entered}
 use Rattle.fl_monitor.specs.Process.{held, is_under_way, is_busy, receiving}
 use Rattle.fl_monitor.specs.Acts.{Receives}
 use Rattle.fl_monitor.specs.declared.process.Holding.{Holding}
@@ -45,37 +45,37 @@ module _ (p : Process) (d : Data) where
     not_busy : refuse_if (is_busy p) Busy None
     not_busy = sym (ap (λ h. cond (is_under_way h) (Some Busy) None) is)
 
-    turned_away : (f : Refusal) → arrival_checks p.channels d (Some f) → Receives p d (Err f) idle
+    turned_away : (f : Refusal) → arrival_checks p.mailbox d (Some f) → Receives p d (Err f) idle
     turned_away f h = subst (Receives p d (Err f)) same (Receives.refused (inr (not_busy, h)))
 
-    pub comes_nowhere : map.get p.channels.endpoints d.to ≡ None → Receives p d (Err (NoEndpoint d.to)) idle
-    comes_nowhere none = turned_away (NoEndpoint d.to) (fails_without (map.get p.channels.endpoints d.to) (NoEndpoint d.to) _ none)
+    pub comes_nowhere : map.get p.mailbox.endpoints d.to ≡ None → Receives p d (Err (NoEndpoint d.to)) idle
+    comes_nowhere none = turned_away (NoEndpoint d.to) (fails_without (map.get p.mailbox.endpoints d.to) (NoEndpoint d.to) _ none)
 
     -- the endpoint is open, and is looked at beside the end that the message left
-    module _ (opened : Opened) (there : map.get p.channels.endpoints d.to ≡ Some opened) (from to : pairs.Endpoint) (left : from ≡ sent_from d) (opens : to ≡ endpoint_of opened) where
-      checks_are : (verdict : Option Refusal) → (pair_check d opened then refuse_if (nat_le 256 (length p.channels.inbox)) InboxFull) verdict → arrival_checks p.channels d verdict
-      checks_are verdict h = goes_on_with (map.get p.channels.endpoints d.to) (NoEndpoint d.to) _ opened there verdict h
+    module _ (opened : OpenEndpoint) (there : map.get p.mailbox.endpoints d.to ≡ Some opened) (from to : pairs.End) (left : from ≡ sent_from d) (opens : to ≡ end_of opened) where
+      checks_are : (verdict : Option Refusal) → (pair_check d opened then refuse_if (nat_le 256 (length p.mailbox.inbox)) InboxFull) verdict → arrival_checks p.mailbox d verdict
+      checks_are verdict h = goes_on_with (map.get p.mailbox.endpoints d.to) (NoEndpoint d.to) _ opened there verdict h
 
       pub comes_unsafe : (fault : PairFault) → PairFails from to fault → (f : Refusal) → f ≡ entry_refusal d.to fault → Receives p d (Err f) idle
-      comes_unsafe fault h f e = turned_away f (checks_are (Some f) (inl (fault, e, subst (λ x. PairFails x (endpoint_of opened) fault) left (subst (λ x. PairFails from x fault) opens h))))
+      comes_unsafe fault h f e = turned_away f (checks_are (Some f) (inl (fault, e, subst (λ x. PairFails x (end_of opened) fault) left (subst (λ x. PairFails from x fault) opens h))))
 
-      module _ (safe : SafePair from to) (full : Bool) (told : full ≡ nat_le 256 (length p.channels.inbox)) where
-        may_enter : SafePair (sent_from d) (endpoint_of opened)
-        may_enter = subst (λ x. SafePair x (endpoint_of opened)) left (subst (SafePair from) opens safe)
+      module _ (safe : SafePair from to) (full : Bool) (told : full ≡ nat_le 256 (length p.mailbox.inbox)) where
+        may_enter : SafePair (sent_from d) (end_of opened)
+        may_enter = subst (λ x. SafePair x (end_of opened)) left (subst (SafePair from) opens safe)
 
         pub comes_full : full ≡ true → Receives p d (Err InboxFull) idle
         comes_full e = turned_away InboxFull (checks_are (Some InboxFull) (inr (may_enter, sym (ap (λ b. cond b (Some InboxFull) None) (sym told ∙ e)))))
 
         module _ (room : full ≡ false) where
-          all_pass : arrival_checks p.channels d None
+          all_pass : arrival_checks p.mailbox d None
           all_pass = checks_are None (may_enter, sym (ap (λ b. cond b (Some InboxFull) None) (sym told ∙ room)))
 
           -- there is no memory for what it brings
-          pub comes_starved : (inbox : List Letter) → inbox ≡ p.channels.inbox → Receives p d (Err Memory) (record p { owned = Idle owned; channels = record p.channels { inbox = inbox } })
-          comes_starved inbox e = subst (Receives p d (Err Memory)) (λ i. record p { owned = is i; channels = record p.channels { inbox = sym e i } }) (Receives.no_room (ap is_under_way is) all_pass)
+          pub comes_starved : (inbox : List Letter) → inbox ≡ p.mailbox.inbox → Receives p d (Err Memory) (record p { owned = Idle owned; mailbox = record p.mailbox { inbox = inbox } })
+          comes_starved inbox e = subst (Receives p d (Err Memory)) (λ i. record p { owned = is i; mailbox = record p.mailbox { inbox = sym e i } }) (Receives.no_room (ap is_under_way is) all_pass)
 
-          pub comes_in : (joined : SetBy cap_cmp) → joined ≡ set.union owned d.message.caps → (inbox : List Letter) → inbox ≡ p.channels.inbox ++ record { sender = d.sender; message = d.message } ∷ []
-              → Receives p d (Ok (Outcome.Reply (Arrived d.receiver))) (record p { owned = Idle joined; channels = record p.channels { inbox = inbox } })
+          pub comes_in : (joined : SetBy cap_cmp) → joined ≡ set.union owned d.message.caps → (inbox : List Letter) → inbox ≡ p.mailbox.inbox ++ record { sender = d.sender; message = d.message } ∷ []
+              → Receives p d (Ok (Outcome.Reply (Arrived d.receiver))) (record p { owned = Idle joined; mailbox = record p.mailbox { inbox = inbox } })
           comes_in joined union inbox behind =
               let owned_are : set.union (held p.owned) d.message.caps ≡ joined = ap (λ h. set.union (held h) d.message.caps) is ∙ sym union in
-              subst (Receives p d (Ok (Outcome.Reply (Arrived d.receiver)))) (λ i. record p { owned = Idle (owned_are i); channels = record p.channels { inbox = sym behind i } }) (Receives.arrives (not_busy, all_pass))
+              subst (Receives p d (Ok (Outcome.Reply (Arrived d.receiver)))) (λ i. record p { owned = Idle (owned_are i); mailbox = record p.mailbox { inbox = sym behind i } }) (Receives.arrives (not_busy, all_pass))

@@ -18,16 +18,16 @@ use Rattle.fl_rules.proofs.Messages.{message_safe}
 use Rattle.fl_wire.specs.declared.packet.Data.{Data}
 use Rattle.fl_wire.specs.declared.packet.Packet.{Packet}
 use Rattle.fl_wire.specs.declared.packet.Packet.TheVariants as packets
-use Rattle.fl_channels.specs.Endpoints.{endpoint_of}
-use Rattle.fl_channels.specs.declared.channels.Channels.{Channels}
-use Rattle.fl_channels.specs.declared.endpoints.Opened.{Opened}
+use Rattle.fl_mailbox.specs.Endpoints.{end_of}
+use Rattle.fl_mailbox.specs.declared.mailbox.Mailbox.{Mailbox}
+use Rattle.fl_mailbox.specs.declared.endpoints.OpenEndpoint.{OpenEndpoint}
 use Rattle.fl_jobs.specs.declared.job.Job.{Job}
 use Rattle.fl_jobs.specs.declared.job.Job.TheVariants.{Arrive}
 use Rattle.fl_jobs.specs.declared.answer.Refusal.TheVariants.{NoProcess, NoEndpoint, Busy, InboxFull}
 use Rattle.fl_jobs.specs.declared.answer.Outcome.{Outcome}
 use Rattle.fl_monitor.specs.Checks.{refuse_if, with, ◌then◌}
 use Rattle.fl_monitor.specs.Guards.{pair_check, sent_from}
-use Rattle.fl_monitor.specs.Channels.{arrival_checks}
+use Rattle.fl_monitor.specs.Mailbox.{arrival_checks}
 use Rattle.fl_monitor.specs.Process.{is_busy, effective}
 use Rattle.fl_monitor.specs.Bench.{State}
 use Rattle.fl_monitor.specs.Guarded.{Guarded, IsGuarded}
@@ -45,33 +45,33 @@ ways_safe E Write process endpoint h = record { read = λ e. absurd (false≢tru
 ways_safe E Both process endpoint h = record { read = λ e tag c. h tag (inl c); write = λ e tag c. h tag (inr c) }
 
 -- one of a guarded process
-pub open_safe : (V : Op → Type 0) (p : Process) (e : Endpoint) (end : Opened) → Guarded V p → map.get p.channels.endpoints e ≡ Some end → SafeEndpoint (effective V p) end.mode p.labels end.labels
+pub open_safe : (V : Op → Type 0) (p : Process) (e : Endpoint) (end : OpenEndpoint) → Guarded V p → map.get p.mailbox.endpoints e ≡ Some end → SafeEndpoint (effective V p) end.mode p.labels end.labels
 open_safe V p e end h is = ways_safe (effective V p) end.mode p.labels end.labels (λ tag c. h (record { endpoint = e; tag = tag }) (end, is, c))
 
 -- ---- the receiver
 
 -- the endpoint that a message came to, and that it may enter
-record Entered (ch : Channels) (d : Data) : Type 0 where
-  end : Opened
+record Entered (ch : Mailbox) (d : Data) : Type 0 where
+  end : OpenEndpoint
   is_open : map.get ch.endpoints d.to ≡ Some end
-  pair : SafePair (sent_from d) (endpoint_of end)
+  pair : SafePair (sent_from d) (end_of end)
 
-entered_at : (ch : Channels) (d : Data) → arrival_checks ch d None → Entered ch d
+entered_at : (ch : Mailbox) (d : Data) → arrival_checks ch d None → Entered ch d
 entered_at ch d h = by_found (map.get ch.endpoints d.to) refl h
   where
-    by_found : (o : Option Opened) → map.get ch.endpoints d.to ≡ o → with o (NoEndpoint d.to) (λ end. pair_check d end then refuse_if (nat_le 256 (length ch.inbox)) InboxFull) None → Entered ch d
+    by_found : (o : Option OpenEndpoint) → map.get ch.endpoints d.to ≡ o → with o (NoEndpoint d.to) (λ end. pair_check d end then refuse_if (nat_le 256 (length ch.inbox)) InboxFull) None → Entered ch d
     by_found None e h = absurd (cc)
     by_found (Some end) e h = record { end = end; is_open = e; pair = h.0 }
 
 module _ {V : Op → Type 0} {b after : State} {d : Data} {x : Outcome} (q : Process) (lives : map.get b.processes d.receiver ≡ Some q) where
-  entered : Does V b (Arrive d) (Ok x) after → Entered q.channels d
-  entered (passed s f) = entered_at q.channels d (subst (λ o. with o (NoProcess d.receiver) (λ q. refuse_if (is_busy q) Busy then arrival_checks q.channels d) None) lives s).1
+  entered : Does V b (Arrive d) (Ok x) after → Entered q.mailbox d
+  entered (passed s f) = entered_at q.mailbox d (subst (λ o. with o (NoProcess d.receiver) (λ q. refuse_if (is_busy q) Busy then arrival_checks q.mailbox d) None) lives s).1
 
   -- a message from a safe endpoint of a process of these labels, which has E in effect
   pub arrival_safe : {E : Cap → Type 0} {p : Labels} → IsGuarded V b → Does V b (Arrive d) (Ok x) after → SafeEndpoint E (sent_from d).mode p (sent_from d).labels → SafeMessage E p (effective V q) q.labels
   arrival_safe {E} {p} h does left =
       let at = entered does in
-      message_safe {e = sent_from d} {f = endpoint_of at.end} (λ c e. e) (λ c e. e) left (open_safe V q d.to at.end (h.each d.receiver q lives) at.is_open) at.pair
+      message_safe {e = sent_from d} {f = end_of at.end} (λ c e. e) (λ c e. e) left (open_safe V q d.to at.end (h.each d.receiver q lives) at.is_open) at.pair
 
 -- ---- the sender
 

@@ -19,8 +19,8 @@ use Rattle.fl_jobs.specs.declared.answer.Reply.TheVariants.{Done}
 use Rattle.fl_jobs.specs.declared.answer.Outcome.{Outcome}
 use Rattle.fl_rules.specs.Safety.{Takes}
 use Rattle.fl_rules.specs.declared.labels.Labels.{Labels}
-use Rattle.fl_channels.specs.Endpoints.{Table, IsOpen}
-use Rattle.fl_channels.specs.Offenders.{CrossesAt, DualAt}
+use Rattle.fl_mailbox.specs.Endpoints.{Table, IsOpen}
+use Rattle.fl_mailbox.specs.Offenders.{CrossesAt, DualAt}
 use Rattle.fl_monitor.specs.Process.{side_of, with_side}
 use Rattle.fl_monitor.specs.Hand.{AtHand, Lacks}
 use Rattle.fl_monitor.specs.Guards.{endpoints_check}

@@ -16,7 +16,7 @@ use Rattle.fl_labels.specs.declared.pid.Pid.{Pid}
 use Rattle.fl_ops.specs.declared.op.Op.{Op}
 use Rattle.fl_ops.specs.Logins.{IsFirstLogin}
 use Rattle.fl_jobs.specs.declared.job.Act.{Act}
-use Rattle.fl_jobs.specs.declared.job.Act.TheVariants.{Order, Relabel, Ask, Spawn, Exit, Drop, Enter, Emit, Channel}
+use Rattle.fl_jobs.specs.declared.job.Act.TheVariants.{Order, Relabel, Ask, Spawn, Exit, Drop, Enter, Emit, Mail}
 use Rattle.fl_jobs.specs.declared.job.Job.{Job}
 use Rattle.fl_jobs.specs.declared.job.Job.TheVariants.{Proc, By, Member, Arrive}
 use Rattle.fl_jobs.specs.declared.answer.Refusal.{Refusal}
@@ -132,7 +132,7 @@ module _ (b : State) (pid : Pid) (c : Cap) where
           ]
         ]
     act_owned q p (Emit bytes) x after e h f = as_it_was f.1
-    act_owned q p (Channel work) x after e h f = less q p (record p { channels = f.0 }) e (λ m. m) f.2
+    act_owned q p (Mail work) x after e h f = less q p (record p { mailbox = f.0 }) e (λ m. m) f.2
 
     -- the receiver owns what the message brings
     arrival_owned : (d : Data) (q : Process) {after : State} → map.get b.processes d.receiver ≡ Some q → after ≡ has_at b d.receiver (receiving q d) → Accounted (Arrive d) after

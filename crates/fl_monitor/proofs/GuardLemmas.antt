@@ -9,7 +9,7 @@ use Rattle.fl_rules.specs.declared.endpoint.Mode.TheVariants.{Read, Write, Both}
 use Rattle.fl_rules.specs.declared.labels.Labels.{Labels}
 use Rattle.fl_rules.specs.Endpoint.{Crosses, SafeEndpoint}
 use Rattle.fl_labels.specs.Caps.{Dual}
-use Rattle.fl_channels.specs.Offenders.{DualAt}
+use Rattle.fl_mailbox.specs.Offenders.{DualAt}
 use Rattle.fl_monitor.proofs.Hand.{dual_more}
 
 module _ (E : Cap → Type 0) (process labels : Labels) where

@@ -21,16 +21,16 @@ use Rattle.fl_rules.specs.Endpoint.{Crosses}
 use Rattle.fl_labels.specs.Caps.{Dual}
 use Rattle.fl_rules.specs.declared.endpoint.Mode.{Mode}
 use Rattle.fl_rules.specs.declared.labels.Labels.{Labels}
-use Rattle.fl_channels.specs.Endpoints.{Table, IsLeastFree, one_least_free}
-use Rattle.fl_channels.specs.Offenders.{CrossesAt, DualAt}
-use Rattle.fl_channels.specs.declared.channels.Channels.{Channels}
-use Rattle.fl_channels.specs.declared.endpoints.Opened.{Opened}
+use Rattle.fl_mailbox.specs.Endpoints.{Table, IsLeastFree, one_least_free}
+use Rattle.fl_mailbox.specs.Offenders.{CrossesAt, DualAt}
+use Rattle.fl_mailbox.specs.declared.mailbox.Mailbox.{Mailbox}
+use Rattle.fl_mailbox.specs.declared.endpoints.OpenEndpoint.{OpenEndpoint}
 use Rattle.fl_jobs.specs.Given.{labels_of}
 use Rattle.fl_jobs.specs.declared.job.GivenLabels.{GivenLabels}
 use Rattle.fl_jobs.specs.declared.job.Act.{Act}
-use Rattle.fl_jobs.specs.declared.job.Act.TheVariants.{Order, Relabel, Ask, Spawn, Exit, Drop, Enter, Emit, Channel}
-use Rattle.fl_jobs.specs.declared.job.Channel as channels
-use Rattle.fl_jobs.specs.declared.job.Channel.TheVariants.{Open, Tune, Close, Send, Take}
+use Rattle.fl_jobs.specs.declared.job.Act.TheVariants.{Order, Relabel, Ask, Spawn, Exit, Drop, Enter, Emit, Mail}
+use Rattle.fl_jobs.specs.declared.job.Mail as mailbox
+use Rattle.fl_jobs.specs.declared.job.Mail.TheVariants.{Open, Tune, Close, Send, Take}
 use Rattle.fl_jobs.specs.declared.job.Job.{Job}
 use Rattle.fl_jobs.specs.declared.job.Job.TheVariants.{Proc, By, Member, Arrive}
 use Rattle.fl_jobs.specs.declared.answer.Refusal.{Refusal}
@@ -38,7 +38,7 @@ use Rattle.fl_jobs.specs.declared.answer.Refusal.TheVariants.{NoEndpoint, Endpoi
 use Rattle.fl_jobs.specs.declared.answer.Outcome.{Outcome}
 use Rattle.fl_monitor.specs.Checks.{with, with_found}
 use Rattle.fl_monitor.specs.Guards.{endpoint_check}
-use Rattle.fl_monitor.specs.Channels.{channel_checks, ChannelDoes}
+use Rattle.fl_monitor.specs.Mailbox.{mail_checks, MailDoes}
 use Rattle.fl_monitor.specs.Process.{newborn, held, owns, ordering, owning, child_of, effective, receiving}
 use Rattle.fl_monitor.specs.Bench.{State, opened, has_at, gone, born}
 use Rattle.fl_monitor.specs.Gifts.{settled, receives, settles}
@@ -73,9 +73,9 @@ module _ (E : Cap → Type 0) (process : Labels) (table : Table) where
   AllSafe table = Within (CrossesAt process table) (DualAt E)
 
   -- one that is safe is put there
-  put_safe : (e : Endpoint) (end : Opened) → Within (Crosses end.mode process end.labels) (Dual E) → AllSafe table → AllSafe (map.insert table e end)
+  put_safe : (e : Endpoint) (end : OpenEndpoint) → Within (Crosses end.mode process end.labels) (Dual E) → AllSafe table → AllSafe (map.insert table e end)
   put_safe e end safe all x c = elim (get_put endpoint_total endpoint_exact table e end x.endpoint) [
-    | inl s ↦ safe x.tag (subst (λ (o : Opened). Crosses o.mode process o.labels x.tag) (same_found c.1 s.1) c.2)
+    | inl s ↦ safe x.tag (subst (λ (o : OpenEndpoint). Crosses o.mode process o.labels x.tag) (same_found c.1 s.1) c.2)
     | inr s ↦ all x (c.0, sym s ∙ c.1, c.2)
   ]
 
@@ -83,25 +83,25 @@ module _ (E : Cap → Type 0) (process : Labels) (table : Table) where
   closed_safe : (e : Endpoint) → AllSafe table → AllSafe (map.remove table e)
   closed_safe e all x c = all x (c.0, left_there endpoint_total endpoint_exact table e x.endpoint c.0 c.1, c.2)
 
-module _ (E : Cap → Type 0) (process : Labels) (ch : Channels) where
+module _ (E : Cap → Type 0) (process : Labels) (ch : Mailbox) where
   -- what was opened is safe
-  open_passed : (mode : Mode) (given : GivenLabels) (labels : Labels) (e : Endpoint) → labels_of given ≡ Some labels → IsLeastFree ch.endpoints (Some e) → channel_checks E process ch (Open mode given) None → Within (Crosses mode process labels) (Dual E)
+  open_passed : (mode : Mode) (given : GivenLabels) (labels : Labels) (e : Endpoint) → labels_of given ≡ Some labels → IsLeastFree ch.endpoints (Some e) → mail_checks E process ch (Open mode given) None → Within (Crosses mode process labels) (Dual E)
   open_passed mode given labels e is least h =
       let found = subst (λ o. with o LabelTooLong (λ labels. with_found (IsLeastFree ch.endpoints) EndpointsFull (λ e. endpoint_check E process e mode labels)) None) is h in
       subst (λ o. with o EndpointsFull (λ e. endpoint_check E process e mode labels) None) (one_least_free ch.endpoints found.0 (Some e) found.1 least) found.2
 
   -- and what was tuned
-  tune_passed : (e : Endpoint) (given : GivenLabels) (labels : Labels) (end : Opened) → labels_of given ≡ Some labels → map.get ch.endpoints e ≡ Some end → channel_checks E process ch (Tune e given) None → Within (Crosses end.mode process labels) (Dual E)
+  tune_passed : (e : Endpoint) (given : GivenLabels) (labels : Labels) (end : OpenEndpoint) → labels_of given ≡ Some labels → map.get ch.endpoints e ≡ Some end → mail_checks E process ch (Tune e given) None → Within (Crosses end.mode process labels) (Dual E)
   tune_passed e given labels end is there h =
       let found = subst (λ o. with o LabelTooLong (λ labels. with (map.get ch.endpoints e) (NoEndpoint e) (λ opened. endpoint_check E process e opened.mode labels)) None) is h in
       subst (λ o. with o (NoEndpoint e) (λ opened. endpoint_check E process e opened.mode labels) None) there found
 
-  channel_safe : (pid : Pid) (work : channels.Channel) (x : Outcome) (after : Channels) → channel_checks E process ch work None → ChannelDoes pid ch work x after → AllSafe E process ch.endpoints ch.endpoints → AllSafe E process ch.endpoints after.endpoints
-  channel_safe pid (Open mode given) x after h f all = subst (λ (c : Channels). AllSafe E process ch.endpoints c.endpoints) (sym f.5) (put_safe E process ch.endpoints f.2 (record { mode = mode; labels = f.0 }) (open_passed mode given f.0 f.2 f.1 f.3 h) all)
-  channel_safe pid (Tune e given) x after h f all = subst (λ (c : Channels). AllSafe E process ch.endpoints c.endpoints) (sym f.5) (put_safe E process ch.endpoints e (record f.2 { labels = f.0 }) (tune_passed e given f.0 f.2 f.1 f.3 h) all)
-  channel_safe pid (Close e) x after h f all = subst (λ (c : Channels). AllSafe E process ch.endpoints c.endpoints) (sym f.1) (closed_safe E process ch.endpoints e all)
-  channel_safe pid (Send from receiver to message) x after h f all = subst (λ (c : Channels). AllSafe E process ch.endpoints c.endpoints) (sym f.5) all
-  channel_safe pid Take x after h f all = subst (λ (c : Channels). AllSafe E process ch.endpoints c.endpoints) (sym f.1) all
+  mail_safe : (pid : Pid) (work : mailbox.Mail) (x : Outcome) (after : Mailbox) → mail_checks E process ch work None → MailDoes pid ch work x after → AllSafe E process ch.endpoints ch.endpoints → AllSafe E process ch.endpoints after.endpoints
+  mail_safe pid (Open mode given) x after h f all = subst (λ (c : Mailbox). AllSafe E process ch.endpoints c.endpoints) (sym f.5) (put_safe E process ch.endpoints f.2 (record { mode = mode; labels = f.0 }) (open_passed mode given f.0 f.2 f.1 f.3 h) all)
+  mail_safe pid (Tune e given) x after h f all = subst (λ (c : Mailbox). AllSafe E process ch.endpoints c.endpoints) (sym f.5) (put_safe E process ch.endpoints e (record f.2 { labels = f.0 }) (tune_passed e given f.0 f.2 f.1 f.3 h) all)
+  mail_safe pid (Close e) x after h f all = subst (λ (c : Mailbox). AllSafe E process ch.endpoints c.endpoints) (sym f.1) (closed_safe E process ch.endpoints e all)
+  mail_safe pid (Send from receiver to message) x after h f all = subst (λ (c : Mailbox). AllSafe E process ch.endpoints c.endpoints) (sym f.5) all
+  mail_safe pid Take x after h f all = subst (λ (c : Mailbox). AllSafe E process ch.endpoints c.endpoints) (sym f.1) all
 
 -- ---- one process
 
@@ -156,7 +156,7 @@ module _ (V : Op → Type 0) where
         let caps = set.insert (owns p) f.0 in
         put pid (owning p caps) (grown_guarded (λ op u. u) p (Idle caps) (inserted_still (owns p) f.0) (h.each pid p e)) f.3
     act_guarded pid p (Emit bytes) x e s f = same_guarded f.1
-    act_guarded pid p (Channel work) x e s f = put pid (record p { channels = f.0 }) (channel_safe (effective V p) p.labels p.channels pid work x f.0 s.1 f.1 (h.each pid p e)) f.2
+    act_guarded pid p (Mail work) x e s f = put pid (record p { mailbox = f.0 }) (mail_safe (effective V p) p.labels p.mailbox pid work x f.0 s.1 f.1 (h.each pid p e)) f.2
 
     effect_guarded : (job : Job) (x : Outcome) {after : State} → checks V b job None → Effect V b job x after → IsGuarded V after
     effect_guarded Proc x s f = bears f.0 newborn (closed_guarded V newborn.labels set.empty) f.3

@@ -12,14 +12,14 @@ use Rattle.fl_labels.specs.declared.pid.Pid.{Pid}
 use Rattle.fl_ops.specs.declared.op.Op.{Op}
 use Rattle.fl_ops.specs.Registry.{Reach, From}
 use Rattle.fl_jobs.specs.declared.job.Act.{Act}
-use Rattle.fl_jobs.specs.declared.job.Act.TheVariants.{Order, Relabel, Ask, Spawn, Exit, Drop, Enter, Emit, Channel}
+use Rattle.fl_jobs.specs.declared.job.Act.TheVariants.{Order, Relabel, Ask, Spawn, Exit, Drop, Enter, Emit, Mail}
 use Rattle.fl_jobs.specs.declared.job.Job.TheVariants.{Proc, By, Member, Arrive}
 use Rattle.fl_jobs.specs.declared.answer.Refusal.{Refusal}
 use Rattle.fl_jobs.specs.declared.answer.Refusal.TheVariants.{NoProcess, Busy, NamesSpent, Memory}
 use Rattle.fl_jobs.specs.declared.answer.Reply.TheVariants.{Made, Done}
 use Rattle.fl_jobs.specs.declared.answer.Outcome.{Outcome}
 use Rattle.fl_wire.specs.declared.packet.Data.{Data}
-use Rattle.fl_monitor.specs.Channels.{arrival_checks, ChannelDoes}
+use Rattle.fl_monitor.specs.Mailbox.{arrival_checks, MailDoes}
 use Rattle.fl_monitor.specs.Checks.{with, refuse_if, ◌then◌}
 use Rattle.fl_monitor.specs.Process.{newborn, is_busy, effective, child_of}
 use Rattle.fl_monitor.specs.Bench.{State, IsNext, has_at, gone}
@@ -88,7 +88,7 @@ module _ (V : Op → Type 0) (b : State) (pid : Pid) where
     performs (Drop c) s p' x is h = (same_answer (sym is ∙ h.0), ap (has_at b pid) h.1)
     performs (Enter login secret) s p' x is h = (h.0, h.1, same_answer (sym is ∙ h.2), ap (has_at b pid) h.3)
     performs (Emit bytes) s p' x is h = (same_answer (sym is ∙ h.0), as_before h.1)
-    performs (Channel work) s p' x is h = (h.2, subst (λ o. ChannelDoes pid p.channels work o h.2) (sym (same_answer (sym is ∙ h.1))) h.3, ap (has_at b pid) h.4)
+    performs (Mail work) s p' x is h = (h.2, subst (λ o. MailDoes pid p.mailbox work o h.2) (sym (same_answer (sym is ∙ h.1))) h.3, ap (has_at b pid) h.4)
 
     -- nothing is asked of the bench for an act that is answered alone
     bears_nobody : (act : Act) (s : Sequel) (p' : Process) (x : Outcome) → s ≡ Answer x → Becomes V pid p act s p' → bench_checks b act None
@@ -100,7 +100,7 @@ module _ (V : Op → Type 0) (b : State) (pid : Pid) where
     bears_nobody (Drop c) s p' x is h = refl
     bears_nobody (Enter login secret) s p' x is h = refl
     bears_nobody (Emit bytes) s p' x is h = refl
-    bears_nobody (Channel work) s p' x is h = refl
+    bears_nobody (Mail work) s p' x is h = refl
 
     -- a birth
     spawned : (caps : SetBy cap_cmp) → act_checks V p (Spawn caps) None → {q : Result Outcome Refusal} {after : State} → Births b (child_of p caps) q after → Does V b (By pid (Spawn caps)) q after
@@ -119,7 +119,7 @@ module _ (V : Op → Type 0) (b : State) (pid : Pid) where
     bears_child (Drop c) s p' child is h passed births = absurd (no_birth (sym h.0 ∙ is))
     bears_child (Enter login secret) s p' child is h passed births = absurd (no_birth (sym h.2 ∙ is))
     bears_child (Emit bytes) s p' child is h passed births = absurd (no_birth (sym h.0 ∙ is))
-    bears_child (Channel work) s p' child is h passed births = absurd (no_birth (sym h.1 ∙ is))
+    bears_child (Mail work) s p' child is h passed births = absurd (no_birth (sym h.1 ∙ is))
 
     -- an end
     ends : (act : Act) (s : Sequel) (p' : Process) → s ≡ End → Becomes V pid p act s p' → act_checks V p act None → Does V b (By pid act) (Ok (Outcome.Reply Done)) (gone (has_at b pid p') pid)
@@ -132,7 +132,7 @@ module _ (V : Op → Type 0) (b : State) (pid : Pid) where
     ends (Drop c) s p' is h passed = absurd (no_end (sym is ∙ h.0))
     ends (Enter login secret) s p' is h passed = absurd (no_end (sym is ∙ h.2))
     ends (Emit bytes) s p' is h passed = absurd (no_end (sym is ∙ h.0))
-    ends (Channel work) s p' is h passed = absurd (no_end (sym is ∙ h.1))
+    ends (Mail work) s p' is h passed = absurd (no_end (sym is ∙ h.1))
 
   -- ---- an act at the processes, and what follows
 
@@ -188,11 +188,11 @@ births_does V b p is {r} {b'} h = alone (subst (λ p. Births b p r b') is h)
 -- a message that comes to the processes of a bench is a job
 module _ (V : Op → Type 0) (b : State) (d : Data) where
   -- what passes, or fails, for the receiver
-  comes : (q : Process) → map.get b.processes d.receiver ≡ Some q → (v : Option Refusal) → (refuse_if (is_busy q) Busy then arrival_checks q.channels d) v → checks V b (Arrive d) v
-  comes q e v h = subst (λ o. with o (NoProcess d.receiver) (λ q. refuse_if (is_busy q) Busy then arrival_checks q.channels d) v) (sym e) h
+  comes : (q : Process) → map.get b.processes d.receiver ≡ Some q → (v : Option Refusal) → (refuse_if (is_busy q) Busy then arrival_checks q.mailbox d) v → checks V b (Arrive d) v
+  comes q e v h = subst (λ o. with o (NoProcess d.receiver) (λ q. refuse_if (is_busy q) Busy then arrival_checks q.mailbox d) v) (sym e) h
 
   nobody_receives : map.get b.processes d.receiver ≡ None → checks V b (Arrive d) (Some (NoProcess d.receiver))
-  nobody_receives e = subst (λ o. with o (NoProcess d.receiver) (λ q. refuse_if (is_busy q) Busy then arrival_checks q.channels d) (Some (NoProcess d.receiver))) (sym e) refl
+  nobody_receives e = subst (λ o. with o (NoProcess d.receiver) (λ q. refuse_if (is_busy q) Busy then arrival_checks q.mailbox d) (Some (NoProcess d.receiver))) (sym e) refl
 
   -- at a bench whose receiver is put back as it was
   put_back : (q : Process) → map.get b.processes d.receiver ≡ Some q → {r : Result Outcome Refusal} → Does V b (Arrive d) r b → Does V b (Arrive d) r (has_at b d.receiver q)

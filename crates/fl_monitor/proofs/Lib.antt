@@ -11,7 +11,7 @@ pub mod Changes
 pub mod Orderly
 pub mod Following
 pub mod OneCheck
-pub mod OneChannel
+pub mod OneMail
 pub mod OneResult
 pub mod Entries
 pub mod Births
@@ -21,5 +21,5 @@ pub mod Arrivals
 pub mod GuardLemmas
 pub mod CheckLemmas
 pub mod ChangeLemmas
-pub mod ChannelLemmas
+pub mod MailLemmas
 pub mod ArrivalLemmas

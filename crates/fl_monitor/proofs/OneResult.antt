@@ -15,22 +15,22 @@ use Rattle.fl_ops.specs.Registry.{InEffect}
 use Rattle.fl_ops.specs.Logins.{IsFirstLogin}
 use Rattle.fl_ops.proofs.Logins.{one_first}
 use Rattle.fl_rules.specs.declared.labels.Labels.{Labels}
-use Rattle.fl_channels.specs.Endpoints.{Table}
+use Rattle.fl_mailbox.specs.Endpoints.{Table}
 use Rattle.fl_jobs.specs.declared.secret.Secret.{Secret}
 use Rattle.fl_jobs.specs.declared.job.Order as orders
 use Rattle.fl_jobs.specs.declared.job.Order.TheVariants.{Tag, Group, Put, MakeLogin}
 use Rattle.fl_jobs.specs.declared.job.Act.{Act}
-use Rattle.fl_jobs.specs.declared.job.Act.TheVariants.{Order, Relabel, Ask, Spawn, Exit, Drop, Enter, Emit, Channel}
+use Rattle.fl_jobs.specs.declared.job.Act.TheVariants.{Order, Relabel, Ask, Spawn, Exit, Drop, Enter, Emit, Mail}
 use Rattle.fl_jobs.specs.declared.job.Job.{Job}
 use Rattle.fl_jobs.specs.declared.job.Job.TheVariants.{Proc, By, Member, Arrive}
 use Rattle.fl_jobs.specs.declared.answer.Refusal.{Refusal}
 use Rattle.fl_jobs.specs.declared.answer.Refusal.TheVariants.{NoProcess, MissingCap, Secrecy, Busy, Memory}
 use Rattle.fl_jobs.specs.declared.answer.Reply.TheVariants.{Made, Entered}
 use Rattle.fl_jobs.specs.declared.answer.Outcome.{Outcome}
-use Rattle.fl_channels.specs.Offenders.{offender_total, offender_exact}
+use Rattle.fl_mailbox.specs.Offenders.{offender_total, offender_exact}
 use Rattle.fl_monitor.specs.Checks.{refuse_if, ◌then◌}
 use Rattle.fl_monitor.specs.Guards.{endpoints_check, unsafe_by}
-use Rattle.fl_monitor.specs.Channels.{arrival_checks}
+use Rattle.fl_monitor.specs.Mailbox.{arrival_checks}
 use Rattle.fl_monitor.specs.Secrets.{digest_of}
 use Rattle.fl_monitor.specs.Process.{newborn, owns, owning, child_of, is_busy, effective, receiving}
 use Rattle.fl_monitor.specs.Bench.{State, IsNext, has_at, born}
@@ -38,7 +38,7 @@ use Rattle.fl_monitor.specs.Jobs.{order_checks, enter_check, checks_of, act_chec
 use Rattle.fl_monitor.specs.declared.process.Process.{Process}
 use Rattle.fl_monitor.proofs.Puts.{same_found}
 use Rattle.fl_monitor.proofs.OneCheck.{OneVerdict, one_said, one_then, one_demand, one_with}
-use Rattle.fl_monitor.proofs.OneChannel.{one_channel_check, one_arrival_check, one_channel_does}
+use Rattle.fl_monitor.proofs.OneMail.{one_mail_check, one_arrival_check, one_mail_does}
 
 -- ---- each job has one verdict
 
@@ -81,7 +81,7 @@ module _ (V : Op → Type 0) where
   one_check_of p (Drop c) = one_then _ _ one_said (one_endpoints_check (InEffect V (In (set.remove (owns p) c))) _ _)
   one_check_of p (Enter login secret) = one_enter_check V login secret
   one_check_of p (Emit bytes) = one_demand name_total name_exact _ _ Secrecy
-  one_check_of p (Channel work) = one_channel_check (effective V p) p.labels p.channels work
+  one_check_of p (Mail work) = one_mail_check (effective V p) p.labels p.mailbox work
 
   one_bench_check : (b : State) (act : Act) → OneVerdict (bench_checks b act)
   one_bench_check b (Spawn caps) = one_said
@@ -92,7 +92,7 @@ module _ (V : Op → Type 0) where
   one_bench_check b (Drop c) = one_said
   one_bench_check b (Enter login secret) = one_said
   one_bench_check b (Emit bytes) = one_said
-  one_bench_check b (Channel work) = one_said
+  one_bench_check b (Mail work) = one_said
 
   one_act_check : (b : State) (act : Act) (p : Process) → OneVerdict (act_checks V p act then bench_checks b act)
   one_act_check b act p = one_then (act_checks V p act) (bench_checks b act) (one_then (refuse_if (is_busy p) Busy) (checks_of V p act) one_said (one_check_of p act)) (one_bench_check b act)
@@ -101,7 +101,7 @@ module _ (V : Op → Type 0) where
   one_check b Proc = one_said
   one_check b (By pid act) = one_with (map.get b.processes pid) (NoProcess pid) (λ p. act_checks V p act then bench_checks b act) (one_act_check b act)
   one_check b (Member root c) = one_said
-  one_check b (Arrive d) = one_with (map.get b.processes d.receiver) (NoProcess d.receiver) (λ q. refuse_if (is_busy q) Busy then arrival_checks q.channels d) (λ q. one_then (refuse_if (is_busy q) Busy) (arrival_checks q.channels d) one_said (one_arrival_check q.channels d))
+  one_check b (Arrive d) = one_with (map.get b.processes d.receiver) (NoProcess d.receiver) (λ q. refuse_if (is_busy q) Busy then arrival_checks q.mailbox d) (λ q. one_then (refuse_if (is_busy q) Busy) (arrival_checks q.mailbox d) one_said (one_arrival_check q.mailbox d))
 
 -- ---- each job that passes has one end
 
@@ -141,9 +141,9 @@ module _ (V : Op → Type 0) (b : State) where
       let e : h.0 ≡ k.0 = let_in_once V login secret h.0 k.0 h.1 k.1 in
       (h.2 ∙ ap (λ cap. Outcome.Reply (Entered cap)) e ∙ sym k.2, h.3 ∙ ap (λ cap. has_at b pid (owning p (set.insert (owns p) cap))) e ∙ sym k.3)
   one_performs pid p (Emit bytes) = one_end
-  one_performs pid p (Channel work) = λ x y c d h k.
-      let e = one_channel_does pid p.channels work x y h.0 k.0 h.1 k.1 in
-      (e.0, h.2 ∙ ap (λ ch. has_at b pid (record p { channels = ch })) e.1 ∙ sym k.2)
+  one_performs pid p (Mail work) = λ x y c d h k.
+      let e = one_mail_does pid p.mailbox work x y h.0 k.0 h.1 k.1 in
+      (e.0, h.2 ∙ ap (λ ch. has_at b pid (record p { mailbox = ch })) e.1 ∙ sym k.2)
 
   one_effect : (job : Job) → OneEnd (Effect V b job)
   one_effect Proc x y c d h k =

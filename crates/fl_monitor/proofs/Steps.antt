@@ -17,11 +17,11 @@ use Rattle.fl_jobs.specs.declared.job.Side.{Side}
 use Rattle.fl_jobs.specs.declared.job.Side.TheVariants.{Secrecy, Integrity}
 use Rattle.fl_jobs.specs.declared.job.Order as order
 use Rattle.fl_jobs.specs.declared.job.Act.{Act}
-use Rattle.fl_jobs.specs.declared.job.Act.TheVariants.{Order, Relabel, Ask, Spawn, Exit, Drop, Enter, Emit, Channel}
+use Rattle.fl_jobs.specs.declared.job.Act.TheVariants.{Order, Relabel, Ask, Spawn, Exit, Drop, Enter, Emit, Mail}
 use Rattle.fl_jobs.specs.declared.job.Job.{Job}
 use Rattle.fl_jobs.specs.declared.job.Job.TheVariants.{Proc, By, Member, Arrive}
-use Rattle.fl_jobs.specs.declared.job.Channel as channels
-use Rattle.fl_jobs.specs.declared.job.Channel.TheVariants.{Open, Tune, Close, Send, Take}
+use Rattle.fl_jobs.specs.declared.job.Mail as mailbox
+use Rattle.fl_jobs.specs.declared.job.Mail.TheVariants.{Open, Tune, Close, Send, Take}
 use Rattle.fl_jobs.specs.declared.answer.Refusal.{Refusal}
 use Rattle.fl_jobs.specs.declared.answer.Refusal.TheVariants.{NoProcess, Busy, NoEndpoint, NotWritable}
 use Rattle.fl_jobs.specs.declared.answer.Reply.{Reply}
@@ -32,11 +32,11 @@ use Rattle.fl_wire.specs.declared.packet.Data.{Data}
 use Rattle.fl_wire.specs.declared.packet.Message.{Message}
 use Rattle.fl_wire.specs.declared.packet.Packet.{Packet}
 use Rattle.fl_wire.specs.declared.packet.Packet.TheVariants as packets
-use Rattle.fl_channels.specs.declared.channels.Channels.{Channels}
-use Rattle.fl_channels.specs.declared.endpoints.Opened.{Opened}
+use Rattle.fl_mailbox.specs.declared.mailbox.Mailbox.{Mailbox}
+use Rattle.fl_mailbox.specs.declared.endpoints.OpenEndpoint.{OpenEndpoint}
 use Rattle.fl_monitor.specs.Checks.{refuse_if, with, ◌then◌}
 use Rattle.fl_monitor.specs.Guards.{grant_check}
-use Rattle.fl_monitor.specs.Channels.{channel_checks, IsSent}
+use Rattle.fl_monitor.specs.Mailbox.{mail_checks, IsSent}
 use Rattle.fl_monitor.specs.Process.{newborn, owns, is_busy, ordering, owning, child_of, effective, side_of, with_side, body_of, receiving}
 use Rattle.fl_monitor.specs.Bench.{State, has_at, gone, born}
 use Rattle.fl_monitor.specs.Jobs.{order_checks, checks_of, act_checks, bench_checks, checks, Answers, Performs, Effect, Does, passed, failed, no_room}
@@ -75,12 +75,12 @@ pub record IsSending (V : Op → Type 0) (b : State) (job : Job) (packet : Packe
   pub packet_is : packet ≡ packets.Data sent
   pub process : Process
   pub lived : map.get b.processes sent.sender ≡ Some process
-  pub opened : Opened
-  pub is_open : map.get process.channels.endpoints sent.from ≡ Some opened
+  pub opened : OpenEndpoint
+  pub is_open : map.get process.mailbox.endpoints sent.from ≡ Some opened
   pub writable : writes opened.mode ≡ true
   pub secrecy_is : sent.secrecy ≡ opened.labels.secrecy
   pub integrity_is : sent.integrity ≡ opened.labels.integrity
-  pub asked : job ≡ By sent.sender (Channel (Send sent.from sent.receiver sent.to sent.message))
+  pub asked : job ≡ By sent.sender (Mail (Send sent.from sent.receiver sent.to sent.message))
   pub granted : Within (In sent.message.caps) (effective V process)
 
 pub data Step (V : Op → Type 0) (b : State) (job : Job) : Result Outcome Refusal → State → Type 0 where
@@ -120,27 +120,27 @@ module _ (V : Op → Type 0) where
     answered (inl h) e = replied h.0 (keeps (stays e))
     answered (inr h) e = replied h.0 (keeps (stays e))
 
-    -- a process that has its channels still is put back
-    unchanged : (pid : Pid) (p : Process) (ch : Channels) {after : State} → map.get b.processes pid ≡ Some p → ch ≡ p.channels → after ≡ has_at b pid (record p { channels = ch }) → after ≡ b
-    unchanged pid p ch e same is = is ∙ ap (λ c. has_at b pid (record p { channels = c })) same ∙ ap (λ m. record b { processes = m }) (put_same pid_total pid_exact b.processes pid p e)
+    -- a process that has its mailbox still is put back
+    unchanged : (pid : Pid) (p : Process) (ch : Mailbox) {after : State} → map.get b.processes pid ≡ Some p → ch ≡ p.mailbox → after ≡ has_at b pid (record p { mailbox = ch }) → after ≡ b
+    unchanged pid p ch e same is = is ∙ ap (λ c. has_at b pid (record p { mailbox = c })) same ∙ ap (λ m. record b { processes = m }) (put_same pid_total pid_exact b.processes pid p e)
 
-    -- a process that works with its channels has its labels still
-    channels_turn : (pid : Pid) (p : Process) (ch : Channels) {after : State} → map.get b.processes pid ≡ Some p → after ≡ has_at b pid (record p { channels = ch }) → Keeps V b after
-    channels_turn pid p ch e is = turns pid p (record p { channels = ch }) e (same_labels p (record p { channels = ch }) refl) is
+    -- a process that works with its mailbox has its labels still
+    mailbox_turn : (pid : Pid) (p : Process) (ch : Mailbox) {after : State} → map.get b.processes pid ≡ Some p → after ≡ has_at b pid (record p { mailbox = ch }) → Keeps V b after
+    mailbox_turn pid p ch e is = turns pid p (record p { mailbox = ch }) e (same_labels p (record p { mailbox = ch }) refl) is
 
     is_writable : (may : Bool) (f : Refusal) → refuse_if (not may) f None → may ≡ true
     is_writable true f h = refl
     is_writable false f h = absurd (cc)
 
     -- what a sender has passed
-    send_passed : (p : Process) (from to : Endpoint) (receiver : Pid) (message : Message) (opened : Opened) → map.get p.channels.endpoints from ≡ Some opened → channel_checks (effective V p) p.labels p.channels (Send from receiver to message) None
+    send_passed : (p : Process) (from to : Endpoint) (receiver : Pid) (message : Message) (opened : OpenEndpoint) → map.get p.mailbox.endpoints from ≡ Some opened → mail_checks (effective V p) p.labels p.mailbox (Send from receiver to message) None
         → (writes opened.mode ≡ true) × Within (In message.caps) (effective V p)
     send_passed p from to receiver message opened e h =
         let both = subst (λ o. with o (NoEndpoint from) (λ opened. refuse_if (not (writes opened.mode)) (NotWritable from) then grant_check (effective V p) message.caps) None) e h in
         (is_writable (writes opened.mode) (NotWritable from) both.0, both.1)
 
-    is_sending : (pid : Pid) (p : Process) (from to : Endpoint) (receiver : Pid) (message : Message) (opened : Opened) (d : Data) → map.get b.processes pid ≡ Some p → map.get p.channels.endpoints from ≡ Some opened
-        → channel_checks (effective V p) p.labels p.channels (Send from receiver to message) None → IsSent pid from opened.labels receiver to message d → IsSending V b (By pid (Channel (Send from receiver to message))) (packets.Data d)
+    is_sending : (pid : Pid) (p : Process) (from to : Endpoint) (receiver : Pid) (message : Message) (opened : OpenEndpoint) (d : Data) → map.get b.processes pid ≡ Some p → map.get p.mailbox.endpoints from ≡ Some opened
+        → mail_checks (effective V p) p.labels p.mailbox (Send from receiver to message) None → IsSent pid from opened.labels receiver to message d → IsSending V b (By pid (Mail (Send from receiver to message))) (packets.Data d)
     is_sending pid p from to receiver message opened d e there h is =
         let both = send_passed p from to receiver message opened there h in
         record {
@@ -149,22 +149,22 @@ module _ (V : Op → Type 0) where
           process = p;
           lived = subst (λ k. map.get b.processes k ≡ Some p) (sym is.sender_is) e;
           opened = opened;
-          is_open = subst (λ k. map.get p.channels.endpoints k ≡ Some opened) (sym is.from_is) there;
+          is_open = subst (λ k. map.get p.mailbox.endpoints k ≡ Some opened) (sym is.from_is) there;
           writable = both.0;
           secrecy_is = is.secrecy_is;
           integrity_is = is.integrity_is;
-          asked = λ i. By (sym is.sender_is i) (Channel (Send (sym is.from_is i) (sym is.receiver_is i) (sym is.to_is i) (sym is.message_is i)));
+          asked = λ i. By (sym is.sender_is i) (Mail (Send (sym is.from_is i) (sym is.receiver_is i) (sym is.to_is i) (sym is.message_is i)));
           granted = subst (λ (m : Message). Within (In m.caps) (effective V p)) (sym is.message_is) both.1;
         }
 
-    channel_step : (pid : Pid) (p : Process) (work : channels.Channel) (x : Outcome) (after : State) → map.get b.processes pid ≡ Some p → channel_checks (effective V p) p.labels p.channels work None → Performs V b pid p (Channel work) x after → Step V b (By pid (Channel work)) (Ok x) after
-    channel_step pid p (Open mode given) x after e h f = replied f.1.4 (keeps (channels_turn pid p f.0 e f.2))
-    channel_step pid p (Tune end given) x after e h f = replied f.1.4 (keeps (channels_turn pid p f.0 e f.2))
-    channel_step pid p (Close end) x after e h f = replied f.1.0 (keeps (channels_turn pid p f.0 e f.2))
-    channel_step pid p (Send from receiver to message) x after e h f =
-        subst (λ x. Step V b (By pid (Channel (Send from receiver to message))) (Ok x) after) (sym f.1.4)
+    mail_step : (pid : Pid) (p : Process) (work : mailbox.Mail) (x : Outcome) (after : State) → map.get b.processes pid ≡ Some p → mail_checks (effective V p) p.labels p.mailbox work None → Performs V b pid p (Mail work) x after → Step V b (By pid (Mail work)) (Ok x) after
+    mail_step pid p (Open mode given) x after e h f = replied f.1.4 (keeps (mailbox_turn pid p f.0 e f.2))
+    mail_step pid p (Tune end given) x after e h f = replied f.1.4 (keeps (mailbox_turn pid p f.0 e f.2))
+    mail_step pid p (Close end) x after e h f = replied f.1.0 (keeps (mailbox_turn pid p f.0 e f.2))
+    mail_step pid p (Send from receiver to message) x after e h f =
+        subst (λ x. Step V b (By pid (Mail (Send from receiver to message))) (Ok x) after) (sym f.1.4)
         (sends (is_sending pid p from to receiver message f.1.0 f.1.2 e f.1.1 h f.1.3) (unchanged pid p f.0 e f.1.5 f.2))
-    channel_step pid p Take x after e h f = replied f.1.0 (keeps (channels_turn pid p f.0 e f.2))
+    mail_step pid p Take x after e h f = replied f.1.0 (keeps (mailbox_turn pid p f.0 e f.2))
 
     act_step : (pid : Pid) (p : Process) (act : Act) (x : Outcome) (after : State) → map.get b.processes pid ≡ Some p → is_busy p ≡ false → checks_of V p act None → Performs V b pid p act x after → Step V b (By pid act) (Ok x) after
     act_step pid p (Order order) x after e idle h f =
@@ -178,7 +178,7 @@ module _ (V : Op → Type 0) where
     act_step pid p (Drop c) x after e idle h f = let new = owning p (set.remove (owns p) c) in replied f.0 (keeps (turns pid p new e (same_labels p new refl) f.1))
     act_step pid p (Enter login secret) x after e idle h f = let new = owning p (set.insert (owns p) f.0) in replied f.2 (keeps (turns pid p new e (same_labels p new refl) f.3))
     act_step pid p (Emit bytes) x after e idle h f = replied f.0 (keeps (stays f.1))
-    act_step pid p (Channel work) x after e idle h f = channel_step pid p work x after e h f
+    act_step pid p (Mail work) x after e idle h f = mail_step pid p work x after e h f
 
     all_passed : (pid : Pid) (act : Act) (p : Process) → map.get b.processes pid ≡ Some p → checks V b (By pid act) None → (act_checks V p act then bench_checks b act) None
     all_passed pid act p e h = subst (λ o. with o (NoProcess pid) (λ p. act_checks V p act then bench_checks b act) None) e h

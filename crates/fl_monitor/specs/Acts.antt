@@ -16,8 +16,8 @@ use Rattle.fl_labels.specs.declared.pid.Pid.{Pid}
 use Rattle.fl_ops.specs.declared.digest.Digest.{Digest}
 use Rattle.fl_ops.specs.declared.op.Op.{Op}
 use Rattle.fl_jobs.specs.declared.job.Act.{Act}
-use Rattle.fl_jobs.specs.declared.job.Act.TheVariants.{Order, Relabel, Ask, Spawn, Exit, Drop, Enter, Emit, Channel}
-use Rattle.fl_jobs.specs.declared.job.Channel as channels
+use Rattle.fl_jobs.specs.declared.job.Act.TheVariants.{Order, Relabel, Ask, Spawn, Exit, Drop, Enter, Emit, Mail}
+use Rattle.fl_jobs.specs.declared.job.Mail as mailbox
 use Rattle.fl_jobs.specs.declared.secret.Secret.{Secret}
 use Rattle.fl_jobs.specs.declared.job.Side.{Side}
 use Rattle.fl_jobs.specs.declared.job.TooLong.{TooLong}
@@ -29,12 +29,12 @@ use Rattle.fl_ops.specs.Registry.{InEffect}
 use Rattle.fl_ops.specs.Logins.{IsFirstLogin, HasNoLogin}
 use Rattle.fl_rules.specs.declared.labels.Labels.{Labels}
 use Rattle.fl_wire.specs.declared.packet.Data.{Data}
-use Rattle.fl_channels.specs.Endpoints.{Table, IsOpen}
-use Rattle.fl_channels.specs.declared.channels.Channels.{Channels}
-use Rattle.fl_channels.specs.declared.endpoints.Opened.{Opened}
+use Rattle.fl_mailbox.specs.Endpoints.{Table, IsOpen}
+use Rattle.fl_mailbox.specs.declared.mailbox.Mailbox.{Mailbox}
+use Rattle.fl_mailbox.specs.declared.endpoints.OpenEndpoint.{OpenEndpoint}
 use Rattle.fl_monitor.specs.Checks.{Check, refuse_if, ◌then◌}
 use Rattle.fl_monitor.specs.Guards.{endpoints_check}
-use Rattle.fl_monitor.specs.Channels.{channel_checks, arrival_checks, ChannelDoes, ChannelTakesMemory}
+use Rattle.fl_monitor.specs.Mailbox.{mail_checks, arrival_checks, MailDoes, MailTakesMemory}
 use Rattle.fl_monitor.specs.Secrets.{digest_of}
 use Rattle.fl_monitor.specs.Process.{owns, is_busy, ordering, owning, child_of, effective, receiving, side_of, with_side, body_of}
 use Rattle.fl_monitor.specs.Jobs.{change_check, act_checks, serials_left, Answers, RelabelTakesMemory, ActTakesMemory}
@@ -86,22 +86,22 @@ pub data Enters (V : Op → Type 0) (owned : SetBy cap_cmp) (login : Name) (secr
   wrong : {c : Cap} {digest : Digest} → IsFirstLogin V login c digest → digest ≢ digest_of secret → Enters V owned login secret (Err WrongSecret) owned
   no_room : {c : Cap} → IsFirstLogin V login c (digest_of secret) → Enters V owned login secret (Err Memory) owned
 
--- a process of these labels, which has E in effect and H at hand, works with its channels
-pub data Works (E H : Cap → Type 0) (pid : Pid) (labels : Labels) (ch : Channels) (work : channels.Channel) : Result Outcome Refusal → Channels → Type 0 where
-  passed : {outcome : Outcome} {ch' : Channels} → channel_checks E labels ch work None → ChannelDoes pid ch work outcome ch' → Works E H pid labels ch work (Ok outcome) ch'
-  failed : {f : Refusal} → channel_checks E labels ch work (Some f) → Works E H pid labels ch work (Err f) ch
-  no_room : ChannelTakesMemory H labels ch work → Works E H pid labels ch work (Err Memory) ch
+-- a process of these labels, which has E in effect and H at hand, works with its mailbox
+pub data Works (E H : Cap → Type 0) (pid : Pid) (labels : Labels) (ch : Mailbox) (work : mailbox.Mail) : Result Outcome Refusal → Mailbox → Type 0 where
+  passed : {outcome : Outcome} {ch' : Mailbox} → mail_checks E labels ch work None → MailDoes pid ch work outcome ch' → Works E H pid labels ch work (Ok outcome) ch'
+  failed : {f : Refusal} → mail_checks E labels ch work (Some f) → Works E H pid labels ch work (Err f) ch
+  no_room : MailTakesMemory H labels ch work → Works E H pid labels ch work (Err Memory) ch
 
 -- an endpoint is closed, or was not open
-pub data Closes (ch : Channels) (e : Endpoint) : Result Outcome Refusal → Channels → Type 0 where
-  gone : {opened : Opened} → map.get ch.endpoints e ≡ Some opened → Closes ch e (Ok (Outcome.Reply Done)) (record ch { endpoints = map.remove ch.endpoints e })
+pub data Closes (ch : Mailbox) (e : Endpoint) : Result Outcome Refusal → Mailbox → Type 0 where
+  gone : {opened : OpenEndpoint} → map.get ch.endpoints e ≡ Some opened → Closes ch e (Ok (Outcome.Reply Done)) (record ch { endpoints = map.remove ch.endpoints e })
   never : map.get ch.endpoints e ≡ None → Closes ch e (Err (NoEndpoint e)) ch
 
 -- a message comes to the process
 pub data Receives (p : Process) (d : Data) : Result Outcome Refusal → Process → Type 0 where
-  arrives : (refuse_if (is_busy p) Busy then arrival_checks p.channels d) None → Receives p d (Ok (Outcome.Reply (Arrived d.receiver))) (receiving p d)
-  refused : {f : Refusal} → (refuse_if (is_busy p) Busy then arrival_checks p.channels d) (Some f) → Receives p d (Err f) p
-  no_room : is_busy p ≡ false → arrival_checks p.channels d None → Receives p d (Err Memory) p
+  arrives : (refuse_if (is_busy p) Busy then arrival_checks p.mailbox d) None → Receives p d (Ok (Outcome.Reply (Arrived d.receiver))) (receiving p d)
+  refused : {f : Refusal} → (refuse_if (is_busy p) Busy then arrival_checks p.mailbox d) (Some f) → Receives p d (Err f) p
+  no_room : is_busy p ≡ false → arrival_checks p.mailbox d None → Receives p d (Err Memory) p
 
 -- an answer that nothing follows
 abbrev pub answered : Result Outcome Refusal → Result Sequel Refusal
@@ -119,7 +119,7 @@ Becomes V pid p Exit sequel p' = (sequel ≡ End) × (p' ≡ p)
 Becomes V pid p (Drop c) sequel p' = (sequel ≡ Answer (Outcome.Reply Done)) × (p' ≡ owning p (set.remove (owns p) c))
 Becomes V pid p (Enter login secret) sequel p' = (c : Cap) × IsFirstLogin V login c (digest_of secret) × (sequel ≡ Answer (Outcome.Reply (Entered c))) × (p' ≡ owning p (set.insert (owns p) c))
 Becomes V pid p (Emit bytes) sequel p' = (sequel ≡ Answer (Outcome.Reply (Out bytes))) × (p' ≡ p)
-Becomes V pid p (Channel work) sequel p' = (outcome : Outcome) × (sequel ≡ Answer outcome) × (ch : Channels) × ChannelDoes pid p.channels work outcome ch × (p' ≡ record p { channels = ch })
+Becomes V pid p (Mail work) sequel p' = (outcome : Outcome) × (sequel ≡ Answer outcome) × (ch : Mailbox) × MailDoes pid p.mailbox work outcome ch × (p' ≡ record p { mailbox = ch })
 
 -- the act may have this result, and leaves p'
 pub data Acts (V : Op → Type 0) (pid : Pid) (p : Process) (act : Act) : Result Sequel Refusal → Process → Type 0 where

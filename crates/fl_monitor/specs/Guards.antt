@@ -16,10 +16,10 @@ use Rattle.fl_rules.specs.declared.labels.Labels.{Labels}
 use Rattle.fl_rules.specs.declared.pair.PairFault.{PairFault}
 use Rattle.fl_rules.specs.declared.pair.PairFault.TheVariants as faults
 use Rattle.fl_wire.specs.declared.packet.Data.{Data}
-use Rattle.fl_channels.specs.Endpoints.{Table, endpoint_of}
-use Rattle.fl_channels.specs.Offenders.{offender_cmp, CrossesAt, DualAt}
-use Rattle.fl_channels.specs.declared.endpoints.Opened.{Opened}
-use Rattle.fl_channels.specs.declared.offender.Offender.{Offender}
+use Rattle.fl_mailbox.specs.Endpoints.{Table, end_of}
+use Rattle.fl_mailbox.specs.Offenders.{offender_cmp, CrossesAt, DualAt}
+use Rattle.fl_mailbox.specs.declared.endpoints.OpenEndpoint.{OpenEndpoint}
+use Rattle.fl_mailbox.specs.declared.offender.Offender.{Offender}
 use Rattle.fl_jobs.specs.declared.answer.Refusal.{Refusal}
 use Rattle.fl_jobs.specs.declared.answer.Refusal.TheVariants.{MissingCap, UnsafeEndpoint, NotWritable, NotReadable, Secrecy, Integrity}
 use Rattle.fl_monitor.specs.Checks.{Check, demand}
@@ -40,7 +40,7 @@ abbrev pub endpoints_check : (Cap → Type 0) → Labels → Table → Check
 endpoints_check E process table = demand offender_cmp (CrossesAt process table) (DualAt E) unsafe_by
 
 -- the end that a message left
-abbrev pub sent_from : Data → pairs.Endpoint
+abbrev pub sent_from : Data → pairs.End
 sent_from d = record { mode = Write; labels = record { secrecy = d.secrecy; integrity = d.integrity } }
 
 -- why a message may not enter the endpoint
@@ -51,6 +51,6 @@ entry_refusal e (faults.Secrecy tag) = Secrecy tag
 entry_refusal e (faults.Integrity tag) = Integrity tag
 
 -- of the message on its way into the open endpoint
-abbrev pub pair_check : Data → Opened → Check
-pair_check d opened None = SafePair (sent_from d) (endpoint_of opened)
-pair_check d opened (Some f) = (fault : PairFault) × (f ≡ entry_refusal d.to fault) × PairFails (sent_from d) (endpoint_of opened) fault
+abbrev pub pair_check : Data → OpenEndpoint → Check
+pair_check d opened None = SafePair (sent_from d) (end_of opened)
+pair_check d opened (Some f) = (fault : PairFault) × (f ≡ entry_refusal d.to fault) × PairFails (sent_from d) (end_of opened) fault

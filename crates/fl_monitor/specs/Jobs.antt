@@ -20,7 +20,7 @@ use Rattle.fl_jobs.specs.declared.job.Side.{Side}
 use Rattle.fl_jobs.specs.declared.job.Order as orders
 use Rattle.fl_jobs.specs.declared.job.Order.TheVariants.{Tag, Group, Put, MakeLogin}
 use Rattle.fl_jobs.specs.declared.job.Act.{Act}
-use Rattle.fl_jobs.specs.declared.job.Act.TheVariants.{Order, Relabel, Ask, Spawn, Exit, Drop, Enter, Emit, Channel}
+use Rattle.fl_jobs.specs.declared.job.Act.TheVariants.{Order, Relabel, Ask, Spawn, Exit, Drop, Enter, Emit, Mail}
 use Rattle.fl_jobs.specs.declared.job.Job.{Job}
 use Rattle.fl_jobs.specs.declared.job.Job.TheVariants.{Proc, By, Member, Arrive}
 use Rattle.fl_jobs.specs.declared.secret.Secret.{Secret}
@@ -31,13 +31,13 @@ use Rattle.fl_jobs.specs.declared.answer.Outcome.{Outcome}
 use Rattle.fl_rules.specs.Safety.{Takes}
 use Rattle.fl_labels.specs.Caps.{Dual}
 use Rattle.fl_rules.specs.declared.labels.Labels.{Labels}
-use Rattle.fl_channels.specs.Endpoints.{Table, IsOpen}
-use Rattle.fl_channels.specs.Offenders.{CrossesAt, DualAt}
-use Rattle.fl_channels.specs.declared.channels.Channels.{Channels}
+use Rattle.fl_mailbox.specs.Endpoints.{Table, IsOpen}
+use Rattle.fl_mailbox.specs.Offenders.{CrossesAt, DualAt}
+use Rattle.fl_mailbox.specs.declared.mailbox.Mailbox.{Mailbox}
 use Rattle.fl_monitor.specs.Checks.{Check, no_check, fails, refuse_if, demand, with, ◌then◌}
 use Rattle.fl_monitor.specs.Secrets.{digest_of}
 use Rattle.fl_monitor.specs.Guards.{grant_check, endpoints_check}
-use Rattle.fl_monitor.specs.Channels.{channel_checks, arrival_checks, ChannelDoes, ChannelTakesMemory}
+use Rattle.fl_monitor.specs.Mailbox.{mail_checks, arrival_checks, MailDoes, MailTakesMemory}
 use Rattle.fl_monitor.specs.Process.{newborn, owns, is_busy, ordering, owning, child_of, effective, side_of, with_side, body_of, receiving, PutTakes}
 use Rattle.fl_monitor.specs.Hand.{AtHand, Lacks}
 use Rattle.fl_monitor.specs.Bench.{State, has_at, gone, IsNext, born}
@@ -71,14 +71,14 @@ enter_check V login secret (Some f) =
 abbrev pub checks_of : (Op → Type 0) → Process → Act → Check
 checks_of V p (Order order) = order_checks (effective V p) order
 checks_of V p (Relabel side (Err e)) = fails LabelTooLong
-checks_of V p (Relabel side (Ok label)) = change_check (effective V p) (side_of side p.labels) label then endpoints_check (effective V p) (with_side side label p.labels) p.channels.endpoints
+checks_of V p (Relabel side (Ok label)) = change_check (effective V p) (side_of side p.labels) label then endpoints_check (effective V p) (with_side side label p.labels) p.mailbox.endpoints
 checks_of V p (Ask c) = no_check
 checks_of V p (Spawn caps) = grant_check (effective V p) caps
 checks_of V p Exit = no_check
-checks_of V p (Drop c) = refuse_if (not (set.contains (owns p) c)) (NotOwned c) then endpoints_check (InEffect V (In (set.remove (owns p) c))) p.labels p.channels.endpoints
+checks_of V p (Drop c) = refuse_if (not (set.contains (owns p) c)) (NotOwned c) then endpoints_check (InEffect V (In (set.remove (owns p) c))) p.labels p.mailbox.endpoints
 checks_of V p (Enter login secret) = enter_check V login secret
 checks_of V p (Emit bytes) = emission_check (effective V p) p.labels.secrecy
-checks_of V p (Channel c) = channel_checks (effective V p) p.labels p.channels c
+checks_of V p (Mail c) = mail_checks (effective V p) p.labels p.mailbox c
 
 -- of an act of the process p, of which no operation may be under way
 abbrev pub act_checks : (Op → Type 0) → Process → Act → Check
@@ -98,7 +98,7 @@ abbrev pub checks : (Op → Type 0) → State → Job → Check
 checks V b Proc = serials_left b
 checks V b (By pid act) = with (map.get b.processes pid) (NoProcess pid) (λ p. act_checks V p act then bench_checks b act)
 checks V b (Member root c) = no_check
-checks V b (Arrive d) = with (map.get b.processes d.receiver) (NoProcess d.receiver) (λ q. refuse_if (is_busy q) Busy then arrival_checks q.channels d)
+checks V b (Arrive d) = with (map.get b.processes d.receiver) (NoProcess d.receiver) (λ q. refuse_if (is_busy q) Busy then arrival_checks q.mailbox d)
 
 -- ---- what a job leaves and answers
 
@@ -117,7 +117,7 @@ Performs V b pid p Exit outcome b' = (outcome ≡ Outcome.Reply Done) × (b' ≡
 Performs V b pid p (Drop c) outcome b' = (outcome ≡ Outcome.Reply Done) × (b' ≡ has_at b pid (owning p (set.remove (owns p) c)))
 Performs V b pid p (Enter login secret) outcome b' = (c : Cap) × IsFirstLogin V login c (digest_of secret) × (outcome ≡ Outcome.Reply (Entered c)) × (b' ≡ has_at b pid (owning p (set.insert (owns p) c)))
 Performs V b pid p (Emit bytes) outcome b' = (outcome ≡ Outcome.Reply (Out bytes)) × (b' ≡ b)
-Performs V b pid p (Channel c) outcome b' = (ch : Channels) × ChannelDoes pid p.channels c outcome ch × (b' ≡ has_at b pid (record p { channels = ch }))
+Performs V b pid p (Mail c) outcome b' = (ch : Mailbox) × MailDoes pid p.mailbox c outcome ch × (b' ≡ has_at b pid (record p { mailbox = ch }))
 
 -- a job at the bench b, which it leaves as b'
 abbrev pub Effect : (Op → Type 0) → State → Job → Outcome → State → Type 0
@@ -137,20 +137,20 @@ RelabelTakesMemory V owned labels table side label =
 abbrev pub ActTakesMemory : (Op → Type 0) → Process → Act → Type 0
 ActTakesMemory V p (Order order) = Unit {0}
 ActTakesMemory V p (Relabel side (Err e)) = ⊥
-ActTakesMemory V p (Relabel side (Ok label)) = RelabelTakesMemory V (owns p) p.labels p.channels.endpoints side label
+ActTakesMemory V p (Relabel side (Ok label)) = RelabelTakesMemory V (owns p) p.labels p.mailbox.endpoints side label
 ActTakesMemory V p (Ask c) = (¬ In (owns p) c) × (¬ IsGlobal V c)
 ActTakesMemory V p (Spawn caps) = Unit {0}
 ActTakesMemory V p Exit = ⊥
-ActTakesMemory V p (Drop c) = In (owns p) c × (e : Endpoint) × IsOpen p.channels.endpoints e
+ActTakesMemory V p (Drop c) = In (owns p) c × (e : Endpoint) × IsOpen p.mailbox.endpoints e
 ActTakesMemory V p (Enter login secret) = enter_check V login secret None
 ActTakesMemory V p (Emit bytes) = Lacks (In p.labels.secrecy) (Dual (AtHand V (owns p)))
-ActTakesMemory V p (Channel c) = ChannelTakesMemory (AtHand V (owns p)) p.labels p.channels c
+ActTakesMemory V p (Mail c) = MailTakesMemory (AtHand V (owns p)) p.labels p.mailbox c
 
 abbrev pub TakesMemory : (Op → Type 0) → State → Job → Type 0
 TakesMemory V b Proc = serials_left b None
 TakesMemory V b (By pid act) = (p : Process) × (map.get b.processes pid ≡ Some p) × (is_busy p ≡ false) × ActTakesMemory V p act
 TakesMemory V b (Member root c) = root ≢ c
-TakesMemory V b (Arrive d) = (q : Process) × (map.get b.processes d.receiver ≡ Some q) × (is_busy q ≡ false) × arrival_checks q.channels d None
+TakesMemory V b (Arrive d) = (q : Process) × (map.get b.processes d.receiver ≡ Some q) × (is_busy q ≡ false) × arrival_checks q.mailbox d None
 
 -- ---- a job
 

@@ -2,7 +2,7 @@ pub mod Checks
 pub mod Secrets
 pub mod Hand
 pub mod Guards
-pub mod Channels
+pub mod Mailbox
 pub mod Process
 pub mod Bench
 pub mod Jobs

@@ -17,8 +17,8 @@ use Rattle.fl_jobs.specs.declared.job.Order.{Order}
 use Rattle.fl_jobs.specs.declared.job.Order.TheVariants.{Tag, Group, Put, MakeLogin}
 use Rattle.fl_rules.specs.declared.labels.Labels.{Labels}
 use Rattle.fl_wire.specs.declared.packet.Data.{Data}
-use Rattle.fl_channels.specs.Channels.{closed}
-use Rattle.fl_monitor.specs.Channels.{entered}
+use Rattle.fl_mailbox.specs.Mailbox.{closed}
+use Rattle.fl_monitor.specs.Mailbox.{entered}
 use Rattle.fl_monitor.specs.Secrets.{digest_of}
 use Rattle.fl_monitor.specs.declared.process.Holding.{Holding}
 use Rattle.fl_monitor.specs.declared.process.Holding.TheVariants.{Idle, Ordering}
@@ -26,7 +26,7 @@ use Rattle.fl_monitor.specs.declared.process.Process.{Process}
 
 -- with nothing
 abbrev pub newborn : Process
-newborn = record { labels = record { secrecy = set.empty; integrity = set.empty }; owned = Idle set.empty; channels = closed }
+newborn = record { labels = record { secrecy = set.empty; integrity = set.empty }; owned = Idle set.empty; mailbox = closed }
 
 abbrev pub held : Holding → set.SetBy cap_cmp
 held (Idle caps) = caps
@@ -52,13 +52,13 @@ ordering p = record p { owned = Ordering (owns p) }
 abbrev pub owning : Process → set.SetBy cap_cmp → Process
 owning p caps = record p { owned = Idle caps }
 
--- a new process with the labels of p and no channel, which owns these
+-- a new process with the labels of p and no mail, which owns these
 abbrev pub child_of : Process → set.SetBy cap_cmp → Process
-child_of p caps = record { labels = p.labels; owned = Idle caps; channels = closed }
+child_of p caps = record { labels = p.labels; owned = Idle caps; mailbox = closed }
 
 -- with what the message that comes to it brings
 abbrev pub receiving : Process → Data → Process
-receiving p d = record p { owned = Idle (set.union (owns p) d.message.caps); channels = entered p.channels d }
+receiving p d = record p { owned = Idle (set.union (owns p) d.message.caps); mailbox = entered p.mailbox d }
 
 -- what the process has in effect under the registry V
 abbrev pub effective : (Op → Type 0) → Process → Cap → Type 0

@@ -9,15 +9,15 @@ use fl_jobs::answer::{Outcome, Refusal, Reply};
 use fl_labels::endpoint::Endpoint;
 use fl_rules::endpoint::Mode;
 use fl_rules::labels::LabelsRef;
-use fl_rules::pair::{EndpointRef, PairFault, safe_pair};
+use fl_rules::pair::{EndRef, PairFault, safe_pair};
 use fl_wire::packet::{Data, Letter};
 use std::alloc::Global;
 
 // The end that a message left, which was for writing.
-fn end_left(data: &Data) -> EndpointRef<'_>
-    ensures { pairs.endpoint_of result ≡ sent_from «data».now }
+fn end_left(data: &Data) -> EndRef<'_>
+    ensures { pairs.end_of result ≡ sent_from «data».now }
 {
-    EndpointRef {
+    EndRef {
         mode: Mode::Write,
         labels: LabelsRef {
             secrecy: &data.secrecy,
@@ -47,13 +47,13 @@ impl Process {
         let Holding::Idle(owned) = &mut self.owned else {
             return Err(Refusal::Busy);
         };
-        let Some(opened) = self.channels.endpoints.get(data.to) else {
+        let Some(opened) = self.mailbox.endpoints.get(data.to) else {
             return Err(Refusal::NoEndpoint(data.to));
         };
         if let Some(fault) = safe_pair(end_left(&data), opened.lend()) {
             return Err(refused_entry(data.to, fault));
         }
-        if self.channels.inbox.is_full() {
+        if self.mailbox.inbox.is_full() {
             return Err(Refusal::InboxFull);
         }
         let Ok(joined) = owned.union(alloc, &data.message.caps) else {
@@ -63,7 +63,7 @@ impl Process {
             sender: data.sender,
             message: data.message,
         };
-        let Ok(()) = self.channels.inbox.push(letter) else {
+        let Ok(()) = self.mailbox.inbox.push(letter) else {
             return Err(Refusal::Memory);
         };
         *owned = joined;

@@ -2,7 +2,7 @@
 ghost use Rattle.std.specs.Prelude.{◌≡◌, ⊤};
 ghost use Rattle.fl_labels.specs.SetBy.{In};
 ghost use Rattle.fl_ops.specs.Registry.{InEffect, Listed};
-ghost use Rattle.fl_channels.specs.Channels.{closed};
+ghost use Rattle.fl_mailbox.specs.Mailbox.{closed};
 ghost use Rattle.fl_monitor.specs.declared.process.Holding.TheVariants.{Idle};
 ghost use Rattle.fl_monitor.specs.declared.sequel.Sequel.TheVariants.{Birth};
 ghost use Rattle.fl_monitor.specs.Guards.{grant_check};
@@ -12,7 +12,7 @@ use crate::grant::check_grant;
 use crate::process::{Holding, Process};
 use crate::sequel::Sequel;
 use crate::view::View;
-use fl_channels::channels::Channels;
+use fl_mailbox::mailbox::Mailbox;
 use fl_jobs::answer::Refusal;
 use fl_labels::cap_set::CapSet;
 use fl_rules::labels::Labels;
@@ -27,7 +27,7 @@ pub(crate) fn spawn<V: View>(
     owned: &CapSet,
     caps: CapSet,
 ) -> Result<Sequel, Refusal>
-    ensures gives { Gives (grant_check (InEffect (Listed (V.list view.old)) (In owned.now)) caps) ⊤ (Birth (record { labels = labels.now; owned = Idle caps; channels = closed })) result }
+    ensures gives { Gives (grant_check (InEffect (Listed (V.list view.old)) (In owned.now)) caps) ⊤ (Birth (record { labels = labels.now; owned = Idle caps; mailbox = closed })) result }
     ensures same { V.list view.new ≡ V.list view.old }
 {
     check_grant(alloc, view, owned, &caps)?;
@@ -37,6 +37,6 @@ pub(crate) fn spawn<V: View>(
     Ok(Sequel::Birth(Process {
         labels,
         owned: Holding::Idle(caps),
-        channels: Channels::new(alloc),
+        mailbox: Mailbox::new(alloc),
     }))
 }

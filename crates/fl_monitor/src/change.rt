@@ -14,7 +14,7 @@ ghost use Rattle.fl_monitor.specs.Acts.{Checked, Relabels};
 use crate::guard::check_endpoints;
 use crate::held::Held;
 use crate::view::View;
-use fl_channels::endpoints::Endpoints;
+use fl_mailbox::endpoints::Endpoints;
 use fl_jobs::answer::{Outcome, Refusal, Reply};
 use fl_jobs::job::{Side, TooLong};
 use fl_labels::cap::Cap;

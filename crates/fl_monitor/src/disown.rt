@@ -6,7 +6,7 @@ ghost use Rattle.fl_monitor.specs.Acts.{GivesUp};
 
 use crate::guard::check_endpoints;
 use crate::view::View;
-use fl_channels::endpoints::Endpoints;
+use fl_mailbox::endpoints::Endpoints;
 use fl_jobs::answer::{Outcome, Refusal, Reply};
 use fl_labels::cap::Cap;
 use fl_labels::cap_set::CapSet;

@@ -7,22 +7,22 @@ ghost use Rattle.fl_ops.specs.Registry.{InEffect, Listed};
 ghost use Rattle.fl_rules.specs.Endpoint.{Crosses, SafeEndpoint};
 ghost use Rattle.fl_rules.specs.Labels.{sets_of};
 ghost use Rattle.fl_labels.specs.Caps.{Dual};
-ghost use Rattle.fl_channels.specs.Offenders.{offender_cmp, CrossesAt, DualAt};
+ghost use Rattle.fl_mailbox.specs.Offenders.{offender_cmp, CrossesAt, DualAt};
 ghost use Rattle.fl_monitor.specs.Guards.{endpoint_check, endpoints_check};
 ghost use Rattle.fl_monitor.specs.Hand.{AtHand, Lacks};
 ghost use Rattle.fl_monitor.specs.Acts.{Checked};
 
 use crate::held::Held;
 use crate::view::View;
-use fl_channels::endpoints::Endpoints;
-use fl_channels::offender::{Offender, first_unsafe};
+use fl_mailbox::endpoints::Endpoints;
+use fl_mailbox::offender::{Offender, first_unsafe};
 use fl_jobs::answer::Refusal;
 use fl_labels::cap_set::CapSet;
 use fl_labels::endpoint::Endpoint;
 use fl_labels::name::Name;
 use fl_rules::endpoint::safe_endpoint;
 use fl_rules::labels::LabelsRef;
-use fl_rules::pair::EndpointRef;
+use fl_rules::pair::EndRef;
 use std::alloc::Global;
 
 // The least tag between an endpoint and its process that may not be both added and removed by what is one of these or everybody's.
@@ -30,7 +30,7 @@ fn first_crossing<V: View>(
     view: &mut V,
     caps: &CapSet,
     process: LabelsRef<'_>,
-    end: EndpointRef<'_>,
+    end: EndRef<'_>,
 ) -> Option<Name>
     ensures found { MatchOption result (SafeEndpoint (AtHand (Listed (V.list view.old)) caps.now) end.entry.mode (sets_of process.entry) (sets_of end.entry.labels)) (IsLeastOutside name_cmp (Crosses end.entry.mode (sets_of process.entry) (sets_of end.entry.labels)) (Dual (AtHand (Listed (V.list view.old)) caps.now))) }
     ensures same { V.list view.new ≡ V.list view.old }
@@ -47,7 +47,7 @@ pub(crate) fn check_endpoint<V: View>(
     owned: &CapSet,
     process: LabelsRef<'_>,
     endpoint: Endpoint,
-    end: EndpointRef<'_>,
+    end: EndRef<'_>,
 ) -> Result<(), Refusal>
     ensures checked { Checked (endpoint_check (InEffect (Listed (V.list view.old)) (In owned.now)) (sets_of process.entry) endpoint end.entry.mode (sets_of end.entry.labels)) (Lacks (Crosses end.entry.mode (sets_of process.entry) (sets_of end.entry.labels)) (Dual (AtHand (Listed (V.list view.old)) owned.now))) result }
     ensures same { V.list view.new ≡ V.list view.old }

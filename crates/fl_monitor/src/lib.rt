@@ -5,7 +5,7 @@ mod arrival;
 pub mod bench;
 mod birth;
 mod change;
-mod channel;
+mod mail;
 mod disown;
 mod emission;
 mod grant;

@@ -16,13 +16,13 @@ ghost use Rattle.fl_monitor.specs.Gifts.{given, settled};
 
 use crate::birth::spawn;
 use crate::change::relabel;
-use crate::channel::work;
+use crate::mail::work;
 use crate::disown::give_up;
 use crate::emission::emit;
 use crate::login::{digest_of_secret, enter};
 use crate::sequel::{Sequel, answer_alone};
 use crate::view::View;
-use fl_channels::channels::Channels;
+use fl_mailbox::mailbox::Mailbox;
 use fl_jobs::answer::{Outcome, Refusal, Reply};
 use fl_jobs::job::{Act, Order};
 use fl_labels::cap::Cap;
@@ -49,7 +49,7 @@ pub enum Holding {
 pub struct Process {
     pub labels: Labels,
     pub owned: Holding,
-    pub channels: Channels,
+    pub mailbox: Mailbox,
 }
 
 impl Holding {
@@ -221,7 +221,7 @@ impl Process {
         Process {
             labels: Labels::new(alloc),
             owned: Holding::Idle(CapSet::new(alloc)),
-            channels: Channels::new(alloc),
+            mailbox: Mailbox::new(alloc),
         }
     }
 
@@ -248,7 +248,7 @@ impl Process {
                 Ok(Sequel::Answer(Outcome::Order(body_of_order(order), pid)))
             }
             Act::Relabel(side, label) => {
-                let endpoints = &self.channels.endpoints;
+                let endpoints = &self.mailbox.endpoints;
                 let labels = &mut self.labels;
                 answer_alone(relabel(alloc, view, owned, endpoints, labels, side, label))
             }
@@ -256,16 +256,16 @@ impl Process {
             Act::Spawn(caps) => spawn(alloc, view, &self.labels, owned, caps),
             Act::Exit => Ok(Sequel::End),
             Act::Drop(cap) => {
-                let endpoints = &self.channels.endpoints;
+                let endpoints = &self.mailbox.endpoints;
                 let labels = self.labels.lend();
                 answer_alone(give_up(alloc, view, labels, endpoints, owned, cap))
             }
             Act::Enter(login, secret) => answer_alone(enter(view, owned, login, secret)),
             Act::Emit(bytes) => emit(alloc, view, owned, &self.labels.secrecy, bytes),
-            Act::Channel(channel) => {
-                let channels = &mut self.channels;
+            Act::Mail(mail) => {
+                let mailbox = &mut self.mailbox;
                 let labels = self.labels.lend();
-                answer_alone(work(alloc, view, pid, owned, labels, channels, channel))
+                answer_alone(work(alloc, view, pid, owned, labels, mailbox, mail))
             }
         }
     }

@@ -6,6 +6,6 @@ mod births;
 #[cfg(test)]
 mod changes;
 #[cfg(test)]
-mod channels;
+mod mailbox;
 #[cfg(test)]
 mod orders;

@@ -10,7 +10,7 @@ use Rattle.fl_rules.specs.declared.endpoint.Mode.{Mode}
 use Rattle.fl_labels.specs.Caps.{Dual}
 use Rattle.fl_rules.specs.declared.labels.Labels.{Labels}
 use Rattle.fl_rules.specs.Endpoint.{SafeEndpoint, SafeRead, SafeWrite}
-use Rattle.fl_rules.specs.Pair.{Endpoint, SafePair}
+use Rattle.fl_rules.specs.Pair.{End, SafePair}
 use Rattle.fl_rules.specs.Message.{SafeMessage}
 
 -- the members of s that t lacks are in D
@@ -29,7 +29,7 @@ endpoint_more more safe = record {
 }
 
 -- a message between endpoints of a safe pair
-between : (E F : Cap → Type 0) (p q : Labels) (e f : Endpoint) → SafeWrite E p e.labels → SafeRead F q f.labels → SafePair e f → SafeMessage E p F q
+between : (E F : Cap → Type 0) (p q : Labels) (e f : End) → SafeWrite E p e.labels → SafeRead F q f.labels → SafePair e f → SafeMessage E p F q
 between E F p q e f write read pair = record {
   secrecy = λ tag h n. elim (beside (Dual E) p.secrecy e.labels.secrecy (λ t m. write t (inl m)) tag h) [
     | inl sent ↦ beside (Dual F) f.labels.secrecy q.secrecy (λ t m. read t (inl m)) tag (pair.secrecy tag sent)
@@ -41,7 +41,7 @@ between E F p q e f write read pair = record {
   ];
 }
 
-pub message_safe : {E F more_E more_F : Cap → Type 0} {p q : Labels} {e f : Endpoint} → Within E more_E → Within F more_F
+pub message_safe : {E F more_E more_F : Cap → Type 0} {p q : Labels} {e f : End} → Within E more_E → Within F more_F
     → SafeEndpoint E e.mode p e.labels → SafeEndpoint F f.mode q f.labels → SafePair e f → SafeMessage more_E p more_F q
 message_safe {E} {F} {more_E} {more_F} {p} {q} {e} {f} from_E from_F sender receiver pair =
     between more_E more_F p q e f ((endpoint_more from_E sender).write pair.writable) ((endpoint_more from_F receiver).read pair.readable) pair

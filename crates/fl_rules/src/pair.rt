@@ -1,6 +1,6 @@
 // When a message may go from one endpoint to another.
 ghost use Rattle.std.specs.Prelude.{MatchOption};
-ghost use Rattle.fl_rules.specs.Pair.{endpoint_of, SafePair, PairFails};
+ghost use Rattle.fl_rules.specs.Pair.{end_of, SafePair, PairFails};
 
 use crate::endpoint::Mode;
 use crate::labels::LabelsRef;
@@ -8,7 +8,7 @@ use fl_labels::name::Name;
 
 /// An endpoint, with its labels on loan.
 #[derive(Clone, Copy, Debug)]
-pub struct EndpointRef<'a> {
+pub struct EndRef<'a> {
     pub mode: Mode,
     pub labels: LabelsRef<'a>,
 }
@@ -28,8 +28,8 @@ pub enum PairFault {
 
 /// The first fault, in the order of `PairFault`, of a message from the sender's endpoint to the receiver's, or none where it is
 /// safe. One walk along the secrecy of both, and one along their integrity. Takes no memory.
-pub fn safe_pair(sender: EndpointRef<'_>, receiver: EndpointRef<'_>) -> Option<PairFault>
-    ensures { MatchOption result (SafePair (endpoint_of sender.entry) (endpoint_of receiver.entry)) (PairFails (endpoint_of sender.entry) (endpoint_of receiver.entry)) }
+pub fn safe_pair(sender: EndRef<'_>, receiver: EndRef<'_>) -> Option<PairFault>
+    ensures { MatchOption result (SafePair (end_of sender.entry) (end_of receiver.entry)) (PairFails (end_of sender.entry) (end_of receiver.entry)) }
 {
     if !sender.mode.writes() {
         return Some(PairFault::NotWritable);

@@ -4,7 +4,7 @@ use crate::emission::safe_emit;
 use crate::endpoint::{Mode, safe_endpoint};
 use crate::has::{Has, Owner};
 use crate::labels::LabelsRef;
-use crate::pair::{EndpointRef, PairFault, safe_pair};
+use crate::pair::{EndRef, PairFault, safe_pair};
 use fl_labels::cap::Cap;
 use fl_labels::cap_set::CapSet;
 use fl_labels::label::Label;
@@ -147,7 +147,7 @@ fn pair_by_its_first_fault(rt: HostRuntime) -> Result<(), Fail> {
         secrecy: &low,
         integrity: &high,
     };
-    let sender = |mode, labels| EndpointRef { mode, labels };
+    let sender = |mode, labels| EndRef { mode, labels };
     assert!(rt;
         safe_pair(sender(Mode::Read, secret), sender(Mode::Write, trusted))
             == Some(PairFault::NotWritable)

@@ -16,8 +16,8 @@ use Rattle.fl_jobs.specs.declared.job.Side.{Side}
 use Rattle.fl_jobs.specs.declared.job.TooLong.{TooLong}
 use Rattle.fl_jobs.specs.declared.secret.Secret.{Secret}
 use Rattle.fl_jobs.specs.declared.job.Order.TheVariants.{Tag, Group, Put, MakeLogin}
-use Rattle.fl_jobs.specs.declared.job.Act.TheVariants.{Order as Orders, Relabel, Ask, Spawn, Exit, Drop, Enter, Emit, Channel as Channels}
-use Rattle.fl_jobs.specs.declared.job.Channel.TheVariants.{Open, Tune, Close, Send, Take}
+use Rattle.fl_jobs.specs.declared.job.Act.TheVariants.{Order as Orders, Relabel, Ask, Spawn, Exit, Drop, Enter, Emit, Mail as Mailbox}
+use Rattle.fl_jobs.specs.declared.job.Mail.TheVariants.{Open, Tune, Close, Send, Take}
 use Rattle.fl_jobs.specs.declared.job.GivenLabels.{GivenLabels}
 use Rattle.fl_jobs.specs.declared.job.Job.{Job}
 use Rattle.fl_jobs.specs.declared.job.Job.TheVariants.{Proc, By, Member, Arrive}
@@ -36,11 +36,11 @@ pub data Kind : Job → Type 0 where
   drop : (p : Pid) (cap : Cap) → Kind (By p (Drop cap))
   enter : (p : Pid) (login : Name) (secret : Secret) → Kind (By p (Enter login secret))
   emit : (p : Pid) (bytes : List ℕ) → Kind (By p (Emit bytes))
-  opens : (p : Pid) (mode : Mode) (given : GivenLabels) → Kind (By p (Channels (Open mode given)))
-  tune : (p : Pid) (endpoint : Endpoint) (given : GivenLabels) → Kind (By p (Channels (Tune endpoint given)))
-  close : (p : Pid) (endpoint : Endpoint) → Kind (By p (Channels (Close endpoint)))
-  send : (p : Pid) (from : Endpoint) (receiver : Pid) (to : Endpoint) (message : Message) → Kind (By p (Channels (Send from receiver to message)))
-  take : (p : Pid) → Kind (By p (Channels Take))
+  opens : (p : Pid) (mode : Mode) (given : GivenLabels) → Kind (By p (Mailbox (Open mode given)))
+  tune : (p : Pid) (endpoint : Endpoint) (given : GivenLabels) → Kind (By p (Mailbox (Tune endpoint given)))
+  close : (p : Pid) (endpoint : Endpoint) → Kind (By p (Mailbox (Close endpoint)))
+  send : (p : Pid) (from : Endpoint) (receiver : Pid) (to : Endpoint) (message : Message) → Kind (By p (Mailbox (Send from receiver to message)))
+  take : (p : Pid) → Kind (By p (Mailbox Take))
   member : (root cap : Cap) → Kind (Member root cap)
   arrive : (packet : Data) → Kind (Arrive packet)
 
@@ -57,10 +57,10 @@ kind_of (By p Exit) = exit p
 kind_of (By p (Drop c)) = drop p c
 kind_of (By p (Enter login secret)) = enter p login secret
 kind_of (By p (Emit bytes)) = emit p bytes
-kind_of (By p (Channels (Open mode given))) = opens p mode given
-kind_of (By p (Channels (Tune e given))) = tune p e given
-kind_of (By p (Channels (Close e))) = close p e
-kind_of (By p (Channels (Send from receiver to message))) = send p from receiver to message
-kind_of (By p (Channels Take)) = take p
+kind_of (By p (Mailbox (Open mode given))) = opens p mode given
+kind_of (By p (Mailbox (Tune e given))) = tune p e given
+kind_of (By p (Mailbox (Close e))) = close p e
+kind_of (By p (Mailbox (Send from receiver to message))) = send p from receiver to message
+kind_of (By p (Mailbox Take)) = take p
 kind_of (Member r c) = member r c
 kind_of (Arrive d) = arrive d

@@ -3,8 +3,8 @@ use Rattle.std.specs.Prelude.{◌≡◌, ◌⊎◌, ℕ, List, [], ◌∷◌, co
 use Rattle.fl_labels.specs.Text.{name_text, pid_text, cap_text, endpoint_text}
 use Rattle.fl_labels.specs.Words.{IsNode, IsNumber}
 use Rattle.fl_jobs.specs.declared.job.Order.TheVariants.{Tag, Group, Put, MakeLogin}
-use Rattle.fl_jobs.specs.declared.job.Act.TheVariants.{Order as Orders, Relabel, Ask, Spawn, Exit, Drop, Enter, Emit, Channel as Channels}
-use Rattle.fl_jobs.specs.declared.job.Channel.TheVariants.{Open, Tune, Close, Send, Take}
+use Rattle.fl_jobs.specs.declared.job.Act.TheVariants.{Order as Orders, Relabel, Ask, Spawn, Exit, Drop, Enter, Emit, Mail as Mailbox}
+use Rattle.fl_jobs.specs.declared.job.Mail.TheVariants.{Open, Tune, Close, Send, Take}
 use Rattle.fl_jobs.specs.declared.job.Job.{Job}
 use Rattle.fl_jobs.specs.declared.job.Job.TheVariants.{Proc, By, Member, Arrive}
 use Rattle.fl_script.specs.Cut.{Word}
@@ -42,11 +42,11 @@ job_forms (By p Exit) = Is (codes "exit") ∷ Is (pid_text p) ∷ []
 job_forms (By p (Drop cap)) = Is (codes "drop") ∷ Is (pid_text p) ∷ Is (cap_text cap) ∷ []
 job_forms (By p (Enter login secret)) = Is (codes "enter") ∷ Is (pid_text p) ∷ Is (name_text login) ∷ IsSecretWord secret ∷ []
 job_forms (By p (Emit bytes)) = Is (codes "emit") ∷ Is (pid_text p) ∷ IsBytesWord bytes ∷ []
-job_forms (By p (Channels (Open mode given))) = Is (codes "open") ∷ Is (pid_text p) ∷ Is (mode_text mode) ∷ IsLabelWord given.secrecy ∷ IsLabelWord given.integrity ∷ []
-job_forms (By p (Channels (Tune endpoint given))) = Is (codes "tune") ∷ Is (pid_text p) ∷ Is (endpoint_text endpoint) ∷ IsLabelWord given.secrecy ∷ IsLabelWord given.integrity ∷ []
-job_forms (By p (Channels (Close endpoint))) = Is (codes "close") ∷ Is (pid_text p) ∷ Is (endpoint_text endpoint) ∷ []
-job_forms (By p (Channels (Send from receiver to message))) = Is (codes "send") ∷ Is (pid_text p) ∷ Is (endpoint_text from) ∷ Is (pid_text receiver) ∷ Is (endpoint_text to) ∷ IsCapsWord message.caps ∷ IsBytesWord message.payload ∷ []
-job_forms (By p (Channels Take)) = Is (codes "take") ∷ Is (pid_text p) ∷ []
+job_forms (By p (Mailbox (Open mode given))) = Is (codes "open") ∷ Is (pid_text p) ∷ Is (mode_text mode) ∷ IsLabelWord given.secrecy ∷ IsLabelWord given.integrity ∷ []
+job_forms (By p (Mailbox (Tune endpoint given))) = Is (codes "tune") ∷ Is (pid_text p) ∷ Is (endpoint_text endpoint) ∷ IsLabelWord given.secrecy ∷ IsLabelWord given.integrity ∷ []
+job_forms (By p (Mailbox (Close endpoint))) = Is (codes "close") ∷ Is (pid_text p) ∷ Is (endpoint_text endpoint) ∷ []
+job_forms (By p (Mailbox (Send from receiver to message))) = Is (codes "send") ∷ Is (pid_text p) ∷ Is (endpoint_text from) ∷ Is (pid_text receiver) ∷ Is (endpoint_text to) ∷ IsCapsWord message.caps ∷ IsBytesWord message.payload ∷ []
+job_forms (By p (Mailbox Take)) = Is (codes "take") ∷ Is (pid_text p) ∷ []
 job_forms (Member root cap) = Is (codes "member") ∷ Is (cap_text root) ∷ Is (cap_text cap) ∷ []
 job_forms (Arrive packet) = Never ∷ []
 

@@ -6,9 +6,9 @@ use Rattle.fl_aliases.specs.Alias.{IsAlias, alias_text}
 use Rattle.fl_aliases.specs.Expansion.{Expands, NoDollar}
 use Rattle.fl_aliases.specs.Table.{Table}
 use Rattle.fl_jobs.specs.declared.job.Act.{Act}
-use Rattle.fl_jobs.specs.declared.job.Act.TheVariants.{Order, Relabel, Ask, Spawn, Exit, Drop, Enter, Emit, Channel as Channels}
-use Rattle.fl_jobs.specs.declared.job.Channel.{Channel}
-use Rattle.fl_jobs.specs.declared.job.Channel.TheVariants.{Open, Tune, Close, Send, Take}
+use Rattle.fl_jobs.specs.declared.job.Act.TheVariants.{Order, Relabel, Ask, Spawn, Exit, Drop, Enter, Emit, Mail as Mailbox}
+use Rattle.fl_jobs.specs.declared.job.Mail.{Mail}
+use Rattle.fl_jobs.specs.declared.job.Mail.TheVariants.{Open, Tune, Close, Send, Take}
 use Rattle.fl_jobs.specs.declared.job.Job.{Job}
 use Rattle.fl_jobs.specs.declared.job.Job.TheVariants.{Proc, By, Member, Arrive}
 use Rattle.fl_script.specs.Cut.{Word, words_of}
@@ -37,12 +37,12 @@ pub record IsAsking (bytes : List ℕ) : Type 0 where
   pub text : IsText bytes
 
 -- an alias can stand for the endpoint that is made
-abbrev pub channel_makes : Channel → Bool
-channel_makes (Open mode given) = true
-channel_makes (Tune endpoint given) = false
-channel_makes (Close endpoint) = false
-channel_makes (Send from receiver to message) = false
-channel_makes Take = false
+abbrev pub mail_makes : Mail → Bool
+mail_makes (Open mode given) = true
+mail_makes (Tune endpoint given) = false
+mail_makes (Close endpoint) = false
+mail_makes (Send from receiver to message) = false
+mail_makes Take = false
 
 -- an alias can stand for what the act makes
 abbrev pub act_makes : Act → Bool
@@ -54,7 +54,7 @@ act_makes Exit = false
 act_makes (Drop cap) = false
 act_makes (Enter login secret) = false
 act_makes (Emit bytes) = false
-act_makes (Channels channel) = channel_makes channel
+act_makes (Mailbox mail) = mail_makes mail
 
 -- and for what the job makes
 abbrev pub job_makes : Job → Bool

@@ -8,7 +8,7 @@ use crate::words::{
     bytes_from_word, caps_from_word, label_from_word, labels_from_words, message_from_words,
     mode_from_word, policy_from_word, secret_from_word, side_from_word,
 };
-use fl_jobs::job::{Act, Channel, Job, Order};
+use fl_jobs::job::{Act, Mail, Job, Order};
 use fl_labels::endpoint::Endpoint;
 use fl_labels::pid::Pid;
 use fl_labels::text::{read_cap, read_endpoint, read_name, read_pid};
@@ -161,7 +161,7 @@ fn open_job(alloc: Global, rest: &[&str]) -> Result<Option<Job>, AllocError>
     let Some(given) = labels_from_words(alloc, secrecy, integrity)? else {
         return Ok(None);
     };
-    Ok(Some(Job::By(pid, Act::Channel(Channel::Open(mode, given)))))
+    Ok(Some(Job::By(pid, Act::Mail(Mail::Open(mode, given)))))
 }
 
 fn tune_job(alloc: Global, rest: &[&str]) -> Result<Option<Job>, AllocError>
@@ -179,7 +179,7 @@ fn tune_job(alloc: Global, rest: &[&str]) -> Result<Option<Job>, AllocError>
     let Some(given) = labels_from_words(alloc, secrecy, integrity)? else {
         return Ok(None);
     };
-    Ok(Some(Job::By(pid, Act::Channel(Channel::Tune(endpoint, given)))))
+    Ok(Some(Job::By(pid, Act::Mail(Mail::Tune(endpoint, given)))))
 }
 
 fn close_job(rest: &[&str]) -> Option<Job>
@@ -188,7 +188,7 @@ fn close_job(rest: &[&str]) -> Option<Job>
     let [pid, endpoint] = rest else { return None };
     let pid = read_pid(pid)?;
     let endpoint = read_endpoint(endpoint)?;
-    Some(Job::By(pid, Act::Channel(Channel::Close(endpoint))))
+    Some(Job::By(pid, Act::Mail(Mail::Close(endpoint))))
 }
 
 /// The endpoint from which a message goes, the process that it goes to, and the endpoint of that one.
@@ -223,13 +223,13 @@ fn send_job(alloc: Global, rest: &[&str]) -> Result<Option<Job>, AllocError>
     let Some(message) = message_from_words(alloc, caps, bytes)? else {
         return Ok(None);
     };
-    let send = Channel::Send {
+    let send = Mail::Send {
         from: ends.from,
         receiver: ends.receiver,
         to: ends.to,
         message,
     };
-    Ok(Some(Job::By(pid, Act::Channel(send))))
+    Ok(Some(Job::By(pid, Act::Mail(send))))
 }
 
 fn take_job(rest: &[&str]) -> Option<Job>
@@ -237,7 +237,7 @@ fn take_job(rest: &[&str]) -> Option<Job>
 {
     let [pid] = rest else { return None };
     let pid = read_pid(pid)?;
-    Some(Job::By(pid, Act::Channel(Channel::Take)))
+    Some(Job::By(pid, Act::Mail(Mail::Take)))
 }
 
 fn member_job(rest: &[&str]) -> Option<Job>

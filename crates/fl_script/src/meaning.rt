@@ -12,7 +12,7 @@ use crate::line::{Line, line_from_words};
 use crate::replaced::{has_dollars, replaced_text};
 use fl_aliases::alias::Alias;
 use fl_aliases::table::Aliases;
-use fl_jobs::job::{Act, Channel, Job};
+use fl_jobs::job::{Act, Mail, Job};
 use std::alloc::{AllocError, Global};
 
 /// A line, and the alias that is to stand for what it makes, if one is.
@@ -35,7 +35,7 @@ fn act_makes(act: &Act) -> bool
 {
     matches!(
         act,
-        Act::Order(_) | Act::Spawn(_) | Act::Channel(Channel::Open(_, _))
+        Act::Order(_) | Act::Spawn(_) | Act::Mail(Mail::Open(_, _))
     )
 }
 

@@ -1,5 +1,5 @@
 use Rattle.fl_rules.specs.Labels.{sets_of}
-use Rattle.fl_channels.specs.Offenders.{offender_cmp, CrossesAt, DualAt}
+use Rattle.fl_mailbox.specs.Offenders.{offender_cmp, CrossesAt, DualAt}
 use Rattle.fl_monitor.specs.Guards.{unsafe_by}
 use Rattle.fl_monitor.proofs.GuardLemmas.{dual_at_more}
 use Rattle.fl_monitor.proofs.Hand.{hand_does, hand_lacks, reach_does, reach_lacks}

@@ -1,4 +1,4 @@
-use Rattle.fl_monitor.proofs.ActLemmas.{act_busy, act_unchecked, act_full, act_order, act_relabel, act_ask, act_spawn, act_exit, act_drop, act_enter, act_emit, act_channel}
+use Rattle.fl_monitor.proofs.ActLemmas.{act_busy, act_unchecked, act_full, act_order, act_relabel, act_ask, act_spawn, act_exit, act_drop, act_enter, act_emit, act_mail}
 use Rattle.fl_monitor.proofs.process.Process.act.Goals as goal
 
 pub returns-in_default-clause-acts : goal.returns-in_default-clause-acts
@@ -34,5 +34,5 @@ returns-in-Enter-clause-acts g c = act_enter _ c.args.pid c.args.self.now c.args
 pub returns-in-Emit-clause-acts : goal.returns-in-Emit-clause-acts
 returns-in-Emit-clause-acts g c = act_emit _ c.args.pid c.args.self.now c.args.act _ c.in-Idle.is _ c.in-Emit.is c.emit.ensures.gives
 
-pub returns-in-Channel-clause-acts : goal.returns-in-Channel-clause-acts
-returns-in-Channel-clause-acts g c = act_channel _ c.args.pid c.args.self.now c.args.act _ c.in-Idle.is _ c.in-Channel.is _ c.lend-labels-in-Channel.ensures c.work.ensures.works _ c.answer_alone-in-Channel.ensures
+pub returns-in-Mail-clause-acts : goal.returns-in-Mail-clause-acts
+returns-in-Mail-clause-acts g c = act_mail _ c.args.pid c.args.self.now c.args.act _ c.in-Idle.is _ c.in-Mail.is _ c.lend-labels-in-Mail.ensures c.work.ensures.works _ c.answer_alone-in-Mail.ensures

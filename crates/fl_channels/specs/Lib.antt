@@ -1,3 +1,0 @@
-pub mod Endpoints
-pub mod Offenders
-pub mod Channels

@@ -1,0 +1,3 @@
+pub mod Endpoints
+pub mod Offenders
+pub mod Mailbox

@@ -1,0 +1,65 @@
+// Messages that wait.
+ghost use Rattle.std.specs.Prelude.{◌≡◌, ◌++◌, ◌∷◌, [], length, nat_le, OnOk, OnErr};
+ghost use Rattle.fl_mailbox.specs.Mailbox.{oldest, without_oldest};
+
+use fl_wire::packet::Letter;
+use std::alloc::{AllocError, Global};
+use std::collections::VecDeque;
+use std::marker::Model;
+
+/// How many messages wait at most.
+pub const MOST_LETTERS: usize = 256;
+
+/// The messages that wait for a process, the oldest first.
+#[derive(Debug, Drop)]
+pub struct Inbox {
+    letters: VecDeque<Letter>,
+}
+
+impl Model for Inbox {
+    ghost use Rattle.std.specs.Prelude.{List};
+    ghost use Rattle.std.specs.Coded.{codes};
+    ghost use Rattle.fl_wire.specs.contracts.packet.Letter as letter_row;
+    ghost use Rattle.fl_wire.specs.declared.packet.Letter.{Letter};
+
+    ghost Value = { List Letter };
+
+    ghost coded = { Prim.hlevel (codes, letter_row.the_row.coded) };
+
+    ghost view = { λ a. a.letters.items };
+}
+
+impl Inbox {
+    /// No message. Takes no memory.
+    pub fn new(alloc: Global) -> Self
+        ensures { result ≡ [] }
+    {
+        Inbox {
+            letters: VecDeque::new(alloc),
+        }
+    }
+
+    /// Whether as many messages wait as may.
+    pub fn is_full(&self) -> bool
+        ensures { result ≡ nat_le 256 (length self.now) }
+    {
+        self.letters.len() >= MOST_LETTERS
+    }
+
+    /// Has a message wait behind the others. Fails only where there is not enough memory, and lets the message go then.
+    pub fn push(&mut self, letter: Letter) -> Result<(), AllocError>
+        ensures ok { OnOk result (self.new ≡ self.old ++ letter ∷ []) }
+        ensures err { OnErr result (self.new ≡ self.old) }
+    {
+        self.letters.push_back(letter)?;
+        Ok(())
+    }
+
+    /// Takes out the oldest message, or nothing where none waits. Takes no memory.
+    pub fn take(&mut self) -> Option<Letter>
+        ensures value { result ≡ oldest self.old }
+        ensures rest { self.new ≡ without_oldest self.old }
+    {
+        self.letters.pop_front()
+    }
+}

@@ -1,0 +1,9 @@
+//! The mailbox of a process: its open endpoints, and the messages that wait for it.
+#![tactic(auto)]
+
+pub mod mailbox;
+pub mod endpoints;
+pub mod inbox;
+pub mod offender;
+#[cfg(test)]
+mod tests;

@@ -1,0 +1,188 @@
+// What a process does with its endpoints and messages.
+ghost use Rattle.std.specs.Prelude.{◌≡◌, IfOk};
+ghost use Rattle.fl_labels.specs.SetBy.{In};
+ghost use Rattle.fl_mailbox.specs.Mailbox.{oldest, without_oldest};
+ghost use Rattle.fl_jobs.specs.declared.answer.Outcome.TheVariants as outcomes;
+ghost use Rattle.fl_ops.specs.Registry.{InEffect, Listed};
+ghost use Rattle.fl_rules.specs.Labels.{sets_of};
+ghost use Rattle.fl_jobs.specs.declared.job.Mail.TheVariants.{Open, Tune, Send};
+ghost use Rattle.fl_monitor.specs.Mailbox.{IsSent, taken};
+ghost use Rattle.fl_monitor.specs.Hand.{AtHand};
+ghost use Rattle.fl_monitor.specs.Acts.{Closes, Works};
+
+use crate::grant::check_grant;
+use crate::guard::check_endpoint;
+use crate::view::View;
+use fl_mailbox::mailbox::Mailbox;
+use fl_mailbox::endpoints::OpenEndpoint;
+use fl_jobs::answer::{Outcome, Refusal, Reply};
+use fl_jobs::job::{Mail, GivenLabels};
+use fl_labels::cap_set::CapSet;
+use fl_labels::endpoint::Endpoint;
+use fl_labels::pid::Pid;
+use fl_rules::endpoint::Mode;
+use fl_rules::labels::{Labels, LabelsRef};
+use fl_rules::pair::EndRef;
+use fl_wire::packet::{Data, Message, Packet};
+use std::alloc::{AllocError, Global};
+
+// The least endpoint that is not open is opened, where it is safe.
+fn begin<V: View>(
+    alloc: Global,
+    view: &mut V,
+    owned: &CapSet,
+    process: LabelsRef<'_>,
+    mailbox: &mut Mailbox,
+    mode: Mode,
+    given: GivenLabels,
+) -> Result<Outcome, Refusal>
+    ensures works { (pid : Pid) → Works (InEffect (Listed (V.list view.old)) (In owned.now)) (AtHand (Listed (V.list view.old)) owned.now) pid (sets_of process.entry) mailbox.old (Open mode given) result mailbox.new }
+    ensures same { V.list view.new ≡ V.list view.old }
+{
+    let Some(labels) = given.labels() else {
+        return Err(Refusal::LabelTooLong);
+    };
+    let Some(endpoint) = mailbox.endpoints.least_free() else {
+        return Err(Refusal::EndpointsFull);
+    };
+    let opened = OpenEndpoint { mode, labels };
+    check_endpoint(alloc, view, owned, process, endpoint, opened.lend())?;
+    let Ok(()) = mailbox.endpoints.insert(endpoint, opened) else {
+        return Err(Refusal::Memory);
+    };
+    Ok(Outcome::Reply(Reply::Opened(endpoint)))
+}
+
+// The labels of an endpoint become others, where it is then safe.
+fn tune<V: View>(
+    alloc: Global,
+    view: &mut V,
+    owned: &CapSet,
+    process: LabelsRef<'_>,
+    mailbox: &mut Mailbox,
+    endpoint: Endpoint,
+    given: GivenLabels,
+) -> Result<Outcome, Refusal>
+    ensures works { (pid : Pid) → Works (InEffect (Listed (V.list view.old)) (In owned.now)) (AtHand (Listed (V.list view.old)) owned.now) pid (sets_of process.entry) mailbox.old (Tune endpoint given) result mailbox.new }
+    ensures same { V.list view.new ≡ V.list view.old }
+{
+    let Some(labels) = given.labels() else {
+        return Err(Refusal::LabelTooLong);
+    };
+    let Some(opened) = mailbox.endpoints.get(endpoint) else {
+        return Err(Refusal::NoEndpoint(endpoint));
+    };
+    let tuned = EndRef {
+        mode: opened.mode,
+        labels: labels.lend(),
+    };
+    check_endpoint(alloc, view, owned, process, endpoint, tuned)?;
+    mailbox.endpoints.set_labels(endpoint, labels);
+    Ok(Outcome::Reply(Reply::Done))
+}
+
+// An endpoint is closed.
+fn close(mailbox: &mut Mailbox, endpoint: Endpoint) -> Result<Outcome, Refusal>
+    ensures { Closes mailbox.old endpoint result mailbox.new }
+{
+    if !mailbox.endpoints.remove(endpoint) {
+        return Err(Refusal::NoEndpoint(endpoint));
+    }
+    Ok(Outcome::Reply(Reply::Done))
+}
+
+// The packet of a message from an endpoint of these labels.
+fn packet_of(
+    alloc: Global,
+    sender: Pid,
+    from: Endpoint,
+    labels: &Labels,
+    receiver: Pid,
+    to: Endpoint,
+    message: Message,
+) -> Result<Data, AllocError>
+    ensures { IfOk result (λ d. IsSent sender from labels.now receiver to message d) }
+{
+    let secrecy = labels.secrecy.copy(alloc)?;
+    let integrity = labels.integrity.copy(alloc)?;
+    let _tags = (secrecy.len(), integrity.len());
+    Ok(Data {
+        sender,
+        from,
+        receiver,
+        to,
+        secrecy,
+        integrity,
+        message,
+    })
+}
+
+// A message goes from an endpoint that is for writing, with what its sender may hand on.
+fn send<V: View>(
+    alloc: Global,
+    view: &mut V,
+    sender: Pid,
+    owned: &CapSet,
+    mailbox: &Mailbox,
+    from: Endpoint,
+    receiver: Pid,
+    to: Endpoint,
+    message: Message,
+) -> Result<Outcome, Refusal>
+    ensures works { (process : Labels) → Works (InEffect (Listed (V.list view.old)) (In owned.now)) (AtHand (Listed (V.list view.old)) owned.now) sender process mailbox.now (Send from receiver to message) result mailbox.now }
+    ensures same { V.list view.new ≡ V.list view.old }
+{
+    let Some(opened) = mailbox.endpoints.get(from) else {
+        return Err(Refusal::NoEndpoint(from));
+    };
+    if !opened.mode.writes() {
+        return Err(Refusal::NotWritable(from));
+    }
+    check_grant(alloc, view, owned, &message.caps)?;
+    match packet_of(alloc, sender, from, &opened.labels, receiver, to, message) {
+        Ok(data) => Ok(Outcome::Out(Packet::Data(data))),
+        Err(_) => Err(Refusal::Memory),
+    }
+}
+
+// The oldest message is taken.
+fn take(mailbox: &mut Mailbox) -> Outcome
+    ensures oldest { result ≡ outcomes.Reply (taken (oldest mailbox.old.inbox)) }
+    ensures left { mailbox.new ≡ record mailbox.old { inbox = without_oldest mailbox.old.inbox } }
+{
+    Outcome::Reply(match mailbox.inbox.take() {
+        Some(letter) => Reply::Taken(letter),
+        None => Reply::Empty,
+    })
+}
+
+/// Does what a process of these labels, the owner of these capabilities, asks for of its mailbox.
+pub(crate) fn work<V: View>(
+    alloc: Global,
+    view: &mut V,
+    pid: Pid,
+    owned: &CapSet,
+    process: LabelsRef<'_>,
+    mailbox: &mut Mailbox,
+    mail: Mail,
+) -> Result<Outcome, Refusal>
+    ensures works { Works (InEffect (Listed (V.list view.old)) (In owned.now)) (AtHand (Listed (V.list view.old)) owned.now) pid (sets_of process.entry) mailbox.old mail result mailbox.new }
+    ensures same { V.list view.new ≡ V.list view.old }
+{
+    match mail {
+        Mail::Open(mode, given) => begin(alloc, view, owned, process, mailbox, mode, given),
+        Mail::Tune(endpoint, given) => {
+            tune(alloc, view, owned, process, mailbox, endpoint, given)
+        }
+        Mail::Close(endpoint) => close(mailbox, endpoint),
+        Mail::Send {
+            from,
+            receiver,
+            to,
+            message,
+        } => send(
+            alloc, view, pid, owned, mailbox, from, receiver, to, message,
+        ),
+        Mail::Take => Ok(take(mailbox)),
+    }
+}
