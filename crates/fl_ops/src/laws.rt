@@ -1,4 +1,4 @@
-// Laws of operations, their bytes and registries.
+//! Laws of operations, their bytes and registries.
 ghost use Rattle.std.specs.Prelude.{◌≡◌, ◌++◌, List, ℕ, Bool, None};
 ghost use Rattle.std.specs.Ordering.{nat_cmp, ordering_then};
 ghost use Rattle.std.specs.Cmp.Lexicographic.{slice_cmp};

@@ -1,4 +1,4 @@
-// Operations and their order.
+//! Operations and their order.
 ghost use Rattle.std.specs.Prelude.{◌≡◌, refl, length};
 ghost use Rattle.std.specs.Ordering.{nat_cmp, ordering_then, as_partial_cmp, eq_by_cmp};
 ghost use Rattle.std.specs.Cmp.Lexicographic.{slice_cmp};

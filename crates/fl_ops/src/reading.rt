@@ -1,4 +1,4 @@
-// Operations from bytes.
+//! Operations from bytes.
 ghost use Rattle.std.specs.Prelude.{◌≡◌, ◌<◌, ◌≤◌, ◌+◌, ◌^◌, MatchResult, true, false, slice_index, take, drop, length, Some, None, [], ◌∷◌};
 ghost use Rattle.fl_ops.specs.Bytes.{kind_byte, body_bytes, name_bytes, cap_bytes, policy_byte, op_bytes};
 ghost use Rattle.fl_ops.specs.Grammar.{body_fields, cap_fields, has_byte, has_digest, has_name, first_fault, op_fault};

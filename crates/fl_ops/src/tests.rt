@@ -1,4 +1,4 @@
-// Tests of operations and their bytes.
+//! Tests of operations and their bytes.
 use crate::digest::Digest;
 use crate::fault::OpFault;
 use crate::laws::{law_login, law_one_spelling, law_order, law_reach};

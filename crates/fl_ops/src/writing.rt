@@ -1,4 +1,4 @@
-// Operations to bytes.
+//! Operations to bytes.
 ghost use Rattle.std.specs.Prelude.{◌≡◌, ◌+◌, ◌<◌, ◌≤◌, ◌++◌, length, IfOk, OnOk, OnErr};
 ghost use Rattle.std.specs.Vec.{vec_len, vec_capacity};
 ghost use Rattle.fl_ops.specs.Bytes.{name_bytes, cap_bytes, body_bytes, op_bytes};

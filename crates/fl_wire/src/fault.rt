@@ -1,4 +1,4 @@
-// Why bytes are not read as a packet.
+//! Why bytes are not read as a packet.
 ghost use Rattle.std.specs.Prelude.{◌≡◌};
 
 use std::alloc::{AllocError, AllocFailed};

@@ -1,4 +1,4 @@
-// Fields of packets from bytes.
+//! Fields of packets from bytes.
 ghost use Rattle.std.specs.Prelude.{◌≡◌, ◌<◌, ◌≤◌, ◌+◌, ◌^◌, MatchResult, true, false, slice_index, take, drop, Some, None, [], ◌∷◌, ◌++◌};
 ghost use Rattle.std.specs.Int.{w16, w32, to_be_bytes};
 ghost use Rattle.fl_ops.specs.Bytes.{name_bytes, cap_bytes};

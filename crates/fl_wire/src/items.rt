@@ -1,4 +1,4 @@
-// Sets from bytes.
+//! Sets from bytes.
 ghost use Rattle.std.specs.Prelude.{◌≡◌, ◌<◌, ◌≤◌, ◌+◌, ◌^◌, MatchResult, true, false, slice_index, drop, None, ◌++◌};
 ghost use Rattle.fl_labels.specs.Name.{name_cmp};
 ghost use Rattle.fl_labels.specs.Cap.{cap_cmp};

@@ -1,4 +1,4 @@
-// Packets.
+//! Packets.
 ghost use Rattle.std.specs.Prelude.{◌≡◌, ◌≤◌, ◌<◌, ◌⊎◌, IfOk, MatchOption, length};
 ghost use Rattle.fl_labels.specs.SetBy.{len};
 

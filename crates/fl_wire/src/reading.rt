@@ -1,4 +1,4 @@
-// Packets from bytes.
+//! Packets from bytes.
 ghost use Rattle.std.specs.Prelude.{◌≡◌, ◌<◌, ◌≤◌, ◌+◌, ◌^◌, MatchResult, length, drop, None, ◌++◌};
 ghost use Rattle.fl_ops.specs.Grammar.{first_fault};
 ghost use Rattle.fl_wire.specs.Faults.{IsBadOrMemory};

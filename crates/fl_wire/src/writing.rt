@@ -1,4 +1,4 @@
-// Packets to bytes.
+//! Packets to bytes.
 ghost use Rattle.std.specs.Prelude.{◌≡◌, ◌≤◌, ◌++◌, ◌∷◌, [], IfOk, OnOk};
 ghost use Rattle.fl_labels.specs.SetBy.{len};
 ghost use Rattle.fl_ops.specs.Bytes.{name_bytes, cap_bytes};
