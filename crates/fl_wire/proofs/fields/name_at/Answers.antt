@@ -1,5 +1,5 @@
 use Rattle.std.proofs.Common.{arith}
-use Rattle.fl_ops.proofs.Fields.{name_found}
+use Rattle.fl_ops.proofs.Found.{name_found}
 use Rattle.fl_wire.proofs.Names.{name_read}
 use Rattle.fl_wire.proofs.fields.name_at.Goals as goal
 
