@@ -9,7 +9,8 @@ use Rattle.std.proofs.lemmas.Bool.{or_cases, false≢true}
 use Rattle.std.proofs.lemmas.List.{drop_more}
 use Rattle.std.proofs.lemmas.Map.Keys.{sorted_head, sorted_tail}
 use Rattle.fl_labels.specs.SetBy.{SetBy, contains, members, members_rise, contains-members}
-use Rattle.fl_labels.specs.Found.{Found, FoundAs, IsFirst, lesser_of}
+use Rattle.fl_labels.specs.Found.{Found, FoundAs}
+use Rattle.fl_labels.specs.parts.First.{IsFirst, lesser_of}
 
 -- the same search in other words
 pub found_as : {K : Type 0} {R : K → K → Ordering} {P Q P' Q' : K → Type 0} (r : Option K) → ((x : K) → P x → P' x) → ((x : K) → P' x → P x) → ((x : K) → Q x → Q' x) → ((x : K) → Q' x → Q x) → Found R P Q r → Found R P' Q' r
@@ -23,13 +24,13 @@ found_as (Some x) to from there back found = record {
 }
 
 module _ {K : Type 0} {R : K → K → Ordering} (o : IsTotalOrder R) (exact : IsAntisymmetric R) where
-  abbrev Among : K → List K → Type 0
-  Among q xs = list_any (eq_by_cmp R q) xs ≡ true
+  abbrev IsAmong : K → List K → Type 0
+  IsAmong q xs = list_any (eq_by_cmp R q) xs ≡ true
 
-  by_place : {P : Type 0} (q x : K) (xs : List K) → Among q (x ∷ xs) → (q ≡ x → P) → (Among q xs → P) → P
+  by_place : {P : Type 0} (q x : K) (xs : List K) → IsAmong q (x ∷ xs) → (q ≡ x → P) → (IsAmong q xs → P) → P
   by_place q x xs h first later = elim (or_cases _ _ h) [ inl e ↦ first (exact q x ((Equal-is (R q x)).0 e)) | inr e ↦ later e ]
 
-  above : (x q : K) (xs : List K) → AllByRecursion (λ y. R x y ≡ Less) xs → Among q xs → R x q ≡ Less
+  above : (x q : K) (xs : List K) → AllByRecursion (λ y. R x y ≡ Less) xs → IsAmong q xs → R x q ≡ Less
   above x q [] all h = absurd (false≢true h)
   above x q (y ∷ xs) all h = by_place q y xs h (λ e. ap (R x) e ∙ all.0) (above x q xs all.1)
 
@@ -37,12 +38,12 @@ module _ {K : Type 0} {R : K → K → Ordering} (o : IsTotalOrder R) (exact : I
   or_later true h = refl
   or_later false h = h
 
-  here : (x : K) (xs : List K) → Among x (x ∷ xs)
+  here : (x : K) (xs : List K) → IsAmong x (x ∷ xs)
   here x xs = ap (λ r. is_eq r || list_any (eq_by_cmp R x) xs) (tied_itself o x)
 
   module _ (P Q : K → Type 0) where
     abbrev Listed : List K → K → Type 0
-    Listed xs x = Among x xs × P x
+    Listed xs x = IsAmong x xs × P x
 
     searched : (xs : List K) (r : Option K) → IsStrictlySortedBy R xs → IsFirst P Q xs r → FoundAs R (Listed xs) Q r
     searched [] None up e = λ q h. absurd (false≢true h.0)

@@ -1,10 +1,15 @@
 -- Sets of capabilities, said as predicates: the members of a finite set, and what is in effect for a process, are both such sets.
+use Rattle.std.specs.Prelude.{◌≡◌, Bool, true}
 use Rattle.fl_labels.specs.declared.name.Name.{Name}
 use Rattle.fl_labels.specs.declared.cap.Cap.{Cap}
 use Rattle.fl_labels.specs.declared.cap.Cap.TheVariants.{Plus, Minus}
 
 abbrev pub Caps : Type 1
 Caps = Cap → Type 0
+
+-- those that a test tells
+abbrev pub Among : (Cap → Bool) → Caps
+Among chosen cap = chosen cap ≡ true
 
 -- the tags that may be both added and removed by who has E in effect
 abbrev pub Dual : Caps → Name → Type 0

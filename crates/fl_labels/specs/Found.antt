@@ -1,9 +1,9 @@
 -- What is asked of one set against another, and what a reader finds.
-use Rattle.std.specs.Prelude.{◌≡◌, ◌⊎◌, List, [], ◌∷◌, Bool, true, false, cond, MatchOption}
+use Rattle.std.specs.Prelude.{◌≡◌, Bool, true, false, MatchOption}
 use Rattle.std.specs.declared.cmp.Ordering.{Ordering}
 use Rattle.std.specs.declared.option.Option.{Option}
 use Rattle.std.specs.declared.option.Option.TheVariants.{None, Some}
-use Rattle.std.specs.Ordering.{is_gt, is_lt}
+use Rattle.std.specs.Ordering.{is_gt}
 
 -- each member of P is one of Q
 abbrev pub Within : {K : Type 0} → (K → Type 0) → (K → Type 0) → Type 0
@@ -31,14 +31,3 @@ pub record Tells (b : Bool) (P : Type 0) : Type 0 where
 -- the value that meets P, or none where no value does
 abbrev pub Finds : {T : Type 0} → Option T → (T → Type 0) → Type 0
 Finds {T} r P = MatchOption r ((v : T) → P v → ⊥) P
-
--- the first of these items that has P and lacks Q
-abbrev pub IsFirst : {K : Type 0} → (K → Type 0) → (K → Type 0) → List K → Option K → Type 0
-IsFirst P Q [] r = r ≡ None
-IsFirst P Q (x ∷ xs) r = ((r ≡ Some x) × (P x × (¬ Q x))) ⊎ ((P x → Q x) × IsFirst P Q xs r)
-
--- the lesser of two, where they are there
-abbrev pub lesser_of : {K : Type 0} → (K → K → Ordering) → Option K → Option K → Option K
-lesser_of R None b = b
-lesser_of R (Some a) None = Some a
-lesser_of R (Some a) (Some b) = cond (is_lt (R b a)) (Some b) (Some a)

@@ -6,7 +6,6 @@ pub mod NameOrder
 pub mod Cap
 pub mod Caps
 pub mod CapOrder
-pub mod Label
 pub mod Pid
 pub mod PidOrder
 pub mod Endpoint
@@ -15,3 +14,4 @@ pub mod Words
 pub mod ItemText
 pub mod Arranged
 pub mod Error
+pub mod parts

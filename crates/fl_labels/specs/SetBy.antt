@@ -3,7 +3,7 @@
 --     SetBy R, code        of keys in the order R;  its code, from that of the keys
 --     empty, contains, insert, remove, union, members, of_list      as Rust's `BTreeSet`
 --     same_set             where only equal keys tie, two sets with the same members are equal
-use Rattle.std.specs.Prelude.{◌≡◌, ℕ, suc, ◌+◌, Bool, true, false, cond, not, ◌&&◌, ◌||◌, List, [], ◌∷◌, map as mapped, length, Option, Some, None, is_some, refl, T}
+use Rattle.std.specs.Prelude.{◌≡◌, ◌↔◌, ℕ, suc, ◌+◌, Bool, true, false, cond, not, ◌&&◌, ◌||◌, List, [], ◌∷◌, map as mapped, length, Option, Some, None, is_some, refl, T}
 use Rattle.std.proofs.Common.{sym, ap, subst, ◌∙◌}
 use Rattle.std.specs.Coded.{Coded}
 use base.Stored.{coded_unit}
@@ -203,3 +203,7 @@ module _ {K : Type 0} {R : K → K → Ordering} (o : IsTotalOrder R) where
 -- the members of s, as a predicate
 abbrev pub In : {K : Type 0} {R : K → K → Ordering} → SetBy R → K → Type 0
 In s q = contains s q ≡ true
+
+-- each member of one is a member of the other
+abbrev pub SameMembers : {K : Type 0} {R : K → K → Ordering} → SetBy R → SetBy R → Type 0
+SameMembers {K} s t = (q : K) → In s q ↔ In t q

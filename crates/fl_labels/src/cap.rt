@@ -1,7 +1,8 @@
-// Capabilities.
-ghost use Rattle.std.specs.Prelude.{◌≡◌, refl};
+//! Capabilities.
+ghost use Rattle.std.specs.Prelude.{◌≡◌, ◌∷◌, [], refl};
 ghost use Rattle.std.specs.Ordering.{as_partial_cmp};
 ghost use Rattle.fl_labels.specs.Cap.{cap_name, cap_rank, cap_cmp};
+ghost use Rattle.fl_labels.specs.Text.{cap_sign};
 
 use crate::name::Name;
 use std::cmp::Ordering;
@@ -41,6 +42,18 @@ impl Cap {
             Cap::Grow(_) => 4,
         }
     }
+
+    /// The sign that its text begins with: `+`, `-`, `*` or `^`.
+    pub fn sign(self) -> &'static str
+        ensures { result.now ≡ cap_sign self ∷ [] }
+    {
+        match self {
+            Cap::Plus(_) => "+",
+            Cap::Minus(_) => "-",
+            Cap::Use(_) => "*",
+            Cap::Grow(_) => "^",
+        }
+    }
 }
 
 impl fmt::Display for Cap {
@@ -50,12 +63,7 @@ impl fmt::Display for Cap {
     ghost output = { λ c. Some (cap_text c) };
 
     fn fmt<W: fmt::Write>(&self, f: &mut fmt::Formatter<W>) -> fmt::Result {
-        match self {
-            Cap::Plus(name) => write!(f, "+{name}"),
-            Cap::Minus(name) => write!(f, "-{name}"),
-            Cap::Use(name) => write!(f, "*{name}"),
-            Cap::Grow(name) => write!(f, "^{name}"),
-        }
+        write!(f, "{}{}", self.sign(), self.name())
     }
 }
 

@@ -1,4 +1,4 @@
-// Sets of capabilities.
+//! Sets of capabilities.
 ghost use Rattle.std.specs.Prelude.{◌≡◌, IfOk, IfErr, OnOk, OnErr, IsErrOf, IsTrue, ◌↔◌, not};
 ghost use Rattle.fl_labels.specs.Cap.{cap_cmp};
 ghost use Rattle.fl_labels.specs.Found.{Found};
@@ -105,7 +105,8 @@ impl CapSet {
     /// else with a sort.
     pub fn from_text(alloc: Global, text: &str) -> Result<Self, SetError>
         ensures ok { IfOk result (λ caps. IsListing cap_text caps text.now) }
-        ensures bad_text { IsErrOf result SetError.BadText → (s : set.SetBy cap_cmp) → IsListing cap_text s text.now → ⊥ }
+        ensures bad_text { IsErrOf result SetError.BadText
+            → (s : set.SetBy cap_cmp) → ¬ IsListing cap_text s text.now }
         ensures never_too_long { IsErrOf result SetError.TooLong → ⊥ }
     {
         Ok(CapSet::from_vec(read_items(alloc, text)?))

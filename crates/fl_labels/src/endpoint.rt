@@ -1,4 +1,4 @@
-// Endpoints of processes.
+//! Endpoints of processes.
 ghost use Rattle.std.specs.Prelude.{◌<◌, ◌≤◌};
 
 use std::fmt;

@@ -1,4 +1,4 @@
-// Why a set was not changed, or not read.
+//! Why a set was not changed, or not read.
 ghost use Rattle.std.specs.Prelude.{◌≡◌};
 
 use std::alloc::{AllocError, AllocFailed};

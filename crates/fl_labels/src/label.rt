@@ -1,4 +1,4 @@
-// Labels: sets of at most 256 tags.
+//! Labels: sets of at most 256 tags.
 ghost use Rattle.std.specs.Prelude.{◌≡◌, ◌<◌, ◌≤◌, IfOk, IfErr, OnOk, OnErr, IsErrOf, not, false, IsTrue, ◌↔◌};
 ghost use Rattle.fl_labels.specs.Found.{Found};
 ghost use Rattle.fl_labels.specs.Text.{name_text};
@@ -28,7 +28,7 @@ impl Model for Label {
     ghost use Rattle.fl_labels.specs.SetBy as set;
     ghost use Rattle.fl_labels.specs.Name.{name_cmp};
     ghost use Rattle.fl_labels.specs.NameOrder.{coded_name};
-    ghost use Rattle.fl_labels.specs.Label.{IsLabel};
+    ghost use Rattle.fl_labels.specs.parts.Label.{IsLabel};
 
     ghost Value = { set.SetBy name_cmp };
 
@@ -98,7 +98,8 @@ impl Label {
         ensures ok { IfOk result (λ label. label ≡ set.of_list tags.items) }
         ensures short { IfOk result (λ label. set.len label ≤ 256) }
         ensures err { IfErr result (λ e. e ≡ SetError.TooLong) }
-        ensures too_long { IsErrOf result SetError.TooLong → 256 < set.len (set.of_list {R = name_cmp} tags.items) }
+        ensures too_long { IsErrOf result SetError.TooLong
+            → 256 < set.len (set.of_list {R = name_cmp} tags.items) }
     {
         arrange(&mut tags);
         if tags.len() > MOST_TAGS {
@@ -114,8 +115,10 @@ impl Label {
     pub fn from_text(alloc: Global, text: &str) -> Result<Self, SetError>
         ensures ok { IfOk result (λ label. IsListing name_text label text.now) }
         ensures short { IfOk result (λ label. set.len label ≤ 256) }
-        ensures too_long { IsErrOf result SetError.TooLong → (s : set.SetBy name_cmp) × IsListing name_text s text.now × (256 < set.len s) }
-        ensures bad_text { IsErrOf result SetError.BadText → (s : set.SetBy name_cmp) → IsListing name_text s text.now → ⊥ }
+        ensures too_long { IsErrOf result SetError.TooLong
+            → (s : set.SetBy name_cmp) × IsListing name_text s text.now × (256 < set.len s) }
+        ensures bad_text { IsErrOf result SetError.BadText
+            → (s : set.SetBy name_cmp) → ¬ IsListing name_text s text.now }
     {
         Label::from_vec(read_items(alloc, text)?)
     }
@@ -140,7 +143,8 @@ impl Label {
         ensures ok { OnOk result (self.new ≡ set.insert self.old tag) }
         ensures new { IfOk result (λ new. new ≡ not (set.contains self.old tag)) }
         ensures short { OnOk result (set.len self.new ≤ 256) }
-        ensures too_long { IsErrOf result SetError.TooLong → (set.contains self.old tag ≡ false) × (set.len self.old ≡ 256) }
+        ensures too_long { IsErrOf result SetError.TooLong
+            → (set.contains self.old tag ≡ false) × (set.len self.old ≡ 256) }
         ensures never_bad { IsErrOf result SetError.BadText → ⊥ }
         ensures err { OnErr result (self.new ≡ self.old) }
     {

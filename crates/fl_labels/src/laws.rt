@@ -1,4 +1,4 @@
-// What texts are read as.
+//! What texts are read as.
 ghost use Rattle.std.specs.Prelude.{◌≡◌, ℕ, List};
 ghost use Rattle.fl_labels.specs.declared.name.Name.{Name};
 ghost use Rattle.fl_labels.specs.declared.cap.Cap.{Cap};
@@ -18,8 +18,10 @@ pub fn one_reading()
     ensures caps { (c d : Cap) → cap_text c ≡ cap_text d → c ≡ d }
     ensures pids { (p q : Pid) → pid_text p ≡ pid_text q → p ≡ q }
     ensures endpoints { (d e : Endpoint) → endpoint_text d ≡ endpoint_text e → d ≡ e }
-    ensures labels { (s t : SetBy name_cmp) (text : List ℕ) → IsListing name_text s text → IsListing name_text t text → s ≡ t }
-    ensures cap_sets { (s t : SetBy cap_cmp) (text : List ℕ) → IsListing cap_text s text → IsListing cap_text t text → s ≡ t }
+    ensures labels { (s t : SetBy name_cmp) (text : List ℕ)
+        → IsListing name_text s text → IsListing name_text t text → s ≡ t }
+    ensures cap_sets { (s t : SetBy cap_cmp) (text : List ℕ)
+        → IsListing cap_text s text → IsListing cap_text t text → s ≡ t }
 {}
 
 /// What is written of a set lists its members, so that it is read as the set again.

@@ -1,5 +1,5 @@
-// Lists in braces.
-ghost use Rattle.std.specs.Prelude.{◌≡◌, ℕ, IfSome, IfNone, IfOk, IsErrOf, List, [], ◌∷◌, ◌++◌, map};
+//! Lists in braces.
+ghost use Rattle.std.specs.Prelude.{◌≡◌, ◌≢◌, ℕ, IfSome, IfNone, IfOk, IsErrOf, List, [], ◌∷◌, ◌++◌, map};
 ghost use Rattle.std.specs.List.{join_with_byte};
 ghost use Rattle.fl_labels.specs.Found.{Finds};
 ghost use Rattle.fl_labels.specs.Text.{name_text, cap_text, braces};
@@ -46,18 +46,19 @@ impl Item for Cap {
     }
 }
 
-/// What stands between braces round the whole text.
+// What stands between braces round the whole text.
 fn inner_of(text: &str) -> Option<&str>
     ensures some { IfSome result (λ inner. text.now ≡ 123 ∷ (inner.now ++ 125 ∷ [])) }
-    ensures none { IfNone result ((inner : List ℕ) → text.now ≡ 123 ∷ (inner ++ 125 ∷ []) → ⊥) }
+    ensures none { IfNone result ((inner : List ℕ) → text.now ≢ 123 ∷ (inner ++ 125 ∷ [])) }
 {
     text.strip_prefix('{')?.strip_suffix('}')
 }
 
-/// The items that a text spells, with commas between them.
+// The items that a text spells, with commas between them.
 fn read_parts<T: Item>(alloc: Global, inner: &str) -> Result<Vec<T>, SetError>
     ensures ok { IfOk result (λ items. inner.now ≡ join_with_byte 44 (map T.text items.items)) }
-    ensures bad_text { IsErrOf result SetError.BadText → (items : List T) → inner.now ≡ join_with_byte 44 (map T.text items) → ⊥ }
+    ensures bad_text { IsErrOf result SetError.BadText
+        → (items : List T) → inner.now ≢ join_with_byte 44 (map T.text items) }
     ensures never_too_long { IsErrOf result SetError.TooLong → ⊥ }
 {
     let mut items = Vec::new(alloc);
@@ -75,7 +76,7 @@ fn read_parts<T: Item>(alloc: Global, inner: &str) -> Result<Vec<T>, SetError>
 /// `BadText` of a text that is no list of such items in braces with commas between them and no spaces, `Memory`.
 pub fn read_items<T: Item>(alloc: Global, text: &str) -> Result<Vec<T>, SetError>
     ensures ok { IfOk result (λ items. text.now ≡ braces T.text items.items) }
-    ensures bad_text { IsErrOf result SetError.BadText → (items : List T) → text.now ≡ braces T.text items → ⊥ }
+    ensures bad_text { IsErrOf result SetError.BadText → (items : List T) → text.now ≢ braces T.text items }
     ensures never_too_long { IsErrOf result SetError.TooLong → ⊥ }
 {
     let inner = inner_of(text).ok_or(SetError::BadText)?;

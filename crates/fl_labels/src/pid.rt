@@ -1,4 +1,4 @@
-// Process identifiers.
+//! Process identifiers.
 ghost use Rattle.std.specs.Prelude.{◌<◌, ◌^◌};
 
 use std::fmt;

@@ -1,4 +1,4 @@
-// Sets of capabilities with room for more.
+//! Sets of capabilities with room for more.
 ghost use Rattle.std.specs.Prelude.{◌≡◌, ◌∷◌, [], ◌+◌, ◌<◌, ◌≤◌};
 ghost use Rattle.std.specs.Vec.{vec_len, vec_capacity};
 ghost use Rattle.std.specs.List.Sorted.{IsStrictlySortedBy};
@@ -29,7 +29,8 @@ impl Model for RoomyCapSet {
 
     ghost view = { λ a. set.of_list a.caps.items };
 
-    ghost invariant = { λ a. IsStrictlySortedBy cap_cmp a.caps.items × (vec_len a.caps + 2 ≤ vec_capacity a.caps) };
+    ghost invariant = { λ a.
+        IsStrictlySortedBy cap_cmp a.caps.items × (vec_len a.caps + 2 ≤ vec_capacity a.caps) };
 }
 
 // Adds a capability in the room that there is.

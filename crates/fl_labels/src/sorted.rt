@@ -1,4 +1,4 @@
-// Slices that rise.
+//! Slices that rise.
 ghost use Rattle.std.specs.Prelude.{IsTrue, ◌↔◌};
 ghost use Rattle.std.specs.List.Sorted.{IsStrictlySortedBy};
 ghost use Rattle.fl_labels.specs.Arranged.{IsArranged};

@@ -1,4 +1,4 @@
-// Tests: texts both ways, bad texts, limits, and each public function once.
+//! Tests: texts both ways, bad texts, limits, and each public function once.
 use crate::cap::Cap;
 use crate::cap_set::CapSet;
 use crate::endpoint::{Endpoint, LAST_ENDPOINT};

@@ -1,4 +1,4 @@
-// Readers of words.
+//! Readers of words.
 ghost use Rattle.std.specs.Prelude.{◌≡◌, ℕ, ◌<◌, ◌∷◌, List};
 ghost use Rattle.fl_labels.specs.Found.{Finds};
 ghost use Rattle.fl_labels.specs.Text.{name_text, cap_text, pid_text, endpoint_text};
@@ -37,7 +37,7 @@ pub fn read_name(text: &str) -> Option<Name>
     Some(Name { node, seq })
 }
 
-/// The name that stands behind a sign.
+// The name that stands behind a sign.
 fn read_signed(text: &str, sign: char) -> Option<Name>
     requires { sign < 128 }
     ensures { Finds result (λ name. text.now ≡ sign ∷ name_text name) }

@@ -1,5 +1,5 @@
 pub mod Logins
 pub mod Reaching
-pub mod Fields
+pub mod Found
 pub mod OneSpelling
 pub mod BytesOrder

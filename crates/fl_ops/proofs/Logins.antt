@@ -12,7 +12,8 @@ use Rattle.fl_ops.specs.declared.op.Body.TheVariants.{MakeLogin}
 use Rattle.fl_ops.specs.declared.op.Op.{Op}
 use Rattle.fl_ops.specs.OpOrder.{op_cmp}
 use Rattle.fl_ops.specs.OpLaws.{op_total, op_exact}
-use Rattle.fl_ops.specs.Logins.{login_op, IsFirstLogin, HasNoLogin}
+use Rattle.fl_ops.specs.Registry.{Registry, login_op}
+use Rattle.fl_ops.specs.Logins.{IsFirstLogin, HasNoLogin}
 
 tie : (r : Ordering) → is_gt r ≡ false → is_gt (ordering_reverse r) ≡ false → r ≡ Equal
 tie Less low high = absurd (cc)
@@ -32,14 +33,14 @@ digest_of x (MakeLogin c digest) = digest
 digest_of x other = x
 
 -- a name has one first login
-pub one_first : (U : Op → Type 0) (login : Name) (c d : Cap) (x y : Digest) → IsFirstLogin U login c x → IsFirstLogin U login d y → (c ≡ d) × (x ≡ y)
+pub one_first : (U : Registry) (login : Name) (c d : Cap) (x y : Digest) → IsFirstLogin U login c x → IsFirstLogin U login d y → (c ≡ d) × (x ≡ y)
 unfolding cap_of digest_of
 one_first U login c d x y first second =
     let same = level (login_op login c x) (login_op login d y) (first.least d y second.member) (second.least c x first.member) in
     (ap (λ (op : Op). cap_of c op.body) same, ap (λ (op : Op). digest_of x op.body) same)
 
 -- registries with the same operations have the same first login of a name, or both have none
-module _ {U V : Op → Type 0} (same : (op : Op) → U op ↔ V op) (login : Name) where
+module _ {U V : Registry} (same : (op : Op) → U op ↔ V op) (login : Name) where
   pub first_kept : (c : Cap) (digest : Digest) → IsFirstLogin U login c digest → IsFirstLogin V login c digest
   first_kept c digest first = record {
     member = (same _).0 first.member;

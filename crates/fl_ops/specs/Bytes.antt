@@ -1,5 +1,5 @@
 -- How an operation is spelled in bytes.
-use Rattle.std.specs.Prelude.{ℕ, List, [], ◌∷◌, ◌++◌}
+use Rattle.std.specs.Prelude.{ℕ, ◌+◌, List, [], ◌∷◌, ◌++◌}
 use Rattle.std.specs.Int.{w16, w32, to_be_bytes}
 use Rattle.fl_labels.specs.declared.name.Name.{Name}
 use Rattle.fl_labels.specs.declared.cap.Cap.{Cap}
@@ -14,9 +14,17 @@ use Rattle.fl_ops.specs.declared.op.Op.{Op}
 abbrev pub name_bytes : Name → List ℕ
 name_bytes n = to_be_bytes w16 n.node ++ to_be_bytes w32 n.seq
 
+-- how many these are
+abbrev pub name_size : ℕ
+name_size = 6
+
 -- the kind in one byte, then the name
 abbrev pub cap_bytes : Cap → List ℕ
 cap_bytes c = cap_rank c ∷ name_bytes (cap_name c)
+
+-- how many these are
+abbrev pub cap_size : ℕ
+cap_size = 1 + name_size
 
 abbrev pub policy_byte : Policy → ℕ
 policy_byte Export = 1
@@ -39,3 +47,7 @@ body_bytes (MakeLogin c d) = cap_bytes c ++ d.bytes
 -- the format, the kind, the name, and what the kind asks for
 abbrev pub op_bytes : Op → List ℕ
 op_bytes o = 1 ∷ kind_byte o.body ∷ (name_bytes o.name ++ body_bytes o.body)
+
+-- where what follows the name begins
+abbrev pub body_place : ℕ
+body_place = 2 + name_size

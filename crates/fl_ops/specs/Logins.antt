@@ -4,20 +4,15 @@ use Rattle.std.specs.Ordering.{is_gt}
 use Rattle.fl_labels.specs.declared.name.Name.{Name}
 use Rattle.fl_labels.specs.declared.cap.Cap.{Cap}
 use Rattle.fl_ops.specs.declared.digest.Digest.{Digest}
-use Rattle.fl_ops.specs.declared.op.Op.{Op}
-use Rattle.fl_ops.specs.declared.op.Body.TheVariants.{MakeLogin}
 use Rattle.fl_ops.specs.OpOrder.{op_cmp}
-use Rattle.fl_ops.specs.Registry.{IsLogin}
-
--- the operation that makes a login
-abbrev pub login_op : Name → Cap → Digest → Op
-login_op login c digest = record { name = login; body = MakeLogin c digest }
+use Rattle.fl_ops.specs.Registry.{Registry, IsLogin, login_op}
 
 -- of the logins of this name that the registry has, the least in the order of operations
-pub record IsFirstLogin (U : Op → Type 0) (login : Name) (c : Cap) (digest : Digest) : Type 0 where
+pub record IsFirstLogin (U : Registry) (login : Name) (c : Cap) (digest : Digest) : Type 0 where
   pub member : IsLogin U login c digest
-  pub least : (d : Cap) (other : Digest) → IsLogin U login d other → is_gt (op_cmp (login_op login c digest) (login_op login d other)) ≡ false
+  pub least : (d : Cap) (other : Digest) → IsLogin U login d other
+      → is_gt (op_cmp (login_op login c digest) (login_op login d other)) ≡ false
 
 -- the registry has no login of this name
-abbrev pub HasNoLogin : (Op → Type 0) → Name → Type 0
+abbrev pub HasNoLogin : Registry → Name → Type 0
 HasNoLogin U login = (c : Cap) (digest : Digest) → ¬ IsLogin U login c digest

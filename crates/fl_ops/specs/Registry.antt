@@ -1,8 +1,8 @@
 -- Registries, and what they give to those who own capabilities. A registry is a set of operations, said as a predicate: the members of
 -- a finite set, the items of a list and a union of both are then all registries.
-use Rattle.std.specs.Prelude.{◌≡◌, ◌⊎◌, List, Bool, true}
+use Rattle.std.specs.Prelude.{◌≡◌, ◌⊎◌, List, Bool}
 use Rattle.std.specs.List.{Contains}
-use Rattle.fl_labels.specs.Caps.{Caps}
+use Rattle.fl_labels.specs.Caps.{Among, Caps}
 use Rattle.fl_labels.specs.declared.name.Name.{Name}
 use Rattle.fl_labels.specs.declared.cap.Cap.{Cap}
 use Rattle.fl_labels.specs.declared.cap.Cap.TheVariants.{Plus, Minus, Use, Grow}
@@ -20,6 +20,10 @@ Registry = Op → Type 0
 -- the operation that makes a tag
 abbrev pub tag_op : Name → Policy → Op
 tag_op tag policy = record { name = tag; body = MakeTag policy }
+
+-- the operation that makes a login
+abbrev pub login_op : Name → Cap → Digest → Op
+login_op login c digest = record { name = login; body = MakeLogin c digest }
 
 -- the operation puts c into the group
 abbrev pub Puts : Body → Name → Cap → Type 0
@@ -41,10 +45,6 @@ Reach U roots c = (a : Cap) × roots a × Chain U a c
 abbrev pub From : Cap → Caps
 From root c = c ≡ root
 
--- those that a test tells
-abbrev pub Among : (Cap → Bool) → Caps
-Among chosen c = chosen c ≡ true
-
 -- with the use of a group, all that the registry puts into the group
 pub record IsClosed (U : Registry) (P : Caps) : Type 0 where
   pub step : (op : Op) (group : Name) (c : Cap) → U op → Puts op.body group c → P (Use group) → P c
@@ -62,8 +62,12 @@ InEffect U owned c = Reach U owned c ⊎ IsGlobal U c
 
 -- the registry has a login of this name, to this capability, whose secret has this digest
 abbrev pub IsLogin : Registry → Name → Cap → Digest → Type 0
-IsLogin U login cap digest = U (record { name = login; body = MakeLogin cap digest })
+IsLogin U login cap digest = U (login_op login cap digest)
 
 -- the registry of a list's items
 abbrev pub Listed : List Op → Registry
 Listed ops = λ op. Contains ops op
+
+-- what a list of operations leads to from the capabilities that a test tells
+abbrev pub Reached : List Op → (Cap → Bool) → Caps
+Reached ops owned = Reach (Listed ops) (Among owned)

@@ -1,4 +1,4 @@
-// Digests of secrets.
+//! Digests of secrets.
 ghost use Rattle.std.specs.Prelude.{◌≡◌, length};
 
 /// What is kept of a login's secret.

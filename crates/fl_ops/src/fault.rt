@@ -1,7 +1,7 @@
-// Why bytes are no operation.
+//! Why bytes are not read.
 
 /// The place of the first byte of the first field that is cut off or out of its range.
 #[derive(Clone, Copy, Debug, PartialEq, Eq)]
-pub struct OpFault {
+pub struct BadField {
     pub place: usize,
 }

@@ -3,6 +3,7 @@
 
 pub mod digest;
 pub mod fault;
+pub mod fields;
 pub mod laws;
 pub mod op;
 pub mod reading;

@@ -1,4 +1,4 @@
-// Operations and their order.
+//! Operations and their order.
 ghost use Rattle.std.specs.Prelude.{◌≡◌, refl, length};
 ghost use Rattle.std.specs.Ordering.{nat_cmp, ordering_then, as_partial_cmp, eq_by_cmp};
 ghost use Rattle.std.specs.Cmp.Lexicographic.{slice_cmp};
@@ -9,9 +9,13 @@ ghost use Rattle.fl_ops.specs.PolicyText.{policy_text};
 ghost use Rattle.fl_ops.specs.OpOrder.{body_key, op_cmp};
 
 use crate::digest::Digest;
+use crate::fields::{CAP_SIZE, NAME_SIZE};
 use fl_labels::cap::Cap;
 use fl_labels::name::{Group, Name};
 use std::cmp::Ordering;
+
+/// Where the body begins in the bytes of an operation: after the format, the kind and the name.
+pub const BODY_PLACE: usize = 2 + NAME_SIZE;
 
 /// Which capability of a new tag everyone gets: to add it, none, or to remove it.
 #[derive(Clone, Copy, Debug, PartialEq, Eq)]
@@ -85,17 +89,18 @@ impl Op {
         ensures { result ≡ length (op_bytes self.now) }
     {
         match self.body {
-            Body::MakeTag(_) => 9,
-            Body::MakeGroup => 8,
-            Body::Put(_, _) => 21,
-            Body::MakeLogin(_, _) => 47,
+            Body::MakeTag(_) => BODY_PLACE + 1,
+            Body::MakeGroup => BODY_PLACE,
+            Body::Put(_, _) => BODY_PLACE + NAME_SIZE + CAP_SIZE,
+            Body::MakeLogin(_, _) => BODY_PLACE + CAP_SIZE + 32,
         }
     }
 }
 
 // As the bytes of the capabilities: by kind, and then by name.
 fn cmp_caps(a: Cap, b: Cap) -> Ordering
-    ensures { result ≡ ordering_then (nat_cmp (cap_rank a) (cap_rank b)) (name_cmp (cap_name a) (cap_name b)) }
+    ensures {
+        result ≡ ordering_then (nat_cmp (cap_rank a) (cap_rank b)) (name_cmp (cap_name a) (cap_name b)) }
 {
     a.rank().cmp(&b.rank()).then(a.name().cmp(&b.name()))
 }

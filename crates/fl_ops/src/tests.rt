@@ -1,6 +1,6 @@
-// Tests of operations and their bytes.
+//! Tests of operations and their bytes.
 use crate::digest::Digest;
-use crate::fault::OpFault;
+use crate::fault::BadField;
 use crate::laws::{law_login, law_one_spelling, law_order, law_reach};
 use crate::op::{Body, Op, Policy};
 use crate::reading::decode;
@@ -137,7 +137,7 @@ fn refuses_logins_that_are_cut_off(rt: HostRuntime) {
             9..=14 => 9,
             _ => 15,
         };
-        assert_eq!(rt; decode(&LOGIN[..length]), Err(OpFault { place }));
+        assert_eq!(rt; decode(&LOGIN[..length]), Err(BadField { place }));
     }
 }
 
@@ -155,7 +155,7 @@ fn refuses_logins_that_are_out_of_range(rt: HostRuntime) {
     ] {
         let mut bytes = LOGIN;
         bytes[place] = byte;
-        assert_eq!(rt; decode(&bytes), Err(OpFault { place: fault }));
+        assert_eq!(rt; decode(&bytes), Err(BadField { place: fault }));
     }
 }
 
@@ -186,7 +186,7 @@ fn refuses_puts_that_are_cut_off(rt: HostRuntime) {
             14 => 14,
             _ => 15,
         };
-        assert_eq!(rt; decode(&PUT[..length]), Err(OpFault { place }));
+        assert_eq!(rt; decode(&PUT[..length]), Err(BadField { place }));
     }
 }
 
@@ -195,7 +195,7 @@ fn refuses_puts_that_are_out_of_range(rt: HostRuntime) {
     for (place, byte, fault) in [(0, 2, 0), (1, 0, 1), (1, 5, 1), (3, 0, 2), (7, 0, 2)] {
         let mut bytes = PUT;
         bytes[place] = byte;
-        assert_eq!(rt; decode(&bytes), Err(OpFault { place: fault }));
+        assert_eq!(rt; decode(&bytes), Err(BadField { place: fault }));
     }
     for (place, byte, fault) in [
         (9, 0, 8),
@@ -207,7 +207,7 @@ fn refuses_puts_that_are_out_of_range(rt: HostRuntime) {
     ] {
         let mut bytes = PUT;
         bytes[place] = byte;
-        assert_eq!(rt; decode(&bytes), Err(OpFault { place: fault }));
+        assert_eq!(rt; decode(&bytes), Err(BadField { place: fault }));
     }
 }
 
@@ -224,9 +224,9 @@ fn refuses_what_is_cut_off(rt: HostRuntime) {
         (7, 2),
         (8, 8),
     ] {
-        assert_eq!(rt; decode(&EXPORT[..length]), Err(OpFault { place }));
+        assert_eq!(rt; decode(&EXPORT[..length]), Err(BadField { place }));
         if length < GROUP.len() {
-            assert_eq!(rt; decode(&GROUP[..length]), Err(OpFault { place }));
+            assert_eq!(rt; decode(&GROUP[..length]), Err(BadField { place }));
         }
     }
 }
@@ -245,7 +245,7 @@ fn refuses_what_is_out_of_range(rt: HostRuntime) {
     ] {
         let mut bytes = EXPORT;
         bytes[place] = byte;
-        assert_eq!(rt; decode(&bytes), Err(OpFault { place: fault }));
+        assert_eq!(rt; decode(&bytes), Err(BadField { place: fault }));
     }
 }
 

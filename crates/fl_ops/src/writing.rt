@@ -1,36 +1,16 @@
-// Operations to bytes.
-ghost use Rattle.std.specs.Prelude.{◌≡◌, ◌+◌, ◌<◌, ◌≤◌, ◌++◌, length, IfOk, OnOk, OnErr};
+//! Operations to bytes.
+ghost use Rattle.std.specs.Prelude.{◌≡◌, ◌+◌, ◌<◌, ◌++◌, length, IfOk, OnOk, OnErr};
 ghost use Rattle.std.specs.Vec.{vec_len, vec_capacity};
-ghost use Rattle.fl_ops.specs.Bytes.{name_bytes, cap_bytes, body_bytes, op_bytes};
+ghost use Rattle.fl_ops.specs.Bytes.{body_bytes, op_bytes};
 
+use crate::fields::{push_cap, push_name};
 use crate::op::{Body, Op};
-use fl_labels::cap::Cap;
-use fl_labels::name::Name;
 use std::alloc::{AllocError, Global};
-
-fn push_name(out: &mut Vec<u8>, name: Name) -> Result<(), AllocError>
-    ensures ok { OnOk result (out.new.items ≡ out.old.items ++ name_bytes name) }
-    ensures len { OnOk result (vec_len out.new ≡ vec_len out.old + 6) }
-    ensures capacity { vec_capacity out.old ≤ vec_capacity out.new }
-    ensures full { OnErr result (vec_capacity out.old < vec_len out.old + 6) }
-{
-    out.extend_from_slice(&name.node.to_be_bytes())?;
-    out.extend_from_slice(&name.seq.to_be_bytes())
-}
-
-fn push_cap(out: &mut Vec<u8>, cap: Cap) -> Result<(), AllocError>
-    ensures ok { OnOk result (out.new.items ≡ out.old.items ++ cap_bytes cap) }
-    ensures len { OnOk result (vec_len out.new ≡ vec_len out.old + 7) }
-    ensures capacity { vec_capacity out.old ≤ vec_capacity out.new }
-    ensures full { OnErr result (vec_capacity out.old < vec_len out.old + 7) }
-{
-    out.push(cap.rank())?;
-    push_name(out, cap.name())
-}
 
 fn push_body(out: &mut Vec<u8>, body: &Body) -> Result<(), AllocError>
     ensures ok { OnOk result (out.new.items ≡ out.old.items ++ body_bytes body.now) }
-    ensures full { OnErr result (vec_capacity out.old < vec_len out.old + length (body_bytes body.now)) }
+    ensures full { OnErr result
+        (vec_capacity out.old < vec_len out.old + length (body_bytes body.now)) }
 {
     match body {
         Body::MakeTag(policy) => out.push(policy.number())?,
@@ -51,7 +31,8 @@ fn push_body(out: &mut Vec<u8>, body: &Body) -> Result<(), AllocError>
 pub fn push_op(out: &mut Vec<u8>, op: &Op) -> Result<(), AllocError>
     ensures ok { OnOk result (out.new.items ≡ out.old.items ++ op_bytes op.now) }
     ensures err { OnErr result (out.new.items ≡ out.old.items) }
-    ensures full { OnErr result (vec_capacity out.old < vec_len out.old + length (op_bytes op.now)) }
+    ensures full { OnErr result
+        (vec_capacity out.old < vec_len out.old + length (op_bytes op.now)) }
 {
     out.reserve(op.length())?;
     out.push(1)?;

@@ -1,4 +1,4 @@
-// Laws of unions of registries, and of their text.
+//! Laws of unions of registries, and of their text.
 ghost use Rattle.std.specs.Prelude.{◌≡◌, ◌↔◌};
 ghost use Rattle.fl_labels.specs.SetBy as set;
 ghost use Rattle.fl_labels.specs.SetBy.{In};

@@ -1,4 +1,4 @@
-// Two lists of operations that rise, as one.
+//! Two lists of operations that rise, as one.
 ghost use Rattle.std.specs.Prelude.{◌≡◌, IfOk, true, false};
 ghost use Rattle.std.specs.List.{All};
 ghost use Rattle.std.specs.List.Sorted.{IsStrictlySortedBy};

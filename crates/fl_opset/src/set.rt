@@ -1,4 +1,4 @@
-// Sets of operations, in a sorted `Vec`.
+//! Sets of operations, in a sorted `Vec`.
 ghost use Rattle.std.specs.Prelude.{◌≡◌, ◌≢◌, ◌≤◌, ◌<◌, [], IfOk, IfSome, IfNone, MatchOption, OnOk, OnErr, not};
 ghost use Rattle.std.specs.Io.KnownBytes.{Appends};
 ghost use Rattle.fl_labels.specs.SetBy as set;

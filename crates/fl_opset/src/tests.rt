@@ -1,4 +1,4 @@
-// Tests of sets of operations.
+//! Tests of sets of operations.
 use crate::laws::{law_equal_text, law_join};
 use crate::set::OpSet;
 use fl_labels::cap::Cap;

@@ -1,4 +1,4 @@
-// The text of a registry.
+//! The text of a registry.
 ghost use Rattle.std.specs.Prelude.{◌≡◌, ◌∷◌, ◌++◌, [], OnErr, OnOk};
 ghost use Rattle.std.specs.List.{flat_map};
 ghost use Rattle.fl_labels.specs.Text.{name_text, cap_sign};

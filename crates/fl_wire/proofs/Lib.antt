@@ -1,5 +1,5 @@
 pub mod Faults
-pub mod Names
+pub mod Spelled
 pub mod Pushed
 pub mod Parts
 pub mod Sets

@@ -17,8 +17,8 @@ use Rattle.fl_labels.specs.declared.cap.Cap.{Cap}
 use Rattle.fl_labels.specs.SetBy.{SetBy, of_list, members, len, members-of_list, len-members}
 use Rattle.fl_ops.specs.Bytes.{name_bytes, cap_bytes}
 use Rattle.fl_ops.specs.Grammar.{first_fault, has_byte}
-use Rattle.fl_wire.specs.Items.{key_before, is_above, is_next, IsNext, AreRead}
-use Rattle.fl_wire.specs.Fields.{rising_fields, short_at, has_short}
+use Rattle.fl_wire.specs.parts.Items.{key_before, is_above, IsNext, AreRead}
+use Rattle.fl_wire.specs.Fields.{is_next, rising_fields, short_at, has_short}
 use Rattle.fl_wire.specs.PacketBytes.{label_bytes, caps_bytes}
 use Rattle.fl_wire.specs.PacketGrammar.{tag_fields, label_fields, after_label, each_cap, caps_fields, after_caps}
 

@@ -1,8 +1,9 @@
 -- Fields of a packet that bytes may have at a place.
-use Rattle.std.specs.Prelude.{ℕ, zero, suc, ◌+◌, Bool, ◌&&◌, List, [], ◌∷◌, length, take, drop, slice_index, nat_lt, nat_le}
+use Rattle.std.specs.Prelude.{ℕ, zero, suc, ◌+◌, Bool, ◌&&◌, List, [], ◌∷◌, length, take, drop, is_none, slice_index, nat_lt, nat_le}
 use Rattle.std.specs.Int.{w16, w32, from_be_bytes}
-use Rattle.fl_ops.specs.Grammar.{has_byte, has_name}
-use Rattle.fl_wire.specs.Items.{is_next}
+use Rattle.std.specs.Cmp.Lexicographic.{slice_cmp}
+use Rattle.std.specs.Ordering.{nat_cmp, is_lt}
+use Rattle.fl_ops.specs.Grammar.{cap_fields, first_fault}
 
 -- the number that two bytes spell, and four
 abbrev pub short_at : List ℕ → ℕ → ℕ
@@ -13,7 +14,8 @@ long_at bytes at = from_be_bytes w32 (take 4 (drop at bytes))
 
 -- two bytes, a number from low to high
 abbrev pub has_short : List ℕ → ℕ → ℕ → ℕ → Bool
-has_short bytes at low high = nat_le (at + 2) (length bytes) && (nat_le low (short_at bytes at) && nat_le (short_at bytes at) high)
+has_short bytes at low high = nat_le (at + 2) (length bytes)
+    && (nat_le low (short_at bytes at) && nat_le (short_at bytes at) high)
 
 -- four bytes, a number that is not 0
 abbrev pub has_long : List ℕ → ℕ → Bool
@@ -21,19 +23,24 @@ has_long bytes at = nat_le (at + 4) (length bytes) && nat_lt 0 (long_at bytes at
 
 -- a process: its node, its boot and its serial
 abbrev pub pid_fields : List ℕ → ℕ → List (ℕ × Bool)
-pid_fields bytes at = (at, has_short bytes at 1 65535) ∷ (at + 2, has_long bytes (at + 2)) ∷ (at + 6, has_long bytes (at + 6)) ∷ []
+pid_fields bytes at =
+    (at, has_short bytes at 1 65535) ∷ (at + 2, has_long bytes (at + 2)) ∷ (at + 6, has_long bytes (at + 6)) ∷ []
 
 -- what tags are ordered by: the node, then the number
 abbrev pub tag_key : List ℕ → ℕ → List ℕ
 tag_key bytes at = short_at bytes at ∷ long_at bytes (at + 2) ∷ []
 
--- a capability: its kind, then its name
+-- a capability without a fault
 abbrev pub has_cap : List ℕ → ℕ → Bool
-has_cap bytes at = has_byte bytes at 1 4 && has_name bytes (at + 1)
+has_cap bytes at = is_none (first_fault (cap_fields bytes at))
 
 -- what capabilities are ordered by: the name, then the kind
 abbrev pub cap_key : List ℕ → ℕ → List ℕ
 cap_key bytes at = short_at bytes (at + 1) ∷ long_at bytes (at + 3) ∷ slice_index bytes at ∷ []
+
+-- an item is at the place, and its key is above this one
+abbrev pub is_next : (ℕ → Bool) → (ℕ → List ℕ) → ℕ → List ℕ → Bool
+is_next there key at before = there at && is_lt (slice_cmp nat_cmp before (key at))
 
 -- so many items from a place on, all of one size: each is there, and its key is above that of the one before
 abbrev pub rising_fields : (ℕ → Bool) → (ℕ → List ℕ) → ℕ → ℕ → List ℕ → ℕ → List (ℕ × Bool)

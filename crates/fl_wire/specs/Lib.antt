@@ -1,5 +1,5 @@
 pub mod PacketBytes
-pub mod Items
 pub mod Fields
 pub mod Faults
 pub mod PacketGrammar
+pub mod parts

@@ -1,5 +1,6 @@
 -- The fields of a packet as bytes have them, in their order: where each begins, and whether it is there and keeps the rules.
 use Rattle.std.specs.Prelude.{ℕ, ◌+◌, ◌*◌, Bool, List, [], ◌∷◌, ◌++◌, length, Option, slice_index, nat_le}
+use Rattle.fl_ops.specs.Bytes.{name_size, cap_size}
 use Rattle.fl_ops.specs.Grammar.{first_fault, has_byte, has_name}
 use Rattle.fl_wire.specs.Fields.{short_at, has_short, pid_fields, tag_key, has_cap, cap_key, rising_fields}
 
@@ -8,7 +9,7 @@ abbrev pub end_fields : List ℕ → ℕ → List (ℕ × Bool)
 end_fields bytes at = pid_fields bytes at ++ (at + 10, has_byte bytes (at + 10) 1 64) ∷ []
 
 abbrev pub tag_fields : List ℕ → ℕ → ℕ → List (ℕ × Bool)
-tag_fields bytes at count = rising_fields (has_name bytes) (tag_key bytes) 6 at [] count
+tag_fields bytes at count = rising_fields (has_name bytes) (tag_key bytes) name_size at [] count
 
 -- a label: how many tags, and the tags
 abbrev pub label_fields : List ℕ → ℕ → List (ℕ × Bool)
@@ -16,10 +17,10 @@ label_fields bytes at = (at, has_short bytes at 0 256) ∷ tag_fields bytes (at 
 
 -- where a label ends
 abbrev pub after_label : List ℕ → ℕ → ℕ
-after_label bytes at = at + (2 + 6 * short_at bytes at)
+after_label bytes at = at + (2 + name_size * short_at bytes at)
 
 abbrev pub each_cap : List ℕ → ℕ → ℕ → List (ℕ × Bool)
-each_cap bytes at count = rising_fields (has_cap bytes) (cap_key bytes) 7 at [] count
+each_cap bytes at count = rising_fields (has_cap bytes) (cap_key bytes) cap_size at [] count
 
 -- a set of capabilities: how many, and each
 abbrev pub caps_fields : List ℕ → ℕ → List (ℕ × Bool)
@@ -27,7 +28,7 @@ caps_fields bytes at = (at, has_byte bytes at 0 64) ∷ each_cap bytes (at + 1) 
 
 -- where a set of capabilities ends
 abbrev pub after_caps : List ℕ → ℕ → ℕ
-after_caps bytes at = at + (1 + 7 * slice_index bytes at)
+after_caps bytes at = at + (1 + cap_size * slice_index bytes at)
 
 -- how many bytes, the bytes, and nothing after them
 abbrev pub payload_fields : List ℕ → ℕ → List (ℕ × Bool)

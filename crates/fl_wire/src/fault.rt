@@ -1,6 +1,7 @@
-// Why bytes are not read as a packet.
+//! Why bytes are not read as a packet.
 ghost use Rattle.std.specs.Prelude.{◌≡◌};
 
+use fl_ops::fault::BadField;
 use std::alloc::{AllocError, AllocFailed};
 
 /// Why bytes are not read as a packet.
@@ -11,6 +12,16 @@ pub enum ReadFault {
     BadPacket { place: usize },
     /// There was not enough memory for the sets and the payload.
     Memory,
+}
+
+impl From<BadField> for ReadFault {
+    ghost use Rattle.fl_wire.specs.declared.fault.ReadFault.TheVariants.{BadPacket};
+
+    ghost from_gives = { λ f e. e ≡ BadPacket f.place };
+
+    fn from(field: BadField) -> Self {
+        ReadFault::BadPacket { place: field.place }
+    }
 }
 
 impl From<AllocError> for ReadFault {

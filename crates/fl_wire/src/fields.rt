@@ -1,11 +1,11 @@
-// Fields of packets from bytes.
-ghost use Rattle.std.specs.Prelude.{◌≡◌, ◌<◌, ◌≤◌, ◌+◌, ◌^◌, MatchResult, true, false, slice_index, take, drop, Some, None, [], ◌∷◌, ◌++◌};
+//! Fields of packets from bytes.
+ghost use Rattle.std.specs.Prelude.{◌≡◌, ◌<◌, ◌≤◌, ◌+◌, ◌^◌, MatchResult, true, false, drop, None, ◌∷◌, ◌++◌};
 ghost use Rattle.std.specs.Int.{w16, w32, to_be_bytes};
-ghost use Rattle.fl_ops.specs.Bytes.{name_bytes, cap_bytes};
-ghost use Rattle.fl_ops.specs.Grammar.{has_byte, has_name, first_fault};
+ghost use Rattle.fl_ops.specs.Bytes.{name_bytes, name_size, cap_bytes, cap_size};
+ghost use Rattle.fl_ops.specs.Grammar.{has_name, first_fault};
 ghost use Rattle.fl_wire.specs.Faults.{IsBad};
 ghost use Rattle.fl_wire.specs.Fields.{short_at, long_at, has_short, has_long, has_cap, pid_fields, tag_key, cap_key};
-ghost use Rattle.fl_wire.specs.Items.{name_key, key_of_cap};
+ghost use Rattle.fl_wire.specs.parts.Items.{name_key, key_of_cap};
 ghost use Rattle.fl_wire.specs.PacketBytes.{pid_bytes};
 ghost use Rattle.fl_wire.specs.PacketGrammar.{end_fields};
 
@@ -14,24 +14,14 @@ use fl_labels::cap::Cap;
 use fl_labels::endpoint::Endpoint;
 use fl_labels::name::Name;
 use fl_labels::pid::Pid;
+use fl_ops::fields::{byte_at, cap_at, name_at};
 
-pub(crate) fn byte_at(bytes: &[u8], at: usize, low: u8, high: u8) -> Result<u8, ReadFault>
-    requires { at < 2 ^ 32 }
-    ensures { MatchResult result
-        (λ b. (has_byte bytes.now at low high ≡ true) × (b ≡ slice_index bytes.now at) × (low ≤ b) × (b ≤ high)
-        × (drop at bytes.now ≡ b ∷ drop (at + 1) bytes.now))
-        (λ f. (has_byte bytes.now at low high ≡ false) × (f ≡ ReadFault.BadPacket at)) }
-{
-    match bytes.get(at) {
-        Some(byte) if (low..=high).contains(byte) => Ok(*byte),
-        _ => Err(ReadFault::BadPacket { place: at }),
-    }
-}
-
+// The number that two bytes spell, where it is one from `low` to `high`.
 pub(crate) fn short_at(bytes: &[u8], at: usize, low: u16, high: u16) -> Result<u16, ReadFault>
     requires { at < 2 ^ 32 }
     ensures { MatchResult result
-        (λ n. (has_short bytes.now at low high ≡ true) × (n ≡ short_at bytes.now at) × (low ≤ n) × (n ≤ high)
+        (λ n. (has_short bytes.now at low high ≡ true) × (n ≡ short_at bytes.now at)
+        × (low ≤ n) × (n ≤ high)
         × (drop at bytes.now ≡ to_be_bytes w16 n ++ drop (at + 2) bytes.now))
         (λ f. (has_short bytes.now at low high ≡ false) × (f ≡ ReadFault.BadPacket at)) }
 {
@@ -45,6 +35,7 @@ pub(crate) fn short_at(bytes: &[u8], at: usize, low: u16, high: u16) -> Result<u
     Ok(number)
 }
 
+// The number that four bytes spell, where it is not 0.
 fn long_at(bytes: &[u8], at: usize) -> Result<u32, ReadFault>
     requires { at < 2 ^ 32 }
     ensures { MatchResult result
@@ -62,47 +53,37 @@ fn long_at(bytes: &[u8], at: usize) -> Result<u32, ReadFault>
     Ok(number)
 }
 
-pub(crate) fn name_at(bytes: &[u8], at: usize) -> Result<Name, ReadFault>
+// The tag at a place.
+pub(crate) fn tag_at(bytes: &[u8], at: usize) -> Result<Name, ReadFault>
     requires { at < 2 ^ 32 }
     ensures { MatchResult result
         (λ n. (has_name bytes.now at ≡ true) × (tag_key bytes.now at ≡ name_key n)
-        × (drop at bytes.now ≡ name_bytes n ++ drop (at + 6) bytes.now))
+        × (drop at bytes.now ≡ name_bytes n ++ drop (at + name_size) bytes.now))
         (λ f. (has_name bytes.now at ≡ false) × (f ≡ ReadFault.BadPacket at)) }
 {
-    let Some(field) = bytes.get(at..at + 6) else {
-        return Err(ReadFault::BadPacket { place: at });
-    };
-    let node = u16::from_be_bytes([field[0], field[1]]);
-    let seq = u32::from_be_bytes([field[2], field[3], field[4], field[5]]);
-    if node == 0 || seq == 0 {
-        return Err(ReadFault::BadPacket { place: at });
-    }
-    Ok(Name { node, seq })
+    Ok(name_at(bytes, at)?)
 }
 
-pub(crate) fn cap_at(bytes: &[u8], at: usize) -> Result<Cap, ReadFault>
+// The capability at a place. The fault of one is at its first byte.
+pub(crate) fn whole_cap_at(bytes: &[u8], at: usize) -> Result<Cap, ReadFault>
     requires { at < 2 ^ 31 }
     ensures { MatchResult result
         (λ c. (has_cap bytes.now at ≡ true) × (cap_key bytes.now at ≡ key_of_cap c)
-        × (drop at bytes.now ≡ cap_bytes c ++ drop (at + 7) bytes.now))
+        × (drop at bytes.now ≡ cap_bytes c ++ drop (at + cap_size) bytes.now))
         (λ f. (has_cap bytes.now at ≡ false) × (f ≡ ReadFault.BadPacket at)) }
 {
-    let kind = byte_at(bytes, at, 1, 4)?;
-    let Ok(name) = name_at(bytes, at + 1) else {
-        return Err(ReadFault::BadPacket { place: at });
-    };
-    Ok(match kind {
-        1 => Cap::Plus(name),
-        2 => Cap::Minus(name),
-        3 => Cap::Use(name),
-        _ => Cap::Grow(name),
-    })
+    match cap_at(bytes, at) {
+        Ok(cap) => Ok(cap),
+        Err(_) => Err(ReadFault::BadPacket { place: at }),
+    }
 }
 
+// The process at a place.
 fn pid_at(bytes: &[u8], at: usize) -> Result<Pid, ReadFault>
     requires { at < 2 ^ 31 }
     ensures { MatchResult result
-        (λ p. (first_fault (pid_fields bytes.now at) ≡ None) × (drop at bytes.now ≡ pid_bytes p ++ drop (at + 10) bytes.now))
+        (λ p. (first_fault (pid_fields bytes.now at) ≡ None)
+        × (drop at bytes.now ≡ pid_bytes p ++ drop (at + 10) bytes.now))
         (IsBad (pid_fields bytes.now at)) }
 {
     let node = short_at(bytes, at, 1, u16::MAX)?;

@@ -1,4 +1,4 @@
-// Laws of packets and their bytes.
+//! Laws of packets and their bytes.
 ghost use Rattle.std.specs.Prelude.{◌≡◌, None};
 ghost use Rattle.fl_wire.specs.declared.packet.Packet.{Packet};
 ghost use Rattle.fl_wire.specs.PacketBytes.{packet_bytes};

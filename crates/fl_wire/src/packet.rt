@@ -1,4 +1,4 @@
-// Packets.
+//! Packets.
 ghost use Rattle.std.specs.Prelude.{◌≡◌, ◌≤◌, ◌<◌, ◌⊎◌, IfOk, MatchOption, length};
 ghost use Rattle.fl_labels.specs.SetBy.{len};
 
@@ -13,7 +13,7 @@ use std::alloc::{AllocError, Global};
 pub const MOST_CAPS: usize = 64;
 
 /// How many bytes a message carries at most.
-pub const MOST_BYTES: usize = 1024;
+pub const MOST_PAYLOAD_BYTES: usize = 1024;
 
 /// What one process tells another: capabilities and bytes.
 #[derive(Debug, Drop, PartialEq, Eq)]
@@ -29,12 +29,14 @@ pub struct Message {
 impl Message {
     /// The message of these capabilities and bytes. `None` where they are more than 64 or more than 1024. Takes no memory.
     pub fn new(caps: CapSet, payload: Payload) -> Option<Self>
-        ensures { MatchOption result ((64 < len caps) ⊎ (1024 < length payload)) (λ message. (message.caps ≡ caps) × (message.payload ≡ payload)) }
+        ensures { MatchOption result
+            ((64 < len caps) ⊎ (1024 < length payload))
+            (λ message. (message.caps ≡ caps) × (message.payload ≡ payload)) }
     {
         if caps.len() > MOST_CAPS {
             return None;
         }
-        if payload.as_slice().len() > MOST_BYTES {
+        if payload.as_slice().len() > MOST_PAYLOAD_BYTES {
             return None;
         }
         Some(Message { caps, payload })

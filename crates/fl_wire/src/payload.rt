@@ -1,4 +1,4 @@
-// Bytes that processes send, or let out.
+//! Bytes that processes send, or let out.
 ghost use Rattle.std.specs.Prelude.{◌≡◌, IfOk};
 
 use std::alloc::{AllocError, Global};

@@ -1,4 +1,4 @@
-// Packets from bytes.
+//! Packets from bytes.
 ghost use Rattle.std.specs.Prelude.{◌≡◌, ◌<◌, ◌≤◌, ◌+◌, ◌^◌, MatchResult, length, drop, None, ◌++◌};
 ghost use Rattle.fl_ops.specs.Grammar.{first_fault};
 ghost use Rattle.fl_wire.specs.Faults.{IsBadOrMemory};
@@ -6,17 +6,19 @@ ghost use Rattle.fl_wire.specs.PacketBytes.{payload_bytes, message_bytes, data_b
 ghost use Rattle.fl_wire.specs.PacketGrammar.{payload_fields, message_fields, data_fields, packet_fields};
 
 use crate::fault::ReadFault;
-use crate::fields::{byte_at, end_at, short_at};
+use crate::fields::{end_at, short_at};
 use crate::items::{caps_at, label_at};
 use crate::packet::{Data, Message, Packet};
 use crate::payload::Payload;
+use fl_ops::fields::{CAP_SIZE, NAME_SIZE, byte_at};
 use std::alloc::Global;
 
 // The payload, and the end of the bytes after it.
 fn payload_at(alloc: Global, bytes: &[u8], at: usize) -> Result<Payload, ReadFault>
     requires { at < 2 ^ 31 }
     ensures { MatchResult result
-        (λ p. (first_fault (payload_fields bytes.now at) ≡ None) × (length p ≤ 1024) × (drop at bytes.now ≡ payload_bytes p))
+        (λ p. (first_fault (payload_fields bytes.now at) ≡ None) × (length p ≤ 1024)
+        × (drop at bytes.now ≡ payload_bytes p))
         (IsBadOrMemory (payload_fields bytes.now at)) }
 {
     let start = at + 2;
@@ -30,17 +32,20 @@ fn payload_at(alloc: Global, bytes: &[u8], at: usize) -> Result<Payload, ReadFau
     Ok(Payload::from_vec(Vec::from_slice(alloc, field)?))
 }
 
+// The message, which ends the bytes.
 fn message_at(alloc: Global, bytes: &[u8], at: usize) -> Result<Message, ReadFault>
     requires { at < 2 ^ 29 }
     ensures { MatchResult result
-        (λ m. (first_fault (message_fields bytes.now at) ≡ None) × (drop at bytes.now ≡ message_bytes m))
+        (λ m. (first_fault (message_fields bytes.now at) ≡ None)
+        × (drop at bytes.now ≡ message_bytes m))
         (IsBadOrMemory (message_fields bytes.now at)) }
 {
     let caps = caps_at(alloc, bytes, at)?;
-    let payload = payload_at(alloc, bytes, at + (1 + 7 * caps.len()))?;
+    let payload = payload_at(alloc, bytes, at + (1 + CAP_SIZE * caps.len()))?;
     Ok(Message { caps, payload })
 }
 
+// The message with its ends and its labels, which ends the bytes.
 fn data_at(alloc: Global, bytes: &[u8]) -> Result<Data, ReadFault>
     ensures { MatchResult result
         (λ d. (first_fault (data_fields bytes.now 2) ≡ None) × (drop 2 bytes.now ≡ data_bytes d))
@@ -49,9 +54,9 @@ fn data_at(alloc: Global, bytes: &[u8]) -> Result<Data, ReadFault>
     let (sender, from) = end_at(bytes, 2)?;
     let (receiver, to) = end_at(bytes, 13)?;
     let secrecy = label_at(alloc, bytes, 24)?;
-    let middle = 24 + (2 + 6 * secrecy.len());
+    let middle = 24 + (2 + NAME_SIZE * secrecy.len());
     let integrity = label_at(alloc, bytes, middle)?;
-    let message = message_at(alloc, bytes, middle + (2 + 6 * integrity.len()))?;
+    let message = message_at(alloc, bytes, middle + (2 + NAME_SIZE * integrity.len()))?;
     Ok(Data {
         sender,
         from,
@@ -68,7 +73,9 @@ fn data_at(alloc: Global, bytes: &[u8]) -> Result<Data, ReadFault>
 /// `BadPacket` where no packet spells them, at the first byte of the first field that is cut off, out of its range or against a
 /// rule with what came before it, or at the first byte after the packet's end. `Memory` where there is not enough memory.
 pub fn decode(alloc: Global, bytes: &[u8]) -> Result<Packet, ReadFault>
-    ensures { MatchResult result (λ packet. packet_bytes packet ≡ bytes.now) (IsBadOrMemory (packet_fields bytes.now)) }
+    ensures { MatchResult result
+        (λ packet. packet_bytes packet ≡ bytes.now)
+        (IsBadOrMemory (packet_fields bytes.now)) }
 {
     byte_at(bytes, 0, 0xf1, 0xf1)?;
     byte_at(bytes, 1, 4, 4)?;

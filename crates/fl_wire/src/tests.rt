@@ -1,4 +1,4 @@
-// Tests of packets and their bytes.
+//! Tests of packets and their bytes.
 use crate::fault::ReadFault;
 use crate::packet::{Data, Message, Packet};
 use crate::payload::Payload;

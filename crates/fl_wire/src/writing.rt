@@ -1,34 +1,19 @@
-// Packets to bytes.
+//! Packets to bytes.
 ghost use Rattle.std.specs.Prelude.{◌≡◌, ◌≤◌, ◌++◌, ◌∷◌, [], IfOk, OnOk};
 ghost use Rattle.fl_labels.specs.SetBy.{len};
-ghost use Rattle.fl_ops.specs.Bytes.{name_bytes, cap_bytes};
 ghost use Rattle.fl_wire.specs.PacketBytes.{pid_bytes, label_bytes, caps_bytes, message_bytes, data_bytes, packet_bytes};
 
 use crate::packet::{Data, Message, Packet};
-use fl_labels::cap::Cap;
 use fl_labels::cap_set::CapSet;
 use fl_labels::endpoint::Endpoint;
 use fl_labels::label::Label;
-use fl_labels::name::Name;
 use fl_labels::pid::Pid;
+use fl_ops::fields::{push_cap, push_name};
 use std::alloc::{AllocError, Global};
 
-fn push_name(out: &mut Vec<u8>, name: Name) -> Result<(), AllocError>
-    ensures { OnOk result (out.new.items ≡ out.old.items ++ name_bytes name) }
-{
-    out.extend_from_slice(&name.node.to_be_bytes())?;
-    out.extend_from_slice(&name.seq.to_be_bytes())
-}
-
-fn push_cap(out: &mut Vec<u8>, cap: Cap) -> Result<(), AllocError>
-    ensures { OnOk result (out.new.items ≡ out.old.items ++ cap_bytes cap) }
-{
-    out.push(cap.rank())?;
-    push_name(out, cap.name())
-}
-
 fn push_end(out: &mut Vec<u8>, pid: Pid, endpoint: Endpoint) -> Result<(), AllocError>
-    ensures { OnOk result (out.new.items ≡ out.old.items ++ (pid_bytes pid ++ endpoint.number ∷ [])) }
+    ensures { OnOk result
+        (out.new.items ≡ out.old.items ++ (pid_bytes pid ++ endpoint.number ∷ [])) }
 {
     out.extend_from_slice(&pid.node.to_be_bytes())?;
     out.extend_from_slice(&pid.boot.to_be_bytes())?;

@@ -3,7 +3,7 @@ use Rattle.fl_labels.specs.Cap.{cap_cmp}
 use Rattle.fl_ops.specs.Bytes.{cap_bytes}
 use Rattle.fl_wire.specs.Fields.{has_cap}
 use Rattle.fl_wire.specs.Fields.{cap_key}
-use Rattle.fl_wire.specs.Items.{key_of_cap}
+use Rattle.fl_wire.specs.parts.Items.{key_of_cap}
 use Rattle.fl_wire.proofs.Sets.{ReadTo}
 use Rattle.fl_wire.proofs.items.each_cap_at.Given as goal
 

@@ -3,7 +3,7 @@ use Rattle.fl_labels.specs.Name.{name_cmp}
 use Rattle.fl_ops.specs.Bytes.{name_bytes}
 use Rattle.fl_ops.specs.Grammar.{has_name}
 use Rattle.fl_wire.specs.Fields.{tag_key}
-use Rattle.fl_wire.specs.Items.{name_key}
+use Rattle.fl_wire.specs.parts.Items.{name_key}
 use Rattle.fl_wire.proofs.Sets.{ReadTo}
 use Rattle.fl_wire.proofs.items.tags_at.Given as goal
 

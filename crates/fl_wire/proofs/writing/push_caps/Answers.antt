@@ -7,7 +7,7 @@ use Rattle.fl_wire.proofs.writing.push_caps.Goals as goal
 
 pub loop-cap-preserved : goal.loop-cap-preserved
 loop-cap-preserved c =
-    pushed cap_bytes c.push.new.self.items c.loop-cap.out.items c.push_cap.new.out.items c.as_slice-members.result.now c.loop-cap.cap-index c.cap-item.result (omega arith) c.cap-item.is c.loop-cap.invariant c.in_ok-push_cap.ensures
+    pushed cap_bytes c.push.new.self.items c.loop-cap.out.items c.push_cap.new.out.items c.as_slice-members.result.now c.loop-cap.cap-index c.cap-item.result (omega arith) c.cap-item.is c.loop-cap.invariant c.in_ok-push_cap.ensures.ok
 
 pub returns : goal.returns
 returns c =

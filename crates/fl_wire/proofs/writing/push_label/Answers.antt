@@ -8,7 +8,7 @@ use Rattle.fl_wire.proofs.writing.push_label.Goals as goal
 
 pub loop-tag-preserved : goal.loop-tag-preserved
 loop-tag-preserved c =
-    pushed name_bytes c.extend_from_slice.new.self.items c.loop-tag.out.items c.push_name.new.out.items c.as_slice-tags.result.now c.loop-tag.tag-index c.tag-item.result (omega arith) c.tag-item.is c.loop-tag.invariant c.in_ok-push_name.ensures
+    pushed name_bytes c.extend_from_slice.new.self.items c.loop-tag.out.items c.push_name.new.out.items c.as_slice-tags.result.now c.loop-tag.tag-index c.tag-item.result (omega arith) c.tag-item.is c.loop-tag.invariant c.in_ok-push_name.ensures.ok
 
 pub returns : goal.returns
 returns c =

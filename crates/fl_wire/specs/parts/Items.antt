@@ -1,14 +1,14 @@
 -- Items that rise, read one after another.
-use Rattle.std.specs.Prelude.{◌≡◌, ℕ, ◌+◌, ◌*◌, Bool, true, ◌&&◌, List, [], ◌∷◌, ◌++◌, length, drop, Option, Some, None}
+use Rattle.std.specs.Prelude.{◌≡◌, ℕ, ◌+◌, ◌*◌, Bool, true, List, [], ◌∷◌, ◌++◌, length, drop, Option, Some, None}
 use Rattle.std.specs.declared.cmp.Ordering.{Ordering}
-use Rattle.std.specs.Cmp.Lexicographic.{slice_cmp}
-use Rattle.std.specs.Ordering.{nat_cmp, is_lt}
+use Rattle.std.specs.Ordering.{is_lt}
 use Rattle.std.specs.List.{flat_map}
 use Rattle.std.specs.List.Sorted.{IsStrictlySortedBy}
 use Rattle.fl_labels.specs.declared.name.Name.{Name}
 use Rattle.fl_labels.specs.declared.cap.Cap.{Cap}
 use Rattle.fl_labels.specs.Cap.{cap_name, cap_rank}
 use Rattle.fl_ops.specs.Grammar.{first_fault}
+use Rattle.fl_wire.specs.Fields.{is_next}
 
 -- what tags are ordered by
 abbrev pub name_key : Name → List ℕ
@@ -28,19 +28,17 @@ abbrev pub is_above : {K : Type 0} → (K → K → Ordering) → Option K → K
 is_above R None x = true
 is_above R (Some before) x = is_lt (R before x)
 
--- an item is at the place, and its key is above this one
-abbrev pub is_next : (ℕ → Bool) → (ℕ → List ℕ) → ℕ → List ℕ → Bool
-is_next there key at before = there at && is_lt (slice_cmp nat_cmp before (key at))
-
 -- x is the item at the place, above the one before
-pub record IsNext {K : Type 0} (R : K → K → Ordering) (spell : K → List ℕ) (key_of : K → List ℕ) (there : ℕ → Bool) (key : ℕ → List ℕ) (size : ℕ) (bytes : List ℕ) (at : ℕ) (before : Option K) (x : K) : Type 0 where
+pub record IsNext {K : Type 0} (R : K → K → Ordering) (spell : K → List ℕ) (key_of : K → List ℕ)
+    (there : ℕ → Bool) (key : ℕ → List ℕ) (size : ℕ) (bytes : List ℕ) (at : ℕ) (before : Option K) (x : K) : Type 0 where
   pub next : is_next there key at (key_before key_of before) ≡ true
   pub above : is_above R before x ≡ true
   pub keyed : key at ≡ key_of x
   pub spelled : drop at bytes ≡ spell x ++ drop (at + size) bytes
 
 -- xs are the items that stand in these fields, so many from a place on
-pub record AreRead {K : Type 0} (R : K → K → Ordering) (spell : K → List ℕ) (fields : List (ℕ × Bool)) (size : ℕ) (bytes : List ℕ) (at count : ℕ) (xs : List K) : Type 0 where
+pub record AreRead {K : Type 0} (R : K → K → Ordering) (spell : K → List ℕ) (fields : List (ℕ × Bool))
+    (size : ℕ) (bytes : List ℕ) (at count : ℕ) (xs : List K) : Type 0 where
   pub whole : first_fault fields ≡ None
   pub rises : IsStrictlySortedBy R xs
   pub counted : length xs ≡ count

@@ -1,7 +1,6 @@
--- A name from its six bytes, and an operation from its fields.
+-- What the readers of names and operations owe where they find one.
 use Rattle.std.proofs.Common.{None, nat_le, slice_index, ◌≡◌, ◌≢◌, ℕ, ◌+◌, ◌-◌, ◌*◌, ◌<◌, ◌≤◌, true, Bool, ◌&&◌, List, [], ◌∷◌, ◌++◌, length, get_or, take, drop, sym, ap, subst, refl, ◌∙◌, arith, length-drop, length-append, get_or-drop}
-use Rattle.std.proofs.lemmas.List.{drop-drop}
-use lib.Seq.{take-add}
+use Rattle.std.proofs.lemmas.List.{drop-drop, take-append-drop}
 use Rattle.std.specs.Int.{w16, w32, to_be_bytes, from_be_bytes}
 use Rattle.std.proofs.lemmas.Nat.{be_bytes_2, be_bytes_4}
 use Rattle.std.proofs.lemmas.Bool.{le-leb, lt-ltb, and_parts, leb-true, false≢true}
@@ -47,14 +46,16 @@ pub name_found : (bs : List ℕ) (at : ℕ) (field : List ℕ) (node seq : ℕ) 
     → node ≡ get_or field 0 0 * 256 + get_or field 1 0
     → seq ≡ ((get_or field 2 0 * 16777216 + get_or field 3 0 * 65536) + get_or field 4 0 * 256) + get_or field 5 0
     → node ≢ 0 → seq ≢ 0
-    → (has_name bs at ≡ true) × (take 6 (drop at bs) ≡ to_be_bytes w16 node ++ to_be_bytes w32 seq)
+    → (has_name bs at ≡ true) × (drop at bs ≡ (to_be_bytes w16 node ++ to_be_bytes w32 seq) ++ drop (at + 6) bs)
 name_found bs at field node seq fits within is p q some_node some_seq =
     let six : at + 6 - at ≡ 6 = omega arith in
     let long : 6 ≤ length (drop at bs) = omega (arith, length-drop at bs) in
     let numbers = read_cells (drop at bs) field node seq long (is ∙ ap (λ n. take n (drop at bs)) six) p q in
+    let six_cells : take 6 (drop at bs) ≡ to_be_bytes w16 node ++ to_be_bytes w32 seq =
+    cells (drop at bs) node seq long (λ i. subst (λ n. n < 256) (sym (get_or-drop at bs i 0)) (fits (at + i))) numbers.0 numbers.1 in
     let second : seq ≡ from_be_bytes w32 (take 4 (drop (at + 2) bs)) = numbers.1 ∙ ap (λ l. from_be_bytes w32 (take 4 l)) (drop-drop 2 at bs) in (
       rw (le-leb (at + 6) (length bs) within, ← numbers.0, ← second, lt-ltb 0 node (omega arith), lt-ltb 0 seq (omega arith)) refl,
-      cells (drop at bs) node seq long (λ i. subst (λ n. n < 256) (sym (get_or-drop at bs i 0)) (fits (at + i))) numbers.0 numbers.1,
+      sym (take-append-drop 6 (drop at bs)) ∙ (λ i. six_cells i ++ drop-drop 6 at bs i),
     )
 
 -- one more field that is there
@@ -65,53 +66,45 @@ fields_then (field ∷ fs) at there none is = absurd (cc)
 
 -- what `body_at` owes where it answers a put
 pub put_found : (bs : List ℕ) (kind : ℕ) (group : Name) (cap : Cap) → kind ≡ 3
-    → (has_name bs 8 ≡ true) × (take 6 (drop 8 bs) ≡ name_bytes group)
-    → (first_fault (cap_fields bs 14) ≡ None) × (take 7 (drop 14 bs) ≡ cap_bytes cap)
-    → (first_fault (body_fields bs kind 8) ≡ None) × (kind_byte (Put group cap) ≡ kind) × (21 ≡ 8 + length (body_bytes (Put group cap))) × (take 13 (drop 8 bs) ≡ body_bytes (Put group cap))
+    → (has_name bs 8 ≡ true) × (drop 8 bs ≡ name_bytes group ++ drop 14 bs)
+    → (first_fault (cap_fields bs 14) ≡ None) × (drop 14 bs ≡ cap_bytes cap ++ drop 21 bs)
+    → (first_fault (body_fields bs kind 8) ≡ None) × (kind_byte (Put group cap) ≡ kind)
+    × (take 13 (drop 8 bs) ≡ body_bytes (Put group cap))
 put_found bs kind group cap is named held = (
   rw (is, named.0, held.0) refl,
   sym is,
-  refl,
-  take-add 6 7 (drop 8 bs) ∙ ap (λ l. take 6 (drop 8 bs) ++ take 7 l) (drop-drop 6 8 bs) ∙ (λ i. named.1 i ++ held.1 i),
+  ap (take 13) (named.1 ∙ ap (λ l. name_bytes group ++ l) held.1),
 )
 
 -- what `body_at` owes where it answers a login
 pub login_found : (bs : List ℕ) (kind : ℕ) (cap : Cap) (digest : Digest) → kind ≡ 4
-    → (first_fault (cap_fields bs 8) ≡ None) × (take 7 (drop 8 bs) ≡ cap_bytes cap)
+    → (first_fault (cap_fields bs 8) ≡ None) × (drop 8 bs ≡ cap_bytes cap ++ drop 15 bs)
     → (has_digest bs 15 ≡ true) × (take 32 (drop 15 bs) ≡ digest.bytes)
-    → (first_fault (body_fields bs kind 8) ≡ None) × (kind_byte (MakeLogin cap digest) ≡ kind) × (47 ≡ 8 + length (body_bytes (MakeLogin cap digest)))
+    → (first_fault (body_fields bs kind 8) ≡ None) × (kind_byte (MakeLogin cap digest) ≡ kind)
     × (take (length (body_bytes (MakeLogin cap digest))) (drop 8 bs) ≡ body_bytes (MakeLogin cap digest))
-login_found bs kind cap digest is held hashed =
-    let long : length (body_bytes (MakeLogin cap digest)) ≡ 7 + 32 = length-append (cap_bytes cap) digest.bytes ∙ ap (λ n. 7 + n) digest.sized in (
-      rw is (fields_then (cap_fields bs 8) 15 (has_digest bs 15) held.0 hashed.0),
-      sym is,
-      sym (ap (λ n. 8 + n) long),
-      ap (λ n. take n (drop 8 bs)) long ∙ take-add 7 32 (drop 8 bs) ∙ ap (λ l. take 7 (drop 8 bs) ++ take 32 l) (drop-drop 7 8 bs) ∙ (λ i. held.1 i ++ hashed.1 i),
-    )
-
-one_byte : (x : ℕ) (b : Bool) → (b && (nat_le 1 x && nat_le x 1)) ≡ true → x ≡ 1
-one_byte x b h =
-    let parts = and_parts (nat_le 1 x) (nat_le x 1) (and_parts b (nat_le 1 x && nat_le x 1) h).1 in
-    omega (arith, leb-true 1 x parts.0, leb-true x 1 parts.1)
-
--- the two bytes before the name
-front_bytes : (bs : List ℕ) (kind : ℕ) → has_byte bs 0 1 1 ≡ true → has_byte bs 1 1 4 ≡ true → kind ≡ slice_index bs 1 → take 2 bs ≡ 1 ∷ kind ∷ []
-front_bytes [] kind a b e = absurd (false≢true a)
-front_bytes (x ∷ []) kind a b e = absurd (false≢true b)
-front_bytes (x ∷ y ∷ bs) kind a b e = λ i. one_byte x _ a i ∷ sym e i ∷ []
+login_found bs kind cap digest is held hashed = (
+  rw is (fields_then (cap_fields bs 8) 15 (has_digest bs 15) held.0 hashed.0),
+  sym is,
+  ap (λ n. take n (drop 8 bs)) (length-append (cap_bytes cap) digest.bytes ∙ ap (λ n. 7 + n) digest.sized)
+      ∙ ap (take 39) held.1 ∙ ap (λ l. cap_bytes cap ++ l) hashed.1,
+)
 
 -- what `decode` owes where it answers an operation
-pub op_found : (bs : List ℕ) (kind : ℕ) (name : Name) (body : Body) (end : ℕ)
-    → has_byte bs 0 1 1 ≡ true → (has_byte bs 1 1 4 ≡ true) × (kind ≡ slice_index bs 1)
-    → (has_name bs 2 ≡ true) × (take 6 (drop 2 bs) ≡ name_bytes name)
-    → (first_fault (body_fields bs kind 8) ≡ None) × (kind_byte body ≡ kind) × (end ≡ 8 + length (body_bytes body)) × (take (length (body_bytes body)) (drop 8 bs) ≡ body_bytes body)
-    → (op_fault bs ≡ None) × (end ≡ length (op_bytes (record { name = name; body = body }))) × (take end bs ≡ op_bytes (record { name = name; body = body }))
-op_found bs kind name body end format found named rest =
-    let m = length (body_bytes body) in
-    let parts : take (2 + (6 + m)) bs ≡ take 2 bs ++ (take 6 (drop 2 bs) ++ take m (drop 8 bs)) =
-    take-add 2 (6 + m) bs ∙ ap (λ l. take 2 bs ++ l) (take-add 6 m (drop 2 bs) ∙ ap (λ l. take 6 (drop 2 bs) ++ take m l) (drop-drop 6 2 bs)) in
-    let same : end ≡ 2 + (6 + m) = omega (arith, rest.2) in (
-      rw (format, found.0, named.0, ← found.1, rest.0) refl,
-      omega (arith, rest.2),
-      rw (same, parts, front_bytes bs kind format found.0 found.1, named.1, rest.3, rest.1) refl,
+pub op_found : (bs : List ℕ) (format kind : ℕ) (name : Name) (body : Body) (end : ℕ)
+    → (has_byte bs 0 1 1 ≡ true) × (format ≡ slice_index bs 0) × (1 ≤ format) × (format ≤ 1) × (drop 0 bs ≡ format ∷ drop 1 bs)
+    → (has_byte bs 1 1 4 ≡ true) × (kind ≡ slice_index bs 1) × (1 ≤ kind) × (kind ≤ 4) × (drop 1 bs ≡ kind ∷ drop 2 bs)
+    → (has_name bs 2 ≡ true) × (drop 2 bs ≡ name_bytes name ++ drop 8 bs)
+    → (first_fault (body_fields bs kind 8) ≡ None) × (kind_byte body ≡ kind)
+    × (take (length (body_bytes body)) (drop 8 bs) ≡ body_bytes body)
+    → end ≡ length (op_bytes (record { name = name; body = body }))
+    → (op_fault bs ≡ None) × (end ≡ length (op_bytes (record { name = name; body = body })))
+    × (take end bs ≡ op_bytes (record { name = name; body = body }))
+op_found bs format kind name body end first second named rest same =
+    let one : format ≡ 1 = omega (arith, first.2, first.3) in
+    let whole : bs ≡ format ∷ kind ∷ (name_bytes name ++ drop 8 bs) =
+    first.4 ∙ ap (λ l. format ∷ l) (second.4 ∙ ap (λ l. kind ∷ l) named.1) in (
+      rw (first.0, second.0, named.0, ← second.1, rest.0) refl,
+      same,
+      ap (λ n. take n bs) same ∙ ap (take (length (op_bytes (record { name = name; body = body })))) whole
+          ∙ (λ i. one i ∷ sym rest.1 i ∷ (name_bytes name ++ rest.2 i)),
     )
