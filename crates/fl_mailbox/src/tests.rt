@@ -1,7 +1,7 @@
 // Tests of mailbox.
-use crate::mailbox::Mailbox;
 use crate::endpoints::{Endpoints, OpenEndpoint};
 use crate::inbox::{Inbox, MOST_LETTERS};
+use crate::mailbox::Mailbox;
 use crate::offender::{Offender, first_unsafe};
 use fl_labels::cap::Cap;
 use fl_labels::cap_set::CapSet;
