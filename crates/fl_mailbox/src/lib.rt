@@ -5,5 +5,3 @@ pub mod endpoints;
 pub mod inbox;
 pub mod mailbox;
 pub mod offender;
-#[cfg(test)]
-mod tests;
