@@ -1,4 +1,5 @@
--- Entries of an ordered map as a finite map.
+-- The entries of an ordered map as a finite map: what a look, a write and a removal in the code say of the map, and the order of
+-- what it lists. For maps of any keys, so that the crates above use it too.
 use Rattle.std.proofs.Common.{arith, ◌≡◌, Bool, true, false, cond, List, [], ◌∷◌, length, refl, sym, ap, ◌∙◌, Some, None, Ordering, Less}
 use Rattle.std.specs.Cmp.{IsTotalOrder, eq_by_cmp_equiv, Equal-is, tied_itself}
 use Rattle.std.specs.List.{AllByRecursion}
@@ -30,15 +31,43 @@ module _ {K X : Type 0} {R : K → K → Ordering} (o : IsTotalOrder R) (exact :
   pub get_held : (es : List (K × X)) (m : map.FinMap R X) (q : K) → map.from_entries es ≡ m → lookup (is_at (R q)) es ≡ map.get m q
   get_held es m q e = sym (get_entry es q) ∙ ap (λ m. map.get m q) e
 
-  pub one_put : (es fs : List (K × X)) (m : map.FinMap R X) (k : K) (x : X) → map.from_entries es ≡ m → ((q : K) → lookup (is_at (R q)) fs ≡ cond (is_at (R k) q) (Some x) (lookup (is_at (R q)) es)) → map.from_entries fs ≡ map.insert m k x
+  -- one value was put
+  pub one_put : (es fs : List (K × X)) (m : map.FinMap R X) (k : K) (x : X) → map.from_entries es ≡ m
+      → ((q : K) → lookup (is_at (R q)) fs ≡ cond (is_at (R k) q) (Some x) (lookup (is_at (R q)) es))
+      → map.from_entries fs ≡ map.insert m k x
   one_put es fs m k x e h = same_map o exact _ _ (λ q.
       get_entry fs q ∙ h q ∙ ap (λ b. cond b (Some x) (lookup (is_at (R q)) es)) ((eq_by_cmp_equiv o).symm k q)
       ∙ ap (cond (eq_by_cmp R q k) (Some x)) (get_held es m q e) ∙ sym (get-insert o m k x q))
 
-  pub one_gone : (es fs : List (K × X)) (m : map.FinMap R X) (k : K) → map.from_entries es ≡ m → ((q : K) → lookup (is_at (R q)) fs ≡ cond (is_at (R k) q) None (lookup (is_at (R q)) es)) → map.from_entries fs ≡ map.remove m k
+  -- one value was taken away
+  pub one_gone : (es fs : List (K × X)) (m : map.FinMap R X) (k : K) → map.from_entries es ≡ m
+      → ((q : K) → lookup (is_at (R q)) fs ≡ cond (is_at (R k) q) None (lookup (is_at (R q)) es))
+      → map.from_entries fs ≡ map.remove m k
   one_gone es fs m k e h = same_map o exact _ _ (λ q.
       get_entry fs q ∙ h q ∙ ap (λ b. cond b None (lookup (is_at (R q)) es)) ((eq_by_cmp_equiv o).symm k q)
       ∙ ap (cond (eq_by_cmp R q k) None) (get_held es m q e) ∙ sym (get-remove o m k q))
+
+  -- to put what is there changes nothing
+  pub put_same : (m : map.FinMap R X) (k : K) (x : X) → map.get m k ≡ Some x → map.insert m k x ≡ m
+  put_same m k x e = same_map o exact _ _ (λ q. get-insert o m k x q ∙ go q (eq_by_cmp R q k) refl)
+    where
+      go : (q : K) (b : Bool) → eq_by_cmp R q k ≡ b → cond b (Some x) (map.get m q) ≡ map.get m q
+      go q true h = sym e ∙ ap (map.get m) (sym (exact q k ((Equal-is (R q k)).0 h)))
+      go q false h = refl
+
+  -- what was put is there
+  pub get_put : (m : map.FinMap R X) (k : K) (x : X) → map.get (map.insert m k x) k ≡ Some x
+  get_put m k x = get-insert o m k x k ∙ ap (λ b. cond b (Some x) (map.get m k)) (ap is_eq (tied_itself o k))
+
+  -- to put twice is to put the second
+  pub put_over : (m : map.FinMap R X) (k : K) (x y : X) → map.insert (map.insert m k x) k y ≡ map.insert m k y
+  put_over m k x y = same_map o exact _ _ (λ q.
+      get-insert o (map.insert m k x) k y q ∙ ap (cond (eq_by_cmp R q k) (Some y)) (get-insert o m k x q)
+      ∙ twice (eq_by_cmp R q k) q ∙ sym (get-insert o m k y q))
+    where
+      twice : (b : Bool) (q : K) → cond b (Some y) (cond b (Some x) (map.get m q)) ≡ cond b (Some y) (map.get m q)
+      twice true q = refl
+      twice false q = refl
 
   -- a value written over that of a key
   written : (es : List (K × X)) (k : K) (x w : X) (q : K) → lookup (is_at (R k)) es ≡ Some x → lookup (is_at (R q)) (set_value (is_at (R k)) es w) ≡ cond (is_at (R k) q) (Some w) (lookup (is_at (R q)) es)

@@ -1,3 +1,4 @@
 pub mod Endpoints
-pub mod Offenders
 pub mod Mailbox
+pub mod Offenders
+pub mod TableLaws

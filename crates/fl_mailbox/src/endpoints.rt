@@ -1,4 +1,4 @@
-// Open endpoints.
+//! The open endpoints of a process.
 ghost use Rattle.std.specs.Option.{option_copied};
 ghost use Rattle.std.specs.Prelude.{◌≡◌, true, false, None, Some, is_some, OnOk, OnErr};
 ghost use Rattle.std.specs.FinMap as map;
@@ -109,7 +109,8 @@ impl Endpoints {
 
     /// Gives an open endpoint these labels in the place of its own. Leaves all as it was where it is not open. Takes no memory.
     pub fn set_labels(&mut self, endpoint: Endpoint, labels: Labels)
-        ensures there { (opened : OpenEndpoint) → map.get self.old endpoint ≡ Some opened → self.new ≡ map.insert self.old endpoint (record opened { labels = labels }) }
+        ensures there { (opened : OpenEndpoint) → map.get self.old endpoint ≡ Some opened →
+            self.new ≡ map.insert self.old endpoint (record opened { labels = labels }) }
         ensures absent { map.get self.old endpoint ≡ None → self.new ≡ self.old }
     {
         let Some(opened) = self.all.get_mut(&endpoint) else {

@@ -1,4 +1,4 @@
-// Messages that wait.
+//! The messages that wait for a process.
 ghost use Rattle.std.specs.Prelude.{◌≡◌, ◌++◌, ◌∷◌, [], length, nat_le, OnOk, OnErr};
 ghost use Rattle.fl_mailbox.specs.Mailbox.{oldest, without_oldest};
 
@@ -41,7 +41,7 @@ impl Inbox {
 
     /// Whether as many messages wait as may.
     pub fn is_full(&self) -> bool
-        ensures { result ≡ nat_le 256 (length self.now) }
+        ensures { result ≡ nat_le MOST_LETTERS (length self.now) }
     {
         self.letters.len() >= MOST_LETTERS
     }

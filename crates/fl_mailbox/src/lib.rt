@@ -1,9 +1,7 @@
 //! The mailbox of a process: its open endpoints, and the messages that wait for it.
 #![tactic(auto)]
 
-pub mod mailbox;
 pub mod endpoints;
 pub mod inbox;
+pub mod mailbox;
 pub mod offender;
-#[cfg(test)]
-mod tests;

@@ -1,4 +1,4 @@
-// All mailbox of a process.
+//! The mailbox of a process.
 ghost use Rattle.std.specs.Prelude.{◌≡◌};
 ghost use Rattle.fl_mailbox.specs.Mailbox.{closed};
 

@@ -1,6 +1,6 @@
-// What makes endpoints unsafe.
-ghost use Rattle.std.specs.Prelude.{MatchOption};
-ghost use Rattle.fl_labels.specs.Found.{IsLeastOutside, Within};
+//! What makes endpoints unsafe.
+ghost use Rattle.fl_labels.specs.Found.{Within};
+ghost use Rattle.fl_rules.specs.Judges.{Judges};
 ghost use Rattle.fl_rules.specs.Labels.{sets_of};
 ghost use Rattle.fl_mailbox.specs.Offenders.{offender_cmp, CrossesAt, DualAt};
 
@@ -25,7 +25,8 @@ pub fn first_unsafe<H: Has>(
     process: LabelsRef<'_>,
     endpoints: &Endpoints,
 ) -> Option<Offender>
-    ensures found { MatchOption result (Within (CrossesAt (sets_of process.entry) endpoints.now) (DualAt (H.effective has.old))) (IsLeastOutside offender_cmp (CrossesAt (sets_of process.entry) endpoints.now) (DualAt (H.effective has.old))) }
+    ensures found { let P = CrossesAt (sets_of process.entry) endpoints.now in let Q = DualAt (H.effective has.old) in
+        Judges offender_cmp (Within P Q) P Q result }
     ensures same { H.keeps has.old has.new }
 {
     for (endpoint, opened) in endpoints.iter() {

@@ -13,7 +13,7 @@ use Rattle.fl_rules.specs.declared.endpoint.Mode.TheVariants.{Read, Write, Both}
 use Rattle.fl_labels.specs.Caps.{Dual}
 use Rattle.fl_rules.specs.declared.labels.Labels.{Labels}
 use Rattle.fl_rules.specs.Endpoint.{Crosses, SafeEndpoint}
-use Rattle.fl_rules.specs.Walk.{OnlyIn}
+use Rattle.fl_rules.specs.parts.Walk.{OnlyIn}
 use Rattle.fl_rules.proofs.Duals.{dual_same}
 
 -- what one list of members has alone, its label has alone

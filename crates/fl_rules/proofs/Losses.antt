@@ -9,7 +9,7 @@ use Rattle.fl_labels.specs.Name.{name_cmp}
 use Rattle.fl_labels.specs.Cap.{cap_name}
 use Rattle.fl_labels.specs.Found.{Found, FoundAs}
 use Rattle.fl_labels.proofs.Searches.{found_as}
-use Rattle.fl_rules.specs.Walk.{OnlyIn, Turns, Heads, Leads}
+use Rattle.fl_rules.specs.parts.Walk.{OnlyIn, Turns, Heads, Leads}
 
 level : (o : Ordering) → is_gt (ordering_then o Equal) ≡ false → is_gt o ≡ false
 level Less e = refl

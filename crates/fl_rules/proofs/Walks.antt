@@ -16,7 +16,7 @@ use Rattle.fl_labels.specs.NameOrder.{name_total, name_exact}
 use Rattle.fl_labels.specs.SetBy.{SetBy, members, members_rise, contains-members}
 use Rattle.fl_labels.specs.Found.{Found, FoundAs, Within, IsLeastOutside}
 use Rattle.fl_rules.specs.Safety.{Takes, SafeChange}
-use Rattle.fl_rules.specs.Walk.{among, OnlyIn, Turns, Heads, Leads, Splits}
+use Rattle.fl_rules.specs.parts.Walk.{among, OnlyIn, Turns, Heads, Leads, Splits}
 
 -- the tag comes before each of these
 abbrev Before : Name → List Name → Type 0

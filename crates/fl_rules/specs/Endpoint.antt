@@ -1,12 +1,11 @@
 -- When an endpoint of a process is safe, for who has the effective set E.
 use Rattle.std.specs.Prelude.{◌≡◌, ◌⊎◌, Bool, true, false}
 use Rattle.fl_labels.specs.declared.name.Name.{Name}
-use Rattle.fl_labels.specs.declared.cap.Cap.{Cap}
+use Rattle.fl_labels.specs.Caps.{Caps, Dual}
 use Rattle.fl_labels.specs.SetBy.{IsMissing}
 use Rattle.fl_labels.specs.Found.{Within}
 use Rattle.fl_rules.specs.declared.endpoint.Mode.{Mode}
 use Rattle.fl_rules.specs.declared.endpoint.Mode.TheVariants.{Read, Write, Both}
-use Rattle.fl_labels.specs.Caps.{Dual}
 use Rattle.fl_rules.specs.declared.labels.Labels.{Labels}
 
 -- messages go to the process
@@ -26,15 +25,15 @@ abbrev pub Loosens : Labels → Labels → Name → Type 0
 Loosens from to tag = IsMissing from.secrecy to.secrecy tag ⊎ IsMissing to.integrity from.integrity tag
 
 -- the way from the endpoint to its process
-abbrev pub SafeRead : (Cap → Type 0) → Labels → Labels → Type 0
+abbrev pub SafeRead : Caps → Labels → Labels → Type 0
 SafeRead E process endpoint = Within (Loosens endpoint process) (Dual E)
 
 -- the way from the process to its endpoint
-abbrev pub SafeWrite : (Cap → Type 0) → Labels → Labels → Type 0
+abbrev pub SafeWrite : Caps → Labels → Labels → Type 0
 SafeWrite E process endpoint = Within (Loosens process endpoint) (Dual E)
 
 -- each way that the mode names
-pub record SafeEndpoint (E : Cap → Type 0) (mode : Mode) (process endpoint : Labels) : Type 0 where
+pub record SafeEndpoint (E : Caps) (mode : Mode) (process endpoint : Labels) : Type 0 where
   pub read : reads mode ≡ true → SafeRead E process endpoint
   pub write : writes mode ≡ true → SafeWrite E process endpoint
 

@@ -1,6 +1,7 @@
 pub mod Endpoint
+pub mod Judges
 pub mod Labels
 pub mod Message
 pub mod Pair
 pub mod Safety
-pub mod Walk
+pub mod parts

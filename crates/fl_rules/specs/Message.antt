@@ -3,14 +3,14 @@ use Rattle.std.specs.Prelude.{◌≡◌, ◌⊎◌, Bool, true}
 use Rattle.fl_labels.specs.declared.name.Name.{Name}
 use Rattle.fl_labels.specs.declared.cap.Cap.{Cap}
 use Rattle.fl_labels.specs.SetBy.{In}
-use Rattle.fl_labels.specs.Caps.{Dual}
+use Rattle.fl_labels.specs.Caps.{Caps, Dual}
 use Rattle.fl_rules.specs.declared.labels.Labels.{Labels}
 
 -- p has E in effect, and sends; q has F in effect, and receives
-pub record SafeMessage (E : Cap → Type 0) (p : Labels) (F : Cap → Type 0) (q : Labels) : Type 0 where
+pub record SafeMessage (E : Caps) (p : Labels) (F : Caps) (q : Labels) : Type 0 where
   pub secrecy : (tag : Name) → In p.secrecy tag → ¬ Dual E tag → In q.secrecy tag ⊎ Dual F tag
   pub integrity : (tag : Name) → In q.integrity tag → ¬ Dual F tag → In p.integrity tag ⊎ Dual E tag
 
 -- the capabilities of which this is true
-abbrev pub Marked : (Cap → Bool) → Cap → Type 0
+abbrev pub Marked : (Cap → Bool) → Caps
 Marked marks cap = marks cap ≡ true

@@ -31,6 +31,10 @@ pub record SafePair (sender receiver : End) : Type 0 where
 pub data PairFails (sender receiver : End) : PairFault → Type 0 where
   not_writable : writes sender.mode ≡ false → PairFails sender receiver NotWritable
   not_readable : writes sender.mode ≡ true → reads receiver.mode ≡ false → PairFails sender receiver NotReadable
-  secrecy : {tag : Name} → writes sender.mode ≡ true → reads receiver.mode ≡ true → IsLeastOutside name_cmp (In sender.labels.secrecy) (In receiver.labels.secrecy) tag → PairFails sender receiver (Secrecy tag)
-  integrity : {tag : Name} → writes sender.mode ≡ true → reads receiver.mode ≡ true → Within (In sender.labels.secrecy) (In receiver.labels.secrecy)
-      → IsLeastOutside name_cmp (In receiver.labels.integrity) (In sender.labels.integrity) tag → PairFails sender receiver (Integrity tag)
+  secrecy : {tag : Name} → writes sender.mode ≡ true → reads receiver.mode ≡ true
+      → IsLeastOutside name_cmp (In sender.labels.secrecy) (In receiver.labels.secrecy) tag
+      → PairFails sender receiver (Secrecy tag)
+  integrity : {tag : Name} → writes sender.mode ≡ true → reads receiver.mode ≡ true
+      → Within (In sender.labels.secrecy) (In receiver.labels.secrecy)
+      → IsLeastOutside name_cmp (In receiver.labels.integrity) (In sender.labels.integrity) tag
+      → PairFails sender receiver (Integrity tag)

@@ -1,11 +1,11 @@
-// When a label may become another.
-ghost use Rattle.std.specs.Prelude.{MatchOption};
+//! When a label may become another.
 ghost use Rattle.std.specs.List.Sorted.{IsStrictlySortedBy};
 ghost use Rattle.fl_labels.specs.Cap.{cap_cmp};
 ghost use Rattle.fl_labels.specs.Name.{name_cmp};
-ghost use Rattle.fl_labels.specs.Found.{Found, IsLeastOutside};
+ghost use Rattle.fl_labels.specs.Found.{Found};
+ghost use Rattle.fl_rules.specs.Judges.{Judges};
 ghost use Rattle.fl_rules.specs.Safety.{Takes, SafeChange};
-ghost use Rattle.fl_rules.specs.Walk.{Turns};
+ghost use Rattle.fl_rules.specs.parts.Walk.{Turns};
 
 use crate::has::Has;
 use crate::walk::split_change;
@@ -37,7 +37,8 @@ fn first_wanting<H: Has>(has: &mut H, from: &[Name], to: &[Name]) -> Option<Cap>
 /// The least capability that the change of a label takes and that is not in effect, or none where all are. One walk along
 /// both labels, with one question for each tag that only one of them has. Takes no memory.
 pub fn safe_change<H: Has>(has: &mut H, from: &Label, to: &Label) -> Option<Cap>
-    ensures found { MatchOption result (SafeChange (H.effective has.old) from.now to.now) (IsLeastOutside cap_cmp (Takes from.now to.now) (H.effective has.old)) }
+    ensures found { let E = H.effective has.old in
+        Judges cap_cmp (SafeChange E from.now to.now) (Takes from.now to.now) E result }
     ensures same { H.keeps has.old has.new }
 {
     first_wanting(has, from.as_slice(), to.as_slice())

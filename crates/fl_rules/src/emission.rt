@@ -1,8 +1,9 @@
-// When something may leave for the outside.
-ghost use Rattle.std.specs.Prelude.{⊤, MatchOption};
+//! When something may leave for the outside.
+ghost use Rattle.std.specs.Prelude.{⊤};
 ghost use Rattle.fl_labels.specs.Name.{name_cmp};
 ghost use Rattle.fl_labels.specs.SetBy.{In};
-ghost use Rattle.fl_labels.specs.Found.{IsFirst, IsLeastOutside};
+ghost use Rattle.fl_labels.specs.Found.{IsFirst};
+ghost use Rattle.fl_rules.specs.Judges.{Judges};
 ghost use Rattle.fl_rules.specs.Safety.{SafeEmission};
 ghost use Rattle.fl_labels.specs.Caps.{Dual};
 
@@ -26,7 +27,8 @@ fn first_kept<H: Has>(has: &mut H, tags: &[Name]) -> Option<Name>
 /// The least tag of the label that may not be both added and removed, and so may not leave for the outside, or none where the
 /// whole label may. At most two questions for each tag. Takes no memory.
 pub fn safe_emit<H: Has>(has: &mut H, secrecy: &Label) -> Option<Name>
-    ensures found { MatchOption result (SafeEmission (H.effective has.old) secrecy.now) (IsLeastOutside name_cmp (In secrecy.now) (Dual (H.effective has.old))) }
+    ensures found { let E = H.effective has.old in
+        Judges name_cmp (SafeEmission E secrecy.now) (In secrecy.now) (Dual E) result }
     ensures same { H.keeps has.old has.new }
 {
     first_kept(has, secrecy.as_slice())

@@ -1,10 +1,11 @@
-// When an endpoint of a process is safe.
-ghost use Rattle.std.specs.Prelude.{◌≡◌, Some, MatchOption};
+//! When an endpoint of a process is safe.
+ghost use Rattle.std.specs.Prelude.{◌≡◌, Some};
 ghost use Rattle.fl_labels.specs.Name.{name_cmp};
 ghost use Rattle.fl_labels.specs.declared.cap.Cap.TheVariants.{Minus};
 ghost use Rattle.fl_labels.specs.SetBy.{IsMissing};
-ghost use Rattle.fl_labels.specs.Found.{Found, Finds, IsLeastOutside, lesser_of};
+ghost use Rattle.fl_labels.specs.Found.{Found, Finds, lesser_of};
 ghost use Rattle.fl_labels.specs.Caps.{Dual};
+ghost use Rattle.fl_rules.specs.Judges.{Judges};
 ghost use Rattle.fl_rules.specs.Labels.{sets_of};
 ghost use Rattle.fl_rules.specs.Endpoint.{reads, writes, Loosens, Crosses, SafeEndpoint};
 
@@ -91,7 +92,8 @@ fn lesser(a: Option<Name>, b: Option<Name>) -> Option<Name>
 // The least tag of secrecy lost, or of integrity gained, on the way from the first labels to the second, that may not be both
 // added and removed.
 fn first_loosened<H: Has>(has: &mut H, from: LabelsRef<'_>, to: LabelsRef<'_>) -> Option<Name>
-    ensures found { Found name_cmp (Loosens (sets_of from.entry) (sets_of to.entry)) (Dual (H.effective has.old)) result }
+    ensures found { let D = Dual (H.effective has.old) in
+        Found name_cmp (Loosens (sets_of from.entry) (sets_of to.entry)) D result }
     ensures same { H.keeps has.old has.new }
 {
     let lost = first_lost(has, from.secrecy, to.secrecy);
@@ -107,7 +109,8 @@ pub fn safe_endpoint<H: Has>(
     process: LabelsRef<'_>,
     endpoint: LabelsRef<'_>,
 ) -> Option<Name>
-    ensures found { MatchOption result (SafeEndpoint (H.effective has.old) mode (sets_of process.entry) (sets_of endpoint.entry)) (IsLeastOutside name_cmp (Crosses mode (sets_of process.entry) (sets_of endpoint.entry)) (Dual (H.effective has.old))) }
+    ensures found { let E = H.effective has.old in let p = sets_of process.entry in let e = sets_of endpoint.entry in
+        Judges name_cmp (SafeEndpoint E mode p e) (Crosses mode p e) (Dual E) result }
     ensures same { H.keeps has.old has.new }
 {
     match mode {

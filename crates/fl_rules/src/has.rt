@@ -1,4 +1,4 @@
-// Who has capabilities in effect.
+//! Who has capabilities in effect.
 ghost use Rattle.fl_labels.specs.Found.{Tells};
 ghost use Rattle.fl_labels.specs.Caps.{Dual};
 

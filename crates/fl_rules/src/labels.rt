@@ -1,4 +1,4 @@
-// The two labels of a process, or of one of its endpoints.
+//! The two labels of a process, or of one of its endpoints.
 ghost use Rattle.std.specs.Prelude.{◌≡◌, IfOk};
 ghost use Rattle.fl_labels.specs.SetBy as set;
 ghost use Rattle.fl_rules.specs.Labels.{sets_of};

@@ -1,4 +1,4 @@
-// Laws of what is safe.
+//! Laws of what is safe.
 ghost use Rattle.std.specs.Prelude.{Bool};
 ghost use Rattle.fl_labels.specs.declared.cap.Cap.{Cap};
 ghost use Rattle.fl_labels.specs.Found.{Within};

@@ -8,6 +8,4 @@ pub mod has;
 pub mod labels;
 pub mod laws;
 pub mod pair;
-#[cfg(test)]
-mod tests;
 mod walk;

@@ -1,4 +1,4 @@
-// When a message may go from one endpoint to another.
+//! When a message may go from one endpoint to another.
 ghost use Rattle.std.specs.Prelude.{MatchOption};
 ghost use Rattle.fl_rules.specs.Pair.{end_of, SafePair, PairFails};
 
@@ -29,7 +29,8 @@ pub enum PairFault {
 /// The first fault, in the order of `PairFault`, of a message from the sender's endpoint to the receiver's, or none where it is
 /// safe. One walk along the secrecy of both, and one along their integrity. Takes no memory.
 pub fn safe_pair(sender: EndRef<'_>, receiver: EndRef<'_>) -> Option<PairFault>
-    ensures { MatchOption result (SafePair (end_of sender.entry) (end_of receiver.entry)) (PairFails (end_of sender.entry) (end_of receiver.entry)) }
+    ensures { let from = end_of sender.entry in let to = end_of receiver.entry in
+        MatchOption result (SafePair from to) (PairFails from to) }
 {
     if !sender.mode.writes() {
         return Some(PairFault::NotWritable);

@@ -1,8 +1,8 @@
-// The way from one list of tags to another.
+//! The way from one list of tags to another.
 ghost use Rattle.std.specs.Prelude.{◌≡◌, [], MatchOption};
 ghost use Rattle.std.specs.List.Sorted.{IsStrictlySortedBy};
 ghost use Rattle.fl_labels.specs.Name.{name_cmp};
-ghost use Rattle.fl_rules.specs.Walk.{Splits};
+ghost use Rattle.fl_rules.specs.parts.Walk.{Splits};
 
 use fl_labels::cap::Cap;
 use fl_labels::name::Name;
@@ -20,7 +20,8 @@ pub(crate) struct Step<'a> {
 pub(crate) fn split_change<'a>(from: &'a [Name], to: &'a [Name]) -> Option<Step<'a>>
     requires from_rises { IsStrictlySortedBy name_cmp from.now }
     requires to_rises { IsStrictlySortedBy name_cmp to.now }
-    ensures { MatchOption result ((from.now ≡ []) × (to.now ≡ [])) (λ step. Splits from.now to.now step.cap step.from.now step.to.now) }
+    ensures { MatchOption result ((from.now ≡ []) × (to.now ≡ []))
+        (λ step. Splits from.now to.now step.cap step.from.now step.to.now) }
 {
     match (from.split_first(), to.split_first()) {
         (None, None) => None,

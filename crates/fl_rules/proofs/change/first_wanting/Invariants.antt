@@ -4,7 +4,7 @@ use Rattle.fl_labels.specs.declared.cap.Cap.{Cap}
 use Rattle.fl_labels.specs.Name.{name_cmp}
 use Rattle.fl_labels.specs.Cap.{cap_cmp}
 use Rattle.fl_labels.specs.Found.{Found}
-use Rattle.fl_rules.specs.Walk.{Turns}
+use Rattle.fl_rules.specs.parts.Walk.{Turns}
 use Rattle.fl_rules.proofs.change.first_wanting.Given as goal
 
 -- what the rest wants is what all want

@@ -5,7 +5,7 @@ use Rattle.fl_labels.specs.Name.{name_cmp}
 use Rattle.fl_labels.specs.SetBy.{IsMissing}
 use Rattle.fl_labels.specs.Found.{Found}
 use Rattle.fl_labels.specs.Caps.{Dual}
-use Rattle.fl_rules.specs.Walk.{OnlyIn}
+use Rattle.fl_rules.specs.parts.Walk.{OnlyIn}
 use Rattle.fl_rules.proofs.endpoint.first_lost.Given as goal
 
 -- what the rest loses is what all lose

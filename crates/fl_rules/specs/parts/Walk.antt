@@ -10,6 +10,7 @@ use Rattle.fl_labels.specs.declared.cap.Cap.{Cap}
 use Rattle.fl_labels.specs.declared.cap.Cap.TheVariants.{Plus, Minus, Use, Grow}
 use Rattle.fl_labels.specs.Name.{name_cmp}
 use Rattle.fl_labels.specs.Cap.{cap_cmp}
+use Rattle.fl_labels.specs.Caps.{Caps}
 
 -- whether the tag is one of these
 abbrev pub among : Name → List Name → Bool
@@ -21,20 +22,20 @@ pub record OnlyIn (these others : List Name) (tag : Name) : Type 0 where
   pub not_there : among tag others ≡ false
 
 -- what it takes to turn the first list into the second
-abbrev pub Turns : List Name → List Name → Cap → Type 0
+abbrev pub Turns : List Name → List Name → Caps
 Turns old new (Plus tag) = OnlyIn new old tag
 Turns old new (Minus tag) = OnlyIn old new tag
 Turns old new (Use group) = ⊥
 Turns old new (Grow group) = ⊥
 
 -- P is what Q is and the first besides, which is the least of P
-pub record Heads (first : Cap) (P Q : Cap → Type 0) : Type 0 where
+pub record Heads (first : Cap) (P Q : Caps) : Type 0 where
   pub member : P first
   pub least : (cap : Cap) → P cap → is_gt (cap_cmp first cap) ≡ false
   pub parts : (cap : Cap) → P cap ↔ (cap ≡ first) ⊎ Q cap
 
 -- P is what Q is, and what comes first, if anything does
-abbrev pub Leads : Option Cap → (Cap → Type 0) → (Cap → Type 0) → Type 0
+abbrev pub Leads : Option Cap → Caps → Caps → Type 0
 Leads None P Q = (cap : Cap) → P cap ↔ Q cap
 Leads (Some first) P Q = Heads first P Q
 
