@@ -1,11 +1,12 @@
 -- Tables that change.
-use Rattle.std.proofs.Common.{◌≡◌, ℕ, ◌<◌, false, Option, None, Some, is_some, IsSome, List, [], ◌∷◌, ◌++◌, length, sym, ap, subst, refl, ◌∙◌, length-append, append_assoc, nat_eq, true≢false, arith}
+use Rattle.std.proofs.Common.{◌≡◌, ℕ, ◌<◌, false, Option, None, Some, is_some, IsSome, Result, List, [], ◌∷◌, ◌++◌, length, sym, ap, subst, refl, ◌∙◌, length-append, append_assoc, nat_eq, true≢false, arith}
+use Rattle.std.specs.Result.{IsErr}
 use Rattle.std.specs.Option.{option_to_list}
 use Rattle.std.specs.Cmp.Lexicographic.{pointwise}
 use Rattle.std.specs.List.{IsDistinct}
 use Rattle.std.specs.Map.{keys_of}
-use Rattle.fl_sink.specs.Sink.{Passes, Cuts}
-use Rattle.fl_sink.proofs.SinkLemmas.{passes_then, cuts_then}
+use Rattle.fl_sink.specs.Sink.{Passes, Cuts, Puts}
+use Rattle.fl_sink.proofs.SinkLemmas.{passes_then, puts_then, puts_stop}
 use Rattle.fl_aliases.specs.Table.{Table, Entry, IsTable, entry_line, table_text}
 
 -- what is taken from a list's end was there
@@ -30,7 +31,7 @@ pub lines_more : (a b c : Option (List ℕ)) (pending rest after done all : List
 lines_more a b c pending rest after done all entry left new passed so_far next line =
     (done ++ entry_line entry, passes_then c _ _ passed line, so_far ∙ ap (λ t. done ++ table_text t) next ∙ sym (append_assoc done (entry_line entry) (table_text new)))
 
--- a line was cut, and so were all
-pub lines_cut : (a b c : Option (List ℕ)) (pending rest done all : List ℕ) (entry : Entry) (left new : Table) → Passes a b pending done rest → all ≡ done ++ table_text left → left ≡ entry ∷ new → Cuts b c rest (entry_line entry) → Cuts a c pending all
-lines_cut a b c pending rest done all entry left new passed so_far next line =
-    subst (Cuts a c pending) (sym (so_far ∙ ap (λ t. done ++ table_text t) next)) (cuts_then c _ _ passed line)
+-- a line was cut, and no more is put
+pub lines_stop : {T E : Type 0} {r : Result T E} (a b c : Option (List ℕ)) (pending rest done all : List ℕ) (entry : Entry) (left new : Table) (after : List ℕ) → Passes a b pending done rest → all ≡ done ++ table_text left → left ≡ entry ∷ new → Cuts b c rest (entry_line entry) → IsErr r → Puts a c pending all after r
+lines_stop {r = r} a b c pending rest done all entry left new after passed so_far next line err =
+    subst (λ text. Puts a c pending text after r) (sym (so_far ∙ ap (λ t. done ++ table_text t) next)) (puts_then passed (puts_stop _ _ line err))

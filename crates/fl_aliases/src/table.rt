@@ -1,7 +1,7 @@
 // The aliases that are set.
-ghost use Rattle.std.specs.Prelude.{◌≡◌, ◌<◌, ◌++◌, [], ◌∷◌, IfOk, OnOk, OnErr, IsTrue, IsSome, IsNone, ◌↔◌, None, length};
+ghost use Rattle.std.specs.Prelude.{◌≡◌, ◌<◌, ◌++◌, [], ◌∷◌, IfOk, OnErr, IsTrue, IsSome, IsNone, ◌↔◌, None, length};
 ghost use Rattle.std.specs.Bool.{MatchBool};
-ghost use Rattle.fl_sink.specs.Sink.{Cuts, Passes};
+ghost use Rattle.fl_sink.specs.Sink.{Puts};
 ghost use Rattle.fl_aliases.specs.Table.{Entry, IsTable, target_of, retargeted, table_text};
 
 use crate::alias::Alias;
@@ -107,8 +107,8 @@ impl Aliases {
     ///
     /// At a fault a front of what waited and the text was written, and the sink may not be used again.
     pub fn write_text<W: Write>(&self, sink: &mut Sink, output: &mut W) -> Result<(), WriteFault>
-        ensures ok { OnOk result (Passes (W.contents output.old) (W.contents output.new) sink.old (table_text self.now) sink.new) }
-        ensures err { OnErr result (Cuts (W.contents output.old) (W.contents output.new) sink.old (table_text self.now)) }
+        ensures { let text = table_text self.now in
+            Puts (W.contents output.old) (W.contents output.new) sink.old text sink.new result }
     {
         for (alias, target) in self.targets.iter() {
             write_line(alias, target, sink, output)?;

@@ -1,6 +1,5 @@
 // The text of aliases.
-ghost use Rattle.std.specs.Prelude.{OnErr, OnOk};
-ghost use Rattle.fl_sink.specs.Sink.{Cuts, Passes};
+ghost use Rattle.fl_sink.specs.Sink.{Puts};
 ghost use Rattle.fl_aliases.specs.Table.{entry_line};
 
 use crate::alias::Alias;
@@ -16,8 +15,8 @@ pub(crate) fn write_line<W: Write>(
     sink: &mut Sink,
     output: &mut W,
 ) -> Result<(), WriteFault>
-    ensures ok { OnOk result (Passes (W.contents output.old) (W.contents output.new) sink.old (entry_line (alias.now, target.now)) sink.new) }
-    ensures err { OnErr result (Cuts (W.contents output.old) (W.contents output.new) sink.old (entry_line (alias.now, target.now))) }
+    ensures { let text = entry_line (alias.now, target.now) in
+        Puts (W.contents output.old) (W.contents output.new) sink.old text sink.new result }
 {
     let letters = alias.as_str().as_bytes();
     let mut number = Buffer::new();

@@ -1,11 +1,11 @@
 // Replies and refusals, a line each. Writing takes no memory but the sink's, and does without. At a fault a front of what waited and of
 // the line was written, and the sink may not be used again.
-ghost use Rattle.std.specs.Prelude.{◌≡◌, ◌++◌, ◌∷◌, [], OnOk, OnErr, codes};
+ghost use Rattle.std.specs.Prelude.{◌≡◌, ◌++◌, ◌∷◌, [], codes};
 ghost use Rattle.std.specs.Fmt.{decimal};
 ghost use Rattle.std.specs.List.{flat_map};
 ghost use Rattle.hex.specs.Hex.{encode_lower};
 ghost use Rattle.fl_labels.specs.Text.{cap_sign, cap_text, caps_text, endpoint_text, name_text, pid_text};
-ghost use Rattle.fl_sink.specs.Sink.{Cuts, Passes};
+ghost use Rattle.fl_sink.specs.Sink.{Puts};
 ghost use Rattle.fl_answers.specs.AnswerText.{bytes_text, dropped_text, letter_text, refusal_text, refused_text, reply_text, sent_text};
 
 use fl_jobs::answer::{Refusal, Reply};
@@ -27,8 +27,8 @@ pub fn write_reply<W: Write>(
     sink: &mut Sink,
     output: &mut W,
 ) -> Result<(), WriteFault>
-    ensures ok { OnOk result (Passes (W.contents output.old) (W.contents output.new) sink.old (reply_text reply.now ++ codes "\n") sink.new) }
-    ensures err { OnErr result (Cuts (W.contents output.old) (W.contents output.new) sink.old (reply_text reply.now ++ codes "\n")) }
+    ensures { let text = reply_text reply.now ++ codes "\n" in
+        Puts (W.contents output.old) (W.contents output.new) sink.old text sink.new result }
 {
     put_reply(reply, sink, output)?;
     sink.put_all(output, &[b"\n"])
@@ -40,8 +40,8 @@ pub fn write_refusal<W: Write>(
     sink: &mut Sink,
     output: &mut W,
 ) -> Result<(), WriteFault>
-    ensures ok { OnOk result (Passes (W.contents output.old) (W.contents output.new) sink.old (refused_text refusal) sink.new) }
-    ensures err { OnErr result (Cuts (W.contents output.old) (W.contents output.new) sink.old (refused_text refusal)) }
+    ensures { let text = refused_text refusal in
+        Puts (W.contents output.old) (W.contents output.new) sink.old text sink.new result }
 {
     sink.put_all(output, &[b"refused "])?;
     put_refusal(refusal, sink, output)?;
@@ -54,8 +54,8 @@ pub fn write_dropped<W: Write>(
     sink: &mut Sink,
     output: &mut W,
 ) -> Result<(), WriteFault>
-    ensures ok { OnOk result (Passes (W.contents output.old) (W.contents output.new) sink.old (dropped_text refusal) sink.new) }
-    ensures err { OnErr result (Cuts (W.contents output.old) (W.contents output.new) sink.old (dropped_text refusal)) }
+    ensures { let text = dropped_text refusal in
+        Puts (W.contents output.old) (W.contents output.new) sink.old text sink.new result }
 {
     sink.put_all(output, &[b"dropped "])?;
     put_refusal(refusal, sink, output)?;
@@ -64,8 +64,8 @@ pub fn write_dropped<W: Write>(
 
 /// Puts the line of a packet that was sent into the sink, by its number: `sent 1`.
 pub fn write_sent<W: Write>(number: u64, sink: &mut Sink, output: &mut W) -> Result<(), WriteFault>
-    ensures ok { OnOk result (Passes (W.contents output.old) (W.contents output.new) sink.old (sent_text number ++ codes "\n") sink.new) }
-    ensures err { OnErr result (Cuts (W.contents output.old) (W.contents output.new) sink.old (sent_text number ++ codes "\n")) }
+    ensures { let text = sent_text number ++ codes "\n" in
+        Puts (W.contents output.old) (W.contents output.new) sink.old text sink.new result }
 {
     let mut buffer = Buffer::new();
     sink.put_all(output, &[b"sent ", buffer.format(number).as_bytes(), b"\n"])
@@ -78,8 +78,8 @@ pub fn write_name<W: Write>(
     sink: &mut Sink,
     output: &mut W,
 ) -> Result<(), WriteFault>
-    ensures ok { OnOk result (Passes (W.contents output.old) (W.contents output.new) sink.old (front.now ++ (name_text name ++ codes "\n")) sink.new) }
-    ensures err { OnErr result (Cuts (W.contents output.old) (W.contents output.new) sink.old (front.now ++ (name_text name ++ codes "\n"))) }
+    ensures { let text = front.now ++ (name_text name ++ codes "\n") in
+        Puts (W.contents output.old) (W.contents output.new) sink.old text sink.new result }
 {
     put_name(front, name, sink, output)?;
     sink.put_all(output, &[b"\n"])
@@ -87,8 +87,8 @@ pub fn write_name<W: Write>(
 
 // What a reply says.
 fn put_reply<W: Write>(reply: &Reply, sink: &mut Sink, output: &mut W) -> Result<(), WriteFault>
-    ensures ok { OnOk result (Passes (W.contents output.old) (W.contents output.new) sink.old (reply_text reply.now) sink.new) }
-    ensures err { OnErr result (Cuts (W.contents output.old) (W.contents output.new) sink.old (reply_text reply.now)) }
+    ensures { let text = reply_text reply.now in
+        Puts (W.contents output.old) (W.contents output.new) sink.old text sink.new result }
 {
     match reply {
         Reply::Made(pid) => put_pid(b"", *pid, sink, output),
@@ -110,8 +110,8 @@ fn put_refusal<W: Write>(
     sink: &mut Sink,
     output: &mut W,
 ) -> Result<(), WriteFault>
-    ensures ok { OnOk result (Passes (W.contents output.old) (W.contents output.new) sink.old (refusal_text refusal) sink.new) }
-    ensures err { OnErr result (Cuts (W.contents output.old) (W.contents output.new) sink.old (refusal_text refusal)) }
+    ensures { let text = refusal_text refusal in
+        Puts (W.contents output.old) (W.contents output.new) sink.old text sink.new result }
 {
     match refusal {
         Refusal::NoProcess(pid) => put_pid(b"F1 ", pid, sink, output),
@@ -154,8 +154,8 @@ fn put_signed<'a, W: Write>(
     sink: &mut Sink,
     output: &mut W,
 ) -> Result<(), WriteFault>
-    ensures ok { OnOk result (Passes (W.contents output.old) (W.contents output.new) sink.old (front.now ++ (sign.now ++ name_text name)) sink.new) }
-    ensures err { OnErr result (Cuts (W.contents output.old) (W.contents output.new) sink.old (front.now ++ (sign.now ++ name_text name))) }
+    ensures { let text = front.now ++ (sign.now ++ name_text name) in
+        Puts (W.contents output.old) (W.contents output.new) sink.old text sink.new result }
 {
     let mut node = Buffer::new();
     let mut seq = Buffer::new();
@@ -178,8 +178,8 @@ fn put_cap<W: Write>(
     sink: &mut Sink,
     output: &mut W,
 ) -> Result<(), WriteFault>
-    ensures ok { OnOk result (Passes (W.contents output.old) (W.contents output.new) sink.old (front.now ++ cap_text cap) sink.new) }
-    ensures err { OnErr result (Cuts (W.contents output.old) (W.contents output.new) sink.old (front.now ++ cap_text cap)) }
+    ensures { let text = front.now ++ cap_text cap in
+        Puts (W.contents output.old) (W.contents output.new) sink.old text sink.new result }
 {
     put_signed(front, sign_of(cap), cap.name(), sink, output)
 }
@@ -191,8 +191,8 @@ fn put_name<W: Write>(
     sink: &mut Sink,
     output: &mut W,
 ) -> Result<(), WriteFault>
-    ensures ok { OnOk result (Passes (W.contents output.old) (W.contents output.new) sink.old (front.now ++ name_text name) sink.new) }
-    ensures err { OnErr result (Cuts (W.contents output.old) (W.contents output.new) sink.old (front.now ++ name_text name)) }
+    ensures { let text = front.now ++ name_text name in
+        Puts (W.contents output.old) (W.contents output.new) sink.old text sink.new result }
 {
     put_signed(front, b"", name, sink, output)
 }
@@ -204,8 +204,8 @@ fn put_endpoint<W: Write>(
     sink: &mut Sink,
     output: &mut W,
 ) -> Result<(), WriteFault>
-    ensures ok { OnOk result (Passes (W.contents output.old) (W.contents output.new) sink.old (front.now ++ endpoint_text endpoint) sink.new) }
-    ensures err { OnErr result (Cuts (W.contents output.old) (W.contents output.new) sink.old (front.now ++ endpoint_text endpoint)) }
+    ensures { let text = front.now ++ endpoint_text endpoint in
+        Puts (W.contents output.old) (W.contents output.new) sink.old text sink.new result }
 {
     let mut buffer = Buffer::new();
     sink.put_all(
@@ -221,8 +221,8 @@ fn put_unsafe<W: Write>(
     sink: &mut Sink,
     output: &mut W,
 ) -> Result<(), WriteFault>
-    ensures ok { OnOk result (Passes (W.contents output.old) (W.contents output.new) sink.old (codes "F4 " ++ (endpoint_text endpoint ++ (codes " " ++ name_text tag))) sink.new) }
-    ensures err { OnErr result (Cuts (W.contents output.old) (W.contents output.new) sink.old (codes "F4 " ++ (endpoint_text endpoint ++ (codes " " ++ name_text tag)))) }
+    ensures { let text = codes "F4 " ++ (endpoint_text endpoint ++ (codes " " ++ name_text tag)) in
+        Puts (W.contents output.old) (W.contents output.new) sink.old text sink.new result }
 {
     put_endpoint(b"F4 ", endpoint, sink, output)?;
     put_name(b" ", tag, sink, output)
@@ -235,8 +235,8 @@ fn put_pid<W: Write>(
     sink: &mut Sink,
     output: &mut W,
 ) -> Result<(), WriteFault>
-    ensures ok { OnOk result (Passes (W.contents output.old) (W.contents output.new) sink.old (front.now ++ pid_text pid) sink.new) }
-    ensures err { OnErr result (Cuts (W.contents output.old) (W.contents output.new) sink.old (front.now ++ pid_text pid)) }
+    ensures { let text = front.now ++ pid_text pid in
+        Puts (W.contents output.old) (W.contents output.new) sink.old text sink.new result }
 {
     let mut node = Buffer::new();
     let mut boot = Buffer::new();
@@ -265,16 +265,16 @@ fn digits_of(byte: u8) -> [u8; 2]
 }
 
 fn put_byte<W: Write>(byte: u8, sink: &mut Sink, output: &mut W) -> Result<(), WriteFault>
-    ensures ok { OnOk result (Passes (W.contents output.old) (W.contents output.new) sink.old (encode_lower (byte ∷ [])) sink.new) }
-    ensures err { OnErr result (Cuts (W.contents output.old) (W.contents output.new) sink.old (encode_lower (byte ∷ []))) }
+    ensures { let text = encode_lower (byte ∷ []) in
+        Puts (W.contents output.old) (W.contents output.new) sink.old text sink.new result }
 {
     sink.put_all(output, &[digits_of(byte).as_slice()])
 }
 
 // Two digits for each byte.
 fn put_digits<W: Write>(bytes: &[u8], sink: &mut Sink, output: &mut W) -> Result<(), WriteFault>
-    ensures ok { OnOk result (Passes (W.contents output.old) (W.contents output.new) sink.old (flat_map (λ b. encode_lower (b ∷ [])) bytes.now) sink.new) }
-    ensures err { OnErr result (Cuts (W.contents output.old) (W.contents output.new) sink.old (flat_map (λ b. encode_lower (b ∷ [])) bytes.now)) }
+    ensures { let text = flat_map (λ b. encode_lower (b ∷ [])) bytes.now in
+        Puts (W.contents output.old) (W.contents output.new) sink.old text sink.new result }
 {
     for byte in bytes {
         put_byte(*byte, sink, output)?;
@@ -284,8 +284,8 @@ fn put_digits<W: Write>(bytes: &[u8], sink: &mut Sink, output: &mut W) -> Result
 
 // The word of some bytes.
 fn put_word<W: Write>(bytes: &[u8], sink: &mut Sink, output: &mut W) -> Result<(), WriteFault>
-    ensures ok { OnOk result (Passes (W.contents output.old) (W.contents output.new) sink.old (bytes_text bytes.now) sink.new) }
-    ensures err { OnErr result (Cuts (W.contents output.old) (W.contents output.new) sink.old (bytes_text bytes.now)) }
+    ensures { let text = bytes_text bytes.now in
+        Puts (W.contents output.old) (W.contents output.new) sink.old text sink.new result }
 {
     match bytes {
         [] => sink.put_all(output, &[b"none"]),
@@ -300,8 +300,8 @@ fn put_bytes<W: Write>(
     sink: &mut Sink,
     output: &mut W,
 ) -> Result<(), WriteFault>
-    ensures ok { OnOk result (Passes (W.contents output.old) (W.contents output.new) sink.old (front.now ++ bytes_text bytes.now) sink.new) }
-    ensures err { OnErr result (Cuts (W.contents output.old) (W.contents output.new) sink.old (front.now ++ bytes_text bytes.now)) }
+    ensures { let text = front.now ++ bytes_text bytes.now in
+        Puts (W.contents output.old) (W.contents output.new) sink.old text sink.new result }
 {
     sink.put(output, front)?;
     put_word(bytes, sink, output)
@@ -309,8 +309,8 @@ fn put_bytes<W: Write>(
 
 // Capabilities, each after a comma.
 fn put_more<W: Write>(caps: &[Cap], sink: &mut Sink, output: &mut W) -> Result<(), WriteFault>
-    ensures ok { OnOk result (Passes (W.contents output.old) (W.contents output.new) sink.old (flat_map (λ cap. 44 ∷ cap_text cap) caps.now) sink.new) }
-    ensures err { OnErr result (Cuts (W.contents output.old) (W.contents output.new) sink.old (flat_map (λ cap. 44 ∷ cap_text cap) caps.now)) }
+    ensures { let text = flat_map (λ cap. 44 ∷ cap_text cap) caps.now in
+        Puts (W.contents output.old) (W.contents output.new) sink.old text sink.new result }
 {
     for cap in caps {
         put_cap(b",", *cap, sink, output)?;
@@ -320,8 +320,8 @@ fn put_more<W: Write>(caps: &[Cap], sink: &mut Sink, output: &mut W) -> Result<(
 
 // A set of capabilities.
 fn put_caps<W: Write>(caps: &CapSet, sink: &mut Sink, output: &mut W) -> Result<(), WriteFault>
-    ensures ok { OnOk result (Passes (W.contents output.old) (W.contents output.new) sink.old (caps_text caps.now) sink.new) }
-    ensures err { OnErr result (Cuts (W.contents output.old) (W.contents output.new) sink.old (caps_text caps.now)) }
+    ensures { let text = caps_text caps.now in
+        Puts (W.contents output.old) (W.contents output.new) sink.old text sink.new result }
 {
     match caps.as_slice().split_first() {
         None => sink.put_all(output, &[b"{}"]),
@@ -335,8 +335,8 @@ fn put_caps<W: Write>(caps: &CapSet, sink: &mut Sink, output: &mut W) -> Result<
 
 // A message that was taken, with who sent it.
 fn put_letter<W: Write>(letter: &Letter, sink: &mut Sink, output: &mut W) -> Result<(), WriteFault>
-    ensures ok { OnOk result (Passes (W.contents output.old) (W.contents output.new) sink.old (letter_text letter.now) sink.new) }
-    ensures err { OnErr result (Cuts (W.contents output.old) (W.contents output.new) sink.old (letter_text letter.now)) }
+    ensures { let text = letter_text letter.now in
+        Puts (W.contents output.old) (W.contents output.new) sink.old text sink.new result }
 {
     put_pid(b"message ", letter.sender, sink, output)?;
     sink.put_all(output, &[b" "])?;

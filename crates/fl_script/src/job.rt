@@ -8,7 +8,7 @@ use crate::words::{
     bytes_from_word, caps_from_word, label_from_word, labels_from_words, message_from_words,
     mode_from_word, policy_from_word, secret_from_word, side_from_word,
 };
-use fl_jobs::job::{Act, Mail, Job, Order};
+use fl_jobs::job::{Act, Job, Mail, Order};
 use fl_labels::endpoint::Endpoint;
 use fl_labels::pid::Pid;
 use fl_labels::text::{read_cap, read_endpoint, read_name, read_pid};

@@ -12,7 +12,7 @@ use crate::line::{Line, line_from_words};
 use crate::replaced::{has_dollars, replaced_text};
 use fl_aliases::alias::Alias;
 use fl_aliases::table::Aliases;
-use fl_jobs::job::{Act, Mail, Job};
+use fl_jobs::job::{Act, Job, Mail};
 use std::alloc::{AllocError, Global};
 
 /// A line, and the alias that is to stand for what it makes, if one is.

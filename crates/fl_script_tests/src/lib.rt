@@ -4,6 +4,6 @@
 #[cfg(test)]
 mod aliases;
 #[cfg(test)]
-mod mailbox;
-#[cfg(test)]
 mod lines;
+#[cfg(test)]
+mod mailbox;

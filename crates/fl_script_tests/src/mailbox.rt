@@ -1,6 +1,6 @@
 // Lines of endpoints, of messages and of deliveries.
 use fl_aliases::table::Aliases;
-use fl_jobs::job::{Act, Mail, Job};
+use fl_jobs::job::{Act, Job, Mail};
 use fl_script::line::Line;
 use fl_script::reading::{Reading, read_line};
 use std::test::Fail;
