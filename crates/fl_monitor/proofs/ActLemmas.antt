@@ -33,15 +33,15 @@ use Rattle.fl_labels.specs.Caps.{Dual}
 use Rattle.fl_rules.specs.declared.labels.Labels.{Labels}
 use Rattle.fl_mailbox.specs.Mailbox.{closed}
 use Rattle.fl_mailbox.specs.declared.mailbox.Mailbox.{Mailbox}
-use Rattle.fl_monitor.specs.Process.{is_under_way, ordering, with_side, body_of, OneOf, PutTakes}
-use Rattle.fl_monitor.specs.Hand.{AtHand, Lacks}
-use Rattle.fl_monitor.specs.Checks.{Check, demand}
-use Rattle.fl_monitor.specs.Guards.{grant_check}
-use Rattle.fl_monitor.specs.Jobs.{Answers, order_checks, emission_check}
-use Rattle.fl_monitor.specs.Acts.{Acts, Checked, Gives, Required, Told, Relabels, GivesUp, Enters, Works, answered}
-use Rattle.fl_monitor.specs.declared.process.Holding.{Holding}
-use Rattle.fl_monitor.specs.declared.process.Holding.TheVariants.{Idle, Ordering}
-use Rattle.fl_monitor.specs.declared.process.Process.{Process}
+use Rattle.fl_bench.specs.Process.{is_under_way, ordering, with_side, body_of, OneOf, PutTakes}
+use Rattle.fl_bench.specs.Hand.{AtHand, Lacks}
+use Rattle.fl_bench.specs.Checks.{Check, demand}
+use Rattle.fl_bench.specs.Guards.{grant_check}
+use Rattle.fl_bench.specs.Jobs.{Answers, order_checks, emission_check}
+use Rattle.fl_monitor.specs.parts.Acts.{Acts, Checked, Gives, Required, Told, Relabels, GivesUp, Enters, Works, answered}
+use Rattle.fl_bench.specs.declared.process.Holding.{Holding}
+use Rattle.fl_bench.specs.declared.process.Holding.TheVariants.{Idle, Ordering}
+use Rattle.fl_bench.specs.declared.process.Process.{Process}
 use Rattle.fl_monitor.specs.declared.sequel.Sequel.{Sequel}
 use Rattle.fl_monitor.specs.declared.sequel.Sequel.TheVariants.{Answer, Birth, End}
 

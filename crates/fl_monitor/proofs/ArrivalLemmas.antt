@@ -16,14 +16,14 @@ use Rattle.fl_jobs.specs.declared.answer.Refusal.{Refusal}
 use Rattle.fl_jobs.specs.declared.answer.Refusal.TheVariants.{Busy, NoEndpoint, InboxFull, Memory}
 use Rattle.fl_jobs.specs.declared.answer.Reply.TheVariants.{Arrived}
 use Rattle.fl_jobs.specs.declared.answer.Outcome.{Outcome}
-use Rattle.fl_monitor.specs.Checks.{refuse_if, ◌then◌}
-use Rattle.fl_monitor.specs.Guards.{sent_from, entry_refusal, pair_check}
-use Rattle.fl_monitor.specs.Mailbox.{arrival_checks, entered}
-use Rattle.fl_monitor.specs.Process.{held, is_under_way, is_busy, receiving}
-use Rattle.fl_monitor.specs.Acts.{Receives}
-use Rattle.fl_monitor.specs.declared.process.Holding.{Holding}
-use Rattle.fl_monitor.specs.declared.process.Holding.TheVariants.{Idle, Ordering}
-use Rattle.fl_monitor.specs.declared.process.Process.{Process}
+use Rattle.fl_bench.specs.Checks.{refuse_if, ◌then◌}
+use Rattle.fl_bench.specs.Guards.{sent_from, entry_refusal, pair_check}
+use Rattle.fl_bench.specs.Mailbox.{arrival_checks, entered}
+use Rattle.fl_bench.specs.Process.{held, is_under_way, is_busy, receiving}
+use Rattle.fl_monitor.specs.parts.Acts.{Receives}
+use Rattle.fl_bench.specs.declared.process.Holding.{Holding}
+use Rattle.fl_bench.specs.declared.process.Holding.TheVariants.{Idle, Ordering}
+use Rattle.fl_bench.specs.declared.process.Process.{Process}
 use Rattle.fl_monitor.proofs.CheckLemmas.{fails_without, goes_on_with}
 
 under_way : (h : Holding) → ((owned : SetBy cap_cmp) → h ≡ Idle owned → ⊥) → is_under_way h ≡ true

@@ -21,12 +21,12 @@ use Rattle.fl_rules.specs.Safety.{Takes}
 use Rattle.fl_rules.specs.declared.labels.Labels.{Labels}
 use Rattle.fl_mailbox.specs.Endpoints.{Table, IsOpen}
 use Rattle.fl_mailbox.specs.Offenders.{CrossesAt, DualAt}
-use Rattle.fl_monitor.specs.Process.{side_of, with_side}
-use Rattle.fl_monitor.specs.Hand.{AtHand, Lacks}
-use Rattle.fl_monitor.specs.Guards.{endpoints_check}
-use Rattle.fl_monitor.specs.Jobs.{change_check}
-use Rattle.fl_monitor.specs.Checks.{refuse_if}
-use Rattle.fl_monitor.specs.Acts.{Checked, Relabels, GivesUp}
+use Rattle.fl_bench.specs.Process.{side_of, with_side}
+use Rattle.fl_bench.specs.Hand.{AtHand, Lacks}
+use Rattle.fl_bench.specs.Guards.{endpoints_check}
+use Rattle.fl_bench.specs.Jobs.{change_check}
+use Rattle.fl_bench.specs.Checks.{refuse_if}
+use Rattle.fl_monitor.specs.parts.Acts.{Checked, Relabels, GivesUp}
 use Rattle.fl_monitor.proofs.ActLemmas.{passed_on}
 use Rattle.fl_monitor.proofs.CheckLemmas.{why_refused, has_passed}
 

@@ -15,8 +15,8 @@ use Rattle.fl_jobs.specs.declared.secret.Secret.{Secret}
 use Rattle.fl_jobs.specs.declared.answer.Refusal.TheVariants.{WrongSecret, Memory}
 use Rattle.fl_jobs.specs.declared.answer.Reply.TheVariants.{Entered}
 use Rattle.fl_jobs.specs.declared.answer.Outcome.{Outcome}
-use Rattle.fl_monitor.specs.Secrets.{digest_of}
-use Rattle.fl_monitor.specs.Acts.{Enters}
+use Rattle.fl_bench.specs.Secrets.{digest_of}
+use Rattle.fl_monitor.specs.parts.Acts.{Enters}
 
 turned_true : (b : Bool) → not b ≡ true → false ≡ b
 turned_true true e = e

@@ -16,9 +16,9 @@ use Rattle.fl_ops.proofs.Reaching.{owned_eff}
 use Rattle.fl_jobs.specs.declared.answer.Refusal.{Refusal}
 use Rattle.fl_jobs.specs.declared.answer.Refusal.TheVariants.{Memory}
 use Rattle.fl_labels.specs.Caps.{Dual}
-use Rattle.fl_monitor.specs.Checks.{demand}
-use Rattle.fl_monitor.specs.Hand.{AtHand, Lacks}
-use Rattle.fl_monitor.specs.Acts.{Checked}
+use Rattle.fl_bench.specs.Checks.{demand}
+use Rattle.fl_bench.specs.Hand.{AtHand, Lacks}
+use Rattle.fl_monitor.specs.parts.Acts.{Checked}
 
 module _ {V : Op → Type 0} (owned : SetBy cap_cmp) where
   hand_effective : Within (AtHand V owned) (InEffect V (In owned))

@@ -19,16 +19,16 @@ use Rattle.fl_jobs.specs.declared.answer.Refusal.TheVariants.{NoProcess, Busy, N
 use Rattle.fl_jobs.specs.declared.answer.Reply.TheVariants.{Made, Done}
 use Rattle.fl_jobs.specs.declared.answer.Outcome.{Outcome}
 use Rattle.fl_wire.specs.declared.packet.Data.{Data}
-use Rattle.fl_monitor.specs.Mailbox.{arrival_checks, MailDoes}
-use Rattle.fl_monitor.specs.Checks.{with, refuse_if, ◌then◌}
-use Rattle.fl_monitor.specs.Process.{newborn, is_busy, effective, child_of}
-use Rattle.fl_monitor.specs.Bench.{State, IsNext, has_at, gone}
-use Rattle.fl_monitor.specs.Jobs.{act_checks, bench_checks, checks, Answers, Performs, Does, serials_left}
-use Rattle.fl_monitor.specs.Acts.{Acts, ActsAt, Becomes, Births, Receives, ReceivesAt, Told}
-use Rattle.fl_monitor.specs.declared.process.Process.{Process}
+use Rattle.fl_bench.specs.Mailbox.{arrival_checks, MailDoes}
+use Rattle.fl_bench.specs.Checks.{with, refuse_if, ◌then◌}
+use Rattle.fl_bench.specs.Process.{newborn, is_busy, effective, child_of}
+use Rattle.fl_bench.specs.Bench.{State, IsNext, has_at, gone}
+use Rattle.fl_bench.specs.Jobs.{act_checks, bench_checks, checks, Answers, Performs, Does, serials_left}
+use Rattle.fl_monitor.specs.parts.Acts.{Acts, ActsAt, Becomes, Births, Receives, ReceivesAt, Told}
+use Rattle.fl_bench.specs.declared.process.Process.{Process}
 use Rattle.fl_monitor.specs.declared.sequel.Sequel.{Sequel}
 use Rattle.fl_monitor.specs.declared.sequel.Sequel.TheVariants.{Answer, Birth, End}
-use Rattle.fl_monitor.proofs.Table.{put_same}
+use Rattle.fl_bench.proofs.Table.{put_same}
 use Rattle.fl_monitor.proofs.ActLemmas.{passed_on}
 
 -- ---- what follows

@@ -33,11 +33,11 @@ use Rattle.fl_jobs.specs.declared.answer.Refusal.{Refusal}
 use Rattle.fl_jobs.specs.declared.answer.Refusal.TheVariants.{NoEndpoint, EndpointsFull, NotWritable, LabelTooLong, Memory}
 use Rattle.fl_jobs.specs.declared.answer.Reply.TheVariants.{Done, Opened as Answers_opened}
 use Rattle.fl_jobs.specs.declared.answer.Outcome.{Outcome}
-use Rattle.fl_monitor.specs.Checks.{refuse_if, ◌then◌}
-use Rattle.fl_monitor.specs.Guards.{grant_check, endpoint_check}
-use Rattle.fl_monitor.specs.Mailbox.{IsSent, taken, mail_checks, MailDoes, MailTakesMemory}
-use Rattle.fl_monitor.specs.Hand.{Lacks}
-use Rattle.fl_monitor.specs.Acts.{Checked, Closes, Works}
+use Rattle.fl_bench.specs.Checks.{refuse_if, ◌then◌}
+use Rattle.fl_bench.specs.Guards.{grant_check, endpoint_check}
+use Rattle.fl_bench.specs.Mailbox.{IsSent, taken, mail_checks, MailDoes, MailTakesMemory}
+use Rattle.fl_bench.specs.Hand.{Lacks}
+use Rattle.fl_monitor.specs.parts.Acts.{Checked, Closes, Works}
 use Rattle.fl_monitor.proofs.ActLemmas.{passed_on}
 use Rattle.fl_monitor.proofs.CheckLemmas.{why_refused, has_passed, fails_without, goes_on_with}
 

@@ -1,15 +1,1 @@
-pub mod Checks
-pub mod Secrets
-pub mod Hand
-pub mod Guards
-pub mod Mailbox
-pub mod Process
-pub mod Bench
-pub mod Jobs
-pub mod Gifts
-pub mod Acts
-pub mod Orderly
-pub mod Following
-pub mod Births
-pub mod Gains
-pub mod Guarded
+pub mod parts

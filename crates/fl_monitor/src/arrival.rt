@@ -1,10 +1,10 @@
 // Messages that come.
 ghost use Rattle.std.specs.Prelude.{◌≡◌};
 ghost use Rattle.fl_rules.specs.Pair as pairs;
-ghost use Rattle.fl_monitor.specs.Guards.{sent_from, entry_refusal};
-ghost use Rattle.fl_monitor.specs.Acts.{Receives};
+ghost use Rattle.fl_bench.specs.Guards.{sent_from, entry_refusal};
+ghost use Rattle.fl_monitor.specs.parts.Acts.{Receives};
 
-use crate::process::{Holding, Process};
+use fl_bench::process::{Holding, Process};
 use fl_jobs::answer::{Outcome, Refusal, Reply};
 use fl_labels::endpoint::Endpoint;
 use fl_rules::endpoint::Mode;
@@ -38,35 +38,33 @@ fn refused_entry(endpoint: Endpoint, fault: PairFault) -> Refusal
     }
 }
 
-impl Process {
-    /// Takes a message in, where it may enter the endpoint that it is for: its capabilities are then owned, and it waits behind those that
-    /// came before. Looks along the labels of both ends.
-    pub(crate) fn receive(&mut self, alloc: Global, data: Data) -> Result<Outcome, Refusal>
-        ensures { Receives self.old «data» result self.new }
-    {
-        let Holding::Idle(owned) = &mut self.owned else {
-            return Err(Refusal::Busy);
-        };
-        let Some(opened) = self.mailbox.endpoints.get(data.to) else {
-            return Err(Refusal::NoEndpoint(data.to));
-        };
-        if let Some(fault) = safe_pair(end_left(&data), opened.lend()) {
-            return Err(refused_entry(data.to, fault));
-        }
-        if self.mailbox.inbox.is_full() {
-            return Err(Refusal::InboxFull);
-        }
-        let Ok(joined) = owned.union(alloc, &data.message.caps) else {
-            return Err(Refusal::Memory);
-        };
-        let letter = Letter {
-            sender: data.sender,
-            message: data.message,
-        };
-        let Ok(()) = self.mailbox.inbox.push(letter) else {
-            return Err(Refusal::Memory);
-        };
-        *owned = joined;
-        Ok(Outcome::Reply(Reply::Arrived(data.receiver)))
+/// Takes a message in, where it may enter the endpoint that it is for: its capabilities are then owned, and it waits behind those that
+/// came before. Looks along the labels of both ends.
+pub(crate) fn receive(process: &mut Process, alloc: Global, data: Data) -> Result<Outcome, Refusal>
+    ensures { Receives process.old «data» result process.new }
+{
+    let Holding::Idle(owned) = &mut process.owned else {
+        return Err(Refusal::Busy);
+    };
+    let Some(opened) = process.mailbox.endpoints.get(data.to) else {
+        return Err(Refusal::NoEndpoint(data.to));
+    };
+    if let Some(fault) = safe_pair(end_left(&data), opened.lend()) {
+        return Err(refused_entry(data.to, fault));
     }
+    if process.mailbox.inbox.is_full() {
+        return Err(Refusal::InboxFull);
+    }
+    let Ok(joined) = owned.union(alloc, &data.message.caps) else {
+        return Err(Refusal::Memory);
+    };
+    let letter = Letter {
+        sender: data.sender,
+        message: data.message,
+    };
+    let Ok(()) = process.mailbox.inbox.push(letter) else {
+        return Err(Refusal::Memory);
+    };
+    *owned = joined;
+    Ok(Outcome::Reply(Reply::Arrived(data.receiver)))
 }

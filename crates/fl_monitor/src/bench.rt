@@ -4,15 +4,16 @@ ghost use Rattle.std.specs.Prelude.{◌≡◌, ◌≢◌, ◌≤◌, ◌<◌};
 ghost use Rattle.std.specs.FinMap as map;
 ghost use Rattle.fl_ops.specs.Registry.{Reach, From, Listed};
 ghost use Rattle.fl_jobs.specs.declared.job.Job.TheVariants.{By};
-ghost use Rattle.fl_monitor.specs.Bench.{opened};
-ghost use Rattle.fl_monitor.specs.Jobs.{Does};
-ghost use Rattle.fl_monitor.specs.Acts.{Births, Told};
-ghost use Rattle.fl_monitor.specs.Gifts.{finished, cancelled};
+ghost use Rattle.fl_bench.specs.Bench.{opened};
+ghost use Rattle.fl_bench.specs.Jobs.{Does};
+ghost use Rattle.fl_monitor.specs.parts.Acts.{Births, Told};
+ghost use Rattle.fl_bench.specs.Gifts.{finished, cancelled};
 
-use crate::process::{Process, reply_of};
+use crate::act::reply_of;
 use crate::processes::Processes;
 use crate::sequel::Sequel;
 use crate::view::View;
+use fl_bench::process::Process;
 use fl_jobs::answer::{Outcome, Refusal, Reply};
 use fl_jobs::job::{Act, Job};
 use fl_labels::cap::Cap;
@@ -33,7 +34,7 @@ pub struct Bench {
 
 impl Model for Bench {
     ghost use Rattle.std.specs.Prelude.{◌<◌};
-    ghost use Rattle.fl_monitor.specs.Bench.{State, coded_state};
+    ghost use Rattle.fl_bench.specs.Bench.{State, coded_state};
 
     ghost Value = { State };
 

@@ -3,18 +3,18 @@ ghost use Rattle.std.specs.Prelude.{◌≡◌, ⊤};
 ghost use Rattle.fl_labels.specs.SetBy.{In};
 ghost use Rattle.fl_ops.specs.Registry.{InEffect, Listed};
 ghost use Rattle.fl_mailbox.specs.Mailbox.{closed};
-ghost use Rattle.fl_monitor.specs.declared.process.Holding.TheVariants.{Idle};
+ghost use Rattle.fl_bench.specs.declared.process.Holding.TheVariants.{Idle};
 ghost use Rattle.fl_monitor.specs.declared.sequel.Sequel.TheVariants.{Birth};
-ghost use Rattle.fl_monitor.specs.Guards.{grant_check};
-ghost use Rattle.fl_monitor.specs.Acts.{Gives};
+ghost use Rattle.fl_bench.specs.Guards.{grant_check};
+ghost use Rattle.fl_monitor.specs.parts.Acts.{Gives};
 
 use crate::grant::check_grant;
-use crate::process::{Holding, Process};
 use crate::sequel::Sequel;
 use crate::view::View;
-use fl_mailbox::mailbox::Mailbox;
+use fl_bench::process::{Holding, Process};
 use fl_jobs::answer::Refusal;
 use fl_labels::cap_set::CapSet;
+use fl_mailbox::mailbox::Mailbox;
 use fl_rules::labels::Labels;
 use std::alloc::Global;
 

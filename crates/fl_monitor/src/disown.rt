@@ -2,14 +2,14 @@
 ghost use Rattle.std.specs.Prelude.{◌≡◌};
 ghost use Rattle.fl_ops.specs.Registry.{Listed};
 ghost use Rattle.fl_rules.specs.Labels.{sets_of};
-ghost use Rattle.fl_monitor.specs.Acts.{GivesUp};
+ghost use Rattle.fl_monitor.specs.parts.Acts.{GivesUp};
 
 use crate::guard::check_endpoints;
 use crate::view::View;
-use fl_mailbox::endpoints::Endpoints;
 use fl_jobs::answer::{Outcome, Refusal, Reply};
 use fl_labels::cap::Cap;
 use fl_labels::cap_set::CapSet;
+use fl_mailbox::endpoints::Endpoints;
 use fl_rules::labels::LabelsRef;
 use std::alloc::Global;
 

@@ -9,9 +9,9 @@ ghost use Rattle.fl_labels.specs.Caps.{Dual};
 ghost use Rattle.fl_jobs.specs.declared.answer.Outcome.TheVariants as outcomes;
 ghost use Rattle.fl_jobs.specs.declared.answer.Reply.TheVariants.{Out};
 ghost use Rattle.fl_monitor.specs.declared.sequel.Sequel.TheVariants.{Answer};
-ghost use Rattle.fl_monitor.specs.Jobs.{emission_check};
-ghost use Rattle.fl_monitor.specs.Hand.{AtHand, Lacks};
-ghost use Rattle.fl_monitor.specs.Acts.{Checked, Gives};
+ghost use Rattle.fl_bench.specs.Jobs.{emission_check};
+ghost use Rattle.fl_bench.specs.Hand.{AtHand, Lacks};
+ghost use Rattle.fl_monitor.specs.parts.Acts.{Checked, Gives};
 
 use crate::held::Held;
 use crate::sequel::Sequel;

@@ -4,9 +4,9 @@ ghost use Rattle.fl_labels.specs.Cap.{cap_cmp};
 ghost use Rattle.fl_labels.specs.Found.{IsFirst, IsLeastOutside, Within};
 ghost use Rattle.fl_labels.specs.SetBy.{In};
 ghost use Rattle.fl_ops.specs.Registry.{InEffect, Listed};
-ghost use Rattle.fl_monitor.specs.Guards.{grant_check};
-ghost use Rattle.fl_monitor.specs.Hand.{AtHand, Lacks};
-ghost use Rattle.fl_monitor.specs.Acts.{Checked};
+ghost use Rattle.fl_bench.specs.Guards.{grant_check};
+ghost use Rattle.fl_bench.specs.Hand.{AtHand, Lacks};
+ghost use Rattle.fl_monitor.specs.parts.Acts.{Checked};
 
 use crate::held::Held;
 use crate::view::View;

@@ -15,7 +15,8 @@ impl<'a, V: View> Has for Held<'a, V> {
     ghost use Rattle.std.specs.Prelude.{◌≡◌, refl};
     ghost use Rattle.std.proofs.Common.{◌∙◌};
     ghost use Rattle.fl_ops.specs.Registry.{Listed};
-    ghost use Rattle.fl_monitor.specs.Hand.{AtHand, same_hand};
+    ghost use Rattle.fl_bench.specs.Hand.{AtHand};
+    ghost use Rattle.fl_monitor.specs.parts.Hand.{same_hand};
 
     ghost effective = { λ h. AtHand (Listed (V.list h.view.now)) h.caps.now };
 

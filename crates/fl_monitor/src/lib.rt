@@ -1,19 +1,18 @@
 //! The reference monitor: processes, and what they may do.
 #![tactic(auto)]
 
+mod act;
 mod arrival;
 pub mod bench;
 mod birth;
 mod change;
-mod mail;
 mod disown;
 mod emission;
 mod grant;
 mod guard;
 mod held;
-pub mod laws;
 mod login;
-pub mod process;
+mod mail;
 mod processes;
 mod sequel;
 pub mod view;

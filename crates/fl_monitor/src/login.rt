@@ -1,8 +1,8 @@
 // Entries of processes by logins.
 ghost use Rattle.std.specs.Prelude.{◌≡◌};
 ghost use Rattle.fl_ops.specs.Registry.{Listed};
-ghost use Rattle.fl_monitor.specs.Secrets.{digest_of};
-ghost use Rattle.fl_monitor.specs.Acts.{Enters};
+ghost use Rattle.fl_bench.specs.Secrets.{digest_of};
+ghost use Rattle.fl_monitor.specs.parts.Acts.{Enters};
 
 use crate::view::View;
 use fl_jobs::answer::{Outcome, Refusal, Reply};

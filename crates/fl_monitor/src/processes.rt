@@ -3,12 +3,14 @@ ghost use Rattle.std.specs.Option.{option_copied};
 ghost use Rattle.std.specs.Prelude.{◌≡◌, [], OnOk, OnErr};
 ghost use Rattle.std.specs.FinMap as map;
 ghost use Rattle.fl_ops.specs.Registry.{Listed};
-ghost use Rattle.fl_monitor.specs.Acts.{ActsAt, ReceivesAt};
-ghost use Rattle.fl_monitor.specs.Gifts.{given, receives};
+ghost use Rattle.fl_monitor.specs.parts.Acts.{ActsAt, ReceivesAt};
+ghost use Rattle.fl_bench.specs.Gifts.{given, receives};
 
-use crate::process::Process;
+use crate::act::act_alone;
+use crate::arrival::receive;
 use crate::sequel::Sequel;
 use crate::view::View;
+use fl_bench::process::Process;
 use fl_jobs::answer::{Outcome, Refusal};
 use fl_jobs::job::Act;
 use fl_labels::pid::Pid;
@@ -29,8 +31,8 @@ impl Model for Processes {
     ghost use Rattle.std.specs.FinMap as map;
     ghost use Rattle.fl_labels.specs.Pid.{pid_cmp};
     ghost use Rattle.fl_labels.specs.PidOrder.{coded_pid};
-    ghost use Rattle.fl_monitor.specs.declared.process.Process.{Process};
-    ghost use Rattle.fl_monitor.specs.contracts.process.Process as processes_row;
+    ghost use Rattle.fl_bench.specs.declared.process.Process.{Process};
+    ghost use Rattle.fl_bench.specs.contracts.process.Process as processes_row;
 
     ghost Value = { map.FinMap pid_cmp Process };
 
@@ -87,7 +89,7 @@ impl Processes {
         let Some(process) = self.all.get_mut(&pid) else {
             return Err(Refusal::NoProcess(pid));
         };
-        process.act(alloc, view, pid, act)
+        act_alone(process, alloc, view, pid, act)
     }
 
     /// Brings a message to its receiver.
@@ -97,7 +99,7 @@ impl Processes {
         let Some(process) = self.all.get_mut(&data.receiver) else {
             return Err(Refusal::NoProcess(data.receiver));
         };
-        process.receive(alloc, data)
+        receive(process, alloc, data)
     }
 
     /// Gives a process what the operation gives its maker, if there is that process and its operation is under way.

@@ -1,8 +1,8 @@
 // What follows from acts.
 ghost use Rattle.std.specs.Prelude.{◌≡◌};
-ghost use Rattle.fl_monitor.specs.Acts.{answered};
+ghost use Rattle.fl_monitor.specs.parts.Acts.{answered};
 
-use crate::process::Process;
+use fl_bench::process::Process;
 use fl_jobs::answer::{Outcome, Refusal};
 
 /// What follows at a bench from an act of one of its processes.

@@ -1,4 +1,4 @@
-use Rattle.fl_monitor.specs.Acts.{Told}
+use Rattle.fl_monitor.specs.parts.Acts.{Told}
 use Rattle.fl_monitor.proofs.ActLemmas.{answers_of}
 use Rattle.fl_monitor.proofs.bench.member.Goals as goal
 

@@ -1,4 +1,4 @@
-use Rattle.fl_monitor.specs.Acts.{Gives}
+use Rattle.fl_monitor.specs.parts.Acts.{Gives}
 use Rattle.fl_monitor.proofs.ActLemmas.{any_room, gives_refused, child_given}
 use Rattle.fl_monitor.proofs.birth.spawn.Goals as goal
 

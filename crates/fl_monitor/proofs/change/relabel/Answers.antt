@@ -1,4 +1,4 @@
-use Rattle.fl_monitor.specs.Acts.{Relabels}
+use Rattle.fl_monitor.specs.parts.Acts.{Relabels}
 use Rattle.fl_monitor.proofs.ChangeLemmas.{change_refused, relabel_refused, relabel_done}
 use Rattle.fl_monitor.proofs.change.relabel.Goals as goal
 

@@ -1,6 +1,6 @@
 use Rattle.fl_rules.specs.Labels.{sets_of}
 use Rattle.fl_mailbox.specs.Offenders.{offender_cmp, CrossesAt, DualAt}
-use Rattle.fl_monitor.specs.Guards.{unsafe_by}
+use Rattle.fl_bench.specs.Guards.{unsafe_by}
 use Rattle.fl_monitor.proofs.GuardLemmas.{dual_at_more}
 use Rattle.fl_monitor.proofs.Hand.{hand_does, hand_lacks, reach_does, reach_lacks}
 use Rattle.fl_monitor.proofs.guard.check_endpoints.Goals as goal

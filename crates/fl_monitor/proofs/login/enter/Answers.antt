@@ -1,4 +1,4 @@
-use Rattle.fl_monitor.specs.Acts.{Enters}
+use Rattle.fl_monitor.specs.parts.Acts.{Enters}
 use Rattle.fl_monitor.proofs.Entries.{enters_wrong, enters_starved, enters_by}
 use Rattle.fl_monitor.proofs.login.enter.Goals as goal
 

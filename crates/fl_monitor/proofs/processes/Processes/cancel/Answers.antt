@@ -1,7 +1,7 @@
 use Rattle.std.proofs.Common.{[], ap}
 use Rattle.std.specs.BTreeMap.{BTreeMap}
 use Rattle.fl_labels.specs.declared.pid.Pid.{Pid}
-use Rattle.fl_monitor.specs.declared.process.Process.{Process}
+use Rattle.fl_bench.specs.declared.process.Process.{Process}
 use Rattle.fl_monitor.proofs.Given.{receives_there, receives_nobody}
 use Rattle.fl_monitor.proofs.processes.Processes.cancel.Goals as goal
 

@@ -1,8 +1,8 @@
 use Rattle.std.proofs.Common.{ap}
-use Rattle.fl_monitor.specs.Gifts.{given}
+use Rattle.fl_bench.specs.Gifts.{given}
 use Rattle.std.specs.BTreeMap.{BTreeMap}
 use Rattle.fl_labels.specs.declared.pid.Pid.{Pid}
-use Rattle.fl_monitor.specs.declared.process.Process.{Process}
+use Rattle.fl_bench.specs.declared.process.Process.{Process}
 use Rattle.fl_monitor.proofs.Given.{receives_there, receives_nobody}
 use Rattle.fl_monitor.proofs.processes.Processes.finish.Goals as goal
 

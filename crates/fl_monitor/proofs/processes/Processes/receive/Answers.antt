@@ -4,9 +4,9 @@ use Rattle.std.specs.BTreeMap.{BTreeMap}
 use Rattle.fl_labels.specs.declared.pid.Pid.{Pid}
 use Rattle.fl_labels.specs.PidOrder.{pid_total, pid_exact}
 use Rattle.fl_jobs.specs.declared.answer.Refusal.TheVariants.{NoProcess}
-use Rattle.fl_monitor.specs.declared.process.Process.{Process}
-use Rattle.fl_monitor.specs.Acts.{ReceivesAt}
-use Rattle.fl_monitor.proofs.Table.{get_held, put_through}
+use Rattle.fl_bench.specs.declared.process.Process.{Process}
+use Rattle.fl_monitor.specs.parts.Acts.{ReceivesAt}
+use Rattle.fl_bench.proofs.Table.{get_held, put_through}
 use Rattle.fl_monitor.proofs.processes.Processes.receive.Goals as goal
 
 pub returns-in_default : goal.returns-in_default
@@ -19,5 +19,5 @@ pub returns : goal.returns
 returns c =
     let there : map.get c.args.self.now c.args.«data».receiver ≡ Some c.in-Some.process.now = sym (get_held pid_total pid_exact c.self.inside.all.entries c.args.self.now c.args.«data».receiver c.self.view_is) ∙ sym c.in-Some.ensures.value in
     subst (ReceivesAt c.args.self.now c.args.«data» c.receive.result)
-    (sym (put_through pid_total pid_exact c.self.inside.all.entries _ c.args.self.now c.args.«data».receiver _ c.receive.new.self c.self.view_is (sym c.in-Some.ensures.value) (c.get_mut.follows.holds c.receive.new.self).0))
+    (sym (put_through pid_total pid_exact c.self.inside.all.entries _ c.args.self.now c.args.«data».receiver _ c.receive.new.process c.self.view_is (sym c.in-Some.ensures.value) (c.get_mut.follows.holds c.receive.new.process).0))
     (ReceivesAt.came there c.receive.ensures)

@@ -1,0 +1,4 @@
+//! What a bench is and what a job does there, and the processes that it is made of.
+#![tactic(auto)]
+
+pub mod process;

@@ -1,0 +1,12 @@
+pub mod Orders
+pub mod Steps
+pub mod Changes
+pub mod Orderly
+pub mod Following
+pub mod OneCheck
+pub mod OneMail
+pub mod OneResult
+pub mod Births
+pub mod Gains
+pub mod Guarded
+pub mod Arrivals

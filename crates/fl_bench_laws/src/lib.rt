@@ -1,0 +1,4 @@
+//! Laws of benches, of whatever jobs and registries.
+#![tactic(auto)]
+
+pub mod laws;

@@ -1,0 +1,170 @@
+//! What a process does by itself.
+ghost use Rattle.std.specs.Prelude.{◌≡◌, ⊤, false, cond};
+ghost use Rattle.std.specs.Ordering.{is_gt};
+ghost use Rattle.fl_labels.specs.Cap.{cap_cmp};
+ghost use Rattle.fl_labels.specs.SetBy.{In};
+ghost use Rattle.fl_ops.specs.Registry.{InEffect, IsGlobal, Listed};
+ghost use Rattle.fl_jobs.specs.declared.answer.Refusal.TheVariants.{MissingCap};
+ghost use Rattle.fl_jobs.specs.declared.answer.Reply.TheVariants.{Yes, NotYet};
+ghost use Rattle.fl_bench.specs.Process.{body_of, OneOf, PutTakes};
+ghost use Rattle.fl_bench.specs.Checks.{demand};
+ghost use Rattle.fl_bench.specs.Jobs.{order_checks};
+ghost use Rattle.fl_monitor.specs.parts.Acts.{Checked, Required, Told, Acts};
+
+use crate::birth::spawn;
+use crate::change::relabel;
+use crate::disown::give_up;
+use crate::emission::emit;
+use crate::login::{digest_of_secret, enter};
+use crate::mail::work;
+use crate::sequel::{Sequel, answer_alone};
+use crate::view::View;
+use fl_bench::process::{Holding, Process};
+use fl_jobs::answer::{Outcome, Refusal, Reply};
+use fl_jobs::job::{Act, Order};
+use fl_labels::cap::Cap;
+use fl_labels::cap_set::CapSet;
+use fl_labels::name::Name;
+use fl_labels::pid::Pid;
+use fl_ops::op::Body;
+use std::alloc::Global;
+
+// What an order asks to be made.
+fn body_of_order(order: Order) -> Body
+    ensures { result ≡ body_of order }
+{
+    match order {
+        Order::Tag(policy) => Body::MakeTag(policy),
+        Order::Group => Body::MakeGroup,
+        Order::Put(group, cap) => Body::Put(group, cap),
+        Order::MakeLogin(cap, secret) => Body::MakeLogin(cap, digest_of_secret(secret)),
+    }
+}
+
+/// What is answered to a question.
+pub(crate) fn reply_of(yes: bool) -> Reply
+    ensures { result ≡ cond yes Yes NotYet }
+{
+    if yes { Reply::Yes } else { Reply::NotYet }
+}
+
+// Whether a capability is in effect, or else that it is missing.
+fn require<V: View>(alloc: Global, view: &mut V, owned: &CapSet, cap: Cap) -> Result<(), Refusal>
+    ensures required { Required (InEffect (Listed (V.list view.old)) (In owned.now)) cap result }
+    ensures same { V.list view.new ≡ V.list view.old }
+{
+    match view.effective(alloc, owned, cap) {
+        Ok(true) => Ok(()),
+        Ok(false) => Err(Refusal::MissingCap(cap)),
+        Err(_) => Err(Refusal::Memory),
+    }
+}
+
+// Whether both capabilities are in effect, or else which is missing. The lesser is asked for first.
+fn require_both<V: View>(
+    alloc: Global,
+    view: &mut V,
+    owned: &CapSet,
+    lesser: Cap,
+    greater: Cap,
+) -> Result<(), Refusal>
+    requires in_order { is_gt (cap_cmp lesser greater) ≡ false }
+    ensures checked { Checked (demand cap_cmp (OneOf lesser greater) (InEffect (Listed (V.list view.old)) (In owned.now)) MissingCap) ⊤ result }
+    ensures same { V.list view.new ≡ V.list view.old }
+{
+    require(alloc, view, owned, lesser)?;
+    require(alloc, view, owned, greater)
+}
+
+// Whether the owner of these capabilities may put this one into the group. Either of the two that it takes may be the lesser.
+fn check_put<V: View>(
+    alloc: Global,
+    view: &mut V,
+    owned: &CapSet,
+    group: Name,
+    cap: Cap,
+) -> Result<(), Refusal>
+    ensures checked { Checked (demand cap_cmp (PutTakes group cap) (InEffect (Listed (V.list view.old)) (In owned.now)) MissingCap) ⊤ result }
+    ensures same { V.list view.new ≡ V.list view.old }
+{
+    let grow = Cap::Grow(group);
+    if cap < grow {
+        require_both(alloc, view, owned, cap, grow)
+    } else {
+        require_both(alloc, view, owned, grow, cap)
+    }
+}
+
+// Whether the owner of these capabilities may give this order.
+fn check_order<V: View>(
+    alloc: Global,
+    view: &mut V,
+    owned: &CapSet,
+    order: Order,
+) -> Result<(), Refusal>
+    ensures checked { Checked (order_checks (InEffect (Listed (V.list view.old)) (In owned.now)) order) ⊤ result }
+    ensures same { V.list view.new ≡ V.list view.old }
+{
+    match order {
+        Order::Tag(_) => Ok(()),
+        Order::Group => Ok(()),
+        Order::Put(group, cap) => check_put(alloc, view, owned, group, cap),
+        Order::MakeLogin(cap, _) => require(alloc, view, owned, cap),
+    }
+}
+
+// The reply to whether the capability is in effect.
+fn ask<V: View>(alloc: Global, view: &mut V, owned: &CapSet, cap: Cap) -> Result<Outcome, Refusal>
+    ensures told { Told (InEffect (Listed (V.list view.old)) (In owned.now) cap) ((¬ In owned.now cap) × (¬ IsGlobal (Listed (V.list view.old)) cap)) result }
+    ensures same { V.list view.new ≡ V.list view.old }
+{
+    let Ok(yes) = view.effective(alloc, owned, cap) else {
+        return Err(Refusal::Memory);
+    };
+    Ok(Outcome::Reply(reply_of(yes)))
+}
+
+/// Does what the process asks for by itself, unless an operation of it is under way, and answers what follows.
+pub(crate) fn act_alone<V: View>(
+    process: &mut Process,
+    alloc: Global,
+    view: &mut V,
+    pid: Pid,
+    act: Act,
+) -> Result<Sequel, Refusal>
+    ensures acts { Acts (Listed (V.list view.old)) pid process.old act result process.new }
+    ensures same { V.list view.new ≡ V.list view.old }
+{
+    let Holding::Idle(owned) = &mut process.owned else {
+        return Err(Refusal::Busy);
+    };
+    match act {
+        Act::Order(order) => {
+            check_order(alloc, view, owned, order)?;
+            let Ok(()) = process.owned.begin(alloc) else {
+                return Err(Refusal::Memory);
+            };
+            Ok(Sequel::Answer(Outcome::Order(body_of_order(order), pid)))
+        }
+        Act::Relabel(side, label) => {
+            let endpoints = &process.mailbox.endpoints;
+            let labels = &mut process.labels;
+            answer_alone(relabel(alloc, view, owned, endpoints, labels, side, label))
+        }
+        Act::Ask(cap) => answer_alone(ask(alloc, view, owned, cap)),
+        Act::Spawn(caps) => spawn(alloc, view, &process.labels, owned, caps),
+        Act::Exit => Ok(Sequel::End),
+        Act::Drop(cap) => {
+            let endpoints = &process.mailbox.endpoints;
+            let labels = process.labels.lend();
+            answer_alone(give_up(alloc, view, labels, endpoints, owned, cap))
+        }
+        Act::Enter(login, secret) => answer_alone(enter(view, owned, login, secret)),
+        Act::Emit(bytes) => emit(alloc, view, owned, &process.labels.secrecy, bytes),
+        Act::Mail(mail) => {
+            let mailbox = &mut process.mailbox;
+            let labels = process.labels.lend();
+            answer_alone(work(alloc, view, pid, owned, labels, mailbox, mail))
+        }
+    }
+}
