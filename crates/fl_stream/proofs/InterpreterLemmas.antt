@@ -1,0 +1,104 @@
+-- Lines are answered, one after another.
+use Rattle.std.proofs.Common.{◌≡◌, ◌+◌, ◌++◌, ◌∙◌, ◌||◌, refl, sym, ap, List, [], ◌∷◌, ℕ, Bool, true, false, subst, Option, arith}
+use Rattle.std.proofs.lemmas.List.{append-nil, length-append}
+use Rattle.std.proofs.lemmas.List.Concat.{flat_map-append}
+use Rattle.std.proofs.lemmas.List.Folds.{list_any-append}
+use Rattle.std.proofs.KnownBytes.{Appends-kept}
+use Rattle.std.specs.Io.KnownBytes.{Appends, Keeps}
+use Rattle.fl_sink.specs.Sink.{Passes, Cuts}
+use Rattle.fl_sink.proofs.SinkLemmas.{passes_then, cuts_then, cuts_passed, passes_none}
+use Rattle.fl_stream.specs.Turns.{Turns, LineOutput, Answers, CutsAnswer, texts, any_bad}
+use Rattle.fl_stream.specs.parts.Interpreter.{InterpreterState, Proceeds, Halts}
+use Rattle.fl_stream.proofs.RunLemmas.{Run-append}
+
+or_false : (x : Bool) → x || false ≡ x
+or_false true = refl
+or_false false = refl
+
+or_assoc : (x y z : Bool) → (x || y) || z ≡ x || (y || z)
+or_assoc true y z = refl
+or_assoc false y z = refl
+
+pub texts-append : (a b : List LineOutput) → texts (a ++ b) ≡ texts a ++ texts b
+texts-append a b = flat_map-append (λ o. o.text) a b
+
+pub any_bad-append : (a b : List LineOutput) → any_bad (a ++ b) ≡ any_bad a || any_bad b
+any_bad-append a b = list_any-append (λ o. o.bad) a b
+
+module _ {M : Type 0} {turns : Turns M} where
+  -- no line was answered
+  pub proceeds_none : (a : Option (List ℕ)) (d : InterpreterState M) → Proceeds turns d d a a []
+  proceeds_none a d = record {
+    outputs = [];
+    run = refl;
+    count = omega arith;
+    bad_is = sym (or_false d.bad);
+    passed = subst (λ x. Passes a a d.pending [] x) (append-nil d.pending) (passes_none a d.pending []);
+  }
+
+  -- one line was answered
+  pub proceeds_one : {a b : Option (List ℕ)} {line : List ℕ} {bad : Bool} {new : M} {rest : List ℕ} (d : InterpreterState M) → Answers turns d.number d.machine line bad new a b d.pending rest → Proceeds turns d (record { number = d.number + 1; bad = d.bad || bad; machine = new; pending = rest }) a b (line ∷ [])
+  proceeds_one {a} {b} {line} {bad} {new} {rest} d t = record {
+    outputs = record { text = t.text; bad = bad } ∷ [];
+    run = (new, t.turn, refl);
+    count = refl;
+    bad_is = ap (λ x. d.bad || x) (sym (or_false bad));
+    passed = rw (append-nil t.text) t.passed;
+  }
+
+  -- a front of one line's text was written
+  pub halts_one : {a b : Option (List ℕ)} {line : List ℕ} {new : M} (d : InterpreterState M) → CutsAnswer turns d.number d.machine line new a b d.pending → Halts turns d a b (line ∷ [])
+  halts_one {a} {b} {line} {new} d t = record {
+    outputs = t.output ∷ [];
+    end = new;
+    run = (new, t.turn, refl);
+    cut = rw (append-nil t.output.text) t.cut;
+  }
+
+  -- lines were answered after others
+  pub proceeds_then : {a b : Option (List ℕ)} {d e f : InterpreterState M} {ls ms : List (List ℕ)} (c : Option (List ℕ)) → Proceeds turns d e a b ls → Proceeds turns e f b c ms → Proceeds turns d f a c (ls ++ ms)
+  proceeds_then {a} {b} {d} {e} {f} {ls} {ms} c p q = record {
+    outputs = p.outputs ++ q.outputs;
+    run = Run-append turns d.number d.machine ls p.outputs e.machine ms q.outputs f.machine p.run (rw p.count at q.run);
+    count = omega (arith, p.count, q.count, length-append ls ms);
+    bad_is = q.bad_is ∙ ap (λ x. x || any_bad q.outputs) p.bad_is ∙ or_assoc d.bad (any_bad p.outputs) (any_bad q.outputs) ∙ ap (λ x. d.bad || x) (sym (any_bad-append p.outputs q.outputs));
+    passed = rw (texts-append p.outputs q.outputs) (passes_then c (texts q.outputs) f.pending p.passed q.passed);
+  }
+
+  -- a front of more lines' text was written
+  pub halts_then : {a b : Option (List ℕ)} {d e : InterpreterState M} {ls ms : List (List ℕ)} (c : Option (List ℕ)) → Proceeds turns d e a b ls → Halts turns e b c ms → Halts turns d a c (ls ++ ms)
+  halts_then {a} {b} {d} {e} {ls} {ms} c p q =
+      let r = subst (λ x. Cuts a c d.pending (texts p.outputs ++ x)) (append-nil (texts q.outputs)) (cuts_then c (texts q.outputs) [] p.passed q.cut) in record {
+        outputs = p.outputs ++ q.outputs;
+        end = q.end;
+        run = Run-append turns d.number d.machine ls p.outputs e.machine ms q.outputs q.end p.run (rw p.count at q.run);
+        cut = rw (texts-append p.outputs q.outputs) r;
+      }
+
+  -- what goes on may halt
+  pub halts_proceeds : {a b : Option (List ℕ)} {d e : InterpreterState M} {ls : List (List ℕ)} → Proceeds turns d e a b ls → Halts turns d a b ls
+  halts_proceeds {a} {b} {d} {e} {ls} p = record {
+    outputs = p.outputs;
+    end = e.machine;
+    run = p.run;
+    cut = subst (λ x. Cuts a b d.pending x) (append-nil (texts p.outputs)) (cuts_passed [] p.passed);
+  }
+
+  -- all that was pending was written
+  pub proceeds_sent : (a b c : Option (List ℕ)) (d : InterpreterState M) (left : List ℕ) → left ≡ [] → Appends a b d.pending → Keeps b c → Proceeds turns d (record d { pending = left }) a c []
+  proceeds_sent a b c d left empty w k = record {
+    outputs = [];
+    run = refl;
+    count = omega arith;
+    bad_is = sym (or_false d.bad);
+    passed = record { front = d.pending; split = ap (λ x. d.pending ++ x) (sym empty); written = Appends-kept a b c d.pending w k };
+  }
+
+  -- a front of what was pending was written
+  pub halts_sent : {a b : Option (List ℕ)} (d : InterpreterState M) → Cuts a b [] d.pending → Halts turns d a b []
+  halts_sent {a} {b} d w = record {
+    outputs = [];
+    end = d.machine;
+    run = refl;
+    cut = record { front = w.front; rest = w.rest; split = append-nil d.pending ∙ w.split; written = w.written };
+  }

@@ -1,0 +1,5 @@
+pub mod RunLemmas
+pub mod SplitLemmas
+pub mod InterpreterLemmas
+pub mod StreamLemmas
+pub mod IntakeLemmas

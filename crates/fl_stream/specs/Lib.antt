@@ -1,0 +1,4 @@
+pub mod Turns
+pub mod Output
+pub mod Served
+pub mod parts

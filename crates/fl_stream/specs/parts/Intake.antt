@@ -1,0 +1,32 @@
+-- A script is read, some bytes at a time.
+use Rattle.std.specs.Prelude.{◌≡◌, ◌+◌, ◌<◌, ◌≤◌, ◌⊎◌, [], ℕ, List, Option, length}
+use Rattle.std.specs.Io.KnownBytes.{Consumes}
+use Rattle.fl_stream.specs.Turns.{Turns}
+use Rattle.fl_stream.specs.Served.{HasNoFeed}
+use Rattle.fl_stream.specs.parts.Stream.{StreamState, Advances, Stops}
+
+-- all answers were sent, and so many more bytes have no more lines than there are numbers for
+pub record IsReady {M : Type 0} (stream : StreamState M) (room : ℕ) : Type 0 where
+  pub part : HasNoFeed stream.held
+  pub number : stream.interpreter.number + room ≤ 16777217
+  pub sent : stream.interpreter.pending ≡ []
+
+-- bytes were read, for which there was room, and were taken
+pub record Reads {M : Type 0} (turns : Turns M) (remaining left before after : Option (List ℕ)) (old new : StreamState M) (room less : ℕ) : Type 0 where
+  pub bytes : List ℕ
+  pub consumed : Consumes remaining left bytes
+  pub advance : Advances turns old new before after bytes
+  pub fits : length bytes + less ≡ room
+
+-- bytes were read, and taking them stopped
+pub record StopsReading {M : Type 0} (turns : Turns M) (remaining left before after : Option (List ℕ)) (old : StreamState M) : Type 0 where
+  pub bytes : List ℕ
+  pub consumed : Consumes remaining left bytes
+  pub stops : Stops turns old before after bytes
+
+-- nothing was written, and more than there is room for was read, or nothing
+pub record Overruns (remaining left before after : Option (List ℕ)) (room : ℕ) : Type 0 where
+  pub beyond : List ℕ
+  pub consumed : Consumes remaining left beyond
+  pub bounded : (beyond ≡ []) ⊎ (room < length beyond)
+  pub same : after ≡ before

@@ -1,0 +1,42 @@
+-- Lines are answered, one after another, and their texts passed on.
+use Rattle.std.specs.Prelude.{◌≡◌, ◌+◌, ◌||◌, [], ℕ, List, Option, Bool, false, length, refl}
+use Rattle.std.specs.Coded.{Coded, code_by, coded×, coded_ℕ, coded_bool, coded_list}
+use Rattle.fl_sink.specs.Sink.{Passes, Cuts}
+use Rattle.fl_stream.specs.Turns.{Turns, LineOutput, Run, texts, any_bad}
+
+-- between two lines
+pub record InterpreterState (M : Type 0) : Type 0 where
+  -- the number of the next line
+  pub number : ℕ
+  -- some line was none of the script
+  pub bad : Bool
+  pub machine : M
+  -- what waits to be written
+  pub pending : List ℕ
+
+-- before the first line
+abbrev pub fresh : {M : Type 0} → M → InterpreterState M
+fresh machine = record { number = 1; bad = false; machine = machine; pending = [] }
+
+-- these lines were answered, and their text passed on
+pub record Proceeds {M : Type 0} (turns : Turns M) (old new : InterpreterState M) (before after : Option (List ℕ)) (lines : List (List ℕ)) : Type 0 where
+  pub outputs : List LineOutput
+  pub run : Run turns old.number old.machine lines outputs new.machine
+  pub count : new.number ≡ old.number + length lines
+  pub bad_is : new.bad ≡ old.bad || any_bad outputs
+  pub passed : Passes before after old.pending (texts outputs) new.pending
+
+-- these lines were answered, and a front of their text written
+pub record Halts {M : Type 0} (turns : Turns M) (old : InterpreterState M) (before after : Option (List ℕ)) (lines : List (List ℕ)) : Type 0 where
+  pub outputs : List LineOutput
+  pub end : M
+  pub run : Run turns old.number old.machine lines outputs end
+  pub cut : Cuts before after old.pending (texts outputs)
+
+-- a state is stored as the tuple of its fields
+abbrev pub coded_interpreter : {M : Type 0} → Coded M → Coded (InterpreterState M)
+coded_interpreter {M} code =
+    code_by (ℕ × (Bool × (M × List ℕ))) (coded× coded_ℕ (coded× coded_bool (coded× code (coded_list coded_ℕ))))
+    (λ i. (i.number, (i.bad, (i.machine, i.pending))))
+    (λ t. record { number = t.0; bad = t.1.0; machine = t.1.1.0; pending = t.1.1.1 })
+    (λ _. refl)

@@ -1,0 +1,87 @@
+//! Lines are answered, one after another.
+ghost use Rattle.std.specs.Prelude.{◌≡◌, ◌≤◌, ◌∷◌, [], OnErr, OnOk};
+ghost use Rattle.fl_stream.specs.parts.Interpreter.{Halts, Proceeds, fresh};
+
+use crate::machine::Machine;
+use fl_sink::sink::{Sink, WriteFault};
+use std::alloc::Global;
+use std::io::Write;
+use std::marker::Model;
+
+/// Answers the lines of a script by a machine, one after another.
+#[derive(Drop)]
+pub struct Interpreter<M> {
+    machine: M,
+    number: u64,
+    any_bad: bool,
+    sink: Sink,
+}
+
+impl<M> Model for Interpreter<M> {
+    ghost use Rattle.fl_stream.specs.parts.Interpreter.{InterpreterState, coded_interpreter};
+
+    ghost Value = { InterpreterState M };
+
+    ghost coded = { coded_interpreter M.code };
+
+    ghost view = { λ i. record { number = i.number; bad = i.any_bad; machine = i.machine; pending = i.sink } };
+}
+
+impl<M: Machine> Interpreter<M> {
+    /// An interpreter before the first line. Takes no memory.
+    pub fn new(alloc: Global, machine: M) -> Self
+        ensures { result ≡ fresh machine }
+    {
+        Interpreter {
+            machine,
+            number: 1,
+            any_bad: false,
+            sink: Sink::new(alloc),
+        }
+    }
+
+    /// Whether some line was none of the script.
+    pub fn any_bad(&self) -> bool
+        ensures { result ≡ self.now.bad }
+    {
+        self.any_bad
+    }
+
+    /// Answers the next line, given without its line feed. The answer may wait to be written.
+    ///
+    /// At a fault a front of what waited and the answer was written, and the interpreter may not be used again.
+    pub fn answer<W: Write>(
+        &mut self,
+        alloc: Global,
+        line: &[u8],
+        output: &mut W,
+    ) -> Result<(), WriteFault>
+        requires { self.old.number ≤ 16777217 }
+        ensures ok { OnOk result (
+            Proceeds M.turns self.old self.new (W.contents output.old) (W.contents output.new) (line.now ∷ [])) }
+        ensures err { OnErr result (
+            Halts M.turns self.old (W.contents output.old) (W.contents output.new) (line.now ∷ [])) }
+    {
+        let bad = self
+            .machine
+            .answer(alloc, self.number, line, &mut self.sink, output)?;
+        self.any_bad |= bad;
+        self.number += 1;
+        Ok(())
+    }
+
+    /// Writes the answers that wait, and flushes the writer.
+    ///
+    /// At a fault a front of what waited was written, and the interpreter may not be used again.
+    pub fn send<W: Write>(&mut self, output: &mut W) -> Result<(), WriteFault>
+        ensures ok { OnOk result (Proceeds M.turns self.old self.new (W.contents output.old) (W.contents output.new) []) }
+        ensures empty { OnOk result (self.new.pending ≡ []) }
+        ensures err { OnErr result (Halts M.turns self.old (W.contents output.old) (W.contents output.new) []) }
+    {
+        self.sink.finish(output)?;
+        if output.flush().is_err() {
+            return Err(WriteFault);
+        }
+        Ok(())
+    }
+}

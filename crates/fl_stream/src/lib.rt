@@ -1,0 +1,10 @@
+//! Reads a script in pieces: each line is answered by a machine once it was read, before any more is read.
+#![tactic(auto)]
+
+pub mod fault;
+mod intake;
+mod interpreter;
+pub mod machine;
+pub mod run;
+mod split;
+mod stream;
