@@ -4,8 +4,14 @@
 #[cfg(test)]
 mod births;
 #[cfg(test)]
-mod changes;
+mod desk;
 #[cfg(test)]
-mod mailbox;
+mod endpoints;
+#[cfg(test)]
+mod messages;
 #[cfg(test)]
 mod orders;
+#[cfg(test)]
+mod starts;
+#[cfg(test)]
+mod views;

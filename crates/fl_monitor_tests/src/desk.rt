@@ -1,0 +1,256 @@
+//! A bench under a registry, which are driven by lines.
+use fl_aliases::table::Aliases;
+use fl_answers::text::{write_refusal, write_reply};
+use fl_closure::index::Index;
+use fl_jobs::answer::{Outcome, Refusal, Reply};
+use fl_jobs::job::Job;
+use fl_labels::pid::Pid;
+use fl_labels::text::{read_cap, read_endpoint, read_name, read_number, read_pid};
+use fl_monitor::bench::Bench;
+use fl_ops::op::{Body, Op, Policy};
+use fl_rules::labels::Labels;
+use fl_script::line::Line;
+use fl_script::reading::{Reading, read_line};
+use fl_sink::sink::Sink;
+use fl_wire::packet::{Data, Packet};
+use std::alloc::{AllocGlobal, Global};
+use std::process::Abort;
+use std::test::Fail;
+
+/// A line, and what it is answered.
+pub type Asked = (&'static str, &'static str);
+
+/// Where a test begins.
+pub struct Start {
+    /// The first serial of the bench, and how far its serials are apart.
+    pub first: u32,
+    pub stride: u32,
+    pub lines: &'static [Asked],
+}
+
+/// A bench, the registry under which it works, and what its jobs left to do.
+#[derive(Drop)]
+struct Desk {
+    alloc: Global,
+    bench: Bench,
+    registry: Index,
+    /// The last order, and its maker.
+    ordered: Option<(Body, Pid)>,
+    /// The packets that were sent.
+    sent: Vec<Data>,
+}
+
+/// From the start on, each of the lines has its answer. A line is a job of the script, or
+///
+/// - `1 deliver 2`: the second packet that was sent comes to its receiver.
+/// - `learn 1.3 tag read`: what another node made, as the text of a registry shows it.
+/// - `finish 1.3`: what was ordered last is made under this name.
+/// - `cancel p1.1.2`: what the process ordered is not made.
+/// - `packet 2`: from where to where the second packet goes, with its labels.
+/// - `labels p1.1.2`, `endpoint p1.1.2 e1`: the labels of a process, and an endpoint with its mode.
+///
+/// In a line `{long}` stands for a label of 257 tags.
+pub fn check(rt: &(impl Abort + AllocGlobal), start: &Start, lines: &[Asked]) -> Result<(), Fail> {
+    let mut desk = opened(rt, start)?;
+    desk.check(rt, start.lines)?;
+    desk.check(rt, lines)
+}
+
+fn opened(rt: &(impl Abort + AllocGlobal), start: &Start) -> Result<Desk, Fail> {
+    assert!(rt; 1 <= start.first && start.first <= start.stride);
+    let alloc = rt.alloc();
+    Ok(Desk {
+        alloc,
+        bench: Bench::new(alloc, 1, 1, start.first, start.stride),
+        registry: Index::new(alloc),
+        ordered: None,
+        sent: Vec::new(alloc),
+    })
+}
+
+impl Desk {
+    fn check(&mut self, rt: &(impl Abort + AllocGlobal), lines: &[Asked]) -> Result<(), Fail> {
+        for (line, answer) in lines {
+            let said = self.answer(line)?;
+            assert_eq!(rt; said.as_str(), *answer, "{line}");
+        }
+        Ok(())
+    }
+
+    fn answer(&mut self, line: &str) -> Result<String, Fail> {
+        match line.split_once(' ') {
+            Some(("learn", words)) => self.learn(words),
+            Some(("finish", name)) => self.finish(name),
+            Some(("cancel", pid)) => self.cancel(pid),
+            Some(("packet", number)) => self.packet(number),
+            Some(("labels", pid)) => self.labels(pid),
+            Some(("endpoint", words)) => self.endpoint(words),
+            _ => self.work(line),
+        }
+    }
+
+    fn work(&mut self, line: &str) -> Result<String, Fail> {
+        let job = self.job(line)?;
+        match self.bench.job(self.alloc, &mut self.registry, job) {
+            Ok(outcome) => self.follow(outcome),
+            Err(refusal) => refusal_text(self.alloc, refusal),
+        }
+    }
+
+    /// The job that the line asks for.
+    fn job(&self, line: &str) -> Result<Job, Fail> {
+        let line = with_long_label(self.alloc, line)?;
+        match read_line(self.alloc, &Aliases::new(self.alloc), line.as_bytes())? {
+            Reading::Means { line, .. } => self.job_of(line),
+            _ => Err(Fail::from("no line")),
+        }
+    }
+
+    fn job_of(&self, line: Line) -> Result<Job, Fail> {
+        match line {
+            Line::Job { job, .. } => Ok(job),
+            Line::Deliver { packet, .. } => Ok(Job::Arrive(self.data(packet)?.copy(self.alloc)?)),
+            _ => Err(Fail::from("no job")),
+        }
+    }
+
+    /// The packet that was sent as the one of this number.
+    fn data(&self, number: u32) -> Result<&Data, Fail> {
+        let place = number.checked_sub(1).ok_or("no packet")?;
+        Ok(self.sent.get(place as usize).ok_or("no packet")?)
+    }
+
+    /// What is said of what comes of a job.
+    fn follow(&mut self, outcome: Outcome) -> Result<String, Fail> {
+        match outcome {
+            Outcome::Reply(reply) => reply_text(self.alloc, &reply),
+            Outcome::Order(body, pid) => {
+                self.ordered = Some((body, pid));
+                order_text(self.alloc, &body, pid)
+            }
+            Outcome::Out(Packet::Data(data)) => {
+                self.sent.push(data)?;
+                Ok(format!(in self.alloc; "sent {}", self.sent.len())?)
+            }
+        }
+    }
+
+    fn learn(&mut self, words: &str) -> Result<String, Fail> {
+        let (name, body) = words.split_once(' ').ok_or("no words")?;
+        let name = read_name(name).ok_or("no name")?;
+        let body = body_from_text(body).ok_or("no body")?;
+        self.registry.absorb(&Op { name, body })?;
+        Ok(String::new(self.alloc))
+    }
+
+    fn finish(&mut self, name: &str) -> Result<String, Fail> {
+        let (body, pid) = self.ordered.ok_or("no order")?;
+        let name = read_name(name).ok_or("no name")?;
+        let op = Op { name, body };
+        self.registry.absorb(&op)?;
+        self.bench.finish(pid, &op);
+        Ok(String::new(self.alloc))
+    }
+
+    fn cancel(&mut self, pid: &str) -> Result<String, Fail> {
+        self.bench.cancel(read_pid(pid).ok_or("no pid")?);
+        Ok(String::new(self.alloc))
+    }
+
+    fn packet(&self, number: &str) -> Result<String, Fail> {
+        let number = read_number(number).ok_or("no number")?;
+        let data = self.data(number)?;
+        Ok(format!(in self.alloc;
+            "{} {} {} {} {} {} {} {}",
+            data.sender, data.from, data.receiver, data.to, data.secrecy, data.integrity, data.message.caps,
+            hex_text(self.alloc, data.message.payload.as_slice())?
+        )?)
+    }
+
+    fn labels(&self, pid: &str) -> Result<String, Fail> {
+        match self.bench.process(read_pid(pid).ok_or("no pid")?) {
+            Some(process) => labels_text(self.alloc, &process.labels),
+            None => Ok(format!(in self.alloc; "none")?),
+        }
+    }
+
+    fn endpoint(&self, words: &str) -> Result<String, Fail> {
+        let (pid, endpoint) = words.split_once(' ').ok_or("no words")?;
+        let pid = read_pid(pid).ok_or("no pid")?;
+        let endpoint = read_endpoint(endpoint).ok_or("no endpoint")?;
+        let process = self.bench.process(pid).ok_or("no process")?;
+        let opened = process.mailbox.endpoints.get(endpoint).ok_or("not open")?;
+        let labels = labels_text(self.alloc, &opened.labels)?;
+        Ok(format!(in self.alloc; "{:?} {labels}", opened.mode)?)
+    }
+}
+
+fn labels_text(alloc: Global, labels: &Labels) -> Result<String, Fail> {
+    Ok(format!(in alloc; "{} {}", labels.secrecy, labels.integrity)?)
+}
+
+/// The line with a label of 257 tags in the place of `{long}`.
+fn with_long_label(alloc: Global, line: &str) -> Result<String, Fail> {
+    let Some((front, back)) = line.split_once("{long}") else {
+        return Ok(format!(in alloc; "{line}")?);
+    };
+    let mut long = format!(in alloc; "{front}{{1.1")?;
+    for seq in 2..=257u32 {
+        long.push_str(&format!(in alloc; ",1.{seq}")?)?;
+    }
+    Ok(format!(in alloc; "{long}}}{back}")?)
+}
+
+fn order_text(alloc: Global, body: &Body, pid: Pid) -> Result<String, Fail> {
+    Ok(match body {
+        Body::MakeTag(policy) => format!(in alloc; "tag {} for {pid}", policy.text())?,
+        Body::MakeGroup => format!(in alloc; "group for {pid}")?,
+        Body::Put(group, cap) => format!(in alloc; "put {group} {cap} for {pid}")?,
+        Body::MakeLogin(cap, digest) => {
+            let digest = hex_text(alloc, digest.bytes.as_slice())?;
+            format!(in alloc; "login {cap} {digest} for {pid}")?
+        }
+    })
+}
+
+/// The body of an operation, where the text of a registry shows it so. Logins are left out.
+fn body_from_text(text: &str) -> Option<Body> {
+    match text.split_once(' ') {
+        Some(("tag", "export")) => Some(Body::MakeTag(Policy::Export)),
+        Some(("tag", "read")) => Some(Body::MakeTag(Policy::Read)),
+        Some(("put", words)) => {
+            let (group, cap) = words.split_once(' ')?;
+            Some(Body::Put(read_name(group)?, read_cap(cap)?))
+        }
+        _ => None,
+    }
+}
+
+fn hex_text(alloc: Global, bytes: &[u8]) -> Result<String, Fail> {
+    let mut text = String::new(alloc);
+    for byte in bytes {
+        text.push_str(&format!(in alloc; "{byte:02x}")?)?;
+    }
+    Ok(text)
+}
+
+fn reply_text(alloc: Global, reply: &Reply) -> Result<String, Fail> {
+    let mut sink = Sink::new(alloc);
+    let mut output = Vec::new(alloc);
+    write_reply(reply, &mut sink, &mut output)?;
+    sink.finish(&mut output)?;
+    line_text(alloc, &output)
+}
+
+fn refusal_text(alloc: Global, refusal: Refusal) -> Result<String, Fail> {
+    let mut sink = Sink::new(alloc);
+    let mut output = Vec::new(alloc);
+    write_refusal(refusal, &mut sink, &mut output)?;
+    sink.finish(&mut output)?;
+    line_text(alloc, &output)
+}
+
+fn line_text(alloc: Global, bytes: &[u8]) -> Result<String, Fail> {
+    let text = str::from_utf8(bytes)?;
+    Ok(format!(in alloc; "{}", text.trim_end())?)
+}
