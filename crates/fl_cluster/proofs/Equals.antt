@@ -19,12 +19,12 @@ use Rattle.fl_jobs.specs.declared.answer.Refusal.{Refusal}
 use Rattle.fl_jobs.specs.declared.answer.Refusal.TheVariants.{Busy, Memory, NoProcess}
 use Rattle.fl_jobs.specs.declared.answer.Outcome.{Outcome}
 use Rattle.fl_opset.proofs.Join.{same_members}
-use Rattle.fl_monitor.specs.Checks.{◌then◌, no_check, refuse_if, with}
-use Rattle.fl_monitor.specs.Process.{effective, is_busy, owns}
-use Rattle.fl_monitor.specs.Bench as bench
-use Rattle.fl_monitor.specs.Jobs.{Answers, act_checks, checks, Does, passed, failed, no_room}
-use Rattle.fl_monitor.specs.declared.process.Process.{Process}
-use Rattle.fl_monitor.proofs.Orders.{order_at}
+use Rattle.fl_bench.specs.Checks.{◌then◌, no_check, refuse_if, with}
+use Rattle.fl_bench.specs.Process.{effective, is_busy, owns}
+use Rattle.fl_bench.specs.Bench as bench
+use Rattle.fl_bench.specs.Jobs.{Answers, act_checks, checks, Does, passed, failed, no_room}
+use Rattle.fl_bench.specs.declared.process.Process.{Process}
+use Rattle.fl_bench_laws.proofs.Orders.{order_at}
 use Rattle.fl_cluster.specs.State.{NodeState}
 use Rattle.fl_cluster.specs.Answer.{Answer}
 use Rattle.fl_cluster.specs.NodeStep.{view_of, AnswersResult, Works, replies, refuses, makes, spends}
