@@ -1,9 +1,8 @@
 //! The bytes that wait to be written.
-ghost use Rattle.std.specs.Prelude.{◌≡◌, ◌++◌, [], OnOk, OnErr};
+ghost use Rattle.std.specs.Prelude.{◌≡◌, ◌++◌, [], OnOk};
 ghost use Rattle.std.specs.Bool.{OnTrue, OnFalse};
 ghost use Rattle.std.specs.List.{flat_map};
-ghost use Rattle.std.specs.Io.KnownBytes.{Appends};
-ghost use Rattle.fl_sink.specs.Sink.{Cuts, Passes};
+ghost use Rattle.fl_sink.specs.Sink.{Puts, Writes};
 
 use std::alloc::Global;
 use std::io::Write;
@@ -22,8 +21,7 @@ pub struct WriteFault;
 ///
 /// A write that fails or takes no bytes is a fault; a front of the bytes was written then.
 pub fn write_out<W: Write>(output: &mut W, bytes: &[u8]) -> Result<(), WriteFault>
-    ensures ok { OnOk result (Appends (W.contents output.old) (W.contents output.new) bytes.now) }
-    ensures err { OnErr result (Cuts (W.contents output.old) (W.contents output.new) [] bytes.now) }
+    ensures { Writes (W.contents output.old) (W.contents output.new) bytes.now result }
 {
     let mut rest = bytes;
     while !rest.is_empty() {
@@ -63,9 +61,8 @@ impl Sink {
     ///
     /// At a fault a front of what waited was written, and the sink may not be used again.
     pub fn finish<W: Write>(&mut self, output: &mut W) -> Result<(), WriteFault>
-        ensures ok { OnOk result (Appends (W.contents output.old) (W.contents output.new) self.old) }
+        ensures writes { Writes (W.contents output.old) (W.contents output.new) self.old result }
         ensures empty { OnOk result (self.new ≡ []) }
-        ensures err { OnErr result (Cuts (W.contents output.old) (W.contents output.new) [] self.old) }
     {
         write_out(output, &self.pending)?;
         self.pending.clear();
@@ -79,8 +76,7 @@ impl Sink {
     /// the sink may not be used again.
     #[tactic(auto, using(crate::proofs::SinkLemmas::passes))]
     pub fn put<W: Write>(&mut self, output: &mut W, bytes: &[u8]) -> Result<(), WriteFault>
-        ensures ok { OnOk result (Passes (W.contents output.old) (W.contents output.new) self.old bytes.now self.new) }
-        ensures err { OnErr result (Cuts (W.contents output.old) (W.contents output.new) self.old bytes.now) }
+        ensures { Puts (W.contents output.old) (W.contents output.new) self.old bytes.now self.new result }
     {
         if self.hold(bytes) {
             return Ok(());
@@ -94,8 +90,8 @@ impl Sink {
 
     /// Takes the pieces, one after another, as [`Sink::put`] does.
     pub fn put_all<W: Write>(&mut self, output: &mut W, pieces: &[&[u8]]) -> Result<(), WriteFault>
-        ensures ok { OnOk result (Passes (W.contents output.old) (W.contents output.new) self.old (flat_map (λ p. p.now) pieces.now) self.new) }
-        ensures err { OnErr result (Cuts (W.contents output.old) (W.contents output.new) self.old (flat_map (λ p. p.now) pieces.now)) }
+        ensures { let text = flat_map (λ p. p.now) pieces.now in
+            Puts (W.contents output.old) (W.contents output.new) self.old text self.new result }
     {
         for piece in pieces {
             self.put(output, piece)?;
