@@ -1,5 +1,5 @@
 -- The first login of a name.
-use Rattle.std.specs.Prelude.{◌≡◌, ◌↔◌, refl, false, Option, Some, None, MatchOption}
+use Rattle.std.specs.Prelude.{◌≡◌, ◌↔◌, refl, false, Option, Some, None}
 use Rattle.std.proofs.Common.{sym, ap, ◌∙◌}
 use Rattle.std.specs.declared.cmp.Ordering.{Ordering}
 use Rattle.std.specs.declared.cmp.Ordering.TheVariants.{Less, Equal, Greater}
@@ -13,7 +13,7 @@ use Rattle.fl_ops.specs.declared.op.Op.{Op}
 use Rattle.fl_ops.specs.OpOrder.{op_cmp}
 use Rattle.fl_ops.specs.OpLaws.{op_total, op_exact}
 use Rattle.fl_ops.specs.Registry.{Registry, login_op}
-use Rattle.fl_ops.specs.Logins.{IsFirstLogin, HasNoLogin}
+use Rattle.fl_ops.specs.Logins.{IsFirstLogin, HasNoLogin, FindsLogin}
 
 tie : (r : Ordering) → is_gt r ≡ false → is_gt (ordering_reverse r) ≡ false → r ≡ Equal
 tie Less low high = absurd (cc)
@@ -50,6 +50,6 @@ module _ {U V : Registry} (same : (op : Op) → U op ↔ V op) (login : Name) wh
   pub none_kept : HasNoLogin U login → HasNoLogin V login
   none_kept none c digest h = none c digest ((same _).1 h)
 
-  pub answer_kept : (r : Option (Cap × Digest)) → MatchOption r (HasNoLogin U login) (λ l. IsFirstLogin U login l.0 l.1) → MatchOption r (HasNoLogin V login) (λ l. IsFirstLogin V login l.0 l.1)
+  pub answer_kept : (r : Option (Cap × Digest)) → FindsLogin U login r → FindsLogin V login r
   answer_kept None h = none_kept h
   answer_kept (Some l) h = first_kept l.0 l.1 h

@@ -1,5 +1,5 @@
 -- The logins of a registry.
-use Rattle.std.specs.Prelude.{◌≡◌, false}
+use Rattle.std.specs.Prelude.{◌≡◌, false, Option, MatchOption}
 use Rattle.std.specs.Ordering.{is_gt}
 use Rattle.fl_labels.specs.declared.name.Name.{Name}
 use Rattle.fl_labels.specs.declared.cap.Cap.{Cap}
@@ -16,3 +16,7 @@ pub record IsFirstLogin (U : Registry) (login : Name) (c : Cap) (digest : Digest
 -- the registry has no login of this name
 abbrev pub HasNoLogin : Registry → Name → Type 0
 HasNoLogin U login = (c : Cap) (digest : Digest) → ¬ IsLogin U login c digest
+
+-- the first login of this name, as its capability and its digest, or none where there is none
+abbrev pub FindsLogin : Registry → Name → Option (Cap × Digest) → Type 0
+FindsLogin U login r = MatchOption r (HasNoLogin U login) (λ l. IsFirstLogin U login l.0 l.1)

@@ -23,9 +23,9 @@ use Rattle.fl_ops.specs.declared.op.Op.{Op}
 use Rattle.fl_ops.specs.Bytes.{kind_byte}
 use Rattle.fl_ops.specs.OpOrder.{op_cmp, body_key}
 use Rattle.fl_ops.specs.OpLaws.{op_total, op_exact}
-use Rattle.fl_ops.specs.Registry.{Listed}
-use Rattle.fl_ops.specs.Logins.{login_op, IsFirstLogin, HasNoLogin}
-use Rattle.fl_opset.specs.LoginPlace.{login_place}
+use Rattle.fl_ops.specs.Registry.{Listed, login_op}
+use Rattle.fl_ops.specs.Logins.{IsFirstLogin, HasNoLogin}
+use Rattle.fl_opset.specs.parts.LoginPlace.{login_place}
 use Rattle.fl_opset.proofs.Partition.{names_rise, rest_item}
 use Rattle.fl_opset.proofs.Names.{by_name}
 

@@ -1,2 +1,2 @@
-pub mod LoginPlace
 pub mod RegistryText
+pub mod parts

@@ -1,12 +1,12 @@
 //! What binary searches find among operations that rise.
-ghost use Rattle.std.specs.Prelude.{◌≡◌, ◌≢◌, ◌≤◌, ◌<◌, length, true, false, MatchOption};
+ghost use Rattle.std.specs.Prelude.{◌≡◌, ◌≢◌, ◌≤◌, ◌<◌, length, true, false};
 ghost use Rattle.std.specs.List.{All, Any};
 ghost use Rattle.std.specs.List.Sorted.{IsStrictlySortedBy, IsSearchInRange, IsBinarySearchResult};
 ghost use Rattle.std.specs.Ordering.{is_lt};
 ghost use Rattle.fl_ops.specs.OpOrder.{op_cmp};
 ghost use Rattle.fl_ops.specs.Registry.{Listed};
-ghost use Rattle.fl_ops.specs.Logins.{IsFirstLogin, HasNoLogin};
-ghost use Rattle.fl_opset.specs.LoginPlace.{login_place};
+ghost use Rattle.fl_ops.specs.Logins.{FindsLogin};
+ghost use Rattle.fl_opset.specs.parts.LoginPlace.{login_place};
 
 use fl_labels::cap::Cap;
 use fl_labels::name::Name;
@@ -17,7 +17,8 @@ use fl_ops::op::{Body, Op};
 /// at the end.
 pub fn place_of(ops: &[Op], op: &Op) -> Result<usize, usize>
     ensures bound { IsSearchInRange result (length ops.now) }
-    ensures position { IsStrictlySortedBy op_cmp ops.now → IsBinarySearchResult (λ y. op_cmp y op.now) ops.now result }
+    ensures position { IsStrictlySortedBy op_cmp ops.now
+        → IsBinarySearchResult (λ y. op_cmp y op.now) ops.now result }
 {
     let Some(last) = ops.last() else {
         return Err(0);
@@ -32,7 +33,8 @@ pub fn place_of(ops: &[Op], op: &Op) -> Result<usize, usize>
 pub fn last_seq(ops: &[Op], node: u16) -> u32
     requires { IsStrictlySortedBy op_cmp ops.now }
     ensures upper { All (λ op. op.name.node ≡ node → op.name.seq ≤ result) ops.now }
-    ensures reached { 0 < result → Any (λ op. (op.name.node ≡ node) × (op.name.seq ≡ result)) ops.now }
+    ensures reached { 0 < result
+        → Any (λ op. (op.name.node ≡ node) × (op.name.seq ≡ result)) ops.now }
 {
     let end = ops.partition_point(|op| op.name.node <= node);
     let Some(last) = ops[..end].last() else {
@@ -48,8 +50,10 @@ pub fn last_seq(ops: &[Op], node: u16) -> u32
 /// Whether one of the operations has the name of this one, and another body.
 pub fn has_other(ops: &[Op], op: &Op) -> bool
     requires { IsStrictlySortedBy op_cmp ops.now }
-    ensures some { result ≡ true → Any (λ other. (other.name ≡ op.now.name) × (other ≢ op.now)) ops.now }
-    ensures none { result ≡ false → All (λ other. other.name ≡ op.now.name → other ≡ op.now) ops.now }
+    ensures some { result ≡ true
+        → Any (λ other. (other.name ≡ op.now.name) × (other ≢ op.now)) ops.now }
+    ensures none { result ≡ false
+        → All (λ other. other.name ≡ op.now.name → other ≡ op.now) ops.now }
 {
     let first = ops.partition_point(|other| other.name < op.name);
     for other in &ops[first..] {
@@ -76,7 +80,7 @@ fn is_before_logins(op: &Op, name: Name) -> bool
 /// The least login of this name, or none.
 pub fn first_login(ops: &[Op], name: Name) -> Option<(Cap, Digest)>
     requires { IsStrictlySortedBy op_cmp ops.now }
-    ensures { MatchOption result (HasNoLogin (Listed ops.now) name) (λ l. IsFirstLogin (Listed ops.now) name l.0 l.1) }
+    ensures { FindsLogin (Listed ops.now) name result }
 {
     let start = ops.partition_point(|op| is_before_logins(op, name));
     let Some(first) = ops[start..].first() else {

@@ -1,12 +1,11 @@
 //! Sets of operations, in a sorted `Vec`.
-ghost use Rattle.std.specs.Prelude.{◌≡◌, ◌≢◌, ◌≤◌, ◌<◌, [], IfOk, IfSome, IfNone, MatchOption, OnOk, OnErr, not};
-ghost use Rattle.std.specs.Io.KnownBytes.{Appends};
+ghost use Rattle.std.specs.Prelude.{◌≡◌, ◌≢◌, ◌≤◌, ◌<◌, IfOk, IfSome, IfNone, OnOk, OnErr, not};
 ghost use Rattle.fl_labels.specs.SetBy as set;
 ghost use Rattle.fl_labels.specs.SetBy.{In};
 ghost use Rattle.fl_ops.specs.declared.op.Op.{Op};
 ghost use Rattle.fl_ops.specs.OpOrder.{op_cmp};
-ghost use Rattle.fl_ops.specs.Logins.{IsFirstLogin, HasNoLogin};
-ghost use Rattle.fl_sink.specs.Sink.{Cuts, Passes};
+ghost use Rattle.fl_ops.specs.Logins.{FindsLogin};
+ghost use Rattle.fl_sink.specs.Sink.{Puts, Writes};
 ghost use Rattle.fl_opset.specs.RegistryText.{registry_text};
 
 use crate::merging::{all_below, merged};
@@ -76,22 +75,25 @@ impl OpSet {
     /// The greatest sequence number of the node's members, or 0 where it has none. A binary search.
     pub fn last_of(&self, node: u16) -> u32
         ensures upper { (op : Op) → In self.now op → op.name.node ≡ node → op.name.seq ≤ result }
-        ensures reached { 0 < result → (op : Op) × In self.now op × (op.name.node ≡ node) × (op.name.seq ≡ result) }
+        ensures reached { 0 < result
+            → (op : Op) × In self.now op × (op.name.node ≡ node) × (op.name.seq ≡ result) }
     {
         last_seq(&self.ops, node)
     }
 
     /// The name of the operation, where a member has that name and another body. A binary search; takes no memory.
     pub fn clash(&self, op: &Op) -> Option<Name>
-        ensures some { IfSome result (λ name. (name ≡ op.now.name) × ((other : Op) × In self.now other × (other.name ≡ name) × (other ≢ op.now))) }
-        ensures none { IfNone result ((other : Op) → In self.now other → other.name ≡ op.now.name → other ≡ op.now) }
+        ensures some { IfSome result (λ name. (name ≡ op.now.name)
+            × ((other : Op) × In self.now other × (other.name ≡ name) × (other ≢ op.now))) }
+        ensures none { IfNone result
+            ((other : Op) → In self.now other → other.name ≡ op.now.name → other ≡ op.now) }
     {
         has_other(&self.ops, op).then_some(op.name)
     }
 
     /// The least login of this name, as its capability and the digest of its secret, or none. A binary search; takes no memory.
     pub fn first_login(&self, name: Name) -> Option<(Cap, Digest)>
-        ensures { MatchOption result (HasNoLogin (In self.now) name) (λ l. IsFirstLogin (In self.now) name l.0 l.1) }
+        ensures { FindsLogin (In self.now) name result }
     {
         first_login(&self.ops, name)
     }
@@ -146,16 +148,15 @@ impl OpSet {
     ///
     /// At a fault a front of what waited and the text was written, and the sink may not be used again.
     pub fn write_text<W: Write>(&self, sink: &mut Sink, output: &mut W) -> Result<(), WriteFault>
-        ensures ok { OnOk result (Passes (W.contents output.old) (W.contents output.new) sink.old (registry_text self.now) sink.new) }
-        ensures err { OnErr result (Cuts (W.contents output.old) (W.contents output.new) sink.old (registry_text self.now)) }
+        ensures { let text = registry_text self.now in
+            Puts (W.contents output.old) (W.contents output.new) sink.old text sink.new result }
     {
         write_lines(&self.ops, sink, output)
     }
 
     /// Writes the text of the members, as [`OpSet::write_text`] has it. At a fault a front of it was written.
     pub fn text<W: Write>(&self, output: &mut W) -> Result<(), WriteFault>
-        ensures ok { OnOk result (Appends (W.contents output.old) (W.contents output.new) (registry_text self.now)) }
-        ensures err { OnErr result (Cuts (W.contents output.old) (W.contents output.new) [] (registry_text self.now)) }
+        ensures { Writes (W.contents output.old) (W.contents output.new) (registry_text self.now) result }
     {
         let mut sink = Sink::new(*self.ops.allocator());
         self.write_text(&mut sink, output)?;

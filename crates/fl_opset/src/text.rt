@@ -1,9 +1,9 @@
 //! The text of a registry.
-ghost use Rattle.std.specs.Prelude.{◌≡◌, ◌∷◌, ◌++◌, [], OnErr, OnOk};
+ghost use Rattle.std.specs.Prelude.{◌≡◌, ◌∷◌, ◌++◌, []};
 ghost use Rattle.std.specs.List.{flat_map};
-ghost use Rattle.fl_labels.specs.Text.{name_text, cap_sign};
+ghost use Rattle.fl_labels.specs.Text.{name_text};
 ghost use Rattle.hex.specs.Hex.{encode_lower};
-ghost use Rattle.fl_sink.specs.Sink.{Cuts, Passes};
+ghost use Rattle.fl_sink.specs.Sink.{Puts};
 ghost use Rattle.fl_opset.specs.RegistryText.{op_line, put_line, login_line};
 
 use fl_labels::cap::Cap;
@@ -15,17 +15,7 @@ use hex::encode_to_slice;
 use itoa::Buffer;
 use std::io::Write;
 
-fn sign_of(cap: Cap) -> &'static [u8]
-    ensures { result.now ≡ cap_sign cap ∷ [] }
-{
-    match cap {
-        Cap::Plus(_) => b"+",
-        Cap::Minus(_) => b"-",
-        Cap::Use(_) => b"*",
-        Cap::Grow(_) => b"^",
-    }
-}
-
+// The digits of a digest, in lower case.
 fn digits_of(digest: &Digest) -> [u8; 64]
     ensures { result ≡ encode_lower digest.now.bytes }
 {
@@ -42,8 +32,8 @@ fn write_words<W: Write>(
     sink: &mut Sink,
     output: &mut W,
 ) -> Result<(), WriteFault>
-    ensures ok { OnOk result (Passes (W.contents output.old) (W.contents output.new) sink.old (name_text name ++ (first.now ++ (second.now ++ 10 ∷ []))) sink.new) }
-    ensures err { OnErr result (Cuts (W.contents output.old) (W.contents output.new) sink.old (name_text name ++ (first.now ++ (second.now ++ 10 ∷ [])))) }
+    ensures { let text = name_text name ++ (first.now ++ (second.now ++ 10 ∷ [])) in
+        Puts (W.contents output.old) (W.contents output.new) sink.old text sink.new result }
 {
     let mut node = Buffer::new();
     let mut seq = Buffer::new();
@@ -60,8 +50,8 @@ fn write_put<W: Write>(
     sink: &mut Sink,
     output: &mut W,
 ) -> Result<(), WriteFault>
-    ensures ok { OnOk result (Passes (W.contents output.old) (W.contents output.new) sink.old (put_line name group cap) sink.new) }
-    ensures err { OnErr result (Cuts (W.contents output.old) (W.contents output.new) sink.old (put_line name group cap)) }
+    ensures { let text = put_line name group cap in
+        Puts (W.contents output.old) (W.contents output.new) sink.old text sink.new result }
 {
     let (mut node, mut seq) = (Buffer::new(), Buffer::new());
     let (mut group_node, mut group_seq) = (Buffer::new(), Buffer::new());
@@ -75,7 +65,7 @@ fn write_put<W: Write>(
         b".",
         group_seq.format(group.seq).as_bytes(),
         b" ",
-        sign_of(cap),
+        cap.sign().as_bytes(),
         cap_node.format(cap.name().node).as_bytes(),
         b".",
         cap_seq.format(cap.name().seq).as_bytes(),
@@ -92,8 +82,8 @@ fn write_login<W: Write>(
     sink: &mut Sink,
     output: &mut W,
 ) -> Result<(), WriteFault>
-    ensures ok { OnOk result (Passes (W.contents output.old) (W.contents output.new) sink.old (login_line name cap digest.now) sink.new) }
-    ensures err { OnErr result (Cuts (W.contents output.old) (W.contents output.new) sink.old (login_line name cap digest.now)) }
+    ensures { let text = login_line name cap digest.now in
+        Puts (W.contents output.old) (W.contents output.new) sink.old text sink.new result }
 {
     let (mut node, mut seq) = (Buffer::new(), Buffer::new());
     let (mut cap_node, mut cap_seq) = (Buffer::new(), Buffer::new());
@@ -103,7 +93,7 @@ fn write_login<W: Write>(
         b".",
         seq.format(name.seq).as_bytes(),
         b" login ",
-        sign_of(cap),
+        cap.sign().as_bytes(),
         cap_node.format(cap.name().node).as_bytes(),
         b".",
         cap_seq.format(cap.name().seq).as_bytes(),
@@ -114,9 +104,10 @@ fn write_login<W: Write>(
     sink.put_all(output, &pieces)
 }
 
+// The line of an operation.
 fn write_line<W: Write>(op: &Op, sink: &mut Sink, output: &mut W) -> Result<(), WriteFault>
-    ensures ok { OnOk result (Passes (W.contents output.old) (W.contents output.new) sink.old (op_line op.now) sink.new) }
-    ensures err { OnErr result (Cuts (W.contents output.old) (W.contents output.new) sink.old (op_line op.now)) }
+    ensures { let text = op_line op.now in
+        Puts (W.contents output.old) (W.contents output.new) sink.old text sink.new result }
 {
     match op.body {
         Body::MakeTag(policy) => {
@@ -130,8 +121,8 @@ fn write_line<W: Write>(op: &Op, sink: &mut Sink, output: &mut W) -> Result<(), 
 
 /// Puts the line of each operation into the sink.
 pub fn write_lines<W: Write>(ops: &[Op], sink: &mut Sink, output: &mut W) -> Result<(), WriteFault>
-    ensures ok { OnOk result (Passes (W.contents output.old) (W.contents output.new) sink.old (flat_map op_line ops.now) sink.new) }
-    ensures err { OnErr result (Cuts (W.contents output.old) (W.contents output.new) sink.old (flat_map op_line ops.now)) }
+    ensures { let text = flat_map op_line ops.now in
+        Puts (W.contents output.old) (W.contents output.new) sink.old text sink.new result }
 {
     for op in ops {
         write_line(op, sink, output)?;

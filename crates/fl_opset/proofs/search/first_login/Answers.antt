@@ -3,7 +3,7 @@ use Rattle.std.specs.Ordering.{is_lt}
 use Rattle.std.proofs.lemmas.List.{length-drop, take_rest}
 use Rattle.std.proofs.lemmas.List.Sorted.{IsPartitionPoint-from_clause}
 use Rattle.fl_labels.specs.NameOrder.{name_total, name_exact, name_tied}
-use Rattle.fl_opset.specs.LoginPlace.{login_place}
+use Rattle.fl_opset.specs.parts.LoginPlace.{login_place}
 use Rattle.fl_opset.proofs.Partition.{apart, alike}
 use Rattle.fl_opset.proofs.FirstLogin.{logins_parted, none_after, none_of_name, none_of_kind, is_first}
 use Rattle.fl_opset.proofs.search.first_login.Goals as goal

@@ -1,5 +1,5 @@
 use Rattle.std.proofs.Common.{◌<◌, arith, length}
-use Rattle.fl_sink.proofs.SinkLemmas.{passes_then, cuts_then, flat_map_more, flat_map_at, on_err_always}
+use Rattle.fl_sink.proofs.SinkLemmas.{passes_then, puts_then, puts_stop, flat_map_more, flat_map_at}
 use Rattle.fl_opset.specs.RegistryText.{op_line}
 use Rattle.fl_opset.proofs.text.write_lines.Goals as goal
 
@@ -7,10 +7,10 @@ pub loop-op-preserved : goal.loop-op-preserved
 loop-op-preserved g c =
     let inside : c.loop-op.op-index < length c.args.ops.now = omega arith in
     rw (flat_map_more op_line c.args.ops.now c.loop-op.op-index c.op-item.result inside, ← c.op-item.is)
-    (passes_then _ _ _ c.loop-op.invariant c.in_ok-write_line.ensures.ok)
+    (passes_then _ _ _ c.loop-op.invariant c.in_ok-write_line.ensures.is)
 
-pub returns-in_err-write_line-clause-err : goal.returns-in_err-write_line-clause-err
-returns-in_err-write_line-clause-err g c =
+pub returns-in_err-write_line : goal.returns-in_err-write_line
+returns-in_err-write_line g c =
     let inside : c.loop-op.op-index < length c.args.ops.now = omega arith in
     rw (flat_map_at op_line c.args.ops.now c.loop-op.op-index c.op-item.result inside, ← c.op-item.is)
-    (on_err_always _ (cuts_then _ _ _ c.loop-op.invariant c.in_err-write_line.ensures.err))
+    (puts_then c.loop-op.invariant (puts_stop _ _ c.in_err-write_line.ensures.is c.from_residual.ensures.0))

@@ -1,5 +1,8 @@
-use Rattle.fl_opset.proofs.Written.{cut_at_end}
+use Rattle.fl_opset.proofs.Written.{finished, stopped}
 use Rattle.fl_opset.proofs.set.OpSet.text.Goals as goal
 
-pub returns-clause-err : goal.returns-clause-err
-returns-clause-err g c = cut_at_end c.finish.result _ _ _ _ _ _ c.new-sink.ensures c.in_ok-write_text.ensures.ok c.finish.ensures.err
+pub returns-in_err-write_text : goal.returns-in_err-write_text
+returns-in_err-write_text g c = stopped c.new-sink.ensures c.in_err-write_text.ensures.is c.from_residual.ensures.0
+
+pub returns : goal.returns
+returns g c = finished c.new-sink.ensures c.in_ok-write_text.ensures.is c.finish.ensures.writes
