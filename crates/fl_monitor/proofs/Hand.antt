@@ -6,7 +6,8 @@ use Rattle.std.specs.declared.cmp.Ordering.{Ordering}
 use Rattle.fl_labels.specs.Cap.{cap_cmp}
 use Rattle.fl_labels.specs.CapOrder.{cap_total, cap_exact}
 use Rattle.fl_labels.specs.SetBy.{SetBy, In, members}
-use Rattle.fl_labels.specs.Found.{Found, FoundAs, IsFirst, Within, IsLeastOutside}
+use Rattle.fl_labels.specs.Found.{Found, FoundAs, Within, IsLeastOutside}
+use Rattle.fl_labels.specs.parts.First.{IsFirst}
 use Rattle.fl_labels.proofs.Searches.{found_as, searched_set}
 use Rattle.fl_labels.specs.declared.cap.Cap.{Cap}
 use Rattle.fl_labels.specs.declared.cap.Cap.TheVariants.{Plus, Minus}

@@ -1,7 +1,8 @@
 // Handing on of capabilities.
 ghost use Rattle.std.specs.Prelude.{◌≡◌, ⊤, MatchOption};
 ghost use Rattle.fl_labels.specs.Cap.{cap_cmp};
-ghost use Rattle.fl_labels.specs.Found.{IsFirst, IsLeastOutside, Within};
+ghost use Rattle.fl_labels.specs.Found.{IsLeastOutside, Within};
+ghost use Rattle.fl_labels.specs.parts.First.{IsFirst};
 ghost use Rattle.fl_labels.specs.SetBy.{In};
 ghost use Rattle.fl_ops.specs.Registry.{InEffect, Listed};
 ghost use Rattle.fl_bench.specs.Guards.{grant_check};

@@ -7,7 +7,8 @@ use Rattle.fl_labels.specs.declared.cap.Cap.TheVariants.{Plus, Minus}
 use Rattle.fl_labels.specs.Name.{name_cmp}
 use Rattle.fl_labels.specs.NameOrder.{name_total, name_exact}
 use Rattle.fl_labels.specs.SetBy.{SetBy, In, members}
-use Rattle.fl_labels.specs.Found.{Found, FoundAs, IsFirst, Within, IsLeastOutside}
+use Rattle.fl_labels.specs.Found.{Found, FoundAs, Within, IsLeastOutside}
+use Rattle.fl_labels.specs.parts.First.{IsFirst}
 use Rattle.fl_labels.proofs.Searches.{found_as, searched_set}
 use Rattle.fl_rules.specs.Safety.{SafeEmission}
 use Rattle.fl_labels.specs.Caps.{Dual}

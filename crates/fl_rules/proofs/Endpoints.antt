@@ -6,7 +6,8 @@ use Rattle.fl_labels.specs.declared.cap.Cap.{Cap}
 use Rattle.fl_labels.specs.Name.{name_cmp}
 use Rattle.fl_labels.specs.NameOrder.{name_total, name_exact}
 use Rattle.fl_labels.specs.SetBy.{SetBy, IsMissing, members, contains-members}
-use Rattle.fl_labels.specs.Found.{Found, Within, IsLeastOutside, lesser_of}
+use Rattle.fl_labels.specs.Found.{Found, Within, IsLeastOutside}
+use Rattle.fl_labels.specs.parts.First.{lesser_of}
 use Rattle.fl_labels.proofs.Searches.{found_as, both_found}
 use Rattle.fl_rules.specs.declared.endpoint.Mode.{Mode}
 use Rattle.fl_rules.specs.declared.endpoint.Mode.TheVariants.{Read, Write, Both}

@@ -2,7 +2,7 @@
 ghost use Rattle.std.specs.Prelude.{⊤};
 ghost use Rattle.fl_labels.specs.Name.{name_cmp};
 ghost use Rattle.fl_labels.specs.SetBy.{In};
-ghost use Rattle.fl_labels.specs.Found.{IsFirst};
+ghost use Rattle.fl_labels.specs.parts.First.{IsFirst};
 ghost use Rattle.fl_rules.specs.Judges.{Judges};
 ghost use Rattle.fl_rules.specs.Safety.{SafeEmission};
 ghost use Rattle.fl_labels.specs.Caps.{Dual};

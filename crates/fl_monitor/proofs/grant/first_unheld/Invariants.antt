@@ -1,7 +1,7 @@
 use Rattle.std.proofs.Common.{drop, Option}
 use Rattle.std.specs.Prelude.{⊤}
 use Rattle.fl_labels.specs.declared.cap.Cap.{Cap}
-use Rattle.fl_labels.specs.Found.{IsFirst}
+use Rattle.fl_labels.specs.parts.First.{IsFirst}
 use Rattle.fl_monitor.proofs.grant.first_unheld.Given as goal
 
 -- what is first in the rest is first in all

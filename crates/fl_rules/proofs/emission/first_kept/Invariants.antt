@@ -1,7 +1,7 @@
 use Rattle.std.proofs.Common.{drop, Option}
 use Rattle.std.specs.Prelude.{⊤}
 use Rattle.fl_labels.specs.declared.name.Name.{Name}
-use Rattle.fl_labels.specs.Found.{IsFirst}
+use Rattle.fl_labels.specs.parts.First.{IsFirst}
 use Rattle.fl_labels.specs.Caps.{Dual}
 use Rattle.fl_rules.proofs.emission.first_kept.Given as goal
 
