@@ -12,6 +12,4 @@ pub mod name;
 pub mod pid;
 pub mod roomy;
 pub mod sorted;
-#[cfg(test)]
-mod tests;
 pub mod text;

@@ -7,6 +7,4 @@ pub mod fields;
 pub mod laws;
 pub mod op;
 pub mod reading;
-#[cfg(test)]
-mod tests;
 pub mod writing;

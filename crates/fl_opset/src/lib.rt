@@ -5,6 +5,4 @@ pub mod laws;
 mod merging;
 mod search;
 pub mod set;
-#[cfg(test)]
-mod tests;
 mod text;

@@ -8,6 +8,4 @@ pub mod laws;
 pub mod packet;
 pub mod payload;
 pub mod reading;
-#[cfg(test)]
-mod tests;
 pub mod writing;
