@@ -1,8 +1,8 @@
 //! Tests of the index by random graphs, against a plain fixpoint over a table of pairs.
+use crate::made::{name, put};
 use fl_closure::index::Index;
 use fl_labels::cap::Cap;
 use fl_labels::cap_set::CapSet;
-use fl_labels::name::Name;
 use fl_ops::op::{Body, Op, Policy};
 use std::alloc::{AllocError, Global};
 use std::test::Fail;
@@ -10,13 +10,6 @@ use std::test::Fail;
 const GROUPS: u16 = 60;
 
 const CAPS: u16 = 150;
-
-fn name(number: u16) -> Name {
-    Name {
-        node: 1,
-        seq: number as u32 + 1,
-    }
-}
 
 // The uses of the groups come first, and then capabilities that lead no further.
 fn cap_of(number: u16) -> Cap {
@@ -27,16 +20,6 @@ fn cap_of(number: u16) -> Cap {
         0 => Cap::Plus(name(number)),
         1 => Cap::Minus(name(number)),
         _ => Cap::Grow(name(number - GROUPS)),
-    }
-}
-
-fn put(number: u16, group: u16, cap: u16) -> Op {
-    Op {
-        name: Name {
-            node: 2,
-            seq: number as u32 + 1,
-        },
-        body: Body::Put(name(group), cap_of(cap)),
     }
 }
 
@@ -102,7 +85,7 @@ fn random_graph(alloc: Global, seed: u64, uses: u16) -> Result<(Index, Vec<bool>
         } else {
             GROUPS.saturating_add(draw(&mut state, CAPS - GROUPS))
         };
-        index.absorb(&put(number, group, cap))?;
+        index.absorb(&put(number, group, cap_of(cap)))?;
         mark(&mut pairs, group, cap);
     }
     close(&mut pairs);
