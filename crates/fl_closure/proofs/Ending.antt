@@ -2,10 +2,11 @@
 use Rattle.std.specs.Prelude.{◌≡◌, ◌⊎◌, ◌↔◌, Bool, true, false, Option, Some, None, List, [], ◌∷◌, ◌++◌, ℕ, ◌≤◌, length, refl, Result, Ok, Err, IfOk}
 use Rattle.std.proofs.Common.{inl, inr, sym, ap, subst, ◌∙◌}
 use Rattle.std.specs.Cmp.{eq_by_cmp_equiv, tied_itself, Equal-is}
-use Rattle.std.specs.List.{IsDistinct}
+use Rattle.std.specs.List.{Contains, IsDistinct}
 use Rattle.std.specs.Ordering.{eq_by_cmp, is_eq}
 use Rattle.std.proofs.lemmas.Bool.{false≢true}
 use Rattle.std.proofs.lemmas.Map.Made.{length-le_from_is_member}
+use Rattle.std.proofs.lemmas.List.Elements.{Contains-append_left, Contains-append_right}
 use Rattle.fl_labels.specs.Cap.{cap_cmp}
 use Rattle.fl_labels.specs.CapOrder.{cap_total, cap_exact, cap_tied}
 use Rattle.fl_labels.specs.contracts.cap.CapPartialEq.TheImpl as caps
@@ -19,13 +20,13 @@ use Rattle.fl_ops.specs.declared.op.Body.{Body}
 use Rattle.fl_ops.specs.declared.op.Body.TheVariants.{MakeTag, MakeGroup, Put, MakeLogin}
 use Rattle.fl_ops.specs.OpOrder.{op_cmp}
 use Rattle.fl_ops.specs.OpLaws.{op_total, op_exact}
-use Rattle.fl_ops.specs.Registry.{Puts, Chain, here, into, Reach, From, IsGlobal, InEffect}
+use Rattle.fl_ops.specs.Registry.{Listed, Puts, Chain, here, into, Reach, From, IsGlobal, InEffect}
 use Rattle.fl_ops.proofs.Reaching.{root_reached, owned_eff, reach_more, global_more}
-use Rattle.fl_closure.specs.Met.{Has, IsMet}
-use Rattle.fl_closure.specs.Rows.{IsPut}
-use Rattle.fl_closure.specs.Search.{IsSearched}
-use Rattle.fl_closure.specs.Globals.{AddsGlobals}
-use Rattle.fl_closure.proofs.Members.{has_front, has_back, has_one, any_has, has_any, in_has, has_in, in_listed}
+use Rattle.fl_closure.specs.parts.Met.{IsMet}
+use Rattle.fl_closure.specs.parts.Rows.{IsPut}
+use Rattle.fl_closure.specs.parts.Search.{IsSearched}
+use Rattle.fl_closure.specs.parts.Globals.{AddsGlobals}
+use Rattle.fl_closure.proofs.Members.{none, first, later, first_or_later, one, any_has, has_any, in_has, has_in, in_listed}
 use Rattle.fl_closure.proofs.Meeting.{met_from_none}
 use Rattle.fl_closure.proofs.Searching.{IsSearching}
 
@@ -45,22 +46,24 @@ all_put (op ∷ ops) = put_by op.body (all_put ops)
 abbrev pub bound : SetBy op_cmp → List Cap → ℕ
 bound s roots = length (roots ++ all_put (members s))
 
-by_body : (body : Body) (rest : List Cap) (group : Name) (c : Cap) → Puts body group c → Has (put_by body rest) c
-by_body (Put into_it what) rest group c p = inl p.1
+by_body : (body : Body) (rest : List Cap) (group : Name) (c : Cap) → Puts body group c → Contains (put_by body rest) c
+by_body (Put into_it what) rest group c p = first rest p.1
 by_body (MakeTag policy) rest group c p = absurd p
 by_body MakeGroup rest group c p = absurd p
 by_body (MakeLogin d digest) rest group c p = absurd p
 
-by_rest : (body : Body) (rest : List Cap) (c : Cap) → Has rest c → Has (put_by body rest) c
-by_rest (Put into_it what) rest c h = inr h
+by_rest : (body : Body) (rest : List Cap) (c : Cap) → Contains rest c → Contains (put_by body rest) c
+by_rest (Put into_it what) rest c h = later what rest h
 by_rest (MakeTag policy) rest c h = h
 by_rest MakeGroup rest c h = h
 by_rest (MakeLogin d digest) rest c h = h
 
-put_there : (ops : List Op) (op : Op) (group : Name) (c : Cap) → Has ops op → Puts op.body group c → Has (all_put ops) c
-put_there [] op group c h p = absurd h
-put_there (o ∷ ops) op group c (inl e) p = by_body o.body (all_put ops) group c (subst (λ (q : Op). Puts q.body group c) (sym e) p)
-put_there (o ∷ ops) op group c (inr h) p = by_rest o.body (all_put ops) c (put_there ops op group c h p)
+put_there : (ops : List Op) (op : Op) (group : Name) (c : Cap) → Contains ops op → Puts op.body group c → Contains (all_put ops) c
+put_there [] op group c h p = absurd (none op h)
+put_there (o ∷ ops) op group c h p = elim (first_or_later o ops op h) [
+  | inl e ↦ by_body o.body (all_put ops) group c (subst (λ (q : Op). Puts q.body group c) (sym e) p)
+  | inr h ↦ by_rest o.body (all_put ops) c (put_there ops op group c h p)
+]
 
 -- a chain ends where it begins, or with what was put
 chain_ends : {U : Op → Type 0} {a c : Cap} → Chain U a c → (a ≡ c) ⊎ ((group : Name) × IsPut U group c)
@@ -70,14 +73,14 @@ chain_ends (into {op} {group} {b} u p rest) = elim (chain_ends rest) [
   | inr x ↦ inr x
 ]
 
-among : (s : SetBy op_cmp) (roots : List Cap) (c : Cap) → Reach (In s) (Has roots) c → Has (roots ++ all_put (members s)) c
+among : (s : SetBy op_cmp) (roots : List Cap) (c : Cap) → Reach (In s) (Contains roots) c → Contains (roots ++ all_put (members s)) c
 among s roots c r = by_end (chain_ends r.2)
   where
-    by_end : (r.0 ≡ c) ⊎ ((group : Name) × IsPut (In s) group c) → Has (roots ++ all_put (members s)) c
-    by_end (inl e) = has_front roots (all_put (members s)) c (subst (Has roots) e r.1)
-    by_end (inr x) = has_back roots (all_put (members s)) c (put_there (members s) x.1.0 x.0 c (in_has op_total op_exact s x.1.0 x.1.1) x.1.2)
+    by_end : (r.0 ≡ c) ⊎ ((group : Name) × IsPut (In s) group c) → Contains (roots ++ all_put (members s)) c
+    by_end (inl e) = Contains-append_left roots (all_put (members s)) c (subst (Contains roots) e r.1)
+    by_end (inr x) = Contains-append_right roots (all_put (members s)) c (put_there (members s) x.1.0 x.0 c (in_has op_total op_exact s x.1.0 x.1.1) x.1.2)
 
-pub bounded : (s : SetBy op_cmp) (roots : List Cap) (target : Option Cap) (caps : List Cap) (done : ℕ) → IsSearching (In s) (Has roots) target caps done → IsDistinct (eq_by_cmp cap_cmp) caps → length caps ≤ bound s roots
+pub bounded : (s : SetBy op_cmp) (roots : List Cap) (target : Option Cap) (caps : List Cap) (done : ℕ) → IsSearching (In s) (Contains roots) target caps done → IsDistinct (eq_by_cmp cap_cmp) caps → length caps ≤ bound s roots
 bounded s roots target caps done h distinct =
     length-le_from_is_member (eq_by_cmp_equiv cap_total) caps (roots ++ all_put (members s)) distinct
     (λ q m. has_any cap_total cap_exact (roots ++ all_put (members s)) q (among s roots q (h.sound q (any_has cap_total cap_exact caps q m))))
@@ -120,19 +123,19 @@ if_ok (Err e) f h = h
 
 -- what was met first is what the search began with
 module _ (none met : List Cap) (nothing : none ≡ []) where
-  pub met_one : (root : Cap) → IsMet none (root ∷ []) met → (c : Cap) → Has met c ↔ From root c
+  pub met_one : (root : Cap) → IsMet none (root ∷ []) met → (c : Cap) → Contains met c ↔ From root c
   met_one root m c =
       let same = met_from_none (root ∷ []) met (subst (λ l. IsMet l (root ∷ []) met) nothing m) c in
-      (λ h. sym (has_one (same.0 h)), λ e. same.1 (inl (sym e)))
+      (λ h. sym (one (same.0 h)), λ e. same.1 (first [] (sym e)))
 
-  pub met_owned : (owned : SetBy cap_cmp) (these : List Cap) → these ≡ members owned → IsMet none these met → (c : Cap) → Has met c ↔ In owned c
+  pub met_owned : (owned : SetBy cap_cmp) (these : List Cap) → these ≡ members owned → IsMet none these met → (c : Cap) → Contains met c ↔ In owned c
   met_owned owned these e m c =
       let same = met_from_none (members owned) met (subst (λ l. IsMet l (members owned) met) nothing (subst (λ l. IsMet none l met) e m)) c in
       (λ h. has_in cap_total cap_exact owned c (same.0 h), λ i. same.1 (in_has cap_total cap_exact owned c i))
 
 -- all that is reached
 module _ (s : SetBy op_cmp) (owned : SetBy cap_cmp) where
-  module _ (first met : List Cap) (began : (c : Cap) → Has first c ↔ In owned c) (found : Bool) (done : IsSearched (In s) (Has first) None found met) where
+  module _ (first met : List Cap) (began : (c : Cap) → Contains first c ↔ In owned c) (found : Bool) (done : IsSearched (In s) (Contains first) None found met) where
     no_hit : found ≡ false
     no_hit = by_found found refl
       where
@@ -143,12 +146,12 @@ module _ (s : SetBy op_cmp) (owned : SetBy cap_cmp) where
             none_some : (x : Cap) → None ≡ Some x → ⊥
             none_some x e = cc
 
-    pub all_found : (caps : List Cap) → caps ≡ met → (c : Cap) → Has caps c ↔ Reach (In s) (In owned) c
+    pub all_found : (caps : List Cap) → caps ≡ met → (c : Cap) → Contains caps c ↔ Reach (In s) (In owned) c
     all_found caps was c =
         let whole = done.whole no_hit c in
-        (λ h. reach_more (λ o m. m) (λ x r. (began x).0 r) c (whole.0 (subst (λ l. Has l c) was h)), λ r. subst (λ l. Has l c) (sym was) (whole.1 (reach_more (λ o m. m) (λ x i. (began x).1 i) c r)))
+        (λ h. reach_more (λ o m. m) (λ x r. (began x).0 r) c (whole.0 (subst (λ l. Contains l c) was h)), λ r. subst (λ l. Contains l c) (sym was) (whole.1 (reach_more (λ o m. m) (λ x i. (began x).1 i) c r)))
 
-  module _ (caps : List Cap) (whole : (c : Cap) → Has caps c ↔ Reach (In s) (In owned) c) where
+  module _ (caps : List Cap) (whole : (c : Cap) → Contains caps c ↔ Reach (In s) (In owned) c) where
     -- as a set
     pub all_reached : (result : SetBy cap_cmp) → result ≡ set.of_list caps → (c : Cap) → In result c ↔ Reach (In s) (In owned) c
     all_reached result is c =
@@ -156,14 +159,14 @@ module _ (s : SetBy op_cmp) (owned : SetBy cap_cmp) where
         (λ h. (whole c).0 (listed.0 (sym (ap (λ (r : SetBy cap_cmp). set.contains r c) is) ∙ h)), λ r. ap (λ (r : SetBy cap_cmp). set.contains r c) is ∙ listed.1 ((whole c).1 r))
 
     -- with what everybody has
-    module _ (ops : List Op) (same : ops ≡ members s) (all : List Cap) (adds : AddsGlobals (Has ops) caps all) (result : SetBy cap_cmp) (is : result ≡ set.of_list all) where
-      to_eff : (c : Cap) → Has caps c ⊎ IsGlobal (Has ops) c → InEffect (In s) (In owned) c
+    module _ (ops : List Op) (same : ops ≡ members s) (all : List Cap) (adds : AddsGlobals (Listed ops) caps all) (result : SetBy cap_cmp) (is : result ≡ set.of_list all) where
+      to_eff : (c : Cap) → Contains caps c ⊎ IsGlobal (Listed ops) c → InEffect (In s) (In owned) c
       to_eff c (inl h) = inl ((whole c).0 h)
-      to_eff c (inr g) = inr (global_more (λ o h. has_in op_total op_exact s o (subst (λ l. Has l o) same h)) c g)
+      to_eff c (inr g) = inr (global_more (λ o h. has_in op_total op_exact s o (subst (λ l. Contains l o) same h)) c g)
 
-      from_eff : (c : Cap) → InEffect (In s) (In owned) c → Has caps c ⊎ IsGlobal (Has ops) c
+      from_eff : (c : Cap) → InEffect (In s) (In owned) c → Contains caps c ⊎ IsGlobal (Listed ops) c
       from_eff c (inl r) = inl ((whole c).1 r)
-      from_eff c (inr g) = inr (global_more (λ o h. subst (λ l. Has l o) (sym same) (in_has op_total op_exact s o h)) c g)
+      from_eff c (inr g) = inr (global_more (λ o h. subst (λ l. Contains l o) (sym same) (in_has op_total op_exact s o h)) c g)
 
       pub closes : (c : Cap) → In result c ↔ InEffect (In s) (In owned) c
       closes c =

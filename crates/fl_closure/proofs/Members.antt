@@ -1,81 +1,55 @@
 -- Members of lists, and of sets as lists.
-use Rattle.std.specs.Prelude.{◌≡◌, ◌⊎◌, ◌↔◌, Bool, true, false, not, ◌||◌, List, [], ◌∷◌, ◌++◌, ℕ, zero, suc, ◌<◌, ◌≤◌, length, get_or, take, refl}
-use Rattle.std.proofs.Common.{inl, inr, sym, ap, ◌∙◌, arith}
-use Rattle.std.specs.Cmp.{IsTotalOrder, Equal-is, tied_itself}
+use Rattle.std.specs.Prelude.{◌≡◌, ◌⊎◌, ◌↔◌, Bool, true, false, not, List, [], ◌∷◌, ◌++◌, ℕ, ◌≤◌, length, take, drop, refl}
+use Rattle.std.proofs.Common.{inl, inr, sym, subst, ◌∙◌, arith}
+use Rattle.std.specs.Cmp.{IsTotalOrder, Equal-is, eq_by_cmp_equiv}
 use Rattle.std.specs.FinMap.{IsAntisymmetric}
-use Rattle.std.specs.List.{list_any}
-use Rattle.std.specs.Ordering.{eq_by_cmp, is_eq}
+use Rattle.std.specs.List.{Contains, list_any}
+use Rattle.std.specs.Ordering.{eq_by_cmp}
 use Rattle.std.specs.declared.cmp.Ordering.{Ordering}
-use Rattle.std.proofs.lemmas.Bool.{or_cases, false≢true}
+use Rattle.std.proofs.lemmas.Bool.{false≢true}
+use Rattle.std.proofs.lemmas.List.{take_all, take-append-drop}
+use Rattle.std.proofs.lemmas.List.Elements.{Contains-push, Contains-push_cases, Contains-append_left, Contains-append_right, Contains-append_cases}
+use Rattle.std.proofs.lemmas.Map.Views.{Contains-from_any, list_any-from_Contains}
 use Rattle.fl_labels.specs.SetBy.{SetBy, In, members, of_list, contains-members, contains-of_list}
-use Rattle.fl_closure.specs.Met.{Has}
 
 module _ {A : Type 0} where
-  pub has_front : (xs ys : List A) (x : A) → Has xs x → Has (xs ++ ys) x
-  has_front [] ys x h = absurd h
-  has_front (y ∷ xs) ys x (inl e) = inl e
-  has_front (y ∷ xs) ys x (inr h) = inr (has_front xs ys x h)
+  pub none : (x : A) → Contains [] x → ⊥
+  none x h = absurd (omega (arith, h.1))
 
-  pub has_back : (xs ys : List A) (x : A) → Has ys x → Has (xs ++ ys) x
-  has_back [] ys x h = h
-  has_back (y ∷ xs) ys x h = inr (has_back xs ys x h)
+  pub one : {x y : A} → Contains (x ∷ []) y → x ≡ y
+  one {x} {y} h =
+      elim (Contains-push_cases [] x y h) [ inl n ↦ absurd (none y n) | inr e ↦ e ]
 
-  pub has_split : (xs ys : List A) (x : A) → Has (xs ++ ys) x → Has xs x ⊎ Has ys x
-  has_split [] ys x h = inr h
-  has_split (y ∷ xs) ys x (inl e) = inl (inl e)
-  has_split (y ∷ xs) ys x (inr h) = later (has_split xs ys x h)
-    where
-      later : Has xs x ⊎ Has ys x → Has (y ∷ xs) x ⊎ Has ys x
-      later (inl a) = inl (inr a)
-      later (inr b) = inr b
+  pub first : {x y : A} (xs : List A) → x ≡ y → Contains (x ∷ xs) y
+  first {x} {y} xs e = Contains-append_left (x ∷ []) xs y (subst (Contains (x ∷ [])) e (Contains-push [] x))
 
-  pub has_one : {x y : A} → Has (x ∷ []) y → x ≡ y
-  has_one (inl e) = e
-  has_one (inr h) = absurd h
+  pub later : (x : A) (xs : List A) {y : A} → Contains xs y → Contains (x ∷ xs) y
+  later x xs {y} h = Contains-append_right (x ∷ []) xs y h
 
-  pub has_at : (xs : List A) (i : ℕ) (d : A) → i < length xs → Has xs (get_or xs i d)
-  has_at [] i d h = absurd (omega arith)
-  has_at (x ∷ xs) zero d h = inl refl
-  has_at (x ∷ xs) (suc i) d h = inr (has_at xs i d (omega arith))
+  pub first_or_later : (x : A) (xs : List A) (y : A) → Contains (x ∷ xs) y → (x ≡ y) ⊎ Contains xs y
+  first_or_later x xs y h = elim (Contains-append_cases (x ∷ []) xs y h) [ inl a ↦ inl (one a) | inr b ↦ inr b ]
 
-  pub has_all : (xs : List A) (i : ℕ) (x : A) → length xs ≤ i → Has xs x → Has (take i xs) x
-  has_all [] i x h m = absurd m
-  has_all (y ∷ xs) zero x h m = absurd (omega arith)
-  has_all (y ∷ xs) (suc i) x h (inl e) = inl e
-  has_all (y ∷ xs) (suc i) x h (inr m) = inr (has_all xs i x (omega arith) m)
+  pub in_all : (xs : List A) (i : ℕ) (x : A) → length xs ≤ i → Contains xs x → Contains (take i xs) x
+  in_all xs i x whole h = subst (λ l. Contains l x) (sym (take_all i xs whole)) h
 
-  pub has_taken : (xs : List A) (i : ℕ) (x : A) → Has (take i xs) x → Has xs x
-  has_taken [] i x m = absurd (none i m)
-    where
-      none : (i : ℕ) → Has (take i []) x → ⊥
-      none zero m = m
-      none (suc i) m = m
-  has_taken (y ∷ xs) zero x m = absurd m
-  has_taken (y ∷ xs) (suc i) x (inl e) = inl e
-  has_taken (y ∷ xs) (suc i) x (inr m) = inr (has_taken xs i x m)
+  pub of_taken : (xs : List A) (i : ℕ) (x : A) → Contains (take i xs) x → Contains xs x
+  of_taken xs i x h = subst (λ l. Contains l x) (take-append-drop i xs) (Contains-append_left (take i xs) (drop i xs) x h)
 
 module _ {K : Type 0} {R : K → K → Ordering} (o : IsTotalOrder R) (exact : IsAntisymmetric R) where
-  or_later : (b : Bool) {c : Bool} → c ≡ true → (b || c) ≡ true
-  or_later true h = refl
-  or_later false h = h
-
   -- by the test of the order
-  pub any_has : (xs : List K) (q : K) → list_any (eq_by_cmp R q) xs ≡ true → Has xs q
-  any_has [] q h = absurd (false≢true h)
-  any_has (x ∷ xs) q h = elim (or_cases _ _ h) [ inl e ↦ inl (sym (exact q x ((Equal-is (R q x)).0 e))) | inr m ↦ inr (any_has xs q m) ]
+  pub any_has : (xs : List K) (q : K) → list_any (eq_by_cmp R q) xs ≡ true → Contains xs q
+  any_has xs q h = Contains-from_any {eq = eq_by_cmp R} (λ x y e. exact x y ((Equal-is (R x y)).0 e)) q xs h
 
-  pub has_any : (xs : List K) (q : K) → Has xs q → list_any (eq_by_cmp R q) xs ≡ true
-  has_any [] q h = absurd h
-  has_any (x ∷ xs) q (inl e) = ap (λ r. is_eq r || list_any (eq_by_cmp R q) xs) (ap (R q) e ∙ tied_itself o q)
-  has_any (x ∷ xs) q (inr m) = or_later (eq_by_cmp R q x) (has_any xs q m)
+  pub has_any : (xs : List K) (q : K) → Contains xs q → list_any (eq_by_cmp R q) xs ≡ true
+  has_any xs q h = list_any-from_Contains (eq_by_cmp_equiv o) q xs h
 
-  pub in_has : (s : SetBy R) (q : K) → In s q → Has (members s) q
+  pub in_has : (s : SetBy R) (q : K) → In s q → Contains (members s) q
   in_has s q h = any_has (members s) q (sym (contains-members s q) ∙ h)
 
-  pub has_in : (s : SetBy R) (q : K) → Has (members s) q → In s q
+  pub has_in : (s : SetBy R) (q : K) → Contains (members s) q → In s q
   has_in s q h = contains-members s q ∙ has_any (members s) q h
 
-  pub in_listed : (xs : List K) (q : K) → In (of_list {R = R} xs) q ↔ Has xs q
+  pub in_listed : (xs : List K) (q : K) → In (of_list {R = R} xs) q ↔ Contains xs q
   in_listed xs q = (λ h. any_has xs q (sym (contains-of_list o xs q) ∙ h), λ h. contains-of_list o xs q ∙ has_any xs q h)
 
 -- what an answer `new` says of the set before

@@ -23,7 +23,7 @@ use Rattle.fl_ops.specs.OpOrder.{op_cmp}
 use Rattle.fl_ops.specs.OpLaws.{op_total, op_exact}
 use Rattle.fl_ops.specs.Registry.{Puts}
 use Rattle.fl_closure.specs.declared.rows.Rows.{Rows}
-use Rattle.fl_closure.specs.Rows.{or_empty, row_of, PutsInto, IsPut, IsIndexed}
+use Rattle.fl_closure.specs.parts.Rows.{or_empty, row_of, PutsInto, IsPut, IsIndexed}
 
 -- ---- the map
 

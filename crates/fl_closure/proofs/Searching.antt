@@ -15,10 +15,12 @@ use Rattle.fl_ops.specs.OpOrder.{op_cmp}
 use Rattle.fl_ops.specs.Registry.{Chain, here, into, Reach}
 use Rattle.fl_ops.proofs.Reaching.{chain_on}
 use Rattle.fl_closure.specs.declared.rows.Rows.{Rows}
-use Rattle.fl_closure.specs.Met.{Has, IsMet}
-use Rattle.fl_closure.specs.Rows.{row_behind, IsPut, IsIndexed}
-use Rattle.fl_closure.specs.Search.{IsSearched}
-use Rattle.fl_closure.proofs.Members.{has_front, has_split, has_one, has_at, has_all, in_has, has_in}
+use Rattle.fl_closure.specs.parts.Met.{IsMet}
+use Rattle.std.specs.List.{Contains}
+use Rattle.std.proofs.lemmas.List.Elements.{Contains-append_left, Contains-append_cases, Contains-get_or}
+use Rattle.fl_closure.specs.parts.Rows.{row_behind, IsPut, IsIndexed}
+use Rattle.fl_closure.specs.parts.Search.{IsSearched}
+use Rattle.fl_closure.proofs.Members.{none, one, in_all, in_has, has_in}
 use Rattle.fl_closure.proofs.Meeting.{met_none}
 
 -- c is put into the group of which a is the use
@@ -44,23 +46,23 @@ chain_next a (Minus tag) c k n = absurd n
 chain_next a (Grow group) c k n = absurd n
 
 -- a chain stays among capabilities whose puts are among them
-stays : {U : Op → Type 0} {a c : Cap} (caps : List Cap) → ((x : Cap) → Has caps x → (y : Cap) → Next U x y → Has caps y) → Chain U a c → Has caps a → Has caps c
+stays : {U : Op → Type 0} {a c : Cap} (caps : List Cap) → ((x : Cap) → Contains caps x → (y : Cap) → Next U x y → Contains caps y) → Chain U a c → Contains caps a → Contains caps c
 stays caps closed here h = h
 stays caps closed (into {op} {group} {b} u p rest) h = stays caps closed rest (closed (Use group) h b (op, u, p))
 
 -- the state of a search: the first `done` of the capabilities met are looked at
 pub record IsSearching (U : Op → Type 0) (roots : Cap → Type 0) (target : Option Cap) (caps : List Cap) (done : ℕ) : Type 0 where
-  pub begun : (c : Cap) → roots c → Has caps c
-  pub sound : (c : Cap) → Has caps c → Reach U roots c
-  pub looked : (a : Cap) → Has (take done caps) a → (c : Cap) → Next U a c → Has caps c
-  pub apart : (c : Cap) → target ≡ Some c → Has caps c → roots c
+  pub begun : (c : Cap) → roots c → Contains caps c
+  pub sound : (c : Cap) → Contains caps c → Reach U roots c
+  pub looked : (a : Cap) → Contains (take done caps) a → (c : Cap) → Next U a c → Contains caps c
+  pub apart : (c : Cap) → target ≡ Some c → Contains caps c → roots c
   pub within : done ≤ length caps
 
-pub begins : (U : Op → Type 0) (target : Option Cap) (caps : List Cap) → IsSearching U (Has caps) target caps 0
+pub begins : (U : Op → Type 0) (target : Option Cap) (caps : List Cap) → IsSearching U (Contains caps) target caps 0
 begins U target caps = record {
   begun = λ c h. h;
   sound = λ c h. (c, h, here);
-  looked = λ a h. absurd h;
+  looked = λ a h. absurd (none a h);
   apart = λ c e h. h;
   within = omega arith;
 }
@@ -73,46 +75,46 @@ module _ (U : Op → Type 0) (roots : Cap → Type 0) (target : Option Cap) (cap
     whole = λ _ c. (s.sound c, stay c);
   }
     where
-      stay : (c : Cap) → Reach U roots c → Has caps c
-      stay c r = stays caps (λ x h. s.looked x (has_all caps done x all h)) r.2 (s.begun r.0 r.1)
+      stay : (c : Cap) → Reach U roots c → Contains caps c
+      stay c r = stays caps (λ x h. s.looked x (in_all caps done x all h)) r.2 (s.begun r.0 r.1)
 
-  module _ (a : Cap) (more : done < length caps) (at : a ≡ get_or caps done a) (these : List Cap) (next : (c : Cap) → Has these c ↔ Next U a c) where
-    there : Has caps a
-    there = subst (Has caps) (sym at) (has_at caps done a more)
+  module _ (a : Cap) (more : done < length caps) (at : a ≡ get_or caps done a) (these : List Cap) (next : (c : Cap) → Contains these c ↔ Next U a c) where
+    there : Contains caps a
+    there = subst (Contains caps) (sym at) (Contains-get_or caps done a more)
 
-    reached : (c : Cap) → Has these c → Reach U roots c
+    reached : (c : Cap) → Contains these c → Reach U roots c
     reached c h =
         let r = s.sound a there in
         (r.0, r.1, chain_next r.0 a c r.2 ((next c).0 h))
 
-    pub hits : (c : Cap) → target ≡ Some c → Has these c → (found : Bool) → found ≡ true → IsSearched U roots target found caps
+    pub hits : (c : Cap) → target ≡ Some c → Contains these c → (found : Bool) → found ≡ true → IsSearched U roots target found caps
     hits c e h found is = record {
       hit = λ _. (c, e, reached c h);
       missed = λ never. absurd (false≢true (sym never ∙ is));
       whole = λ never. absurd (false≢true (sym never ∙ is));
     }
 
-    module _ (free : (c : Cap) → target ≡ Some c → Has these c → ⊥) (after : List Cap) (m : IsMet caps these after) where
-      parts : (c : Cap) → Has after c → Has caps c ⊎ Has m.more c
-      parts c h = has_split caps m.more c (subst (λ l. Has l c) m.same h)
+    module _ (free : (c : Cap) → target ≡ Some c → Contains these c → ⊥) (after : List Cap) (m : IsMet caps these after) where
+      parts : (c : Cap) → Contains after c → Contains caps c ⊎ Contains m.more c
+      parts c h = Contains-append_cases caps m.more c (subst (λ l. Contains l c) m.same h)
 
-      kept : (c : Cap) → Has caps c → Has after c
-      kept c h = subst (λ l. Has l c) (sym m.same) (has_front caps m.more c h)
+      kept : (c : Cap) → Contains caps c → Contains after c
+      kept c h = subst (λ l. Contains l c) (sym m.same) (Contains-append_left caps m.more c h)
 
-      sound_by : (c : Cap) → Has caps c ⊎ Has m.more c → Reach U roots c
+      sound_by : (c : Cap) → Contains caps c ⊎ Contains m.more c → Reach U roots c
       sound_by c (inl h) = s.sound c h
       sound_by c (inr h) = reached c (m.each c h)
 
-      apart_by : (c : Cap) → target ≡ Some c → Has caps c ⊎ Has m.more c → roots c
+      apart_by : (c : Cap) → target ≡ Some c → Contains caps c ⊎ Contains m.more c → roots c
       apart_by c e (inl h) = s.apart c e h
       apart_by c e (inr h) = absurd (free c e (m.each c h))
 
       front : (n : ℕ) → n ≤ length caps → take n after ≡ take n caps
       front n short = ap (take n) m.same ∙ take-append-le n caps m.more short
 
-      looked_by : (x : Cap) → Has (take done caps) x ⊎ Has (a ∷ []) x → (c : Cap) → Next U x c → Has after c
+      looked_by : (x : Cap) → Contains (take done caps) x ⊎ Contains (a ∷ []) x → (c : Cap) → Next U x c → Contains after c
       looked_by x (inl h) c n = kept c (s.looked x h c n)
-      looked_by x (inr h) c n = m.all c ((next c).1 (subst (λ y. Next U y c) (sym (has_one h)) n))
+      looked_by x (inr h) c n = m.all c ((next c).1 (subst (λ y. Next U y c) (sym (one h)) n))
 
       one_more : take (done + 1) after ≡ take done caps ++ a ∷ []
       one_more = front (done + 1) (omega (arith, more)) ∙ take_more caps done a more ∙ ap (λ y. take done caps ++ y ∷ []) (sym at)
@@ -121,14 +123,14 @@ module _ (U : Op → Type 0) (roots : Cap → Type 0) (target : Option Cap) (cap
       steps = record {
         begun = λ c h. kept c (s.begun c h);
         sound = λ c h. sound_by c (parts c h);
-        looked = λ x h. looked_by x (has_split (take done caps) (a ∷ []) x (subst (λ l. Has l x) one_more h));
+        looked = λ x h. looked_by x (Contains-append_cases (take done caps) (a ∷ []) x (subst (λ l. Contains l x) one_more h));
         apart = λ c e h. apart_by c e (parts c h);
         within = omega (arith, ap length m.same, length-append caps m.more, more);
       }
 
 -- as the loop of the search has it
 module _ (ops s : SetBy op_cmp) (rows : Rows) (i : IsIndexed ops rows) (view : ops ≡ s) (roots : Cap → Type 0) (target : Option Cap) (caps : List Cap) (done : ℕ) (state : IsSearching (In s) roots target caps done) (a : Cap) (more : done < length caps) (at : a ≡ get_or caps done a) where
-  next_in : (row : SetBy cap_cmp) → row ≡ row_behind rows a → (c : Cap) → Has (members row) c ↔ Next (In s) a c
+  next_in : (row : SetBy cap_cmp) → row ≡ row_behind rows a → (c : Cap) → Contains (members row) c ↔ Next (In s) a c
   next_in row is c =
       let next = next_row s rows (subst (λ t. IsIndexed t rows) view i) a c in
       (λ h. next.0 (ap (λ (r : SetBy cap_cmp). set.contains r c) (sym is) ∙ has_in cap_total cap_exact row c h), λ n. in_has cap_total cap_exact row c (ap (λ (r : SetBy cap_cmp). set.contains r c) is ∙ next.1 n))
@@ -144,7 +146,7 @@ module _ (ops s : SetBy op_cmp) (rows : Rows) (i : IsIndexed ops rows) (view : o
 
   pub steps_none : set.empty ≡ row_behind rows a → IsSearching (In s) roots target caps (done + 1)
   steps_none is =
-      steps (In s) roots target caps done state a more at [] (λ c. (λ h. absurd h, λ n. absurd (none_in c (ap (λ (r : SetBy cap_cmp). set.contains r c) is ∙ (next_row s rows (subst (λ t. IsIndexed t rows) view i) a c).1 n)))) (λ c t there. absurd there) caps (met_none caps)
+      steps (In s) roots target caps done state a more at [] (λ c. (λ h. absurd (none c h), λ n. absurd (none_in c (ap (λ (r : SetBy cap_cmp). set.contains r c) is ∙ (next_row s rows (subst (λ t. IsIndexed t rows) view i) a c).1 n)))) (λ c t there. absurd (none c there)) caps (met_none caps)
 
 -- a target that is there is looked for in the row
 pub told_target : (row : SetBy cap_cmp) (target : Option Cap) (cap : Cap) (r : Bool) → target ≡ Some cap → r ≡ set.contains row cap → Tells r ((c : Cap) × (target ≡ Some c) × In row c)

@@ -12,31 +12,32 @@ use Rattle.fl_labels.specs.declared.cap.Cap.TheVariants.{Use}
 use Rattle.fl_labels.specs.declared.name.Name.{Name}
 use Rattle.fl_ops.specs.declared.op.Op.{Op}
 use Rattle.fl_ops.specs.Registry.{Chain, here, into, IsGlobal, InEffect}
-use Rattle.fl_closure.specs.Met.{Has}
-use Rattle.fl_closure.proofs.Members.{has_all, has_at, has_split, has_one, in_has}
+use Rattle.std.specs.List.{Contains}
+use Rattle.std.proofs.lemmas.List.Elements.{Contains-get_or, Contains-append_cases}
+use Rattle.fl_closure.proofs.Members.{none, in_all, one, in_has}
 
 -- no use of a group is one of these
 abbrev pub NoUse : List Cap → Type 0
-NoUse caps = (group : Name) → Has caps (Use group) → ⊥
+NoUse caps = (group : Name) → Contains caps (Use group) → ⊥
 
 pub no_use_yet : (caps : List Cap) → NoUse (take 0 caps)
-no_use_yet [] group h = h
-no_use_yet (c ∷ caps) group h = h
+no_use_yet [] group h = none _ h
+no_use_yet (c ∷ caps) group h = none _ h
 
 pub no_use_more : (caps : List Cap) (i : ℕ) (c : Cap) → i < length caps → c ≡ get_or caps i c → NoUse (take i caps) → ((group : Name) → c ≡ Use group → ⊥) → NoUse (take (i + 1) caps)
 no_use_more caps i c within at front this group h =
-    let split = has_split (take i caps) (c ∷ []) (Use group) (subst (λ xs. Has xs (Use group)) (take_more caps i c within ∙ ap (λ x. take i caps ++ x ∷ []) (sym at)) h) in
-    elim split [ inl m ↦ front group m | inr m ↦ this group (has_one m) ]
+    let split = Contains-append_cases (take i caps) (c ∷ []) (Use group) (subst (λ xs. Contains xs (Use group)) (take_more caps i c within ∙ ap (λ x. take i caps ++ x ∷ []) (sym at)) h) in
+    elim split [ inl m ↦ front group m | inr m ↦ this group (one m) ]
 
-pub no_use_told : (caps : List Cap) (i : ℕ) → length caps ≤ i → NoUse (take i caps) → Tells false ((group : Name) × Has caps (Use group))
+pub no_use_told : (caps : List Cap) (i : ℕ) → length caps ≤ i → NoUse (take i caps) → Tells false ((group : Name) × Contains caps (Use group))
 no_use_told caps i whole front = record {
   holds = λ never. absurd (false≢true never);
-  fails = λ _ h. front h.0 (has_all caps i (Use h.0) whole h.1);
+  fails = λ _ h. front h.0 (in_all caps i (Use h.0) whole h.1);
 }
 
-pub use_told : (caps : List Cap) (i : ℕ) (c : Cap) (group : Name) → i < length caps → c ≡ get_or caps i c → c ≡ Use group → Tells true ((group : Name) × Has caps (Use group))
+pub use_told : (caps : List Cap) (i : ℕ) (c : Cap) (group : Name) → i < length caps → c ≡ get_or caps i c → c ≡ Use group → Tells true ((group : Name) × Contains caps (Use group))
 use_told caps i c group within at is = record {
-  holds = λ _. (group, subst (Has caps) (sym at ∙ is) (has_at caps i c within));
+  holds = λ _. (group, subst (Contains caps) (sym at ∙ is) (Contains-get_or caps i c within));
   fails = λ never. absurd (false≢true (sym never));
 }
 

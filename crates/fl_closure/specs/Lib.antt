@@ -1,4 +1,1 @@
-pub mod Met
-pub mod Rows
-pub mod Search
-pub mod Globals
+pub mod parts

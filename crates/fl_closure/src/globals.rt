@@ -2,9 +2,8 @@
 ghost use Rattle.std.specs.Prelude.{◌≡◌, ◌↔◌, Some, OnOk};
 ghost use Rattle.fl_labels.specs.declared.cap.Cap.{Cap};
 ghost use Rattle.fl_ops.specs.Registry as spec;
-ghost use Rattle.fl_ops.specs.Registry.{IsGlobal};
-ghost use Rattle.fl_closure.specs.Globals.{Only, AddsGlobals};
-ghost use Rattle.fl_closure.specs.Met.{Has};
+ghost use Rattle.fl_ops.specs.Registry.{Listed, IsGlobal};
+ghost use Rattle.fl_closure.specs.parts.Globals.{Only, AddsGlobals};
 
 use fl_labels::cap::Cap;
 use fl_labels::name::Name;
@@ -35,7 +34,7 @@ pub fn global_by(op: &Op) -> Option<Cap>
 
 /// Adds what everybody has by the operations, at the end. Fails only where there is not enough memory.
 pub fn push_globals(caps: &mut Vec<Cap>, ops: &[Op]) -> Result<(), AllocError>
-    ensures { OnOk result (AddsGlobals (Has ops.now) caps.old.items caps.new.items) }
+    ensures { OnOk result (AddsGlobals (Listed ops.now) caps.old.items caps.new.items) }
 {
     for op in ops {
         if let Some(cap) = global_by(op) {

@@ -9,8 +9,8 @@ ghost use Rattle.fl_labels.specs.declared.name.Name.{Name};
 ghost use Rattle.fl_ops.specs.OpOrder.{op_cmp};
 ghost use Rattle.fl_ops.specs.Logins.{IsFirstLogin, HasNoLogin};
 ghost use Rattle.fl_ops.specs.Registry.{Reach, From, IsGlobal, InEffect};
-ghost use Rattle.fl_closure.specs.Met.{Has};
-ghost use Rattle.fl_closure.specs.Search.{IsSearched};
+ghost use Rattle.std.specs.List.{Contains};
+ghost use Rattle.fl_closure.specs.parts.Search.{IsSearched};
 
 use crate::globals::{push_globals, tag_op};
 use crate::met::Met;
@@ -35,7 +35,7 @@ impl Model for Index {
     ghost use Rattle.fl_labels.specs.SetBy as set;
     ghost use Rattle.fl_ops.specs.OpOrder.{op_cmp};
     ghost use Rattle.fl_ops.specs.OpLaws.{coded_op};
-    ghost use Rattle.fl_closure.specs.Rows.{IsIndexed};
+    ghost use Rattle.fl_closure.specs.parts.Rows.{IsIndexed};
 
     ghost Value = { set.SetBy op_cmp };
 
@@ -161,7 +161,7 @@ impl Index {
 
     // All that the owner of these capabilities reaches, in the order in which it is met.
     fn found(&self, alloc: Global, owned: &CapSet) -> Result<Vec<Cap>, AllocError>
-        ensures { IfOk result (λ caps. (cap : Cap) → Has caps.items cap ↔ Reach (In self.now) (In owned.now) cap) }
+        ensures { IfOk result (λ caps. (cap : Cap) → Contains caps.items cap ↔ Reach (In self.now) (In owned.now) cap) }
     {
         let mut met = Met::new(alloc);
         met.meet_all(owned.as_slice())?;
@@ -171,7 +171,7 @@ impl Index {
 
     // Meets all that is reached from what is met, or stops where the row of a group has the target. Whether it did.
     fn search(&self, met: &mut Met, target: Option<Cap>) -> Result<bool, AllocError>
-        ensures { IfOk result (λ found. IsSearched (In self.now) (Has met.old) target found met.new) }
+        ensures { IfOk result (λ found. IsSearched (In self.now) (Contains met.old) target found met.new) }
     {
         let mut done = 0;
         while done < met.len() {
@@ -189,7 +189,7 @@ impl Index {
 
 // Whether one of them is the use of a group.
 fn uses_a_group(caps: &[Cap]) -> bool
-    ensures { Tells result ((group : Name) × Has caps.now (Use group)) }
+    ensures { Tells result ((group : Name) × Contains caps.now (Use group)) }
 {
     for cap in caps {
         if let Cap::Use(_) = cap {

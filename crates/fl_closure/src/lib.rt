@@ -5,5 +5,3 @@ mod globals;
 pub mod index;
 mod met;
 mod rows;
-#[cfg(test)]
-mod tests;

@@ -4,7 +4,7 @@ ghost use Rattle.std.specs.List.{IsDistinct};
 ghost use Rattle.std.specs.Ordering.{eq_by_cmp};
 ghost use Rattle.fl_labels.specs.Cap.{cap_cmp};
 ghost use Rattle.fl_labels.specs.declared.cap.Cap.{Cap};
-ghost use Rattle.fl_closure.specs.Met.{IsMet};
+ghost use Rattle.fl_closure.specs.parts.Met.{IsMet};
 
 use fl_labels::cap::Cap;
 use std::alloc::{AllocError, Global};
@@ -23,7 +23,7 @@ impl Model for Met {
     ghost use Rattle.std.specs.Coded.{coded_list};
     ghost use Rattle.fl_labels.specs.CapOrder.{coded_cap};
     ghost use Rattle.fl_labels.specs.declared.cap.Cap.{Cap};
-    ghost use Rattle.fl_closure.specs.Met.{IsSeen};
+    ghost use Rattle.fl_closure.specs.parts.Met.{IsSeen};
 
     ghost Value = { List Cap };
 

@@ -3,7 +3,7 @@ ghost use Rattle.std.specs.Option.{option_copied};
 ghost use Rattle.std.specs.Prelude.{◌≡◌, OnOk, OnErr};
 ghost use Rattle.fl_labels.specs.SetBy as set;
 ghost use Rattle.fl_labels.specs.declared.name.Name.{Name};
-ghost use Rattle.fl_closure.specs.Rows.{or_empty, row_of, row_behind, PutsInto};
+ghost use Rattle.fl_closure.specs.parts.Rows.{or_empty, row_of, row_behind, PutsInto};
 
 use fl_labels::cap::Cap;
 use fl_labels::cap_set::CapSet;

@@ -1,8 +1,8 @@
 //! Tests of the index by random graphs, against a plain fixpoint over a table of pairs.
+use crate::made::{name, put};
 use fl_closure::index::Index;
 use fl_labels::cap::Cap;
 use fl_labels::cap_set::CapSet;
-use fl_labels::name::Name;
 use fl_ops::op::{Body, Op, Policy};
 use std::alloc::{AllocError, Global};
 use std::test::Fail;
@@ -11,22 +11,15 @@ const GROUPS: u16 = 60;
 
 const CAPS: u16 = 150;
 
-fn name(node: u16, number: u16) -> Name {
-    Name {
-        node,
-        seq: number as u32 + 1,
-    }
-}
-
 // The uses of the groups come first, and then capabilities that lead no further.
 fn cap_of(number: u16) -> Cap {
     if number < GROUPS {
-        return Cap::Use(name(1, number));
+        return Cap::Use(name(number));
     }
     match number % 3 {
-        0 => Cap::Plus(name(1, number)),
-        1 => Cap::Minus(name(1, number)),
-        _ => Cap::Grow(name(1, number - GROUPS)),
+        0 => Cap::Plus(name(number)),
+        1 => Cap::Minus(name(number)),
+        _ => Cap::Grow(name(number - GROUPS)),
     }
 }
 
@@ -92,10 +85,7 @@ fn random_graph(alloc: Global, seed: u64, uses: u16) -> Result<(Index, Vec<bool>
         } else {
             GROUPS.saturating_add(draw(&mut state, CAPS - GROUPS))
         };
-        index.absorb(&Op {
-            name: name(2, number),
-            body: Body::Put(name(1, group), cap_of(cap)),
-        })?;
+        index.absorb(&put(number, group, cap_of(cap)))?;
         mark(&mut pairs, group, cap);
     }
     close(&mut pairs);
@@ -137,7 +127,7 @@ fn add_tags(index: &mut Index) -> Result<(), AllocError> {
         (63, Policy::Read),
     ] {
         index.absorb(&Op {
-            name: name(1, number),
+            name: name(number),
             body: Body::MakeTag(policy),
         })?;
     }

@@ -1,9 +1,9 @@
-//! Tests of the index by small graphs. Capabilities stand in tables as texts.
+//! Tests of the index by small graphs. Sets of capabilities stand as texts.
+use crate::made::{name, put};
 use fl_closure::index::Index;
 use fl_labels::cap::Cap;
 use fl_labels::cap_set::CapSet;
 use fl_labels::name::Name;
-use fl_labels::text::read_cap;
 use fl_ops::digest::Digest;
 use fl_ops::op::{Body, Op, Policy};
 use std::alloc::{AllocError, Global};
@@ -13,24 +13,17 @@ const LOW: Digest = Digest { bytes: [0; 32] };
 
 const HIGH: Digest = Digest { bytes: [255; 32] };
 
-fn name(seq: u32) -> Name {
-    Name { node: 1, seq }
-}
+const FIRST: Name = Name { node: 1, seq: 1 };
 
-// The operation of node 2 that puts a capability into a group of node 1.
-fn put(seq: u32, group: u32, cap: Cap) -> Op {
-    Op {
-        name: Name { node: 2, seq },
-        body: Body::Put(name(group), cap),
-    }
-}
+const SECOND: Name = Name { node: 1, seq: 2 };
 
-fn made(seq: u32, body: Body) -> Op {
-    Op {
-        name: name(seq),
-        body,
-    }
-}
+const THIRD: Name = Name { node: 1, seq: 3 };
+
+const FOURTH: Name = Name { node: 1, seq: 4 };
+
+const FIFTH: Name = Name { node: 1, seq: 5 };
+
+const NINTH: Name = Name { node: 1, seq: 9 };
 
 fn index_of(alloc: Global, ops: &[Op]) -> Result<Index, AllocError> {
     let mut index = Index::new(alloc);
@@ -40,187 +33,227 @@ fn index_of(alloc: Global, ops: &[Op]) -> Result<Index, AllocError> {
     Ok(index)
 }
 
-fn reaches(alloc: Global, index: &Index, root: &str, cap: &str) -> Result<bool, Fail> {
-    let root = read_cap(root).ok_or("no root")?;
-    let cap = read_cap(cap).ok_or("no capability")?;
-    Ok(index.reaches(alloc, root, cap)?)
+// Which of these capabilities the owner of the root reaches.
+fn reached(alloc: Global, index: &Index, root: Cap, among: &str) -> Result<String, Fail> {
+    let mut found = CapSet::new(alloc);
+    for cap in CapSet::from_text(alloc, among)?.iter() {
+        if index.reaches(alloc, root, *cap)? {
+            found.insert(*cap)?;
+        }
+    }
+    Ok(format!(in alloc; "{found}")?)
 }
 
-fn effective(alloc: Global, index: &Index, owned: &str, cap: &str) -> Result<bool, Fail> {
+// Which of these capabilities are in effect for the owner of those.
+fn effective(alloc: Global, index: &Index, owned: &str, among: &str) -> Result<String, Fail> {
     let owned = CapSet::from_text(alloc, owned)?;
-    let cap = read_cap(cap).ok_or("no capability")?;
-    Ok(index.effective(alloc, &owned, cap)?)
+    let mut found = CapSet::new(alloc);
+    for cap in CapSet::from_text(alloc, among)?.iter() {
+        if index.effective(alloc, &owned, *cap)? {
+            found.insert(*cap)?;
+        }
+    }
+    Ok(format!(in alloc; "{found}")?)
 }
 
-// The text of all that is in effect for the owner of these capabilities.
+// Which of these capabilities everybody has.
+fn global(alloc: Global, index: &Index, among: &str) -> Result<String, Fail> {
+    let mut found = CapSet::new(alloc);
+    for cap in CapSet::from_text(alloc, among)?.iter() {
+        if index.global(*cap) {
+            found.insert(*cap)?;
+        }
+    }
+    Ok(format!(in alloc; "{found}")?)
+}
+
+// All that is in effect for the owner of these capabilities.
 fn closed(alloc: Global, index: &Index, owned: &str) -> Result<String, Fail> {
     let owned = CapSet::from_text(alloc, owned)?;
     let closed = index.closed(alloc, &owned)?;
     Ok(format!(in alloc; "{closed}")?)
 }
 
+// Two groups, 1.4 and 1.5, each with the use of the other, and a capability in the second.
+fn two_groups(alloc: Global) -> Result<Index, AllocError> {
+    let ops = [
+        put(0, 3, Cap::Use(FIFTH)),
+        put(1, 4, Cap::Use(FOURTH)),
+        put(2, 4, Cap::Minus(FIRST)),
+    ];
+    index_of(alloc, &ops)
+}
+
 #[test]
 fn two_groups_hold_each_other(rt: HostRuntime) -> Result<(), Fail> {
-    let ops = [
-        put(1, 4, Cap::Use(name(5))),
-        put(2, 5, Cap::Use(name(4))),
-        put(3, 5, Cap::Minus(name(1))),
-    ];
-    let index = index_of(rt.alloc(), &ops)?;
-    for (root, cap, is) in [
-        ("*1.4", "-1.1", true),
-        ("*1.4", "*1.4", true),
-        ("*1.4", "*1.5", true),
-        ("*1.4", "+9.9", false),
-        ("*1.4", "^1.5", false),
-        ("-1.1", "*1.4", false),
-        ("^1.4", "*1.4", false),
-        ("*1.5", "-1.1", true),
-        ("*1.5", "*1.4", true),
-        ("*1.5", "*1.5", true),
-        ("*1.5", "+9.9", false),
-        ("*1.5", "^1.5", false),
-        ("-1.1", "*1.5", false),
-        ("^1.4", "*1.5", false),
-        ("-1.1", "-1.1", true),
+    let index = two_groups(rt.alloc())?;
+    for (root, among, expected) in [
+        (
+            Cap::Use(FOURTH),
+            "{-1.1,*1.4,*1.5,^1.5,+9.9}",
+            "{-1.1,*1.4,*1.5}",
+        ),
+        (
+            Cap::Use(FIFTH),
+            "{-1.1,*1.4,*1.5,^1.5,+9.9}",
+            "{-1.1,*1.4,*1.5}",
+        ),
+        (Cap::Minus(FIRST), "{-1.1,*1.4,*1.5}", "{-1.1}"),
+        (Cap::Grow(FOURTH), "{*1.4,*1.5}", "{}"),
     ] {
-        assert_eq!(rt; reaches(rt.alloc(), &index, root, cap)?, is);
+        let found = reached(rt.alloc(), &index, root, among)?;
+        assert_eq!(rt; found.as_str(), expected);
     }
     Ok(())
 }
 
-// A hundred groups, each with the use of the next, and a capability in the last.
+// A hundred groups, 1.1 and on, each with the use of the next, and a capability in the one behind them.
 fn chain(alloc: Global) -> Result<Index, AllocError> {
     let mut index = Index::new(alloc);
-    for seq in 1..=100u32 {
-        index.absorb(&put(seq, seq, Cap::Use(name(seq.saturating_add(1)))))?;
+    for number in 0..100u16 {
+        let next = Cap::Use(name(number + 1));
+        index.absorb(&put(number, number, next))?;
     }
-    index.absorb(&put(101, 101, Cap::Plus(name(1))))?;
+    index.absorb(&put(100, 100, Cap::Plus(FIRST)))?;
     Ok(index)
 }
 
 #[test]
 fn a_chain_leads_one_way(rt: HostRuntime) -> Result<(), Fail> {
-    let index = chain(rt.alloc())?;
-    for (root, cap, is) in [
-        ("*1.1", "*1.101", true),
-        ("*1.1", "+1.1", true),
-        ("*1.101", "*1.1", false),
-        ("*1.1", "-1.1", false),
-    ] {
-        assert_eq!(rt; reaches(rt.alloc(), &index, root, cap)?, is);
-    }
+    let alloc = rt.alloc();
+    let index = chain(alloc)?;
+    let found = reached(alloc, &index, Cap::Use(FIRST), "{+1.1,-1.1,*1.101}")?;
+    assert_eq!(rt; found.as_str(), "{+1.1,*1.101}");
+    let found = reached(alloc, &index, Cap::Use(name(100)), "{*1.1}")?;
+    assert_eq!(rt; found.as_str(), "{}");
     Ok(())
 }
 
 #[test]
 fn a_chain_is_in_effect(rt: HostRuntime) -> Result<(), Fail> {
-    let index = chain(rt.alloc())?;
-    assert!(rt; effective(rt.alloc(), &index, "{*1.51}", "*1.101")?);
-    assert!(rt; !effective(rt.alloc(), &index, "{*1.51}", "*1.1")?);
-    let owned = CapSet::from_text(rt.alloc(), "{*1.51}")?;
-    assert_eq!(rt; index.closed(rt.alloc(), &owned)?.len(), 52);
+    let alloc = rt.alloc();
+    let index = chain(alloc)?;
+    let found = effective(alloc, &index, "{*1.51}", "{*1.1,*1.101}")?;
+    assert_eq!(rt; found.as_str(), "{*1.101}");
+    let owned = CapSet::from_text(alloc, "{*1.51}")?;
+    assert_eq!(rt; index.closed(alloc, &owned)?.len(), 52);
     Ok(())
 }
 
 // A tag of each policy.
 fn three_tags(alloc: Global) -> Result<Index, AllocError> {
     let ops = [
-        made(1, Body::MakeTag(Policy::Export)),
-        made(2, Body::MakeTag(Policy::Read)),
-        made(3, Body::MakeTag(Policy::Integrity)),
+        Op {
+            name: FIRST,
+            body: Body::MakeTag(Policy::Export),
+        },
+        Op {
+            name: SECOND,
+            body: Body::MakeTag(Policy::Read),
+        },
+        Op {
+            name: THIRD,
+            body: Body::MakeTag(Policy::Integrity),
+        },
+    ];
+    index_of(alloc, &ops)
+}
+
+// Every capability on the three tags, and on a fourth that nobody made.
+const ON_TAGS: &str =
+    "{+1.1,-1.1,*1.1,^1.1,+1.2,-1.2,*1.2,^1.2,+1.3,-1.3,*1.3,^1.3,+1.4,-1.4,*1.4,^1.4}";
+
+#[test]
+fn a_policy_tells_what_everybody_has(rt: HostRuntime) -> Result<(), Fail> {
+    let index = three_tags(rt.alloc())?;
+    let found = global(rt.alloc(), &index, ON_TAGS)?;
+    assert_eq!(rt; found.as_str(), "{+1.1,-1.3}");
+    Ok(())
+}
+
+#[test]
+fn what_everybody_has_is_in_effect(rt: HostRuntime) -> Result<(), Fail> {
+    let index = three_tags(rt.alloc())?;
+    let found = effective(rt.alloc(), &index, "{}", ON_TAGS)?;
+    assert_eq!(rt; found.as_str(), "{+1.1,-1.3}");
+    let all = closed(rt.alloc(), &index, "{}")?;
+    assert_eq!(rt; all.as_str(), "{+1.1,-1.3}");
+    Ok(())
+}
+
+// Two logins of the first name, one of the second, and none of the third.
+fn logins(alloc: Global) -> Result<Index, AllocError> {
+    let ops = [
+        Op {
+            name: FIRST,
+            body: Body::MakeLogin(Cap::Grow(NINTH), LOW),
+        },
+        Op {
+            name: FIRST,
+            body: Body::MakeLogin(Cap::Plus(NINTH), HIGH),
+        },
+        Op {
+            name: SECOND,
+            body: Body::MakeTag(Policy::Export),
+        },
+        Op {
+            name: SECOND,
+            body: Body::MakeLogin(Cap::Grow(NINTH), HIGH),
+        },
+        Op {
+            name: THIRD,
+            body: Body::MakeTag(Policy::Export),
+        },
     ];
     index_of(alloc, &ops)
 }
 
 #[test]
-fn a_policy_tells_what_everybody_has(rt: HostRuntime) -> Result<(), Fail> {
-    let index = three_tags(rt.alloc())?;
-    for (cap, is) in [
-        ("+1.1", true),
-        ("-1.1", false),
-        ("*1.1", false),
-        ("^1.1", false),
-        ("+1.2", false),
-        ("-1.2", false),
-        ("*1.2", false),
-        ("^1.2", false),
-        ("+1.3", false),
-        ("-1.3", true),
-        ("*1.3", false),
-        ("^1.3", false),
-        ("+1.4", false),
-        ("-1.4", false),
-        ("*1.4", false),
-        ("^1.4", false),
-    ] {
-        assert_eq!(rt; index.global(read_cap(cap).ok_or("no capability")?), is);
-        assert_eq!(rt; effective(rt.alloc(), &index, "{}", cap)?, is);
-    }
-    Ok(())
-}
-
-#[test]
-fn all_that_everybody_has(rt: HostRuntime) -> Result<(), Fail> {
-    let index = three_tags(rt.alloc())?;
-    assert_eq!(rt; closed(rt.alloc(), &index, "{}")?.as_str(), "{+1.1,-1.3}");
-    Ok(())
-}
-
-#[test]
 fn the_least_login_is_told(rt: HostRuntime) -> Result<(), Fail> {
-    let (plus, grow) = (Cap::Plus(name(9)), Cap::Grow(name(9)));
-    let ops = [
-        made(1, Body::MakeLogin(grow, LOW)),
-        made(1, Body::MakeLogin(plus, HIGH)),
-        made(2, Body::MakeTag(Policy::Export)),
-        made(2, Body::MakeLogin(grow, HIGH)),
-        made(3, Body::MakeTag(Policy::Export)),
-    ];
-    let index = index_of(rt.alloc(), &ops)?;
-    for (seq, login) in [
-        (1, Some((plus, HIGH))),
-        (2, Some((grow, HIGH))),
-        (3, None),
-        (4, None),
-    ] {
-        assert!(rt; index.login(name(seq)) == login);
-    }
+    let index = logins(rt.alloc())?;
+    assert!(rt; index.login(FIRST) == Some((Cap::Plus(NINTH), HIGH)));
+    assert!(rt; index.login(SECOND) == Some((Cap::Grow(NINTH), HIGH)));
+    assert!(rt; index.login(THIRD).is_none());
+    assert!(rt; index.login(FOURTH).is_none());
     Ok(())
 }
 
 #[test]
 fn an_operation_counts_once(rt: HostRuntime) -> Result<(), Fail> {
-    let cap = Cap::Plus(name(1));
-    let ops = [
-        put(1, 4, cap),
-        put(2, 4, cap),
-        put(1, 4, cap),
-        made(4, Body::MakeGroup),
-    ];
-    let index = index_of(rt.alloc(), &ops)?;
-    let each_once = [made(4, Body::MakeGroup), put(1, 4, cap), put(2, 4, cap)];
-    assert!(rt; index.ops().as_slice() == each_once.as_slice());
-    assert_eq!(rt;
-        closed(rt.alloc(), &index, "{*1.4}")?.as_str(),
-        "{+1.1,*1.4}"
-    );
+    let alloc = rt.alloc();
+    let first = put(0, 3, Cap::Plus(FIRST));
+    let second = put(1, 3, Cap::Plus(FIRST));
+    let group = Op {
+        name: FOURTH,
+        body: Body::MakeGroup,
+    };
+    let index = index_of(alloc, &[first, second, first, group])?;
+    assert!(rt; index.ops().as_slice() == [group, first, second].as_slice());
+    let all = closed(alloc, &index, "{*1.4}")?;
+    assert_eq!(rt; all.as_str(), "{+1.1,*1.4}");
     Ok(())
+}
+
+// A group in a group, and a third group that is only grown by who reaches it.
+fn nested_groups(alloc: Global) -> Result<Index, AllocError> {
+    let tag = Op {
+        name: FIRST,
+        body: Body::MakeTag(Policy::Export),
+    };
+    let ops = [
+        tag,
+        put(0, 10, Cap::Use(name(11))),
+        put(1, 11, Cap::Minus(FIRST)),
+        put(2, 12, Cap::Minus(SECOND)),
+        put(3, 11, Cap::Grow(name(12))),
+    ];
+    index_of(alloc, &ops)
 }
 
 #[test]
 fn what_is_owned_is_closed(rt: HostRuntime) -> Result<(), Fail> {
-    let ops = [
-        made(1, Body::MakeTag(Policy::Export)),
-        put(1, 11, Cap::Use(name(12))),
-        put(2, 12, Cap::Minus(name(1))),
-        put(3, 13, Cap::Minus(name(2))),
-        put(4, 12, Cap::Grow(name(13))),
-    ];
-    let index = index_of(rt.alloc(), &ops)?;
-    assert_eq!(rt;
-        closed(rt.alloc(), &index, "{+1.6,*1.11}")?.as_str(),
-        "{+1.1,-1.1,+1.6,*1.11,*1.12,^1.13}"
-    );
+    let index = nested_groups(rt.alloc())?;
+    let all = closed(rt.alloc(), &index, "{+1.6,*1.11}")?;
+    assert_eq!(rt; all.as_str(), "{+1.1,-1.1,+1.6,*1.11,*1.12,^1.13}");
     Ok(())
 }

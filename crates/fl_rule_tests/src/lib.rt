@@ -6,6 +6,8 @@ mod graphs;
 #[cfg(test)]
 mod index;
 #[cfg(test)]
+mod made;
+#[cfg(test)]
 mod mailbox;
 #[cfg(test)]
 mod rules;

@@ -16,9 +16,17 @@ use fl_wire::payload::Payload;
 use std::alloc::{AllocError, Global};
 use std::test::Fail;
 
-fn numbered(number: u8) -> Endpoint {
-    Endpoint { number }
-}
+const SECOND: Endpoint = Endpoint { number: 2 };
+
+const THIRD: Endpoint = Endpoint { number: 3 };
+
+const FIFTH: Endpoint = Endpoint { number: 5 };
+
+const LOWER: Endpoint = Endpoint { number: 17 };
+
+const UPPER: Endpoint = Endpoint { number: 40 };
+
+const TAG: Name = Name { node: 1, seq: 1 };
 
 // Labels of this secrecy and no integrity.
 fn secret(alloc: Global, secrecy: &str) -> Result<Labels, Fail> {
@@ -39,12 +47,13 @@ fn all_open(alloc: Global) -> Result<(Endpoints, u32), AllocError> {
     let mut endpoints = Endpoints::new(alloc);
     let mut least = 0u32;
     for number in 1..=LAST_ENDPOINT {
-        if endpoints.least_free() == Some(numbered(number)) {
+        let endpoint = Endpoint { number };
+        if endpoints.least_free() == Some(endpoint) {
             least = least.saturating_add(1);
         }
         let mode = Mode::Both;
         let labels = Labels::new(alloc);
-        endpoints.insert(numbered(number), OpenEndpoint { mode, labels })?;
+        endpoints.insert(endpoint, OpenEndpoint { mode, labels })?;
     }
     Ok((endpoints, least))
 }
@@ -62,11 +71,11 @@ fn least_free_numbers(rt: HostRuntime) -> Result<(), Fail> {
 #[test]
 fn closed_numbers_are_free(rt: HostRuntime) -> Result<(), Fail> {
     let (mut endpoints, _) = all_open(rt.alloc())?;
-    assert!(rt; endpoints.remove(numbered(40)));
-    assert!(rt; endpoints.remove(numbered(17)));
-    assert!(rt; !endpoints.remove(numbered(17)));
-    assert!(rt; endpoints.get(numbered(17)).is_none());
-    assert!(rt; endpoints.least_free() == Some(numbered(17)));
+    assert!(rt; endpoints.remove(UPPER));
+    assert!(rt; endpoints.remove(LOWER));
+    assert!(rt; !endpoints.remove(LOWER));
+    assert!(rt; endpoints.get(LOWER).is_none());
+    assert!(rt; endpoints.least_free() == Some(LOWER));
     assert_eq!(rt; endpoints.iter().count(), 62);
     Ok(())
 }
@@ -75,23 +84,23 @@ fn closed_numbers_are_free(rt: HostRuntime) -> Result<(), Fail> {
 fn labels_in_place(rt: HostRuntime) -> Result<(), Fail> {
     let alloc = rt.alloc();
     let mut endpoints = Endpoints::new(alloc);
-    endpoints.insert(numbered(3), opened(alloc, Mode::Write, "{}")?)?;
-    endpoints.set_labels(numbered(3), secret(alloc, "{1.2}")?);
-    endpoints.set_labels(numbered(2), Labels::new(alloc));
-    assert!(rt; endpoints.get(numbered(2)).is_none());
-    let lent = endpoints.get(numbered(3)).ok_or("not open")?.lend();
+    endpoints.insert(THIRD, opened(alloc, Mode::Write, "{}")?)?;
+    endpoints.set_labels(THIRD, secret(alloc, "{1.2}")?);
+    endpoints.set_labels(SECOND, Labels::new(alloc));
+    assert!(rt; endpoints.get(SECOND).is_none());
+    let lent = endpoints.get(THIRD).ok_or("not open")?.lend();
     assert!(rt; lent.mode == Mode::Write);
     assert!(rt; *lent.labels.secrecy == Label::from_text(alloc, "{1.2}")?);
     Ok(())
 }
 
-fn letter(alloc: Global, serial: u32) -> Result<Letter, Fail> {
+fn letter(alloc: Global, number: u8) -> Result<Letter, Fail> {
     let payload = Payload::from_vec(Vec::from_slice(alloc, b"hi")?);
     let message = Message::new(CapSet::new(alloc), payload).ok_or("too long")?;
     let sender = Pid {
         node: 1,
         boot: 1,
-        serial,
+        serial: number as u32 + 1,
     };
     Ok(Letter { sender, message })
 }
@@ -100,11 +109,11 @@ fn letter(alloc: Global, serial: u32) -> Result<Letter, Fail> {
 fn full_inbox(alloc: Global) -> Result<(Inbox, u32), Fail> {
     let mut inbox = Inbox::new(alloc);
     let mut room = 0u32;
-    for serial in 1..=256u32 {
+    for number in 0..=255u8 {
         if !inbox.is_full() {
             room = room.saturating_add(1);
         }
-        inbox.push(letter(alloc, serial)?)?;
+        inbox.push(letter(alloc, number)?)?;
     }
     Ok((inbox, room))
 }
@@ -112,8 +121,8 @@ fn full_inbox(alloc: Global) -> Result<(Inbox, u32), Fail> {
 // How many of the letters taken are those of the senders in their order.
 fn taken_in_order(alloc: Global, inbox: &mut Inbox) -> Result<u32, Fail> {
     let mut same = 0u32;
-    for serial in 1..=256u32 {
-        if inbox.take() == Some(letter(alloc, serial)?) {
+    for number in 0..=255u8 {
+        if inbox.take() == Some(letter(alloc, number)?) {
             same = same.saturating_add(1);
         }
     }
@@ -141,9 +150,9 @@ fn a_new_mailbox_is_empty(rt: HostRuntime) {
 // Endpoints 1, 2 and 5, the second with this secrecy.
 fn three_open(alloc: Global, second: &str) -> Result<Endpoints, Fail> {
     let mut endpoints = Endpoints::new(alloc);
-    endpoints.insert(numbered(5), opened(alloc, Mode::Write, "{1.2}")?)?;
-    endpoints.insert(numbered(1), opened(alloc, Mode::Read, "{}")?)?;
-    endpoints.insert(numbered(2), opened(alloc, Mode::Both, second)?)?;
+    endpoints.insert(FIFTH, opened(alloc, Mode::Write, "{1.2}")?)?;
+    endpoints.insert(Endpoint { number: 1 }, opened(alloc, Mode::Read, "{}")?)?;
+    endpoints.insert(SECOND, opened(alloc, Mode::Both, second)?)?;
     Ok(endpoints)
 }
 
@@ -158,17 +167,16 @@ fn offender(alloc: Global, owned: &str, second: &str) -> Result<Option<Offender>
 
 #[test]
 fn least_offender(rt: HostRuntime) -> Result<(), Fail> {
-    let tag = Name { node: 1, seq: 1 };
-    let at = |number| Offender {
-        endpoint: Endpoint { number },
-        tag,
-    };
     for (owned, second, least) in [
-        ("{}", "{}", Some(at(2))),
-        ("{+1.2,-1.2}", "{1.1}", Some(at(5))),
+        ("{}", "{}", Some(SECOND)),
+        ("{+1.2,-1.2}", "{1.1}", Some(FIFTH)),
         ("{+1.1,-1.1,+1.2,-1.2}", "{1.1}", None),
     ] {
-        assert_eq!(rt; offender(rt.alloc(), owned, second)?, least);
+        let found = offender(rt.alloc(), owned, second)?;
+        assert_eq!(rt;
+            found,
+            least.map(|endpoint| Offender { endpoint, tag: TAG })
+        );
     }
     Ok(())
 }

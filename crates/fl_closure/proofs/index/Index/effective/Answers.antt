@@ -1,6 +1,6 @@
 use Rattle.std.proofs.Common.{sym, subst, ◌∙◌}
 use Rattle.fl_labels.specs.declared.cap.Cap.TheVariants.{Use}
-use Rattle.fl_closure.specs.Met.{Has}
+use Rattle.std.specs.List.{Contains}
 use Rattle.fl_closure.proofs.Uses.{told_alone}
 use Rattle.std.proofs.lemmas.Bool.{false≢true}
 use Rattle.fl_closure.proofs.Ending.{told_owned, told_global, told_eff, met_owned, if_ok}
@@ -21,5 +21,5 @@ returns-clause-ok c =
 pub returns-then-not-uses_a_group-clause-ok : goal.returns-then-not-uses_a_group-clause-ok
 returns-then-not-uses_a_group-clause-ok c =
     told_alone c.args.owned.now c.args.cap
-    (λ group h. c.uses_a_group.ensures.fails c.if-not-uses_a_group.true (group, subst (λ l. Has l (Use group)) (sym c.as_slice-caps.ensures) h))
+    (λ group h. c.uses_a_group.ensures.fails c.if-not-uses_a_group.true (group, subst (λ l. Contains l (Use group)) (sym c.as_slice-caps.ensures) h))
     (λ o. false≢true (sym c.if-contains.false ∙ c.contains.ensures ∙ o)) (c.global.ensures.fails c.if-global.false)

@@ -1,6 +1,6 @@
 use Rattle.std.proofs.Common.{◌+◌, subst, sym, arith}
 use Rattle.fl_labels.specs.SetBy.{In}
-use Rattle.fl_closure.specs.Met.{Has}
+use Rattle.std.specs.List.{Contains}
 use Rattle.fl_closure.proofs.Searching.{IsSearching, begins, ends, found_at, steps_some, steps_none}
 use Rattle.fl_closure.proofs.Ending.{bounded}
 use Rattle.fl_closure.proofs.index.Index.search.Goals.{in-Some+else-has_target+in_ok-meet_all, in_default}
@@ -21,10 +21,10 @@ loop-done-smaller c =
 pub loop-done-preserved : goal.loop-done-preserved
 loop-done-preserved c = elim c.match-behind.branch [
   | in-Some+else-has_target+in_ok-meet_all w ↦
-      subst (λ met. IsSearching (In c.args.self.now) (Has c.args.met.now) c.args.target met (c.loop-done.done + 1)) (sym w.met-is)
+      subst (λ met. IsSearching (In c.args.self.now) (Contains c.args.met.now) c.args.target met (c.loop-done.done + 1)) (sym w.met-is)
       (steps_some _ _ _ c.self.invariant c.self.view_is _ _ _ _ c.loop-done.invariant _ (omega (arith, c.loop-done-test.true, c.len.ensures.value)) (c.at.ensures _) _ w.in-Some.ensures _ w.has_target.ensures w.if-has_target.false _ _ w.as_slice.ensures w.in_ok-meet_all.ensures)
   | in_default w ↦
-      subst (λ met. IsSearching (In c.args.self.now) (Has c.args.met.now) c.args.target met (c.loop-done.done + 1)) (sym w.met-is)
+      subst (λ met. IsSearching (In c.args.self.now) (Contains c.args.met.now) c.args.target met (c.loop-done.done + 1)) (sym w.met-is)
       (steps_none _ _ _ c.self.invariant c.self.view_is _ _ _ _ c.loop-done.invariant _ (omega (arith, c.loop-done-test.true, c.len.ensures.value)) (c.at.ensures _) w.in_default.ensures)
 ]
 

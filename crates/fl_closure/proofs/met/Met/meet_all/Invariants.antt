@@ -1,5 +1,5 @@
 use Rattle.std.specs.Prelude.{take}
-use Rattle.fl_closure.specs.Met.{IsMet}
+use Rattle.fl_closure.specs.parts.Met.{IsMet}
 use Rattle.fl_closure.proofs.met.Met.meet_all.Given as goal
 
 abbrev pub invariant-loop-cap : goal.invariant-loop-cap
