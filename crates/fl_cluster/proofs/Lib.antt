@@ -1,8 +1,5 @@
-pub mod SplitLemmas
 pub mod Rest
-pub mod InterpreterLemmas
-pub mod StreamLemmas
-pub mod ScriptLemmas
+pub mod StreamRuns
 pub mod NodeLemmas
 pub mod OneStep
 pub mod Naming

@@ -52,32 +52,20 @@ Run-append number old (l ∷ ls) (b ∷ bs) mid ms cs new r q =
     let e : number + suc (length ls) ≡ number + 1 + length ls = omega arith in
     (r.0, r.1, Run-append (number + 1) r.0 ls bs mid ms cs new r.2 (rw e at q))
 
--- known bytes grow by a front of what is written for the first lines of the script
-pub record WritesCut (old new : Option (List ℕ)) (script : List ℕ) : Type 0 where
-  pub seen : List (List ℕ)
-  pub later : List (List ℕ)
-  pub split : lines script ≡ seen ++ later
-  pub front : List ℕ
-  pub rest : List ℕ
-  pub status : ℕ
-  pub output : Writes seen (front ++ rest) status
-  pub written : Appends old new front
-
--- what was written of the first lines' text is a front of the whole script's
-pub front_of_all : {a b : Option (List ℕ)} {script : List ℕ} → WritesCut a b script → WritesFront a b script
-front_of_all {a} {b} {script} p =
-    let o = p.output in
-    let g = go_on (1 + length p.seen) o.end p.later in
+-- a run of the first lines goes on to one of the whole script
+pub front_of_all : {a b : Option (List ℕ)} {script : List ℕ} (first later : List (List ℕ)) (front rest : List ℕ) (status : ℕ) → lines script ≡ first ++ later → Writes first (front ++ rest) status → Appends a b front → WritesFront a b script
+front_of_all {a} {b} {script} first later front rest status split o written =
+    let g = go_on (1 + length first) o.end later in
     record {
-      front = p.front;
-      rest = p.rest ++ flat_map text_of g.answers;
+      front = front;
+      rest = rest ++ flat_map text_of g.answers;
       status = _;
       output = record {
         answers = o.answers ++ g.answers;
         end = g.new;
-        run = rw p.split (Run-append 1 begun p.seen o.answers o.end p.later g.answers g.new o.run g.run);
-        text_is = sym (append_assoc p.front p.rest (flat_map text_of g.answers)) ∙ ap (λ x. x ++ flat_map text_of g.answers) o.text_is ∙ sym (flat_map-append text_of o.answers g.answers);
+        run = rw split (Run-append 1 begun first o.answers o.end later g.answers g.new o.run g.run);
+        text_is = sym (append_assoc front rest (flat_map text_of g.answers)) ∙ ap (λ x. x ++ flat_map text_of g.answers) o.text_is ∙ sym (flat_map-append text_of o.answers g.answers);
         status_is = refl;
       };
-      written = p.written;
+      written = written;
     }

@@ -9,8 +9,6 @@ pub mod Worked
 pub mod Turn
 pub mod Output
 pub mod Served
-pub mod Interpreter
-pub mod Stream
 pub mod Beginning
 pub mod Moments
 pub mod Living
@@ -19,3 +17,4 @@ pub mod Lives
 pub mod Owned
 pub mod Sent
 pub mod Equal
+pub mod parts

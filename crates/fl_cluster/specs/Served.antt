@@ -1,12 +1,9 @@
 -- What is written before the next read.
-use Rattle.std.specs.Prelude.{◌≡◌, ◌<◌, ◌⊎◌, ◌++◌, ◌==◌, [], ℕ, List, Option, false, length, All}
+use Rattle.std.specs.Prelude.{◌≡◌, ◌<◌, ◌⊎◌, ◌++◌, [], ℕ, List, Option, length}
 use Rattle.std.specs.Str.Lines.{lines}
 use Rattle.std.specs.Io.KnownBytes.{Appends, Consumes}
+use Rattle.fl_stream.specs.Served.{HasNoFeed}
 use Rattle.fl_cluster.specs.Output.{Writes}
-
--- no byte is a line feed
-abbrev pub HasNoFeed : List ℕ → Type 0
-HasNoFeed text = All (λ b. (b == 10) ≡ false) text
 
 -- exactly the answers to the lines that ended in what was read are written; bytes beyond were read only where the script is too long
 pub record Served (remaining left before after : Option (List ℕ)) : Type 0 where

@@ -1,28 +1,2 @@
 //! What stops a run.
-use fl_sink::sink::WriteFault;
-use thiserror::Error;
-
-/// What stops a run outside a line's own answer.
-#[derive(Clone, Copy, Debug, PartialEq, Eq, Error)]
-pub enum RunFault {
-    /// A read failed, or the script is too long, or wants too many reads.
-    #[error("read fault")]
-    Read,
-    /// A write or a flush failed, or a write took no bytes.
-    #[error("write fault")]
-    Write,
-    /// There was no memory to read into, or to keep a line that has not ended.
-    #[error("memory fault")]
-    Memory,
-}
-
-impl From<WriteFault> for RunFault {
-    ghost use Rattle.std.specs.Prelude.{◌≡◌};
-    ghost use Rattle.fl_cluster.specs.declared.fault.RunFault.{RunFault};
-
-    ghost from_gives = { λ _ e. e ≡ RunFault.Write };
-
-    fn from(_fault: WriteFault) -> Self {
-        RunFault::Write
-    }
-}
+pub use fl_stream::fault::RunFault;

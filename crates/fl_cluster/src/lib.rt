@@ -3,7 +3,6 @@
 
 pub mod answers;
 pub mod fault;
-pub mod interpreter;
 pub mod laws;
 pub mod node;
 pub mod nodes;
@@ -11,5 +10,3 @@ pub mod response;
 pub mod run;
 pub mod sent;
 pub mod session;
-pub mod split;
-pub mod stream;

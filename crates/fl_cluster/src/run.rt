@@ -1,34 +1,13 @@
 //! A whole run.
-ghost use Rattle.std.specs.Prelude.{◌≡◌, ◌≢◌, ◌≤◌, IfErr, IfOk, IfSome, OnErr, OnOk, length, vec_len, if◌then◌else◌};
+ghost use Rattle.std.specs.Prelude.{◌≡◌, ◌≤◌, IfErr, IfOk, IfSome, OnErr, OnOk, length};
 ghost use Rattle.std.specs.Io.KnownBytes.{IsAtEnd};
 ghost use Rattle.fl_cluster.specs.Served.{Served};
-ghost use Rattle.fl_cluster.specs.Output.{WritesOutput, WritesFront};
+ghost use Rattle.fl_cluster.specs.Output.{WritesFront, WritesOutput};
 
 use crate::fault::RunFault;
-use crate::stream::Stream;
-use std::alloc::{AllocGlobal, Global};
+use crate::session::Session;
+use std::alloc::AllocGlobal;
 use std::io::{Read, Write};
-
-/// The most bytes of a script.
-pub const MOST_BYTES: usize = 16_777_216;
-
-/// The bytes that one read asks for.
-const CHUNK: usize = 65_536;
-
-// A function of its own, so that no proof of the loop sees the numeral unfold.
-fn zeros(alloc: Global, count: usize) -> Result<Vec<u8>, RunFault>
-    ensures len { IfOk result (λ bytes. vec_len bytes ≡ count) }
-    ensures kind { IfErr result (λ e. e ≡ RunFault.Memory) }
-{
-    vec![in alloc; 0u8; count].map_err(|_| RunFault::Memory)
-}
-
-/// The status of a run in which some line was none of the script, or none was.
-fn status_of(any_bad: bool) -> u8
-    ensures { result ≡ (if any_bad then 1 else 0) }
-{
-    if any_bad { 1 } else { 0 }
-}
 
 /// Reads a script of at most 16,777,216 bytes, by at most 16,777,217 reads, and writes the answers to its lines.
 ///
@@ -43,33 +22,16 @@ pub fn run<RT: AllocGlobal, R: Read, W: Write>(
     input: &mut R,
     output: &mut W,
 ) -> Result<u8, RunFault>
-    ensures ok { IfOk result (λ status. IfSome (R.remaining input.old) (λ script. WritesOutput (W.contents output.old) (W.contents output.new) script status)) }
+    ensures ok { IfOk result (λ status. IfSome (R.remaining input.old) (λ script.
+        WritesOutput (W.contents output.old) (W.contents output.new) script status)) }
     ensures whole { OnOk result (IsAtEnd (R.remaining input.new)) }
     ensures short { OnOk result (IfSome (R.remaining input.old) (λ script. length script ≤ 16777216)) }
 
     // Any read may fail, so that all lines that have ended are answered before each.
-    ensures served { IfErr result (λ e. e ≡ RunFault.Read → Served (R.remaining input.old) (R.remaining input.new) (W.contents output.old) (W.contents output.new)) }
-    ensures err { OnErr result (IfSome (R.remaining input.old) (λ script. WritesFront (W.contents output.old) (W.contents output.new) script)) }
+    ensures served { IfErr result (λ e. e ≡ RunFault.Read →
+        Served (R.remaining input.old) (R.remaining input.new) (W.contents output.old) (W.contents output.new)) }
+    ensures err { OnErr result (IfSome (R.remaining input.old) (λ script.
+        WritesFront (W.contents output.old) (W.contents output.new) script)) }
 {
-    let alloc = rt.alloc();
-    let mut stream = Stream::new(alloc);
-    let mut chunk = zeros(alloc, CHUNK)?;
-    let mut room = MOST_BYTES;
-    for _turn in 0..16_777_217u32 {
-        let count = match input.read(&mut chunk) {
-            Ok(count) => count,
-            Err(_) => return Err(RunFault::Read),
-        };
-        if count == 0 {
-            let any_bad = stream.finish(alloc, output)?;
-            return Ok(status_of(any_bad));
-        }
-        if count > room {
-            return Err(RunFault::Read);
-        }
-        room -= count;
-        stream.take(alloc, &chunk[..count], output)?;
-        stream.send(output)?;
-    }
-    Err(RunFault::Read)
+    fl_stream::run::run(rt, Session::new(rt.alloc()), input, output)
 }

@@ -8,6 +8,7 @@ ghost use Rattle.fl_cluster.specs.Answer.{shown};
 ghost use Rattle.fl_cluster.specs.Naming.{IsPlaced, renamed};
 ghost use Rattle.fl_cluster.specs.Turn.{AnswersNamed, Turn, Understood};
 
+use crate::answers::write_response;
 use crate::nodes::Nodes;
 use crate::response::Response;
 use fl_aliases::alias::Alias;
@@ -17,7 +18,10 @@ use fl_jobs::answer::Refusal;
 use fl_labels::name::Name;
 use fl_script::line::Line;
 use fl_script::reading::{Reading, read_line};
+use fl_sink::sink::{Sink, WriteFault};
+use fl_stream::machine::Machine;
 use std::alloc::{AllocError, Global};
+use std::io::Write;
 use std::marker::Model;
 
 /// What an alias stands for until its line is answered.
@@ -81,7 +85,7 @@ impl Session {
     }
 
     /// What is answered to the line of this number. Where memory is wanted, nothing changes.
-    pub fn answer(&mut self, alloc: Global, number: u64, line: &[u8]) -> Response
+    pub fn respond(&mut self, alloc: Global, number: u64, line: &[u8]) -> Response
         ensures { Turn number self.old line.now (shown self.new result) self.new }
     {
         match self.understand(alloc, number, line) {
@@ -137,5 +141,24 @@ impl Session {
                 Err(error)
             }
         }
+    }
+}
+
+impl Machine for Session {
+    ghost use Rattle.fl_cluster.specs.parts.LineTurn.{TurnsOut};
+
+    ghost turns = { TurnsOut };
+
+    fn answer<W: Write>(
+        &mut self,
+        alloc: Global,
+        number: u64,
+        line: &[u8],
+        sink: &mut Sink,
+        output: &mut W,
+    ) -> Result<bool, WriteFault> {
+        let response = self.respond(alloc, number, line);
+        write_response(self, &response, sink, output)?;
+        Ok(response.is_bad())
     }
 }
