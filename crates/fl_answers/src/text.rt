@@ -4,7 +4,7 @@ ghost use Rattle.std.specs.Prelude.{◌≡◌, ◌++◌, ◌∷◌, [], codes};
 ghost use Rattle.std.specs.Fmt.{decimal};
 ghost use Rattle.std.specs.List.{flat_map};
 ghost use Rattle.hex.specs.Hex.{encode_lower};
-ghost use Rattle.fl_labels.specs.Text.{cap_sign, cap_text, caps_text, endpoint_text, name_text, pid_text};
+ghost use Rattle.fl_labels.specs.Text.{cap_text, caps_text, endpoint_text, name_text, pid_text};
 ghost use Rattle.fl_sink.specs.Sink.{Puts};
 ghost use Rattle.fl_answers.specs.AnswerText.{bytes_text, dropped_text, letter_text, refusal_text, refused_text, reply_text, sent_text};
 
@@ -134,18 +134,6 @@ fn put_refusal<W: Write>(
     }
 }
 
-// The sign of a capability.
-fn sign_of(cap: Cap) -> &'static [u8]
-    ensures { result.now ≡ cap_sign cap ∷ [] }
-{
-    match cap {
-        Cap::Plus(_) => b"+",
-        Cap::Minus(_) => b"-",
-        Cap::Use(_) => b"*",
-        Cap::Grow(_) => b"^",
-    }
-}
-
 // These bytes, a sign and a name.
 fn put_signed<'a, W: Write>(
     front: &'a [u8],
@@ -181,7 +169,7 @@ fn put_cap<W: Write>(
     ensures { let text = front.now ++ cap_text cap in
         Puts (W.contents output.old) (W.contents output.new) sink.old text sink.new result }
 {
-    put_signed(front, sign_of(cap), cap.name(), sink, output)
+    put_signed(front, cap.sign().as_bytes(), cap.name(), sink, output)
 }
 
 // These bytes and a name.

@@ -1,7 +1,7 @@
 -- What equal nodes tell.
 use Rattle.std.proofs.Common.{◌≡◌, ◌≢◌, ◌↔◌, inl, inr, refl, sym, subst, Option, Some, None, Result, Err}
 use Rattle.std.specs.FinMap as map
-use Rattle.fl_labels.specs.SetBy.{In, members}
+use Rattle.fl_labels.specs.SetBy.{In, members, SameMembers}
 use Rattle.fl_labels.specs.CapOrder.{cap_total, cap_exact}
 use Rattle.fl_labels.specs.declared.cap.Cap.{Cap}
 use Rattle.fl_labels.specs.declared.name.Name.{Name}
@@ -29,7 +29,6 @@ use Rattle.fl_cluster.specs.State.{NodeState}
 use Rattle.fl_cluster.specs.Answer.{Answer}
 use Rattle.fl_cluster.specs.NodeStep.{view_of, AnswersResult, Works, replies, refuses, makes, spends}
 use Rattle.fl_cluster.specs.Living.{process_at}
-use Rattle.fl_cluster.specs.Equal.{SameMembers}
 use Rattle.fl_cluster.proofs.OneStep.{ample}
 
 same_registry : (a b : NodeState) → SameMembers a.registry b.registry → a.registry ≡ b.registry

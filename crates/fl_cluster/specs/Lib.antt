@@ -16,5 +16,4 @@ pub mod LabelChange
 pub mod Lives
 pub mod Owned
 pub mod Sent
-pub mod Equal
 pub mod parts

@@ -2,7 +2,7 @@
 ghost use Rattle.std.specs.Prelude.{◌≡◌, ◌≢◌, ◌↔◌, ◌+◌, ◌++◌, ◌∷◌, List, ℕ, Option, None, Some, false, length, take};
 ghost use Rattle.std.specs.Str.Lines.{lines};
 ghost use Rattle.fl_labels.specs.Name.{name_cmp};
-ghost use Rattle.fl_labels.specs.SetBy.{In, SetBy};
+ghost use Rattle.fl_labels.specs.SetBy.{In, SetBy, SameMembers};
 ghost use Rattle.fl_labels.specs.declared.cap.Cap.TheVariants.{Plus, Minus};
 ghost use Rattle.fl_labels.specs.declared.cap.Cap.{Cap};
 ghost use Rattle.fl_labels.specs.declared.name.Name.{Name};
@@ -39,7 +39,6 @@ ghost use Rattle.fl_cluster.specs.Lives.{Exits, IsBorn};
 ghost use Rattle.fl_cluster.specs.Owned.{WasGiven};
 ghost use Rattle.fl_cluster.specs.Sent.{ComesSafely, Delivers, WasSent};
 ghost use Rattle.fl_cluster.specs.NodeStep.{Works, view_of};
-ghost use Rattle.fl_cluster.specs.Equal.{SameMembers};
 
 /// Where no answer is for want of memory, a script has one run.
 pub fn law_output()

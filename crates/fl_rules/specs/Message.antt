@@ -10,7 +10,3 @@ use Rattle.fl_rules.specs.declared.labels.Labels.{Labels}
 pub record SafeMessage (E : Caps) (p : Labels) (F : Caps) (q : Labels) : Type 0 where
   pub secrecy : (tag : Name) → In p.secrecy tag → ¬ Dual E tag → In q.secrecy tag ⊎ Dual F tag
   pub integrity : (tag : Name) → In q.integrity tag → ¬ Dual F tag → In p.integrity tag ⊎ Dual E tag
-
--- the capabilities of which this is true
-abbrev pub Marked : (Cap → Bool) → Caps
-Marked marks cap = marks cap ≡ true
