@@ -3,7 +3,7 @@ use Rattle.std.proofs.Common.{◌≡◌, ◌++◌, ◌∙◌, refl, sym, ap, sub
 use Rattle.std.proofs.lemmas.List.{append_assoc, append-nil, take-append-drop, take_more, drop_more}
 use Rattle.std.proofs.lemmas.List.Concat.{flat_map-append}
 use Rattle.std.specs.List.{flat_map}
-use Rattle.std.specs.Result.{IsErr}
+use Rattle.std.specs.Result.{IsErr, OnErr}
 use Rattle.std.proofs.KnownBytes.{Appends-trans, Appends-nil}
 use Rattle.std.specs.Io.KnownBytes.{Appends}
 use Rattle.fl_sink.specs.Sink.{Passes, Cuts, Puts, Writes}
@@ -83,6 +83,11 @@ flat_map_more f xs i d inside = ap (flat_map f) (take_more xs i d inside) ∙ fl
 -- the pieces about one
 pub flat_map_at : {X : Type 0} (f : X → List ℕ) (xs : List X) (i : ℕ) (d : X) → i < length xs → flat_map f xs ≡ flat_map f (take i xs) ++ (f (get_or xs i d) ++ flat_map f (drop (i + 1) xs))
 flat_map_at f xs i d inside = ap (flat_map f) (sym (take-append-drop i xs)) ∙ flat_map-append f (take i xs) (drop i xs) ∙ ap (λ y. flat_map f (take i xs) ++ flat_map f y) (drop_more xs i d inside)
+
+-- what holds whatever the result is
+pub on_err_always : {T E P : Type 0} (r : Result T E) → P → OnErr r P
+on_err_always (Ok x) p = tt
+on_err_always (Err e) p = p
 
 -- cut in its front
 pub cuts_front : {a b : Option (List ℕ)} {pending text : List ℕ} (more : List ℕ) → Cuts a b pending text → Cuts a b pending (text ++ more)
