@@ -21,7 +21,8 @@ no_global (Grow group) h = h
 pub adds_none : (caps : List Cap) → AddsGlobals (Listed []) caps caps
 adds_none caps = record { has = λ c. (λ h. inl h, λ h. elim h [ inl m ↦ m | inr g ↦ absurd (no_global c g) ]) }
 
-one_of : (xs : List Op) (op : Op) (c : Cap) → IsGlobal (Listed (xs ++ op ∷ [])) c → IsGlobal (Listed xs) c ⊎ IsGlobal (Only op) c
+one_of : (xs : List Op) (op : Op) (c : Cap) → IsGlobal (Listed (xs ++ op ∷ [])) c
+    → IsGlobal (Listed xs) c ⊎ IsGlobal (Only op) c
 one_of xs op (Plus tag) h = elim (Contains-append_cases xs (op ∷ []) _ h) [ inl m ↦ inl m | inr m ↦ inr (sym (one m)) ]
 one_of xs op (Minus tag) h = elim (Contains-append_cases xs (op ∷ []) _ h) [ inl m ↦ inl m | inr m ↦ inr (sym (one m)) ]
 one_of xs op (Use group) h = absurd h
@@ -53,7 +54,8 @@ module _ (xs : List Op) (op : Op) where
     pub adds_one : (x : Cap) → r ≡ Some x → AddsGlobals (Listed (xs ++ op ∷ [])) old (mid ++ x ∷ [])
     adds_one x some = record { has = λ c. (λ h. to c (Contains-append_cases mid (x ∷ []) c h), λ h. from c h) }
       where
-        to_old : (c : Cap) → Contains old c ⊎ IsGlobal (Listed xs) c → Contains old c ⊎ IsGlobal (Listed (xs ++ op ∷ [])) c
+        to_old : (c : Cap) → Contains old c ⊎ IsGlobal (Listed xs) c
+            → Contains old c ⊎ IsGlobal (Listed (xs ++ op ∷ [])) c
         to_old c (inl h) = inl h
         to_old c (inr h) = inr (front c h)
 
@@ -80,13 +82,20 @@ module _ (ops : List Op) (i : ℕ) (op : Op) (old mid new : List Cap) (within : 
   more : take (i + 1) ops ≡ take i ops ++ op ∷ []
   more = take_more ops i op within ∙ ap (λ o. take i ops ++ o ∷ []) (sym at)
 
-  pub stays_at : new ≡ mid → AddsGlobals (Listed (take i ops)) old mid → (r : Option Cap) → ((c : Cap) → (r ≡ Some c) ↔ IsGlobal (Only op) c) → ((c : Cap) → r ≡ Some c → ⊥) → AddsGlobals (Contains (take (i + 1) ops)) old new
-  stays_at e s r is never = subst (λ xs. AddsGlobals (Listed xs) old new) (sym more) (subst (AddsGlobals (Listed (take i ops ++ op ∷ [])) old) (sym e) (adds_nothing (take i ops) op old mid s r is never))
+  pub stays_at : new ≡ mid → AddsGlobals (Listed (take i ops)) old mid → (r : Option Cap)
+      → ((c : Cap) → (r ≡ Some c) ↔ IsGlobal (Only op) c) → ((c : Cap) → r ≡ Some c → ⊥)
+      → AddsGlobals (Contains (take (i + 1) ops)) old new
+  stays_at e s r is never =
+      subst (λ xs. AddsGlobals (Listed xs) old new) (sym more) (subst (AddsGlobals (Listed (take i ops ++ op ∷ [])) old) (sym e) (adds_nothing (take i ops) op old mid s r is never))
 
-  pub grows_at : AddsGlobals (Listed (take i ops)) old mid → (r : Option Cap) → ((c : Cap) → (r ≡ Some c) ↔ IsGlobal (Only op) c) → (x : Cap) → r ≡ Some x → new ≡ mid ++ x ∷ [] → AddsGlobals (Contains (take (i + 1) ops)) old new
-  grows_at s r is x some e = subst (λ xs. AddsGlobals (Listed xs) old new) (sym more) (subst (AddsGlobals (Listed (take i ops ++ op ∷ [])) old) (sym e) (adds_one (take i ops) op old mid s r is x some))
+  pub grows_at : AddsGlobals (Listed (take i ops)) old mid → (r : Option Cap)
+      → ((c : Cap) → (r ≡ Some c) ↔ IsGlobal (Only op) c) → (x : Cap) → r ≡ Some x → new ≡ mid ++ x ∷ []
+      → AddsGlobals (Contains (take (i + 1) ops)) old new
+  grows_at s r is x some e =
+      subst (λ xs. AddsGlobals (Listed xs) old new) (sym more) (subst (AddsGlobals (Listed (take i ops ++ op ∷ [])) old) (sym e) (adds_one (take i ops) op old mid s r is x some))
 
-pub adds_all : (ops : List Op) (i : ℕ) (old new : List Cap) → length ops ≤ i → AddsGlobals (Listed (take i ops)) old new → AddsGlobals (Listed ops) old new
+pub adds_all : (ops : List Op) (i : ℕ) (old new : List Cap) → length ops ≤ i → AddsGlobals (Listed (take i ops)) old new
+    → AddsGlobals (Listed ops) old new
 adds_all ops i old new all s = record { has = λ c. (λ h. to c ((s.has c).0 h), λ h. (s.has c).1 (from c h)) }
   where
     to : (c : Cap) → Contains old c ⊎ IsGlobal (Listed (take i ops)) c → Contains old c ⊎ IsGlobal (Listed ops) c

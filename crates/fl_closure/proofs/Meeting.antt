@@ -26,7 +26,8 @@ module _ (caps : List Cap) (seen after : BTreeSet Cap) (c : Cap) (s : IsSeen cap
   -- as it was
   pub seen_as : after.keys ≡ seen.keys → IsSeen caps after
   seen_as e = record {
-    alike = λ q. (λ h. (s.alike q).0 (ap (list_any (eq_by_cmp cap_cmp q)) (sym e) ∙ h), λ h. ap (list_any (eq_by_cmp cap_cmp q)) e ∙ (s.alike q).1 h);
+    alike =
+        λ q. (λ h. (s.alike q).0 (ap (list_any (eq_by_cmp cap_cmp q)) (sym e) ∙ h), λ h. ap (list_any (eq_by_cmp cap_cmp q)) e ∙ (s.alike q).1 h);
     distinct = s.distinct;
   }
 
@@ -38,7 +39,8 @@ module _ (caps : List Cap) (seen after : BTreeSet Cap) (c : Cap) (s : IsSeen cap
     none_there false e = refl
     none_there true e = absurd (not_there (any_has cap_total cap_exact caps c e))
 
-    to_list : (q : Cap) (b : Bool) → eq_by_cmp cap_cmp c q ≡ b → cond b true (contains cap_cmp seen q) ≡ true → Contains (caps ++ c ∷ []) q
+    to_list : (q : Cap) (b : Bool) → eq_by_cmp cap_cmp c q ≡ b → cond b true (contains cap_cmp seen q) ≡ true
+        → Contains (caps ++ c ∷ []) q
     to_list q true e h = Contains-append_right caps (c ∷ []) q (first [] (cap_exact c q ((Equal-is (cap_cmp c q)).0 e)))
     to_list q false e h = Contains-append_left caps (c ∷ []) q ((s.alike q).0 h)
 
@@ -47,12 +49,14 @@ module _ (caps : List Cap) (seen after : BTreeSet Cap) (c : Cap) (s : IsSeen cap
     or_true false = refl
 
     to_set : (q : Cap) → Contains caps q ⊎ Contains (c ∷ []) q → contains cap_cmp after q ≡ true
-    to_set q (inl h) = put.0 q ∙ ap (cond (eq_by_cmp cap_cmp c q) true) ((s.alike q).1 h) ∙ or_true (eq_by_cmp cap_cmp c q)
+    to_set q (inl h) =
+        put.0 q ∙ ap (cond (eq_by_cmp cap_cmp c q) true) ((s.alike q).1 h) ∙ or_true (eq_by_cmp cap_cmp c q)
     to_set q (inr h) = subst (λ x. contains cap_cmp after x ≡ true) (one h) put.1
 
     pub seen_more : IsSeen (caps ++ c ∷ []) after
     seen_more = record {
-      alike = λ q. (λ h. to_list q (eq_by_cmp cap_cmp c q) refl (sym (put.0 q) ∙ h), λ h. to_set q (Contains-append_cases caps (c ∷ []) q h));
+      alike =
+          λ q. (λ h. to_list q (eq_by_cmp cap_cmp c q) refl (sym (put.0 q) ∙ h), λ h. to_set q (Contains-append_cases caps (c ∷ []) q h));
       distinct = IsDistinct-push (eq_by_cmp_equiv cap_total) caps c s.distinct (none_there _ refl);
     }
 
@@ -86,7 +90,8 @@ pub met_from_none : (these new : List Cap) → IsMet [] these new → (c : Cap) 
 met_from_none these new m c = (λ h. m.each c (subst (λ l. Contains l c) m.same h), m.all c)
 
 -- as the loop has it
-pub met_next : (old caps mid new : List Cap) (i : ℕ) (c : Cap) → i < length caps → c ≡ get_or caps i c → IsMet old (take i caps) mid → IsMet mid (c ∷ []) new → IsMet old (take (i + 1) caps) new
+pub met_next : (old caps mid new : List Cap) (i : ℕ) (c : Cap) → i < length caps → c ≡ get_or caps i c
+    → IsMet old (take i caps) mid → IsMet mid (c ∷ []) new → IsMet old (take (i + 1) caps) new
 met_next old caps mid new i c within at one two =
     subst (λ l. IsMet old l new) (sym (take_more caps i c within ∙ ap (λ x. take i caps ++ x ∷ []) (sym at))) (met_on old (take i caps) mid (c ∷ []) new one two)
 
@@ -99,4 +104,5 @@ module _ (old items new : List Cap) (seen after : BTreeSet Cap) (c : Cap) (s : I
   met_put e = subst (IsMet old (c ∷ [])) (sym (e ∙ ap (λ l. l ++ c ∷ []) view)) (met_new old c)
 
   pub met_kept : added ≡ false → new ≡ items → IsMet old (c ∷ []) new
-  met_kept h e = subst (IsMet old (c ∷ [])) (sym (e ∙ view)) (met_again old c (subst (λ l. Contains l c) view ((s.alike c).0 (stale added _ tells h))))
+  met_kept h e =
+      subst (IsMet old (c ∷ [])) (sym (e ∙ view)) (met_again old c (subst (λ l. Contains l c) view ((s.alike c).0 (stale added _ tells h))))

@@ -33,7 +33,8 @@ module _ {A : Type 0} where
   in_all xs i x whole h = subst (λ l. Contains l x) (sym (take_all i xs whole)) h
 
   pub of_taken : (xs : List A) (i : ℕ) (x : A) → Contains (take i xs) x → Contains xs x
-  of_taken xs i x h = subst (λ l. Contains l x) (take-append-drop i xs) (Contains-append_left (take i xs) (drop i xs) x h)
+  of_taken xs i x h =
+      subst (λ l. Contains l x) (take-append-drop i xs) (Contains-append_left (take i xs) (drop i xs) x h)
 
 module _ {K : Type 0} {R : K → K → Ordering} (o : IsTotalOrder R) (exact : IsAntisymmetric R) where
   -- by the test of the order
@@ -50,7 +51,8 @@ module _ {K : Type 0} {R : K → K → Ordering} (o : IsTotalOrder R) (exact : I
   has_in s q h = contains-members s q ∙ has_any (members s) q h
 
   pub in_listed : (xs : List K) (q : K) → In (of_list {R = R} xs) q ↔ Contains xs q
-  in_listed xs q = (λ h. any_has xs q (sym (contains-of_list o xs q) ∙ h), λ h. contains-of_list o xs q ∙ has_any xs q h)
+  in_listed xs q =
+      (λ h. any_has xs q (sym (contains-of_list o xs q) ∙ h), λ h. contains-of_list o xs q ∙ has_any xs q h)
 
 -- what an answer `new` says of the set before
 pub fresh : (new there : Bool) → new ≡ not there → new ≡ true → there ≡ false

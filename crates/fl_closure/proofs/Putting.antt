@@ -29,24 +29,33 @@ use Rattle.fl_closure.specs.parts.Rows.{or_empty, row_of, PutsInto, IsPut, IsInd
 
 not_at : (group other : Name) (b : Bool) → is_at (name_cmp group) other ≡ b → other ≢ group → b ≡ false
 not_at group other false e differ = refl
-not_at group other true e differ = absurd (differ (sym (name_exact group other ((Equal-is (name_cmp group other)).0 e))))
+not_at group other true e differ =
+    absurd (differ (sym (name_exact group other ((Equal-is (name_cmp group other)).0 e))))
 
-pub put_done : (old new : Rows) (group : Name) (c : Cap) (row : SetBy cap_cmp) → UpdatesBy name_cmp (name_cmp group) old.rows new.rows (Some row) → row ≡ set.insert (row_of old group) c → PutsInto old group c new
+pub put_done : (old new : Rows) (group : Name) (c : Cap) (row : SetBy cap_cmp)
+    → UpdatesBy name_cmp (name_cmp group) old.rows new.rows (Some row) → row ≡ set.insert (row_of old group) c
+    → PutsInto old group c new
 put_done old new group c row up is = record {
   here = ap or_empty up.1 ∙ is;
   others = λ other differ. ap or_empty (up.2 other (not_at group other _ refl differ));
 }
 
 -- as the code has it: a first capability, a further one, and one for which there was no memory
-pub put_first : (old new : Rows) (mid : BTreeMap Name (SetBy cap_cmp)) (group : Name) (c : Cap) (none row : SetBy cap_cmp) → mid ≡ old.rows → UpdatesBy name_cmp (name_cmp group) mid new.rows (Some row) → get name_cmp old.rows group ≡ None → none ≡ set.empty → row ≡ set.insert none c → PutsInto old group c new
+pub put_first : (old new : Rows) (mid : BTreeMap Name (SetBy cap_cmp)) (group : Name) (c : Cap) (none row : SetBy cap_cmp)
+    → mid ≡ old.rows → UpdatesBy name_cmp (name_cmp group) mid new.rows (Some row) → get name_cmp old.rows group ≡ None
+    → none ≡ set.empty → row ≡ set.insert none c → PutsInto old group c new
 put_first old new mid group c none row same up absent e is =
     put_done old new group c row (subst (λ m. UpdatesBy name_cmp (name_cmp group) m new.rows (Some row)) same up) (is ∙ ap (λ s. set.insert s c) (e ∙ sym (ap or_empty absent)))
 
-pub put_through : (old new : Rows) (group : Name) (c : Cap) (row more : SetBy cap_cmp) → (IsSome (get name_cmp old.rows group) → UpdatesBy name_cmp (name_cmp group) old.rows new.rows (Some more)) → get name_cmp old.rows group ≡ Some row → more ≡ set.insert row c → PutsInto old group c new
+pub put_through : (old new : Rows) (group : Name) (c : Cap) (row more : SetBy cap_cmp)
+    → (IsSome (get name_cmp old.rows group) → UpdatesBy name_cmp (name_cmp group) old.rows new.rows (Some more))
+    → get name_cmp old.rows group ≡ Some row → more ≡ set.insert row c → PutsInto old group c new
 put_through old new group c row more up there is =
     put_done old new group c more (up (subst IsSome (sym there) refl)) (is ∙ ap (λ s. set.insert s c) (sym (ap or_empty there)))
 
-pub put_back : (es fs : List (Name × SetBy cap_cmp)) (group : Name) (row same : SetBy cap_cmp) → fs ≡ set_value (is_at (name_cmp group)) es same → lookup (is_at (name_cmp group)) es ≡ Some row → same ≡ row → (other : Name) → or_empty (lookup (is_at (name_cmp other)) fs) ≡ or_empty (lookup (is_at (name_cmp other)) es)
+pub put_back : (es fs : List (Name × SetBy cap_cmp)) (group : Name) (row same : SetBy cap_cmp)
+    → fs ≡ set_value (is_at (name_cmp group)) es same → lookup (is_at (name_cmp group)) es ≡ Some row → same ≡ row
+    → (other : Name) → or_empty (lookup (is_at (name_cmp other)) fs) ≡ or_empty (lookup (is_at (name_cmp other)) es)
 put_back es fs group row same e there is other =
     ap (λ l. or_empty (lookup (is_at (name_cmp other)) l)) (e ∙ set_value_same (is_at (name_cmp group)) es same (there ∙ ap Some (sym is)))
 
@@ -68,7 +77,8 @@ module _ (s : SetBy op_cmp) (op : Op) where
   in_new = contains-insert op_total s op op ∙ ap (λ r. is_eq r || set.contains s op) (tied_itself op_total op)
 
   pub in_split : (q : Op) → In (set.insert s op) q → (q ≡ op) ⊎ In s q
-  in_split q h = elim (or_cases _ _ (sym (contains-insert op_total s op q) ∙ h)) [ inl e ↦ inl (op_exact q op ((Equal-is (op_cmp q op)).0 e)) | inr m ↦ inr m ]
+  in_split q h =
+      elim (or_cases _ _ (sym (contains-insert op_total s op q) ∙ h)) [ inl e ↦ inl (op_exact q op ((Equal-is (op_cmp q op)).0 e)) | inr m ↦ inr m ]
 
   -- what is added and taken out again leaves nothing
   pub taken_back : set.contains s op ≡ false → set.remove (set.insert s op) op ≡ s
@@ -81,7 +91,8 @@ module _ (s : SetBy op_cmp) (op : Op) where
       go q true e = sym (ap (set.contains s) (op_exact q op ((Equal-is (op_cmp q op)).0 e)) ∙ new)
       go q false e = refl
 
-  pub put_split : (group : Name) (c : Cap) → IsPut (In (set.insert s op)) group c → IsPut (In s) group c ⊎ Puts op.body group c
+  pub put_split : (group : Name) (c : Cap) → IsPut (In (set.insert s op)) group c
+      → IsPut (In s) group c ⊎ Puts op.body group c
   put_split group c p = by_place (in_split p.0 p.1)
     where
       by_place : (p.0 ≡ op) ⊎ In s p.0 → IsPut (In s) group c ⊎ Puts op.body group c
@@ -96,16 +107,19 @@ module _ (s : SetBy op_cmp) (op : Op) where
 no_put : (group : Name) (c : Cap) → IsPut (In (set.empty {R = op_cmp})) group c → ⊥
 no_put group c p = false≢true (sym (contains-empty op_cmp p.0) ∙ p.1)
 
-pub nothing_indexed : (ops : SetBy op_cmp) (rows : Rows) → ops ≡ set.empty → ((group : Name) → row_of rows group ≡ set.empty) → IsIndexed ops rows
+pub nothing_indexed : (ops : SetBy op_cmp) (rows : Rows) → ops ≡ set.empty
+    → ((group : Name) → row_of rows group ≡ set.empty) → IsIndexed ops rows
 nothing_indexed ops rows e none = subst (λ s. IsIndexed s rows) (sym e) (record {
-  row = λ group c. (λ h. absurd (false≢true (sym (ap (λ (s : SetBy cap_cmp). set.contains s c) (none group) ∙ contains-empty cap_cmp c) ∙ h)), λ p. absurd (no_put group c p));
+  row =
+      λ group c. (λ h. absurd (false≢true (sym (ap (λ (s : SetBy cap_cmp). set.contains s c) (none group) ∙ contains-empty cap_cmp c) ∙ h)), λ p. absurd (no_put group c p));
 })
 
 module _ (s after : SetBy op_cmp) (op : Op) (rows : Rows) (i : IsIndexed s rows) where
   pub indexed_again : set.contains s op ≡ true → after ≡ set.insert s op → IsIndexed after rows
   indexed_again there e = subst (λ t. IsIndexed t rows) (sym (e ∙ insert_member op_total op_exact s op there)) i
 
-  pub indexed_other : ((group : Name) (c : Cap) → Puts op.body group c → ⊥) → after ≡ set.insert s op → IsIndexed after rows
+  pub indexed_other : ((group : Name) (c : Cap) → Puts op.body group c → ⊥) → after ≡ set.insert s op
+      → IsIndexed after rows
   indexed_other never e = subst (λ t. IsIndexed t rows) (sym e) (record {
     row = λ group c. (λ h. put_kept s op group c ((i.row group c).0 h), λ p. back group c (put_split s op group c p));
   })
@@ -114,7 +128,8 @@ module _ (s after : SetBy op_cmp) (op : Op) (rows : Rows) (i : IsIndexed s rows)
       back group c (inl p) = (i.row group c).1 p
       back group c (inr p) = absurd (never group c p)
 
-  pub indexed_back : (new : Rows) (last : SetBy op_cmp) → set.contains s op ≡ false → after ≡ set.insert s op → last ≡ set.remove after op → ((group : Name) → row_of new group ≡ row_of rows group) → IsIndexed last new
+  pub indexed_back : (new : Rows) (last : SetBy op_cmp) → set.contains s op ≡ false → after ≡ set.insert s op
+      → last ≡ set.remove after op → ((group : Name) → row_of new group ≡ row_of rows group) → IsIndexed last new
   indexed_back new last fresh e f same = subst (λ t. IsIndexed t new) (sym (f ∙ ap (λ t. set.remove t op) e ∙ taken_back s op fresh)) (record {
     row = λ group c. subst (λ (r : SetBy cap_cmp). In r c ↔ IsPut (In s) group c) (sym (same group)) (i.row group c);
   })
@@ -138,10 +153,12 @@ module _ (s after : SetBy op_cmp) (op : Op) (rows : Rows) (i : IsIndexed s rows)
         let at = name_exact group g ((Equal-is (name_cmp group g)).0 e) in
         subst (λ k. In (row_of rows k) x → In (row_of new k) x) at
         (λ m. ap (λ (r : SetBy cap_cmp). set.contains r x) put.here ∙ contains-insert cap_total (row_of rows group) c x ∙ or_later (eq_by_cmp cap_cmp x c) m) h
-    kept g false e x h = ap (λ (r : SetBy cap_cmp). set.contains r x) (put.others g (λ at. false≢true (sym e ∙ ap (λ k. is_eq (name_cmp group k)) at ∙ ap is_eq (tied_itself name_total group)))) ∙ h
+    kept g false e x h =
+        ap (λ (r : SetBy cap_cmp). set.contains r x) (put.others g (λ at. false≢true (sym e ∙ ap (λ k. is_eq (name_cmp group k)) at ∙ ap is_eq (tied_itself name_total group)))) ∙ h
 
     gained : In (row_of new group) c
-    gained = ap (λ (r : SetBy cap_cmp). set.contains r c) put.here ∙ contains-insert cap_total (row_of rows group) c c ∙ ap (λ r. is_eq r || set.contains (row_of rows group) c) (tied_itself cap_total c)
+    gained =
+        ap (λ (r : SetBy cap_cmp). set.contains r c) put.here ∙ contains-insert cap_total (row_of rows group) c c ∙ ap (λ r. is_eq r || set.contains (row_of rows group) c) (tied_itself cap_total c)
 
     to_row : (g : Name) (x : Cap) → IsPut (In s) g x ⊎ Puts op.body g x → In (row_of new g) x
     to_row g x (inl p) = kept g _ refl x ((i.row g x).1 p)
@@ -149,7 +166,8 @@ module _ (s after : SetBy op_cmp) (op : Op) (rows : Rows) (i : IsIndexed s rows)
         let two = subst (λ b. Puts b g x) is p in
         subst (λ k. In (row_of new k) x) two.0 (subst (In (row_of new group)) two.1 gained)
 
-    from_row : (g : Name) (b : Bool) → is_at (name_cmp group) g ≡ b → (x : Cap) → In (row_of new g) x → IsPut (In (set.insert s op)) g x
+    from_row : (g : Name) (b : Bool) → is_at (name_cmp group) g ≡ b → (x : Cap) → In (row_of new g) x
+        → IsPut (In (set.insert s op)) g x
     from_row g true e x h =
         let at = name_exact group g ((Equal-is (name_cmp group g)).0 e) in
         subst (λ k. In (row_of new k) x → IsPut (In (set.insert s op)) k x) at
@@ -164,7 +182,8 @@ module _ (s after : SetBy op_cmp) (op : Op) (rows : Rows) (i : IsIndexed s rows)
     })
 
 -- as the code has it
-pub no_puts : (body : Body) → ((group : Name) (c : Cap) → body ≡ Put group c → ⊥) → (group : Name) (c : Cap) → Puts body group c → ⊥
+pub no_puts : (body : Body) → ((group : Name) (c : Cap) → body ≡ Put group c → ⊥) → (group : Name) (c : Cap)
+    → Puts body group c → ⊥
 no_puts (MakeTag policy) never group c p = p
 no_puts MakeGroup never group c p = p
 no_puts (MakeLogin d digest) never group c p = p

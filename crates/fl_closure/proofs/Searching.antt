@@ -12,19 +12,20 @@ use Rattle.fl_labels.specs.declared.cap.Cap.{Cap}
 use Rattle.fl_labels.specs.declared.cap.Cap.TheVariants.{Plus, Minus, Use, Grow}
 use Rattle.fl_ops.specs.declared.op.Op.{Op}
 use Rattle.fl_ops.specs.OpOrder.{op_cmp}
-use Rattle.fl_ops.specs.Registry.{Chain, here, into, Reach}
+use Rattle.fl_ops.specs.Registry.{Registry, Chain, here, into, Reach}
 use Rattle.fl_ops.proofs.Reaching.{chain_on}
 use Rattle.fl_closure.specs.declared.rows.Rows.{Rows}
 use Rattle.fl_closure.specs.parts.Met.{IsMet}
 use Rattle.std.specs.List.{Contains}
 use Rattle.std.proofs.lemmas.List.Elements.{Contains-append_left, Contains-append_cases, Contains-get_or}
+use Rattle.fl_labels.specs.Caps.{Caps}
 use Rattle.fl_closure.specs.parts.Rows.{row_behind, IsPut, IsIndexed}
 use Rattle.fl_closure.specs.parts.Search.{IsSearched}
 use Rattle.fl_closure.proofs.Members.{none, one, in_all, in_has, has_in}
 use Rattle.fl_closure.proofs.Meeting.{met_none}
 
 -- c is put into the group of which a is the use
-abbrev pub Next : (Op → Type 0) → Cap → Cap → Type 0
+abbrev pub Next : Registry → Cap → Caps
 Next U (Use group) c = IsPut U group c
 Next U (Plus tag) c = ⊥
 Next U (Minus tag) c = ⊥
@@ -33,32 +34,35 @@ Next U (Grow group) c = ⊥
 none_in : (c : Cap) → In (set.empty {R = cap_cmp}) c → ⊥
 none_in c h = false≢true (sym (contains-empty cap_cmp c) ∙ h)
 
-pub next_row : (s : SetBy op_cmp) (rows : Rows) → IsIndexed s rows → (a c : Cap) → In (row_behind rows a) c ↔ Next (In s) a c
+pub next_row : (s : SetBy op_cmp) (rows : Rows) → IsIndexed s rows → (a c : Cap)
+    → In (row_behind rows a) c ↔ Next (In s) a c
 next_row s rows i (Use group) c = i.row group c
 next_row s rows i (Plus tag) c = (none_in c, λ h. absurd h)
 next_row s rows i (Minus tag) c = (none_in c, λ h. absurd h)
 next_row s rows i (Grow group) c = (none_in c, λ h. absurd h)
 
-chain_next : {U : Op → Type 0} (a b c : Cap) → Chain U a b → Next U b c → Chain U a c
+chain_next : {U : Registry} (a b c : Cap) → Chain U a b → Next U b c → Chain U a c
 chain_next a (Use group) c k n = chain_on k (into n.1 n.2 here)
 chain_next a (Plus tag) c k n = absurd n
 chain_next a (Minus tag) c k n = absurd n
 chain_next a (Grow group) c k n = absurd n
 
 -- a chain stays among capabilities whose puts are among them
-stays : {U : Op → Type 0} {a c : Cap} (caps : List Cap) → ((x : Cap) → Contains caps x → (y : Cap) → Next U x y → Contains caps y) → Chain U a c → Contains caps a → Contains caps c
+stays : {U : Registry} {a c : Cap} (caps : List Cap)
+    → ((x : Cap) → Contains caps x → (y : Cap) → Next U x y → Contains caps y) → Chain U a c → Contains caps a
+    → Contains caps c
 stays caps closed here h = h
 stays caps closed (into {op} {group} {b} u p rest) h = stays caps closed rest (closed (Use group) h b (op, u, p))
 
 -- the state of a search: the first `done` of the capabilities met are looked at
-pub record IsSearching (U : Op → Type 0) (roots : Cap → Type 0) (target : Option Cap) (caps : List Cap) (done : ℕ) : Type 0 where
+pub record IsSearching (U : Registry) (roots : Caps) (target : Option Cap) (caps : List Cap) (done : ℕ) : Type 0 where
   pub begun : (c : Cap) → roots c → Contains caps c
   pub sound : (c : Cap) → Contains caps c → Reach U roots c
   pub looked : (a : Cap) → Contains (take done caps) a → (c : Cap) → Next U a c → Contains caps c
   pub apart : (c : Cap) → target ≡ Some c → Contains caps c → roots c
   pub within : done ≤ length caps
 
-pub begins : (U : Op → Type 0) (target : Option Cap) (caps : List Cap) → IsSearching U (Contains caps) target caps 0
+pub begins : (U : Registry) (target : Option Cap) (caps : List Cap) → IsSearching U (Contains caps) target caps 0
 begins U target caps = record {
   begun = λ c h. h;
   sound = λ c h. (c, h, here);
@@ -67,7 +71,7 @@ begins U target caps = record {
   within = omega arith;
 }
 
-module _ (U : Op → Type 0) (roots : Cap → Type 0) (target : Option Cap) (caps : List Cap) (done : ℕ) (s : IsSearching U roots target caps done) where
+module _ (U : Registry) (roots : Caps) (target : Option Cap) (caps : List Cap) (done : ℕ) (s : IsSearching U roots target caps done) where
   pub ends : length caps ≤ done → IsSearched U roots target false caps
   ends all = record {
     hit = λ e. absurd (false≢true e);
@@ -87,7 +91,8 @@ module _ (U : Op → Type 0) (roots : Cap → Type 0) (target : Option Cap) (cap
         let r = s.sound a there in
         (r.0, r.1, chain_next r.0 a c r.2 ((next c).0 h))
 
-    pub hits : (c : Cap) → target ≡ Some c → Contains these c → (found : Bool) → found ≡ true → IsSearched U roots target found caps
+    pub hits : (c : Cap) → target ≡ Some c → Contains these c → (found : Bool) → found ≡ true
+        → IsSearched U roots target found caps
     hits c e h found is = record {
       hit = λ _. (c, e, reached c h);
       missed = λ never. absurd (false≢true (sym never ∙ is));
@@ -112,35 +117,41 @@ module _ (U : Op → Type 0) (roots : Cap → Type 0) (target : Option Cap) (cap
       front : (n : ℕ) → n ≤ length caps → take n after ≡ take n caps
       front n short = ap (take n) m.same ∙ take-append-le n caps m.more short
 
-      looked_by : (x : Cap) → Contains (take done caps) x ⊎ Contains (a ∷ []) x → (c : Cap) → Next U x c → Contains after c
+      looked_by : (x : Cap) → Contains (take done caps) x ⊎ Contains (a ∷ []) x → (c : Cap) → Next U x c
+          → Contains after c
       looked_by x (inl h) c n = kept c (s.looked x h c n)
       looked_by x (inr h) c n = m.all c ((next c).1 (subst (λ y. Next U y c) (sym (one h)) n))
 
       one_more : take (done + 1) after ≡ take done caps ++ a ∷ []
-      one_more = front (done + 1) (omega (arith, more)) ∙ take_more caps done a more ∙ ap (λ y. take done caps ++ y ∷ []) (sym at)
+      one_more =
+          front (done + 1) (omega (arith, more)) ∙ take_more caps done a more ∙ ap (λ y. take done caps ++ y ∷ []) (sym at)
 
       pub steps : IsSearching U roots target after (done + 1)
       steps = record {
         begun = λ c h. kept c (s.begun c h);
         sound = λ c h. sound_by c (parts c h);
-        looked = λ x h. looked_by x (Contains-append_cases (take done caps) (a ∷ []) x (subst (λ l. Contains l x) one_more h));
+        looked =
+            λ x h. looked_by x (Contains-append_cases (take done caps) (a ∷ []) x (subst (λ l. Contains l x) one_more h));
         apart = λ c e h. apart_by c e (parts c h);
         within = omega (arith, ap length m.same, length-append caps m.more, more);
       }
 
 -- as the loop of the search has it
-module _ (ops s : SetBy op_cmp) (rows : Rows) (i : IsIndexed ops rows) (view : ops ≡ s) (roots : Cap → Type 0) (target : Option Cap) (caps : List Cap) (done : ℕ) (state : IsSearching (In s) roots target caps done) (a : Cap) (more : done < length caps) (at : a ≡ get_or caps done a) where
+module _ (ops s : SetBy op_cmp) (rows : Rows) (i : IsIndexed ops rows) (view : ops ≡ s) (roots : Caps) (target : Option Cap) (caps : List Cap) (done : ℕ) (state : IsSearching (In s) roots target caps done) (a : Cap) (more : done < length caps) (at : a ≡ get_or caps done a) where
   next_in : (row : SetBy cap_cmp) → row ≡ row_behind rows a → (c : Cap) → Contains (members row) c ↔ Next (In s) a c
   next_in row is c =
       let next = next_row s rows (subst (λ t. IsIndexed t rows) view i) a c in
       (λ h. next.0 (ap (λ (r : SetBy cap_cmp). set.contains r c) (sym is) ∙ has_in cap_total cap_exact row c h), λ n. in_has cap_total cap_exact row c (ap (λ (r : SetBy cap_cmp). set.contains r c) is ∙ next.1 n))
 
-  pub found_at : (row : SetBy cap_cmp) → row ≡ row_behind rows a → (found : Bool) → Tells found ((c : Cap) × (target ≡ Some c) × In row c) → found ≡ true → IsSearched (In s) roots target true caps
+  pub found_at : (row : SetBy cap_cmp) → row ≡ row_behind rows a → (found : Bool)
+      → Tells found ((c : Cap) × (target ≡ Some c) × In row c) → found ≡ true → IsSearched (In s) roots target true caps
   found_at row is found told h =
       let hit = told.holds h in
       hits (In s) roots target caps done state a more at (members row) (next_in row is) hit.0 hit.1 (in_has cap_total cap_exact row hit.0 hit.2) true refl
 
-  pub steps_some : (row : SetBy cap_cmp) → row ≡ row_behind rows a → (found : Bool) → Tells found ((c : Cap) × (target ≡ Some c) × In row c) → found ≡ false → (these after : List Cap) → these ≡ members row → IsMet caps these after → IsSearching (In s) roots target after (done + 1)
+  pub steps_some : (row : SetBy cap_cmp) → row ≡ row_behind rows a → (found : Bool)
+      → Tells found ((c : Cap) × (target ≡ Some c) × In row c) → found ≡ false → (these after : List Cap)
+      → these ≡ members row → IsMet caps these after → IsSearching (In s) roots target after (done + 1)
   steps_some row is found told h these after e m =
       steps (In s) roots target caps done state a more at (members row) (next_in row is) (λ c t there. told.fails h (c, t, has_in cap_total cap_exact row c there)) after (subst (λ l. IsMet caps l after) e m)
 
@@ -149,7 +160,8 @@ module _ (ops s : SetBy op_cmp) (rows : Rows) (i : IsIndexed ops rows) (view : o
       steps (In s) roots target caps done state a more at [] (λ c. (λ h. absurd (none c h), λ n. absurd (none_in c (ap (λ (r : SetBy cap_cmp). set.contains r c) is ∙ (next_row s rows (subst (λ t. IsIndexed t rows) view i) a c).1 n)))) (λ c t there. absurd (none c there)) caps (met_none caps)
 
 -- a target that is there is looked for in the row
-pub told_target : (row : SetBy cap_cmp) (target : Option Cap) (cap : Cap) (r : Bool) → target ≡ Some cap → r ≡ set.contains row cap → Tells r ((c : Cap) × (target ≡ Some c) × In row c)
+pub told_target : (row : SetBy cap_cmp) (target : Option Cap) (cap : Cap) (r : Bool) → target ≡ Some cap
+    → r ≡ set.contains row cap → Tells r ((c : Cap) × (target ≡ Some c) × In row c)
 told_target row target cap r is e = record {
   holds = λ h. (cap, is, sym e ∙ h);
   fails = λ h x. false≢true (sym (sym e ∙ h) ∙ ap (set.contains row) (same x.0 (sym is ∙ x.1)) ∙ x.2);

@@ -1,4 +1,4 @@
-// What everybody may do.
+//! What everybody has by the operations.
 ghost use Rattle.std.specs.Prelude.{◌≡◌, ◌↔◌, Some, OnOk};
 ghost use Rattle.fl_labels.specs.declared.cap.Cap.{Cap};
 ghost use Rattle.fl_ops.specs.Registry as spec;

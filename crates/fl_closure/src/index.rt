@@ -1,4 +1,4 @@
-// The index of who reaches what.
+//! The index of who reaches what.
 ghost use Rattle.std.specs.Prelude.{◌≡◌, ◌≢◌, ◌↔◌, Some, MatchOption, IfOk, OnOk, OnErr};
 ghost use Rattle.fl_labels.specs.Found.{Tells};
 ghost use Rattle.fl_labels.specs.SetBy as set;
@@ -66,7 +66,8 @@ impl Index {
 
     /// The least login of this name, as its capability and the digest of its secret, or none. A binary search; takes no memory.
     pub fn login(&self, name: Name) -> Option<(Cap, Digest)>
-        ensures { MatchOption result (HasNoLogin (In self.now) name) (λ l. IsFirstLogin (In self.now) name l.0 l.1) }
+        ensures { MatchOption result (HasNoLogin (In self.now) name)
+            (λ login. IsFirstLogin (In self.now) name login.0 login.1) }
     {
         self.ops.first_login(name)
     }
@@ -143,7 +144,8 @@ impl Index {
     ///
     /// Looks once at what was put into each group that is reached; and a sort of what is found.
     pub fn reached(&self, alloc: Global, owned: &CapSet) -> Result<CapSet, AllocError>
-        ensures { IfOk result (λ reached. (cap : Cap) → In reached cap ↔ Reach (In self.now) (In owned.now) cap) }
+        ensures { IfOk result (λ reached. (cap : Cap) →
+            In reached cap ↔ Reach (In self.now) (In owned.now) cap) }
     {
         Ok(CapSet::from_vec(self.found(alloc, owned)?))
     }
@@ -152,7 +154,8 @@ impl Index {
     ///
     /// As `reached`, and a look at each operation.
     pub fn closed(&self, alloc: Global, owned: &CapSet) -> Result<CapSet, AllocError>
-        ensures { IfOk result (λ closed. (cap : Cap) → In closed cap ↔ InEffect (In self.now) (In owned.now) cap) }
+        ensures { IfOk result (λ closed. (cap : Cap) →
+            In closed cap ↔ InEffect (In self.now) (In owned.now) cap) }
     {
         let mut caps = self.found(alloc, owned)?;
         push_globals(&mut caps, self.ops.as_slice())?;
@@ -161,7 +164,8 @@ impl Index {
 
     // All that the owner of these capabilities reaches, in the order in which it is met.
     fn found(&self, alloc: Global, owned: &CapSet) -> Result<Vec<Cap>, AllocError>
-        ensures { IfOk result (λ caps. (cap : Cap) → Contains caps.items cap ↔ Reach (In self.now) (In owned.now) cap) }
+        ensures { IfOk result (λ caps. (cap : Cap) →
+            Contains caps.items cap ↔ Reach (In self.now) (In owned.now) cap) }
     {
         let mut met = Met::new(alloc);
         met.meet_all(owned.as_slice())?;
@@ -171,7 +175,8 @@ impl Index {
 
     // Meets all that is reached from what is met, or stops where the row of a group has the target. Whether it did.
     fn search(&self, met: &mut Met, target: Option<Cap>) -> Result<bool, AllocError>
-        ensures { IfOk result (λ found. IsSearched (In self.now) (Contains met.old) target found met.new) }
+        ensures { IfOk result (λ found.
+            IsSearched (In self.now) (Contains met.old) target found met.new) }
     {
         let mut done = 0;
         while done < met.len() {

@@ -1,4 +1,4 @@
-// What is put into each group.
+//! What is put into each group.
 ghost use Rattle.std.specs.Option.{option_copied};
 ghost use Rattle.std.specs.Prelude.{◌≡◌, OnOk, OnErr};
 ghost use Rattle.fl_labels.specs.SetBy as set;

@@ -28,7 +28,8 @@ module _ {K X : Type 0} {R : K → K → Ordering} (o : IsTotalOrder R) (exact :
   pub get_entry : (es : List (K × X)) (q : K) → map.get (map.from_entries {R = R} es) q ≡ lookup (is_at (R q)) es
   get_entry es q = get-from_entries o es q ∙ find_entry es q
 
-  pub get_held : (es : List (K × X)) (m : map.FinMap R X) (q : K) → map.from_entries es ≡ m → lookup (is_at (R q)) es ≡ map.get m q
+  pub get_held : (es : List (K × X)) (m : map.FinMap R X) (q : K) → map.from_entries es ≡ m
+      → lookup (is_at (R q)) es ≡ map.get m q
   get_held es m q e = sym (get_entry es q) ∙ ap (λ m. map.get m q) e
 
   -- one value was put
@@ -70,7 +71,8 @@ module _ {K X : Type 0} {R : K → K → Ordering} (o : IsTotalOrder R) (exact :
       twice false q = refl
 
   -- a value written over that of a key
-  written : (es : List (K × X)) (k : K) (x w : X) (q : K) → lookup (is_at (R k)) es ≡ Some x → lookup (is_at (R q)) (set_value (is_at (R k)) es w) ≡ cond (is_at (R k) q) (Some w) (lookup (is_at (R q)) es)
+  written : (es : List (K × X)) (k : K) (x w : X) (q : K) → lookup (is_at (R k)) es ≡ Some x
+      → lookup (is_at (R q)) (set_value (is_at (R k)) es w) ≡ cond (is_at (R k) q) (Some w) (lookup (is_at (R q)) es)
   written [] k x w q e = absurd (cc)
   written ((j, y) ∷ es) k x w q e = go (is_at (R k) j) refl e (written es k x w q)
     where
@@ -79,36 +81,46 @@ module _ {K X : Type 0} {R : K → K → Ordering} (o : IsTotalOrder R) (exact :
           → lookup (is_at (R q)) (cond b ((j, w) ∷ es) ((j, y) ∷ set_value (is_at (R k)) es w)) ≡ cond (is_at (R k) q) (Some w) (cond (is_at (R q) j) (Some y) (lookup (is_at (R q)) es))
       go true h e rest = same (exact k j ((Equal-is (R k j)).0 h))
         where
-          same : k ≡ j → cond (is_at (R q) j) (Some w) (lookup (is_at (R q)) es) ≡ cond (is_at (R k) q) (Some w) (cond (is_at (R q) j) (Some y) (lookup (is_at (R q)) es))
+          same : k ≡ j
+              → cond (is_at (R q) j) (Some w) (lookup (is_at (R q)) es) ≡ cond (is_at (R k) q) (Some w) (cond (is_at (R q) j) (Some y) (lookup (is_at (R q)) es))
           same s = two (is_at (R q) j) (is_at (R k) q) (ap (is_at (R q)) (sym s) ∙ (eq_by_cmp_equiv o).symm q k)
             where
-              two : (a b : Bool) → a ≡ b → cond a (Some w) (lookup (is_at (R q)) es) ≡ cond b (Some w) (cond a (Some y) (lookup (is_at (R q)) es))
+              two : (a b : Bool) → a ≡ b
+                  → cond a (Some w) (lookup (is_at (R q)) es) ≡ cond b (Some w) (cond a (Some y) (lookup (is_at (R q)) es))
               two true true e = refl
               two false false e = refl
               two true false e = absurd (cc)
               two false true e = absurd (cc)
       go false h e rest = two (is_at (R q) j) (is_at (R k) q) refl refl
         where
-          two : (a b : Bool) → is_at (R q) j ≡ a → is_at (R k) q ≡ b → cond a (Some y) (lookup (is_at (R q)) (set_value (is_at (R k)) es w)) ≡ cond b (Some w) (cond a (Some y) (lookup (is_at (R q)) es))
-          two true true p r = absurd (false≢true (sym h ∙ ap (is_at (R k)) (sym (exact q j ((Equal-is (R q j)).0 p))) ∙ r))
+          two : (a b : Bool) → is_at (R q) j ≡ a → is_at (R k) q ≡ b
+              → cond a (Some y) (lookup (is_at (R q)) (set_value (is_at (R k)) es w)) ≡ cond b (Some w) (cond a (Some y) (lookup (is_at (R q)) es))
+          two true true p r =
+              absurd (false≢true (sym h ∙ ap (is_at (R k)) (sym (exact q j ((Equal-is (R q j)).0 p))) ∙ r))
           two true false p r = refl
           two false true p r = rest e ∙ ap (λ b. cond b (Some w) (lookup (is_at (R q)) es)) r
           two false false p r = rest e ∙ ap (λ b. cond b (Some w) (lookup (is_at (R q)) es)) r
 
-  pub put_through : (es fs : List (K × X)) (m : map.FinMap R X) (k : K) (x w : X) → map.from_entries es ≡ m → lookup (is_at (R k)) es ≡ Some x → fs ≡ set_value (is_at (R k)) es w → map.from_entries fs ≡ map.insert m k w
-  put_through es fs m k x w e there f = one_put es fs m k w e (λ q. ap (lookup (is_at (R q))) f ∙ written es k x w q there)
+  pub put_through : (es fs : List (K × X)) (m : map.FinMap R X) (k : K) (x w : X) → map.from_entries es ≡ m
+      → lookup (is_at (R k)) es ≡ Some x → fs ≡ set_value (is_at (R k)) es w → map.from_entries fs ≡ map.insert m k w
+  put_through es fs m k x w e there f =
+      one_put es fs m k w e (λ q. ap (lookup (is_at (R q))) f ∙ written es k x w q there)
 
   -- a map of no entry has nothing at any key
-  pub nothing_held : (es : List (K × X)) (m : map.FinMap R X) → map.from_entries es ≡ m → length es ≡ 0 → (q : K) → map.get m q ≡ None
+  pub nothing_held : (es : List (K × X)) (m : map.FinMap R X) → map.from_entries es ≡ m → length es ≡ 0 → (q : K)
+      → map.get m q ≡ None
   nothing_held [] m e none q = ap (λ m. map.get m q) (sym e) ∙ get_entry [] q
   nothing_held (x ∷ es) m e none q = absurd (omega (arith, none))
 
   -- a map of some entry has its key
-  pub something_held : (es : List (K × X)) (m : map.FinMap R X) → map.from_entries es ≡ m → ¬ (length es ≡ 0) → (q : K) × ((x : X) × (map.get m q ≡ Some x))
+  pub something_held : (es : List (K × X)) (m : map.FinMap R X) → map.from_entries es ≡ m → ¬ (length es ≡ 0)
+      → (q : K) × ((x : X) × (map.get m q ≡ Some x))
   something_held [] m e some = absurd (some refl)
-  something_held ((k, x) ∷ es) m e some = (k, (x, sym (get_held ((k, x) ∷ es) m k e) ∙ ap (λ r. cond (is_eq r) (Some x) (lookup (is_at (R k)) es)) (tied_itself o k)))
+  something_held ((k, x) ∷ es) m e some =
+      (k, (x, sym (get_held ((k, x) ∷ es) m k e) ∙ ap (λ r. cond (is_eq r) (Some x) (lookup (is_at (R k)) es)) (tied_itself o k)))
 
-  front_put : (k : K) (x : X) (es : List (K × X)) → AllByRecursion (λ y. R k y ≡ Less) (keys_of es) → put R k x es ≡ (k, x) ∷ es
+  front_put : (k : K) (x : X) (es : List (K × X)) → AllByRecursion (λ y. R k y ≡ Less) (keys_of es)
+      → put R k x es ≡ (k, x) ∷ es
   front_put k x [] all = refl
   front_put k x (e ∷ es) all = ap (λ r. by_order r ((k, x) ∷ e ∷ es) ((e.0, x) ∷ es) (e ∷ put R k x es)) all.0
 
@@ -118,5 +130,6 @@ module _ {K X : Type 0} {R : K → K → Ordering} (o : IsTotalOrder R) (exact :
   in_order ((k, x) ∷ es) up =
       entries-insert o (map.from_entries es) k x ∙ ap (put R k x) (in_order es (sorted_tail R k (keys_of es) up)) ∙ front_put k x es (sorted_head R k (keys_of es) up)
 
-  pub entries_held : (es : List (K × X)) (m : map.FinMap R X) → map.from_entries es ≡ m → IsStrictlySortedBy R (keys_of es) → es ≡ map.entries m
+  pub entries_held : (es : List (K × X)) (m : map.FinMap R X) → map.from_entries es ≡ m
+      → IsStrictlySortedBy R (keys_of es) → es ≡ map.entries m
   entries_held es m e up = sym (in_order es up) ∙ ap (map.entries) e

@@ -25,7 +25,8 @@ pub fn first_unsafe<H: Has>(
     process: LabelsRef<'_>,
     endpoints: &Endpoints,
 ) -> Option<Offender>
-    ensures found { let P = CrossesAt (sets_of process.entry) endpoints.now in let Q = DualAt (H.effective has.old) in
+    ensures found { let P = CrossesAt (sets_of process.entry) endpoints.now in
+        let Q = DualAt (H.effective has.old) in
         Judges offender_cmp (Within P Q) P Q result }
     ensures same { H.keeps has.old has.new }
 {

@@ -11,17 +11,20 @@ use Rattle.fl_labels.specs.Found.{Found, FoundAs, Within, IsLeastOutside}
 use Rattle.fl_labels.specs.parts.First.{IsFirst}
 use Rattle.fl_labels.proofs.Searches.{found_as, searched_set}
 use Rattle.fl_rules.specs.Safety.{SafeEmission}
-use Rattle.fl_labels.specs.Caps.{Dual}
+use Rattle.fl_labels.specs.Caps.{Caps, Dual}
 
-pub dual_same : {E F : Cap → Type 0} → ((cap : Cap) → E cap ↔ F cap) → (tag : Name) → Dual E tag ↔ Dual F tag
-dual_same same tag = (λ d. ((same (Plus tag)).0 d.0, (same (Minus tag)).0 d.1), λ d. ((same (Plus tag)).1 d.0, (same (Minus tag)).1 d.1))
+pub dual_same : {E F : Caps} → ((cap : Cap) → E cap ↔ F cap) → (tag : Name) → Dual E tag ↔ Dual F tag
+dual_same same tag =
+    (λ d. ((same (Plus tag)).0 d.0, (same (Minus tag)).0 d.1), λ d. ((same (Plus tag)).1 d.0, (same (Minus tag)).1 d.1))
 
 -- what a search finds, said of each of its answers
-pub tag_match : (P Q : Name → Type 0) (r : Option Name) → FoundAs name_cmp P Q r → MatchOption r (Within P Q) (IsLeastOutside name_cmp P Q)
+pub tag_match : (P Q : Name → Type 0) (r : Option Name) → FoundAs name_cmp P Q r
+    → MatchOption r (Within P Q) (IsLeastOutside name_cmp P Q)
 tag_match P Q None h = h
 tag_match P Q (Some tag) h = h
 
-pub emission_found : (E : Cap → Type 0) (s : SetBy name_cmp) (tags : List Name) (r : Option Name) → tags ≡ members s → IsFirst (λ _. ⊤) (Dual E) tags r
+pub emission_found : (E : Caps) (s : SetBy name_cmp) (tags : List Name) (r : Option Name) → tags ≡ members s
+    → IsFirst (λ _. ⊤) (Dual E) tags r
     → MatchOption r (SafeEmission E s) (IsLeastOutside name_cmp (In s) (Dual E))
 emission_found E s tags r e first =
     let found : Found name_cmp (In s) (Dual E) r = found_as r (λ t h. h.0) (λ t h. (h, tt)) (λ t d. d) (λ t d. d) (searched_set name_total name_exact (λ _. ⊤) (Dual E) s tags r e first) in

@@ -11,14 +11,15 @@ use Rattle.fl_labels.specs.parts.First.{lesser_of}
 use Rattle.fl_labels.proofs.Searches.{found_as, both_found}
 use Rattle.fl_rules.specs.declared.endpoint.Mode.{Mode}
 use Rattle.fl_rules.specs.declared.endpoint.Mode.TheVariants.{Read, Write, Both}
-use Rattle.fl_labels.specs.Caps.{Dual}
+use Rattle.fl_labels.specs.Caps.{Caps, Dual}
 use Rattle.fl_rules.specs.declared.labels.Labels.{Labels}
 use Rattle.fl_rules.specs.Endpoint.{Crosses, SafeEndpoint}
 use Rattle.fl_rules.specs.parts.Walk.{OnlyIn}
 use Rattle.fl_rules.proofs.Duals.{dual_same}
 
 -- what one list of members has alone, its label has alone
-pub missing_found : (D : Name → Type 0) (s t : SetBy name_cmp) (xs ys : List Name) (r : Option Name) → xs ≡ members s → ys ≡ members t → Found name_cmp (OnlyIn xs ys) D r → Found name_cmp (IsMissing s t) D r
+pub missing_found : (D : Name → Type 0) (s t : SetBy name_cmp) (xs ys : List Name) (r : Option Name) → xs ≡ members s
+    → ys ≡ members t → Found name_cmp (OnlyIn xs ys) D r → Found name_cmp (IsMissing s t) D r
 missing_found D s t xs ys r e f found =
     let all : Found name_cmp (OnlyIn (members s) (members t)) D r = subst (λ l. Found name_cmp (OnlyIn (members s) l) D r) f (subst (λ l. Found name_cmp (OnlyIn l ys) D r) e found) in
     found_as r
@@ -27,18 +28,21 @@ missing_found D s t xs ys r e f found =
     (λ x d. d) (λ x d. d) all
 
 -- the lesser of what two searches found, where the second one's effective set is that of the first
-pub either_found : {E F : Cap → Type 0} {P Q : Name → Type 0} (a b c : Option Name) → ((cap : Cap) → F cap ↔ E cap) → c ≡ lesser_of name_cmp a b
+pub either_found : {E F : Caps} {P Q : Name → Type 0} (a b c : Option Name) → ((cap : Cap) → F cap ↔ E cap)
+    → c ≡ lesser_of name_cmp a b
     → Found name_cmp P (Dual E) a → Found name_cmp Q (Dual F) b → Found name_cmp (λ t. P t ⊎ Q t) (Dual E) c
 either_found {E} {F} {P} {Q} a b c same e p q =
     let again : Found name_cmp Q (Dual E) b = found_as b (λ x h. h) (λ x h. h) (λ x d. (dual_same same x).0 d) (λ x d. (dual_same same x).1 d) q in
     subst (Found name_cmp (λ t. P t ⊎ Q t) (Dual E)) (sym e) (both_found name_total name_exact a b p again)
 
-safe_by : (E : Cap → Type 0) (mode : Mode) (process endpoint : Labels) → Within (Crosses mode process endpoint) (Dual E) → SafeEndpoint E mode process endpoint
+safe_by : (E : Caps) (mode : Mode) (process endpoint : Labels) → Within (Crosses mode process endpoint) (Dual E)
+    → SafeEndpoint E mode process endpoint
 safe_by E Read process endpoint all = record { read = λ _. all; write = λ e. absurd (false≢true e) }
 safe_by E Write process endpoint all = record { read = λ e. absurd (false≢true e); write = λ _. all }
 safe_by E Both process endpoint all = record { read = λ _ t h. all t (inl h); write = λ _ t h. all t (inr h) }
 
-pub endpoint_found : (E : Cap → Type 0) (mode : Mode) (process endpoint : Labels) (r : Option Name) → Found name_cmp (Crosses mode process endpoint) (Dual E) r
+pub endpoint_found : (E : Caps) (mode : Mode) (process endpoint : Labels) (r : Option Name)
+    → Found name_cmp (Crosses mode process endpoint) (Dual E) r
     → MatchOption r (SafeEndpoint E mode process endpoint) (IsLeastOutside name_cmp (Crosses mode process endpoint) (Dual E))
 endpoint_found E mode process endpoint None found = safe_by E mode process endpoint found.is
 endpoint_found E mode process endpoint (Some tag) found = found.is

@@ -17,29 +17,37 @@ level Equal e = refl
 level Greater e = e
 
 module _ {old new old_rest new_rest : List Name} (D : Name → Type 0) where
-  passed_as : (x : Name) → Heads (Minus x) (Turns old new) (Turns old_rest new_rest) → D x → (r : Option Name) → FoundAs name_cmp (OnlyIn old_rest new_rest) D r → FoundAs name_cmp (OnlyIn old new) D r
-  passed_as x h d None found = λ t p. elim ((h.parts (Minus t)).0 p) [ inl same ↦ subst D (sym (ap cap_name same)) d | inr q ↦ found t q ]
+  passed_as : (x : Name) → Heads (Minus x) (Turns old new) (Turns old_rest new_rest) → D x → (r : Option Name)
+      → FoundAs name_cmp (OnlyIn old_rest new_rest) D r → FoundAs name_cmp (OnlyIn old new) D r
+  passed_as x h d None found =
+      λ t p. elim ((h.parts (Minus t)).0 p) [ inl same ↦ subst D (sym (ap cap_name same)) d | inr q ↦ found t q ]
   passed_as x h d (Some y) found = record {
     member = (h.parts (Minus y)).1 (inr found.member);
     lacking = found.lacking;
-    least = λ t p n. elim ((h.parts (Minus t)).0 p) [ inl same ↦ absurd (n (subst D (sym (ap cap_name same)) d)) | inr q ↦ found.least t q n ];
+    least =
+        λ t p n. elim ((h.parts (Minus t)).0 p) [ inl same ↦ absurd (n (subst D (sym (ap cap_name same)) d)) | inr q ↦ found.least t q n ];
   }
 
   -- a step that loses no tag
-  none_lost : (cap : Option Cap) → Leads cap (Turns old new) (Turns old_rest new_rest) → ((x : Name) → cap ≡ Some (Minus x) → ⊥) → (t : Name) → OnlyIn old new t ↔ OnlyIn old_rest new_rest t
+  none_lost : (cap : Option Cap) → Leads cap (Turns old new) (Turns old_rest new_rest)
+      → ((x : Name) → cap ≡ Some (Minus x) → ⊥) → (t : Name) → OnlyIn old new t ↔ OnlyIn old_rest new_rest t
   none_lost None leads n t = leads (Minus t)
-  none_lost (Some first) h n t = (λ p. elim ((h.parts (Minus t)).0 p) [ inl same ↦ absurd (n t (ap Some (sym same))) | inr q ↦ q ], λ q. (h.parts (Minus t)).1 (inr q))
+  none_lost (Some first) h n t =
+      (λ p. elim ((h.parts (Minus t)).0 p) [ inl same ↦ absurd (n t (ap Some (sym same))) | inr q ↦ q ], λ q. (h.parts (Minus t)).1 (inr q))
 
   module _ (cap : Option Cap) (leads : Leads cap (Turns old new) (Turns old_rest new_rest)) where
-    pub passed : (x : Name) → cap ≡ Some (Minus x) → D x → (r : Option Name) → Found name_cmp (OnlyIn old_rest new_rest) D r → Found name_cmp (OnlyIn old new) D r
+    pub passed : (x : Name) → cap ≡ Some (Minus x) → D x → (r : Option Name)
+        → Found name_cmp (OnlyIn old_rest new_rest) D r → Found name_cmp (OnlyIn old new) D r
     passed x is d r found = record { is = passed_as x (subst (λ o. Leads o (Turns old new) (Turns old_rest new_rest)) is leads) d r found.is }
 
-    pub skipped : ((x : Name) → cap ≡ Some (Minus x) → ⊥) → (r : Option Name) → Found name_cmp (OnlyIn old_rest new_rest) D r → Found name_cmp (OnlyIn old new) D r
+    pub skipped : ((x : Name) → cap ≡ Some (Minus x) → ⊥) → (r : Option Name)
+        → Found name_cmp (OnlyIn old_rest new_rest) D r → Found name_cmp (OnlyIn old new) D r
     skipped n r found =
         let same = none_lost cap leads n in
         found_as r (λ t q. (same t).1 q) (λ t p. (same t).0 p) (λ t d. d) (λ t d. d) found
 
-pub stopped : {old new : List Name} (old_rest new_rest : List Name) (D : Name → Type 0) (cap : Option Cap) → Leads cap (Turns old new) (Turns old_rest new_rest)
+pub stopped : {old new : List Name} (old_rest new_rest : List Name) (D : Name → Type 0) (cap : Option Cap)
+    → Leads cap (Turns old new) (Turns old_rest new_rest)
     → (x : Name) → cap ≡ Some (Minus x) → ¬ D x → Found name_cmp (OnlyIn old new) D (Some x)
 stopped {old} {new} old_rest new_rest D cap leads x is n =
     let h : Heads (Minus x) (Turns old new) (Turns old_rest new_rest) = subst (λ o. Leads o (Turns old new) (Turns old_rest new_rest)) is leads in
@@ -47,4 +55,5 @@ stopped {old} {new} old_rest new_rest D cap leads x is n =
 
 -- nothing is left
 pub at_end : (D : Name → Type 0) (xs ys : List Name) → xs ≡ [] → Found name_cmp (OnlyIn xs ys) D None
-at_end D xs ys e = subst (λ l. Found name_cmp (OnlyIn l ys) D None) (sym e) (record { is = λ t h. absurd (false≢true h.here) })
+at_end D xs ys e =
+    subst (λ l. Found name_cmp (OnlyIn l ys) D None) (sym e) (record { is = λ t h. absurd (false≢true h.here) })

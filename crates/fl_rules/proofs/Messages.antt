@@ -7,14 +7,15 @@ use Rattle.fl_labels.specs.Name.{name_cmp}
 use Rattle.fl_labels.specs.SetBy.{SetBy, In, IsMissing, contains}
 use Rattle.fl_labels.specs.Found.{Within}
 use Rattle.fl_rules.specs.declared.endpoint.Mode.{Mode}
-use Rattle.fl_labels.specs.Caps.{Dual}
+use Rattle.fl_labels.specs.Caps.{Caps, Dual}
 use Rattle.fl_rules.specs.declared.labels.Labels.{Labels}
 use Rattle.fl_rules.specs.Endpoint.{SafeEndpoint, SafeRead, SafeWrite}
 use Rattle.fl_rules.specs.Pair.{End, SafePair}
 use Rattle.fl_rules.specs.Message.{SafeMessage}
 
 -- the members of s that t lacks are in D
-beside : (D : Name → Type 0) (s t : SetBy name_cmp) → Within (IsMissing s t) D → (tag : Name) → In s tag → In t tag ⊎ D tag
+beside : (D : Name → Type 0) (s t : SetBy name_cmp) → Within (IsMissing s t) D → (tag : Name) → In s tag
+    → In t tag ⊎ D tag
 beside D s t all tag h = go (contains t tag) refl
   where
     go : (b : Bool) → contains t tag ≡ b → In t tag ⊎ D tag
@@ -22,14 +23,16 @@ beside D s t all tag h = go (contains t tag) refl
     go false e = inr (all tag (record { here = h; not_there = e }))
 
 -- what is safe stays safe for who has more in effect
-pub endpoint_more : {E F : Cap → Type 0} {mode : Mode} {process endpoint : Labels} → Within E F → SafeEndpoint E mode process endpoint → SafeEndpoint F mode process endpoint
+pub endpoint_more : {E F : Caps} {mode : Mode} {process endpoint : Labels} → Within E F
+    → SafeEndpoint E mode process endpoint → SafeEndpoint F mode process endpoint
 endpoint_more more safe = record {
   read = λ e tag h. let d = safe.read e tag h in (more (Plus tag) d.0, more (Minus tag) d.1);
   write = λ e tag h. let d = safe.write e tag h in (more (Plus tag) d.0, more (Minus tag) d.1);
 }
 
 -- a message between endpoints of a safe pair
-between : (E F : Cap → Type 0) (p q : Labels) (e f : End) → SafeWrite E p e.labels → SafeRead F q f.labels → SafePair e f → SafeMessage E p F q
+between : (E F : Caps) (p q : Labels) (e f : End) → SafeWrite E p e.labels → SafeRead F q f.labels → SafePair e f
+    → SafeMessage E p F q
 between E F p q e f write read pair = record {
   secrecy = λ tag h n. elim (beside (Dual E) p.secrecy e.labels.secrecy (λ t m. write t (inl m)) tag h) [
     | inl sent ↦ beside (Dual F) f.labels.secrecy q.secrecy (λ t m. read t (inl m)) tag (pair.secrecy tag sent)
@@ -41,7 +44,7 @@ between E F p q e f write read pair = record {
   ];
 }
 
-pub message_safe : {E F more_E more_F : Cap → Type 0} {p q : Labels} {e f : End} → Within E more_E → Within F more_F
+pub message_safe : {E F more_E more_F : Caps} {p q : Labels} {e f : End} → Within E more_E → Within F more_F
     → SafeEndpoint E e.mode p e.labels → SafeEndpoint F f.mode q f.labels → SafePair e f → SafeMessage more_E p more_F q
 message_safe {E} {F} {more_E} {more_F} {p} {q} {e} {f} from_E from_F sender receiver pair =
     between more_E more_F p q e f ((endpoint_more from_E sender).write pair.writable) ((endpoint_more from_F receiver).read pair.readable) pair

@@ -15,6 +15,7 @@ use Rattle.fl_labels.specs.CapOrder.{cap_total}
 use Rattle.fl_labels.specs.NameOrder.{name_total, name_exact}
 use Rattle.fl_labels.specs.SetBy.{SetBy, members, members_rise, contains-members}
 use Rattle.fl_labels.specs.Found.{Found, FoundAs, Within, IsLeastOutside}
+use Rattle.fl_labels.specs.Caps.{Caps}
 use Rattle.fl_rules.specs.Safety.{Takes, SafeChange}
 use Rattle.fl_rules.specs.parts.Walk.{among, OnlyIn, Turns, Heads, Leads, Splits}
 
@@ -42,7 +43,8 @@ itself x = ap is_eq (tied_itself name_total x)
 -- what comes before all of these comes before each
 above : (x t : Name) (tags : List Name) → Before x tags → among t tags ≡ true → name_cmp x t ≡ Less
 above x t [] all h = absurd (false≢true h)
-above x t (y ∷ tags) all h = elim (or_cases _ _ h) [ inl e ↦ ap (name_cmp x) (tied t y e) ∙ all.0 | inr e ↦ above x t tags all.1 e ]
+above x t (y ∷ tags) all h =
+    elim (or_cases _ _ h) [ inl e ↦ ap (name_cmp x) (tied t y e) ∙ all.0 | inr e ↦ above x t tags all.1 e ]
 
 -- and is none of them
 apart : (x t : Name) (tags : List Name) → Before x tags → among t tags ≡ true → eq_by_cmp name_cmp t x ≡ false
@@ -67,7 +69,8 @@ before_all : (x y : Name) (tags : List Name) → name_cmp x y ≡ Less → Befor
 before_all x y [] less all = tt
 before_all x y (z ∷ tags) less all = (name_total.trans x y z less all.0, before_all x y tags less all.1)
 
-pub before : (x y : Name) (tags : List Name) → name_cmp x y ≡ Less → IsStrictlySortedBy name_cmp (y ∷ tags) → Before x (y ∷ tags)
+pub before : (x y : Name) (tags : List Name) → name_cmp x y ≡ Less → IsStrictlySortedBy name_cmp (y ∷ tags)
+    → Before x (y ∷ tags)
 before x y tags less up = (less, before_all x y tags less (sorted_head name_cmp y tags up))
 
 less_first : (x t : Name) (o : Ordering) → name_cmp x t ≡ Less → is_gt (ordering_then (name_cmp x t) o) ≡ false
@@ -80,7 +83,8 @@ module _ (x : Name) (old new : List Name) (rises : IsStrictlySortedBy name_cmp (
 
   lost_to : (cap : Cap) → Turns (x ∷ old) new cap → (cap ≡ Minus x) ⊎ Turns old new cap
   lost_to (Plus t) h = inr (record { here = h.here; not_there = (or_false _ _ h.not_there).1 })
-  lost_to (Minus t) h = elim (or_cases _ _ h.here) [ inl e ↦ inl (ap Minus (tied t x e)) | inr e ↦ inr (record { here = e; not_there = h.not_there }) ]
+  lost_to (Minus t) h =
+      elim (or_cases _ _ h.here) [ inl e ↦ inl (ap Minus (tied t x e)) | inr e ↦ inr (record { here = e; not_there = h.not_there }) ]
   lost_to (Use g) h = absurd h
   lost_to (Grow g) h = absurd h
 
@@ -118,7 +122,8 @@ module _ (x : Name) (old new : List Name) (rises : IsStrictlySortedBy name_cmp (
   gained_here = record { here = subst (λ b. (b || among x new) ≡ true) (sym (itself x)) refl; not_there = none_of x old first }
 
   gained_to : (cap : Cap) → Turns old (x ∷ new) cap → (cap ≡ Plus x) ⊎ Turns old new cap
-  gained_to (Plus t) h = elim (or_cases _ _ h.here) [ inl e ↦ inl (ap Plus (tied t x e)) | inr e ↦ inr (record { here = e; not_there = h.not_there }) ]
+  gained_to (Plus t) h =
+      elim (or_cases _ _ h.here) [ inl e ↦ inl (ap Plus (tied t x e)) | inr e ↦ inr (record { here = e; not_there = h.not_there }) ]
   gained_to (Minus t) h = inr (record { here = h.here; not_there = (or_false _ _ h.not_there).1 })
   gained_to (Use g) h = absurd h
   gained_to (Grow g) h = absurd h
@@ -158,7 +163,8 @@ module _ (x : Name) (old new : List Name) (old_rises : IsStrictlySortedBy name_c
       let parts = or_false (eq_by_cmp name_cmp t x) (among t others) h.not_there in
       record { here = elim (or_cases _ _ h.here) [ inl e ↦ absurd (false≢true (sym parts.0 ∙ e)) | inr e ↦ e ]; not_there = parts.1 }
 
-  only_more : (these others : List Name) (t : Name) → Before x these → OnlyIn these others t → OnlyIn (x ∷ these) (x ∷ others) t
+  only_more : (these others : List Name) (t : Name) → Before x these → OnlyIn these others t
+      → OnlyIn (x ∷ these) (x ∷ others) t
   only_more these others t first h = record { here = or_true _ _ h.here; not_there = both_false _ _ (apart x t these first h.here) h.not_there }
 
   both_to : (cap : Cap) → Turns (x ∷ old) (x ∷ new) cap → Turns old new cap
@@ -187,10 +193,12 @@ empty (x ∷ tags) e = absurd (omega (arith, e))
 
 module _ (x : Name) (xs ys rest : List Name) (e : xs ≡ x ∷ rest) (f : length ys ≡ 0) (up : IsStrictlySortedBy name_cmp xs) (vp : IsStrictlySortedBy name_cmp ys) where
   pub lost_alone : Splits xs ys (Some (Minus x)) rest ys
-  lost_alone = subst (λ l. Splits l ys (Some (Minus x)) rest ys) (sym e) (splits_lost x rest ys (subst (IsStrictlySortedBy name_cmp) e up) (subst (Before x) (sym (empty ys f)) tt) vp)
+  lost_alone =
+      subst (λ l. Splits l ys (Some (Minus x)) rest ys) (sym e) (splits_lost x rest ys (subst (IsStrictlySortedBy name_cmp) e up) (subst (Before x) (sym (empty ys f)) tt) vp)
 
   pub gained_alone : Splits ys xs (Some (Plus x)) ys rest
-  gained_alone = subst (λ l. Splits ys l (Some (Plus x)) ys rest) (sym e) (splits_gained x ys rest (subst (IsStrictlySortedBy name_cmp) e up) (subst (Before x) (sym (empty ys f)) tt) vp)
+  gained_alone =
+      subst (λ l. Splits ys l (Some (Plus x)) ys rest) (sym e) (splits_gained x ys rest (subst (IsStrictlySortedBy name_cmp) e up) (subst (Before x) (sym (empty ys f)) tt) vp)
 
 module _ (x y : Name) (xs ys others rest : List Name) (e : xs ≡ x ∷ others) (f : ys ≡ y ∷ rest) (up : IsStrictlySortedBy name_cmp xs) (vp : IsStrictlySortedBy name_cmp ys) where
   pub lost_first : name_cmp x y ≡ Less → Splits xs ys (Some (Minus x)) others ys
@@ -208,14 +216,15 @@ module _ (x y : Name) (xs ys others rest : List Name) (e : xs ≡ x ∷ others) 
       (splits_both x others rest (subst (IsStrictlySortedBy name_cmp) e up) (subst (IsStrictlySortedBy name_cmp) (f ∙ same) vp)))
 
 -- the least that P wants, from the least that Q wants
-module _ {P Q : Cap → Type 0} (E : Cap → Type 0) where
+module _ {P Q : Caps} (E : Caps) where
   module _ (first : Cap) (h : Heads first P Q) where
     passed_as : E first → (r : Option Cap) → FoundAs cap_cmp Q E r → FoundAs cap_cmp P E r
     passed_as e None found = λ cap p. elim ((h.parts cap).0 p) [ inl same ↦ subst E (sym same) e | inr q ↦ found cap q ]
     passed_as e (Some k) found = record {
       member = (h.parts k).1 (inr found.member);
       lacking = found.lacking;
-      least = λ cap p n. elim ((h.parts cap).0 p) [ inl same ↦ absurd (n (subst E (sym same) e)) | inr q ↦ found.least cap q n ];
+      least =
+          λ cap p n. elim ((h.parts cap).0 p) [ inl same ↦ absurd (n (subst E (sym same) e)) | inr q ↦ found.least cap q n ];
     }
 
   same_as : ((cap : Cap) → P cap ↔ Q cap) → (r : Option Cap) → FoundAs cap_cmp Q E r → FoundAs cap_cmp P E r
@@ -227,20 +236,23 @@ module _ {P Q : Cap → Type 0} (E : Cap → Type 0) where
   }
 
   module _ (cap : Option Cap) (leads : Leads cap P Q) where
-    pub passed : (first : Cap) → cap ≡ Some first → E first → (r : Option Cap) → Found cap_cmp Q E r → Found cap_cmp P E r
+    pub passed : (first : Cap) → cap ≡ Some first → E first → (r : Option Cap) → Found cap_cmp Q E r
+        → Found cap_cmp P E r
     passed first is e r found = record { is = passed_as first (subst (λ o. Leads o P Q) is leads) e r found.is }
 
     pub skipped : cap ≡ None → (r : Option Cap) → Found cap_cmp Q E r → Found cap_cmp P E r
     skipped is r found = record { is = same_as (subst (λ o. Leads o P Q) is leads) r found.is }
 
-pub stopped : (E P Q : Cap → Type 0) (cap : Option Cap) → Leads cap P Q → (first : Cap) → cap ≡ Some first → ¬ E first → Found cap_cmp P E (Some first)
+pub stopped : (E P Q : Caps) (cap : Option Cap) → Leads cap P Q → (first : Cap) → cap ≡ Some first → ¬ E first
+    → Found cap_cmp P E (Some first)
 stopped E P Q cap leads first is n =
     let heads : Heads first P Q = subst (λ o. Leads o P Q) is leads in
     record { is = record { member = heads.member; lacking = n; least = λ cap p _. heads.least cap p } }
 
 -- nothing is left
-pub at_end : (E : Cap → Type 0) (xs ys : List Name) → xs ≡ [] → ys ≡ [] → Found cap_cmp (Turns xs ys) E None
-at_end E xs ys e f = subst (λ l. Found cap_cmp (Turns l ys) E None) (sym e) (subst (λ l. Found cap_cmp (Turns [] l) E None) (sym f) (record { is = nothing }))
+pub at_end : (E : Caps) (xs ys : List Name) → xs ≡ [] → ys ≡ [] → Found cap_cmp (Turns xs ys) E None
+at_end E xs ys e f =
+    subst (λ l. Found cap_cmp (Turns l ys) E None) (sym e) (subst (λ l. Found cap_cmp (Turns [] l) E None) (sym f) (record { is = nothing }))
   where
     nothing : (cap : Cap) → Turns [] [] cap → E cap
     nothing (Plus t) h = absurd (false≢true h.here)
@@ -250,17 +262,21 @@ at_end E xs ys e f = subst (λ l. Found cap_cmp (Turns l ys) E None) (sym e) (su
 
 -- what labels take, their lists of members take
 takes_turns : (old new : SetBy name_cmp) (cap : Cap) → Takes old new cap ↔ Turns (members old) (members new) cap
-takes_turns old new (Plus t) = (λ h. record { here = sym (contains-members new t) ∙ h.here; not_there = sym (contains-members old t) ∙ h.not_there }, λ h. record { here = contains-members new t ∙ h.here; not_there = contains-members old t ∙ h.not_there })
-takes_turns old new (Minus t) = (λ h. record { here = sym (contains-members old t) ∙ h.here; not_there = sym (contains-members new t) ∙ h.not_there }, λ h. record { here = contains-members old t ∙ h.here; not_there = contains-members new t ∙ h.not_there })
+takes_turns old new (Plus t) =
+    (λ h. record { here = sym (contains-members new t) ∙ h.here; not_there = sym (contains-members old t) ∙ h.not_there }, λ h. record { here = contains-members new t ∙ h.here; not_there = contains-members old t ∙ h.not_there })
+takes_turns old new (Minus t) =
+    (λ h. record { here = sym (contains-members old t) ∙ h.here; not_there = sym (contains-members new t) ∙ h.not_there }, λ h. record { here = contains-members old t ∙ h.here; not_there = contains-members new t ∙ h.not_there })
 takes_turns old new (Use g) = (λ h. h, λ h. h)
 takes_turns old new (Grow g) = (λ h. h, λ h. h)
 
 -- what a search finds, said of each of its answers
-found_match : (P E : Cap → Type 0) (r : Option Cap) → FoundAs cap_cmp P E r → MatchOption r (Within P E) (IsLeastOutside cap_cmp P E)
+found_match : (P E : Caps) (r : Option Cap) → FoundAs cap_cmp P E r
+    → MatchOption r (Within P E) (IsLeastOutside cap_cmp P E)
 found_match P E None h = h
 found_match P E (Some cap) h = h
 
-pub members_take : (E : Cap → Type 0) (old new : SetBy name_cmp) (xs ys : List Name) (r : Option Cap) → xs ≡ members old → ys ≡ members new → Found cap_cmp (Turns xs ys) E r
+pub members_take : (E : Caps) (old new : SetBy name_cmp) (xs ys : List Name) (r : Option Cap) → xs ≡ members old
+    → ys ≡ members new → Found cap_cmp (Turns xs ys) E r
     → MatchOption r (SafeChange E old new) (IsLeastOutside cap_cmp (Takes old new) E)
 members_take E old new xs ys r e f found =
     let all : Found cap_cmp (Turns (members old) (members new)) E r = subst (λ l. Found cap_cmp (Turns (members old) l) E r) f (subst (λ l. Found cap_cmp (Turns l ys) E r) e found) in

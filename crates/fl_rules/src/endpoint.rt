@@ -110,7 +110,8 @@ pub fn safe_endpoint<H: Has>(
     process: LabelsRef<'_>,
     endpoint: LabelsRef<'_>,
 ) -> Option<Name>
-    ensures found { let E = H.effective has.old in let p = sets_of process.entry in let e = sets_of endpoint.entry in
+    ensures found { let E = H.effective has.old in
+        let p = sets_of process.entry in let e = sets_of endpoint.entry in
         Judges name_cmp (SafeEndpoint E mode p e) (Crosses mode p e) (Dual E) result }
     ensures same { H.keeps has.old has.new }
 {

@@ -8,9 +8,10 @@ use Rattle.fl_labels.specs.Name.{name_cmp}
 use Rattle.fl_labels.specs.declared.name.Name.{Name}
 use Rattle.fl_labels.specs.declared.cap.Cap.{Cap}
 use Rattle.fl_labels.specs.declared.cap.Cap.TheVariants.{Plus, Minus, Use, Grow}
+use Rattle.fl_labels.specs.Caps.{Caps}
 use Rattle.fl_ops.specs.declared.op.Op.{Op}
 use Rattle.fl_ops.specs.OpOrder.{op_cmp}
-use Rattle.fl_ops.specs.Registry.{Puts}
+use Rattle.fl_ops.specs.Registry.{Registry, Puts}
 use Rattle.fl_closure.specs.declared.rows.Rows.{Rows}
 
 abbrev pub or_empty : Option (SetBy cap_cmp) → SetBy cap_cmp
@@ -34,7 +35,7 @@ pub record PutsInto (old : Rows) (group : Name) (c : Cap) (new : Rows) : Type 0 
   pub others : (other : Name) → other ≢ group → row_of new other ≡ row_of old other
 
 -- some operation puts c into the group
-abbrev pub IsPut : (Op → Type 0) → Name → Cap → Type 0
+abbrev pub IsPut : Registry → Name → Caps
 IsPut U group c = (op : Op) × U op × Puts op.body group c
 
 -- each row has what the operations put into its group

@@ -20,7 +20,8 @@ loop-endpoint-preserved g c =
     let split = rest_more deref_pair _ _ _ (c.in-Some.endpoint, c.in-Some.opened) c.in-Some.is c.next.ensures.steps in
     record {
       same = g.met.H.Has.keeps_on _ _ _ c.loop-endpoint.invariant.same c.safe_endpoint.ensures.same;
-      first = λ r h. c.loop-endpoint.invariant.first r (passed_safe _ (sets_of c.args.process) alike _ _ _ c.in-Some.opened.now _ split c.lend.ensures c.in_default.ensures.found r h);
+      first =
+          λ r h. c.loop-endpoint.invariant.first r (passed_safe _ (sets_of c.args.process) alike _ _ _ c.in-Some.opened.now _ split c.lend.ensures c.in_default.ensures.found r h);
     }
 
 pub returns-clause-found : goal.returns-clause-found

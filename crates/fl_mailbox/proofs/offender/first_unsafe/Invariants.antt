@@ -12,5 +12,6 @@ invariant-loop-endpoint g l =
     let process = sets_of l.fn.process in
     record {
       same : g.H.Has.keeps l.fn.has l.has;
-      first : (r : Option Offender) → FirstOf E process l.endpoint-iterator r → FirstOf E process (map.entries l.fn.endpoints) r;
+      first : (r : Option Offender) → FirstOf E process l.endpoint-iterator r
+          → FirstOf E process (map.entries l.fn.endpoints) r;
     }

@@ -17,7 +17,8 @@ loop-step-preserved g c =
             same = rw w.has-is (g.met.H.Has.keeps_on _ _ _ c.loop-step.invariant.same w.has.ensures.same);
             old_rises = c.in-Some.ensures.old_rises;
             new_rises = c.in-Some.ensures.new_rises;
-            rest = λ r h. c.loop-step.invariant.rest r (passed E _ c.in-Some.ensures.leads _ w.in-Some-cap.is (alike.0 (w.has.ensures.answer.holds w.if-not-has.false)) r h);
+            rest =
+                λ r h. c.loop-step.invariant.rest r (passed E _ c.in-Some.ensures.leads _ w.in-Some-cap.is (alike.0 (w.has.ensures.answer.holds w.if-not-has.false)) r h);
           }
       | in_default-cap w ↦ record {
         same = rw w.has-is c.loop-step.invariant.same;

@@ -17,8 +17,10 @@ loop-tag-preserved g c =
     let alike = dual_same (g.met.H.Has.keeps_effective _ _ c.loop-tag.invariant.same) _ in
     record {
       same = g.met.H.Has.keeps_on _ _ _ c.loop-tag.invariant.same c.has_both.ensures.same;
-      first = λ r h. c.loop-tag.invariant.first r (passed_by (λ _. ⊤) (Dual (g.H.Has.effective c.args.has.now)) c.args.tags.now c.loop-tag.tag-index c.tag-item.result c.loop-tag-test.true c.tag-item.is (λ _. alike.0 (c.has_both.ensures.answer.holds c.if-not-has_both.false)) r h);
+      first =
+          λ r h. c.loop-tag.invariant.first r (passed_by (λ _. ⊤) (Dual (g.H.Has.effective c.args.has.now)) c.args.tags.now c.loop-tag.tag-index c.tag-item.result c.loop-tag-test.true c.tag-item.is (λ _. alike.0 (c.has_both.ensures.answer.holds c.if-not-has_both.false)) r h);
     }
 
 pub returns-clause-first : goal.returns-clause-first
-returns-clause-first g c = c.loop-tag.invariant.first _ (at_end (λ _. ⊤) (Dual (g.H.Has.effective c.args.has.now)) c.args.tags.now c.loop-tag.tag-index c.loop-tag-test.false)
+returns-clause-first g c =
+    c.loop-tag.invariant.first _ (at_end (λ _. ⊤) (Dual (g.H.Has.effective c.args.has.now)) c.args.tags.now c.loop-tag.tag-index c.loop-tag-test.false)

@@ -29,13 +29,15 @@ loop-step-preserved g c =
             same = rw w.has-is (g.met.H.Has.keeps_on _ _ _ c.loop-step.invariant.same w.has_both.ensures.same);
             old_rises = c.in-Some.ensures.old_rises;
             new_rises = c.in-Some.ensures.new_rises;
-            rest = λ r h. c.loop-step.invariant.rest r (passed D _ c.in-Some.ensures.leads _ w.in-Some-tag_lost.ensures (alike.0 (w.has_both.ensures.answer.holds w.if-not-has_both.false)) r h);
+            rest =
+                λ r h. c.loop-step.invariant.rest r (passed D _ c.in-Some.ensures.leads _ w.in-Some-tag_lost.ensures (alike.0 (w.has_both.ensures.answer.holds w.if-not-has_both.false)) r h);
           }
       | in_default-tag_lost w ↦ record {
         same = rw w.has-is c.loop-step.invariant.same;
         old_rises = c.in-Some.ensures.old_rises;
         new_rises = c.in-Some.ensures.new_rises;
-        rest = λ r h. c.loop-step.invariant.rest r (skipped D _ c.in-Some.ensures.leads w.in_default-tag_lost.ensures r h);
+        rest =
+            λ r h. c.loop-step.invariant.rest r (skipped D _ c.in-Some.ensures.leads w.in_default-tag_lost.ensures r h);
       }
     ]
 

@@ -16,7 +16,8 @@ invariant-loop-step g l =
       same : g.H.Has.keeps l.fn.has l.has;
       old_rises : IsStrictlySortedBy name_cmp l.old;
       new_rises : IsStrictlySortedBy name_cmp l.new;
-      rest : (r : Option Name) → Found name_cmp (OnlyIn l.old l.new) D r → Found name_cmp (IsMissing l.fn.from l.fn.to) D r;
+      rest : (r : Option Name) → Found name_cmp (OnlyIn l.old l.new) D r
+          → Found name_cmp (IsMissing l.fn.from l.fn.to) D r;
     }
 
 abbrev pub decreases-loop-step : goal.decreases-loop-step

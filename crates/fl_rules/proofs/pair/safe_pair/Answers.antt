@@ -6,10 +6,12 @@ pub returns-then-not-writes : goal.returns-then-not-writes
 returns-then-not-writes c = not_writable (sym c.writes.ensures ∙ c.if-not-writes.true)
 
 pub returns-then-not-reads : goal.returns-then-not-reads
-returns-then-not-reads c = not_readable (sym c.writes.ensures ∙ c.if-not-writes.false) (sym c.reads.ensures ∙ c.if-not-reads.true)
+returns-then-not-reads c =
+    not_readable (sym c.writes.ensures ∙ c.if-not-writes.false) (sym c.reads.ensures ∙ c.if-not-reads.true)
 
 pub returns-in-Some : goal.returns-in-Some
-returns-in-Some c = secrecy (sym c.writes.ensures ∙ c.if-not-writes.false) (sym c.reads.ensures ∙ c.if-not-reads.false) c.in-Some.ensures.is
+returns-in-Some c =
+    secrecy (sym c.writes.ensures ∙ c.if-not-writes.false) (sym c.reads.ensures ∙ c.if-not-reads.false) c.in-Some.ensures.is
 
 pub returns-in-Some-first_missing : goal.returns-in-Some-first_missing
 returns-in-Some-first_missing c =

@@ -4,10 +4,12 @@ use Rattle.fl_rules.proofs.walk.split_change.Goals as goal
 use Rattle.fl_rules.proofs.walk.split_change.Goals.{in-Less, in-Equal, in-Greater}
 
 pub returns-in-None-Some : goal.returns-in-None-Some
-returns-in-None-Some c = gained_alone _ _ _ _ c.in-None-Some.ensures'.cases.0 c.in-None-Some.ensures.cases c.requires.to_rises c.requires.from_rises
+returns-in-None-Some c =
+    gained_alone _ _ _ _ c.in-None-Some.ensures'.cases.0 c.in-None-Some.ensures.cases c.requires.to_rises c.requires.from_rises
 
 pub returns-in-Some-None : goal.returns-in-Some-None
-returns-in-Some-None c = lost_alone _ _ _ _ c.in-Some-None.ensures.cases.0 c.in-Some-None.ensures'.cases c.requires.from_rises c.requires.to_rises
+returns-in-Some-None c =
+    lost_alone _ _ _ _ c.in-Some-None.ensures.cases.0 c.in-Some-None.ensures'.cases c.requires.from_rises c.requires.to_rises
 
 pub returns-after-cmp : goal.returns-after-cmp
 returns-after-cmp c =

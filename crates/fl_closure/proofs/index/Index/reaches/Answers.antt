@@ -2,7 +2,8 @@ use Rattle.fl_closure.proofs.Ending.{told_same, told_reach, met_one, if_ok, same
 use Rattle.fl_closure.proofs.index.Index.reaches.Goals as goal
 
 pub returns-then-eq-clause-ok : goal.returns-then-eq-clause-ok
-returns-then-eq-clause-ok c = told_same _ c.args.root c.args.cap (same_cap c.args.root c.args.cap _ c.eq.ensures c.if-eq.true)
+returns-then-eq-clause-ok c =
+    told_same _ c.args.root c.args.cap (same_cap c.args.root c.args.cap _ c.eq.ensures c.if-eq.true)
 
 pub returns-clause-ok : goal.returns-clause-ok
 returns-clause-ok c =

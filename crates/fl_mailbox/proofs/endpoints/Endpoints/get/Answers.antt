@@ -4,4 +4,5 @@ use Rattle.fl_mailbox.proofs.Table.{get_held}
 use Rattle.fl_mailbox.proofs.endpoints.Endpoints.get.Goals as goal
 
 pub returns : goal.returns
-returns c = c.get.ensures.value ∙ get_held endpoint_total endpoint_exact c.self.inside.all.entries c.args.self.now c.args.endpoint c.self.view_is
+returns c =
+    c.get.ensures.value ∙ get_held endpoint_total endpoint_exact c.self.inside.all.entries c.args.self.now c.args.endpoint c.self.view_is

@@ -4,4 +4,5 @@ use Rattle.fl_mailbox.proofs.Table.{entries_held}
 use Rattle.fl_mailbox.proofs.endpoints.Endpoints.iter.Goals as goal
 
 pub returns : goal.returns
-returns c = c.iter.ensures.rest ∙ entries_held endpoint_total endpoint_exact c.self.inside.all.entries c.args.self.now c.self.view_is c.iter.ensures.ordered
+returns c =
+    c.iter.ensures.rest ∙ entries_held endpoint_total endpoint_exact c.self.inside.all.entries c.args.self.now c.self.view_is c.iter.ensures.ordered
