@@ -9,11 +9,4 @@ pub mod Worked
 pub mod Turn
 pub mod Output
 pub mod Served
-pub mod Beginning
-pub mod Moments
-pub mod Living
-pub mod LabelChange
-pub mod Lives
-pub mod Owned
-pub mod Sent
 pub mod parts

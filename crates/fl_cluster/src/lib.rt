@@ -3,7 +3,6 @@
 
 pub mod answers;
 pub mod fault;
-pub mod laws;
 pub mod node;
 pub mod nodes;
 pub mod response;

@@ -1,0 +1,8 @@
+pub mod Beginning
+pub mod Moments
+pub mod Living
+pub mod LabelChange
+pub mod Lives
+pub mod Owned
+pub mod Sent
+pub mod Equal
