@@ -1,4 +1,5 @@
 -- What a process does with its endpoints and messages has one verdict, and one end.
+use Rattle.fl_wire.proofs.OnePacket.{same_data}
 use Rattle.std.proofs.Common.{◌≡◌, ◌∙◌, refl, sym, ap, Some, None}
 use mathlib.Core.HLevel.{Σ_prop_path}
 use Rattle.std.specs.Coded.{×_prop, le_prop}
@@ -81,23 +82,6 @@ pub one_arrival_check : (ch : Mailbox) (d : Data) → OneVerdict (arrival_checks
 one_arrival_check ch d = one_with (map.get ch.endpoints d.to) _ _ (λ opened. one_then (pair_check d opened) (refuse_if (nat_le 256 (length ch.inbox)) InboxFull) (one_pair_check d opened) one_said)
 
 -- ---- effects
-
-same_data : (a b : Data) → a.sender ≡ b.sender → a.from ≡ b.from → a.receiver ≡ b.receiver → a.to ≡ b.to → a.secrecy ≡ b.secrecy → a.integrity ≡ b.integrity → a.message ≡ b.message → a ≡ b
-same_data a b p q r s t u m =
-    let labels : ◌≡◌ {A = (f : SetBy name_cmp × SetBy name_cmp) × (len f.0 ≤ 256 × len f.1 ≤ 256)}
-    ((a.secrecy, a.integrity), (a.secrecy_fits, a.integrity_fits)) ((b.secrecy, b.integrity), (b.secrecy_fits, b.integrity_fits))
-    = Σ_prop_path (λ f. ×_prop le_prop le_prop) (λ i. (t i, u i)) in
-    λ i. record {
-      sender = p i;
-      from = q i;
-      receiver = r i;
-      to = s i;
-      secrecy = (labels i).0.0;
-      integrity = (labels i).0.1;
-      message = m i;
-      secrecy_fits = (labels i).1.0;
-      integrity_fits = (labels i).1.1;
-    }
 
 -- a message becomes one packet
 one_sent : {sender receiver : Pid} {from to : Endpoint} {message : Message} (l m : Labels) (a b : Data) → l ≡ m → IsSent sender from l receiver to message a → IsSent sender from m receiver to message b → a ≡ b
