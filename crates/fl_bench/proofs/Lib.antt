@@ -1,2 +1,4 @@
 pub mod Table
 pub mod Puts
+pub mod Steps
+pub mod Orders

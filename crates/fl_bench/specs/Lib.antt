@@ -10,5 +10,6 @@ pub mod Gifts
 pub mod Orderly
 pub mod Following
 pub mod Births
+pub mod Summary
 pub mod Gains
 pub mod Guarded

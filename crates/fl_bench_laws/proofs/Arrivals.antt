@@ -34,8 +34,8 @@ use Rattle.fl_bench.specs.Guarded.{Guarded, IsGuarded}
 use Rattle.fl_bench.specs.Jobs.{Does, passed}
 use Rattle.fl_bench.specs.declared.process.Process.{Process}
 use Rattle.fl_bench.proofs.Puts.{same_found}
-use Rattle.fl_bench_laws.proofs.Steps.{IsSending}
-use Rattle.fl_bench_laws.proofs.Orders.{sending_at}
+use Rattle.fl_bench.specs.Summary.{IsSending}
+use Rattle.fl_bench.proofs.Orders.{sending_at}
 
 -- ---- open endpoints
 

@@ -16,7 +16,7 @@ use Rattle.fl_bench.specs.Jobs.{Does}
 use Rattle.fl_bench.specs.Births.{IsBirth, GoesOn}
 use Rattle.fl_bench.specs.declared.process.Process.{Process}
 use Rattle.fl_bench.proofs.Puts.{get_put, get_gone, none_some, same_found}
-use Rattle.fl_bench_laws.proofs.Steps.{Keeps, stays, turns, Changes, keeps, bears, loses}
+use Rattle.fl_bench.specs.Summary.{loses, bears, keeps, Changes, turns, stays, Keeps}
 use Rattle.fl_bench_laws.proofs.Changes.{does_changes, settles_keeps}
 
 module _ (V : Op → Type 0) (b : State) where

@@ -16,8 +16,9 @@ use Rattle.fl_bench.specs.Jobs.{Does}
 use Rattle.fl_bench.specs.declared.process.Holding.{Holding}
 use Rattle.fl_bench.specs.declared.process.Holding.TheVariants.{Idle, Ordering}
 use Rattle.fl_bench.specs.declared.process.Process.{Process}
-use Rattle.fl_bench_laws.proofs.Steps.{Keeps, stays, turns, Changes, keeps, IsOrder, Step, refuses, replies, orders, sends, same_labels, does_step}
-use Rattle.fl_bench_laws.proofs.Orders.{finished_at}
+use Rattle.fl_bench.proofs.Steps.{same_labels, does_step}
+use Rattle.fl_bench.specs.Summary.{Summary, sends, orders, replies, refuses, IsOrder, keeps, Changes, turns, stays, Keeps}
+use Rattle.fl_bench.proofs.Orders.{finished_at}
 
 module _ (V : Op → Type 0) where
   -- a process that has its labels still, and holds this
@@ -32,7 +33,7 @@ module _ (V : Op → Type 0) where
     pub finished_keeps : {body : Body} {pid : Pid} → IsOrder V b job body pid after → (op : Op) → Keeps V b (finished after pid op)
     finished_keeps {pid} o op = same_labelled pid o.process (Idle (set.insert_all (owns o.process) (given op))) o.lived (finished_at o op)
 
-  step_changes : {b after : State} {job : Job} {r : Result Outcome Refusal} → Step V b job r after → Changes V b job after
+  step_changes : {b after : State} {job : Job} {r : Result Outcome Refusal} → Summary V b job r after → Changes V b job after
   step_changes refuses = keeps (stays refl)
   step_changes (replies h) = h
   step_changes (orders o) = keeps (order_keeps o)

@@ -23,8 +23,9 @@ use Rattle.fl_bench.specs.Orderly.{IsOrderly}
 use Rattle.fl_bench.specs.Following.{Follows}
 use Rattle.fl_bench.specs.declared.process.Process.{Process}
 use Rattle.fl_bench.proofs.Puts.{get_here, get_put, get_gone}
-use Rattle.fl_bench_laws.proofs.Steps.{Keeps, stays, turns, Changes, keeps, bears, loses, same_labels, passed_by}
-use Rattle.fl_bench_laws.proofs.Orders.{order_at}
+use Rattle.fl_bench.proofs.Steps.{same_labels, passed_by}
+use Rattle.fl_bench.specs.Summary.{loses, bears, keeps, Changes, turns, stays, Keeps}
+use Rattle.fl_bench.proofs.Orders.{order_at}
 use Rattle.fl_bench_laws.proofs.Changes.{does_changes, settles_keeps, finished_keeps}
 
 module _ (V : Op → Type 0) where

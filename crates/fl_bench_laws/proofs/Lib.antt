@@ -1,5 +1,3 @@
-pub mod Orders
-pub mod Steps
 pub mod Changes
 pub mod Orderly
 pub mod Following

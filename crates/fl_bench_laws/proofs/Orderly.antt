@@ -15,7 +15,7 @@ use Rattle.fl_bench.specs.Jobs.{Does}
 use Rattle.fl_bench.specs.Orderly.{IsPlace, IsOrderly}
 use Rattle.fl_bench.specs.declared.process.Process.{Process}
 use Rattle.fl_bench.proofs.Puts.{get_put, left_there, none_some}
-use Rattle.fl_bench_laws.proofs.Steps.{Keeps, stays, turns, Changes, keeps, bears, loses}
+use Rattle.fl_bench.specs.Summary.{loses, bears, keeps, Changes, turns, stays, Keeps}
 use Rattle.fl_bench_laws.proofs.Changes.{does_changes, settles_keeps}
 
 pub opened_orderly : (number boot index stride : ℕ) → 0 < stride → IsOrderly number (opened number boot index stride)

@@ -23,6 +23,7 @@ ghost use Rattle.fl_bench.specs.Orderly.{IsOrderly};
 ghost use Rattle.fl_bench.specs.Births.{IsBirth, GoesOn};
 ghost use Rattle.fl_bench.specs.Gains.{OwnsAt, Gains, GainsAtEnd};
 ghost use Rattle.fl_bench.specs.Guarded.{IsGuarded};
+ghost use Rattle.fl_bench.specs.Summary.{Summary};
 ghost use Rattle.fl_bench.specs.Process.{effective};
 ghost use Rattle.fl_bench.specs.declared.process.Process.{Process};
 
@@ -30,6 +31,13 @@ ghost use Rattle.fl_bench.specs.declared.process.Process.{Process};
 pub fn law_one_step()
     ensures { (ops : List Op) (b c d : State) (job : Job) (r s : Result Outcome Refusal) →
         Does (Listed ops) b job r c → Does (Listed ops) b job s d → r ≢ Err Memory → s ≢ Err Memory → (r ≡ s) × (c ≡ d) }
+{}
+
+/// What comes of any job: it is refused and leaves the bench, orders an operation and marks its process, sends a packet and leaves the
+/// bench, or replies; and then it leaves all, changes one process whose labels follow, bears one, or loses the one that asked to go.
+pub fn law_summary()
+    ensures { (ops : List Op) (b after : State) (job : Job) (result : Result Outcome Refusal) →
+        Does (Listed ops) b job result after → Summary (Listed ops) b job result after }
 {}
 
 /// From its opening on, a bench has processes of its own node alone, with serials below the next one.

@@ -13,7 +13,7 @@ use Rattle.fl_bench.specs.Gifts.{given}
 use Rattle.fl_bench.specs.Jobs.{Does}
 use Rattle.fl_bench.specs.Orderly.{IsOrderly}
 use Rattle.fl_bench_laws.proofs.Orderly.{opened_orderly, does_orderly, settles_orderly}
-use Rattle.fl_bench_laws.proofs.Orders.{sending_leaves}
+use Rattle.fl_bench.proofs.Orders.{sending_leaves}
 use Rattle.fl_script.specs.declared.line.Line.{Line}
 use Rattle.fl_script.specs.declared.reading.Reading.{Reading}
 use Rattle.fl_script.specs.declared.reading.Reading.TheVariants as reading

@@ -29,8 +29,8 @@ use Rattle.fl_bench.specs.Mailbox.{taken, MailDoes}
 use Rattle.fl_bench.specs.Jobs.{Answers as Tells, Performs, Effect, Does, passed}
 use Rattle.fl_bench.specs.Process.{effective}
 use Rattle.fl_bench.specs.declared.process.Process.{Process}
-use Rattle.fl_bench_laws.proofs.Orders.{sending_at}
-use Rattle.fl_bench_laws.proofs.Steps.{IsSending}
+use Rattle.fl_bench.proofs.Orders.{sending_at}
+use Rattle.fl_bench.specs.Summary.{IsSending}
 use Rattle.fl_aliases.specs.Table.{Table}
 use Rattle.fl_script.specs.Grammar.{Spells}
 use Rattle.fl_script.specs.Reading.{IsReading, Says as IsSaid}

@@ -20,7 +20,8 @@ use Rattle.fl_bench.specs.declared.process.Holding.TheVariants.{Idle, Ordering}
 use Rattle.fl_bench.specs.declared.process.Process.{Process}
 use Rattle.fl_bench.proofs.Puts.{get_here, put_twice}
 use Rattle.fl_bench.proofs.Table.{put_same}
-use Rattle.fl_bench_laws.proofs.Steps.{IsOrder, IsSending, Step, refuses, orders, sends, does_step}
+use Rattle.fl_bench.proofs.Steps.{does_step}
+use Rattle.fl_bench.specs.Summary.{Summary, sends, orders, refuses, IsSending, IsOrder}
 
 -- a process whose operation is over, and gave it these
 abbrev pub rested : Process → List Cap → Process
@@ -46,7 +47,7 @@ module _ {V : Op → Type 0} {b : State} {job : Job} where
     pub order_at : Does V b job (Ok (Outcome.Order body pid)) after → IsOrder V b job body pid after
     order_at d = by_step (does_step V b d)
       where
-        by_step : Step V b job (Ok (Outcome.Order body pid)) after → IsOrder V b job body pid after
+        by_step : Summary V b job (Ok (Outcome.Order body pid)) after → IsOrder V b job body pid after
         by_step (orders o) = o
 
     settled_at : (o : IsOrder V b job body pid after) (caps : List Cap) → settles after pid caps ≡ has_at b pid (rested o.process caps)
@@ -63,7 +64,7 @@ module _ {V : Op → Type 0} {b : State} {job : Job} where
         settled_at o [] ∙ ap (has_at b pid) (rested_same o.process o.idle) ∙ ap (λ m. record b { processes = m }) (put_same pid_total pid_exact b.processes pid o.process o.lived)
 
   module _ {packet : Packet} {after : State} where
-    step_sends : Step V b job (Ok (Outcome.Out packet)) after → IsSending V b job packet × (after ≡ b)
+    step_sends : Summary V b job (Ok (Outcome.Out packet)) after → IsSending V b job packet × (after ≡ b)
     step_sends (sends h is) = (h, is)
 
     -- a packet is sent by a process that may
@@ -75,7 +76,7 @@ module _ {V : Op → Type 0} {b : State} {job : Job} where
     sending_leaves d = (step_sends (does_step V b d)).1
 
 -- a refusal leaves the bench as it was
-refused_same : {V : Op → Type 0} {b : State} {job : Job} {refusal : Refusal} {after : State} → Step V b job (Err refusal) after → after ≡ b
+refused_same : {V : Op → Type 0} {b : State} {job : Job} {refusal : Refusal} {after : State} → Summary V b job (Err refusal) after → after ≡ b
 refused_same refuses = refl
 
 pub refusal_leaves : {V : Op → Type 0} {b : State} {job : Job} {refusal : Refusal} {after : State} → Does V b job (Err refusal) after → after ≡ b

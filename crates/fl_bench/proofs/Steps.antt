@@ -44,50 +44,7 @@ use Rattle.fl_bench.specs.Following.{Follows}
 use Rattle.fl_bench.specs.Births.{IsBirth, alone, of}
 use Rattle.fl_bench.specs.declared.process.Process.{Process}
 use Rattle.fl_bench.proofs.Table.{put_same}
-
--- ---- what a step is
-
--- the bench has its processes still, of which one may have changed
-pub data Keeps (V : Op → Type 0) (b after : State) : Type 0 where
-  stays : after ≡ b → Keeps V b after
-  turns : (pid : Pid) (old new : Process) → map.get b.processes pid ≡ Some old → Follows V (Some old) (Some new) → after ≡ has_at b pid new → Keeps V b after
-
--- or has them still and a new one, or the one that asked to go is gone
-pub data Changes (V : Op → Type 0) (b : State) (job : Job) (after : State) : Type 0 where
-  keeps : Keeps V b after → Changes V b job after
-  bears : (pid : Pid) (child : Process) → IsBirth V b job pid child → after ≡ born b pid child → Changes V b job after
-  loses : (pid : Pid) → job ≡ By pid Exit → after ≡ gone b pid → Changes V b job after
-
--- the job is the order of an idle process that stands as pid, and may ask for it
-pub record IsOrder (V : Op → Type 0) (b : State) (job : Job) (body : Body) (pid : Pid) (after : State) : Type 0 where
-  pub process : Process
-  pub lived : map.get b.processes pid ≡ Some process
-  pub idle : is_busy process ≡ false
-  pub order : order.Order
-  pub asked : job ≡ By pid (Order order)
-  pub allowed : order_checks (effective V process) order None
-  pub body_is : body ≡ body_of order
-  pub leaves : after ≡ has_at b pid (ordering process)
-
--- the job sends the packet from an open endpoint that is for writing, with what its process has in effect
-pub record IsSending (V : Op → Type 0) (b : State) (job : Job) (packet : Packet) : Type 0 where
-  pub sent : Data
-  pub packet_is : packet ≡ packets.Data sent
-  pub process : Process
-  pub lived : map.get b.processes sent.sender ≡ Some process
-  pub opened : OpenEndpoint
-  pub is_open : map.get process.mailbox.endpoints sent.from ≡ Some opened
-  pub writable : writes opened.mode ≡ true
-  pub secrecy_is : sent.secrecy ≡ opened.labels.secrecy
-  pub integrity_is : sent.integrity ≡ opened.labels.integrity
-  pub asked : job ≡ By sent.sender (Mail (Send sent.from sent.receiver sent.to sent.message))
-  pub granted : Within (In sent.message.caps) (effective V process)
-
-pub data Step (V : Op → Type 0) (b : State) (job : Job) : Result Outcome Refusal → State → Type 0 where
-  refuses : {f : Refusal} → Step V b job (Err f) b
-  replies : {reply : Reply} {after : State} → Changes V b job after → Step V b job (Ok (Outcome.Reply reply)) after
-  orders : {body : Body} {pid : Pid} {after : State} → IsOrder V b job body pid after → Step V b job (Ok (Outcome.Order body pid)) after
-  sends : {packet : Packet} {after : State} → IsSending V b job packet → after ≡ b → Step V b job (Ok (Outcome.Out packet)) after
+use Rattle.fl_bench.specs.Summary.{Keeps, stays, turns, Changes, keeps, bears, loses, IsOrder, IsSending, Summary, refuses, replies, orders, sends}
 
 -- ---- labels
 
@@ -113,10 +70,10 @@ module _ (V : Op → Type 0) where
   -- ---- the step of each job
 
   module _ (b : State) where
-    replied : {job : Job} {x : Outcome} {reply : Reply} {after : State} → x ≡ Outcome.Reply reply → Changes V b job after → Step V b job (Ok x) after
-    replied {job} {after} e h = subst (λ x. Step V b job (Ok x) after) (sym e) (replies h)
+    replied : {job : Job} {x : Outcome} {reply : Reply} {after : State} → x ≡ Outcome.Reply reply → Changes V b job after → Summary V b job (Ok x) after
+    replied {job} {after} e h = subst (λ x. Summary V b job (Ok x) after) (sym e) (replies h)
 
-    answered : {job : Job} {x : Outcome} {P : Type 0} {after : State} → Answers x P → after ≡ b → Step V b job (Ok x) after
+    answered : {job : Job} {x : Outcome} {P : Type 0} {after : State} → Answers x P → after ≡ b → Summary V b job (Ok x) after
     answered (inl h) e = replied h.0 (keeps (stays e))
     answered (inr h) e = replied h.0 (keeps (stays e))
 
@@ -157,18 +114,18 @@ module _ (V : Op → Type 0) where
           granted = subst (λ (m : Message). Within (In m.caps) (effective V p)) (sym is.message_is) both.1;
         }
 
-    mail_step : (pid : Pid) (p : Process) (work : mailbox.Mail) (x : Outcome) (after : State) → map.get b.processes pid ≡ Some p → mail_checks (effective V p) p.labels p.mailbox work None → Performs V b pid p (Mail work) x after → Step V b (By pid (Mail work)) (Ok x) after
+    mail_step : (pid : Pid) (p : Process) (work : mailbox.Mail) (x : Outcome) (after : State) → map.get b.processes pid ≡ Some p → mail_checks (effective V p) p.labels p.mailbox work None → Performs V b pid p (Mail work) x after → Summary V b (By pid (Mail work)) (Ok x) after
     mail_step pid p (Open mode given) x after e h f = replied f.1.4 (keeps (mailbox_turn pid p f.0 e f.2))
     mail_step pid p (Tune end given) x after e h f = replied f.1.4 (keeps (mailbox_turn pid p f.0 e f.2))
     mail_step pid p (Close end) x after e h f = replied f.1.0 (keeps (mailbox_turn pid p f.0 e f.2))
     mail_step pid p (Send from receiver to message) x after e h f =
-        subst (λ x. Step V b (By pid (Mail (Send from receiver to message))) (Ok x) after) (sym f.1.4)
+        subst (λ x. Summary V b (By pid (Mail (Send from receiver to message))) (Ok x) after) (sym f.1.4)
         (sends (is_sending pid p from to receiver message f.1.0 f.1.2 e f.1.1 h f.1.3) (unchanged pid p f.0 e f.1.5 f.2))
     mail_step pid p Take x after e h f = replied f.1.0 (keeps (mailbox_turn pid p f.0 e f.2))
 
-    act_step : (pid : Pid) (p : Process) (act : Act) (x : Outcome) (after : State) → map.get b.processes pid ≡ Some p → is_busy p ≡ false → checks_of V p act None → Performs V b pid p act x after → Step V b (By pid act) (Ok x) after
+    act_step : (pid : Pid) (p : Process) (act : Act) (x : Outcome) (after : State) → map.get b.processes pid ≡ Some p → is_busy p ≡ false → checks_of V p act None → Performs V b pid p act x after → Summary V b (By pid act) (Ok x) after
     act_step pid p (Order order) x after e idle h f =
-        subst (λ x. Step V b (By pid (Order order)) (Ok x) after) (sym f.0)
+        subst (λ x. Summary V b (By pid (Order order)) (Ok x) after) (sym f.0)
         (orders (record { process = p; lived = e; idle = idle; order = order; asked = refl; allowed = h; body_is = refl; leaves = f.1 }))
     act_step pid p (Relabel side (Ok label)) x after e idle h f = replied f.0 (keeps (turns pid p _ e (set_label p side label h.0) f.1))
     act_step pid p (Relabel side (Err long)) x after e idle h f = absurd f
@@ -191,7 +148,7 @@ module _ (V : Op → Type 0) where
     is_idle true h = absurd (cc)
     is_idle false h = refl
 
-    job_step : (job : Job) (x : Outcome) (after : State) → checks V b job None → Effect V b job x after → Step V b job (Ok x) after
+    job_step : (job : Job) (x : Outcome) (after : State) → checks V b job None → Effect V b job x after → Summary V b job (Ok x) after
     job_step Proc x after h f = replied f.2 (bears f.0 newborn (record { next = f.1; child_is = alone refl }) f.3)
     job_step (By pid act) x after h f =
         let both = passed_by pid act f.0 f.1 h in
@@ -199,7 +156,7 @@ module _ (V : Op → Type 0) where
     job_step (Member root c) x after h f = answered f.0 f.1
     job_step (Arrive d) x after h f = let new = receiving f.0 d in replied f.2 (keeps (turns d.receiver f.0 new f.1 (same_labels f.0 new refl) f.3))
 
-    pub does_step : {job : Job} {r : Result Outcome Refusal} {after : State} → Does V b job r after → Step V b job r after
+    pub does_step : {job : Job} {r : Result Outcome Refusal} {after : State} → Does V b job r after → Summary V b job r after
     does_step {job} {after} (passed {outcome} h f) = job_step job outcome after h f
     does_step (failed h) = refuses
     does_step (no_room t) = refuses
