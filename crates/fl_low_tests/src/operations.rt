@@ -192,13 +192,17 @@ fn logins_are_out_of_range(rt: HostRuntime) {
 }
 
 #[test]
-fn puts_are_out_of_range(rt: HostRuntime) {
+fn names_of_puts_are_out_of_range(rt: HostRuntime) {
+    for (place, byte, fault) in [(0, 2, 0), (1, 0, 1), (1, 5, 1), (3, 0, 2), (7, 0, 2)] {
+        let mut bytes = PUT;
+        bytes[place] = byte;
+        assert_eq!(rt; fault_of(&bytes), Some(fault));
+    }
+}
+
+#[test]
+fn bodies_of_puts_are_out_of_range(rt: HostRuntime) {
     for (place, byte, fault) in [
-        (0, 2, 0),
-        (1, 0, 1),
-        (1, 5, 1),
-        (3, 0, 2),
-        (7, 0, 2),
         (9, 0, 8),
         (13, 0, 8),
         (14, 0, 14),

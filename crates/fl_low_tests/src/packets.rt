@@ -109,7 +109,7 @@ fn the_vector_is_written(rt: HostRuntime) -> Result<(), Fail> {
         },
         to: Endpoint { number: 1 },
         secrecy: Label::from_text(alloc, "{1.1}")?,
-        integrity: Label::new(alloc),
+        integrity: Label::from_text(alloc, "{}")?,
         message,
     };
     let bytes = encode(alloc, &Packet::Data(sent))?;
