@@ -5,9 +5,9 @@ use fl_closure::index::Index;
 use fl_jobs::answer::{Outcome, Refusal, Reply};
 use fl_jobs::job::Job;
 use fl_labels::pid::Pid;
-use fl_labels::text::{read_cap, read_endpoint, read_name, read_number, read_pid};
+use fl_labels::text::{read_name, read_number, read_pid};
 use fl_monitor::bench::Bench;
-use fl_ops::op::{Body, Op, Policy};
+use fl_ops::op::{Body, Op};
 use fl_rules::labels::Labels;
 use fl_script::line::Line;
 use fl_script::reading::{Reading, read_line};
@@ -43,53 +43,46 @@ struct Desk {
 /// From the start on, each of the lines has its answer. A line is a job of the script, or
 ///
 /// - `1 deliver 2`: the second packet that was sent comes to its receiver.
-/// - `learn 1.3 tag read`: what another node made, as the text of a registry shows it.
 /// - `finish 1.3`: what was ordered last is made under this name.
 /// - `cancel p1.1.2`: what the process ordered is not made.
-/// - `packet 2`: from where to where the second packet goes, with its labels.
-/// - `labels p1.1.2`, `endpoint p1.1.2 e1`: the labels of a process, and an endpoint with its mode.
+/// - `packet 2`: from where to where the second packet goes, with its labels and its message.
+/// - `labels p1.1.2`: the labels of a process, or `none` where it does not stand at the bench.
 ///
 /// In a line `{long}` stands for a label of 257 tags.
 pub fn check(rt: &(impl Abort + AllocGlobal), start: &Start, lines: &[Asked]) -> Result<(), Fail> {
-    let mut desk = opened(rt, start)?;
-    desk.check(rt, start.lines)?;
-    desk.check(rt, lines)
-}
-
-fn opened(rt: &(impl Abort + AllocGlobal), start: &Start) -> Result<Desk, Fail> {
     assert!(rt; 1 <= start.first && start.first <= start.stride);
     let alloc = rt.alloc();
-    Ok(Desk {
+    let mut desk = Desk {
         alloc,
         bench: Bench::new(alloc, 1, 1, start.first, start.stride),
         registry: Index::new(alloc),
         ordered: None,
         sent: Vec::new(alloc),
-    })
+    };
+    desk.check(rt, start.lines)?;
+    desk.check(rt, lines)
 }
 
 impl Desk {
     fn check(&mut self, rt: &(impl Abort + AllocGlobal), lines: &[Asked]) -> Result<(), Fail> {
         for (line, answer) in lines {
             let said = self.answer(line)?;
-            assert_eq!(rt; said.as_str(), *answer, "{line}");
+            assert_eq!(rt; said.as_slice(), answer.as_bytes(), "{line}");
         }
         Ok(())
     }
 
-    fn answer(&mut self, line: &str) -> Result<String, Fail> {
+    fn answer(&mut self, line: &str) -> Result<Vec<u8>, Fail> {
         match line.split_once(' ') {
-            Some(("learn", words)) => self.learn(words),
             Some(("finish", name)) => self.finish(name),
             Some(("cancel", pid)) => self.cancel(pid),
             Some(("packet", number)) => self.packet(number),
             Some(("labels", pid)) => self.labels(pid),
-            Some(("endpoint", words)) => self.endpoint(words),
             _ => self.work(line),
         }
     }
 
-    fn work(&mut self, line: &str) -> Result<String, Fail> {
+    fn work(&mut self, line: &str) -> Result<Vec<u8>, Fail> {
         let job = self.job(line)?;
         match self.bench.job(self.alloc, &mut self.registry, job) {
             Ok(outcome) => self.follow(outcome),
@@ -109,19 +102,23 @@ impl Desk {
     fn job_of(&self, line: Line) -> Result<Job, Fail> {
         match line {
             Line::Job { job, .. } => Ok(job),
-            Line::Deliver { packet, .. } => Ok(Job::Arrive(self.data(packet)?.copy(self.alloc)?)),
+            Line::Deliver { packet, .. } => self.arrival(packet),
             _ => Err(Fail::from("no job")),
         }
     }
 
+    fn arrival(&self, packet: u32) -> Result<Job, Fail> {
+        let data = self.data(packet).ok_or("no packet")?;
+        Ok(Job::Arrive(data.copy(self.alloc)?))
+    }
+
     /// The packet that was sent as the one of this number.
-    fn data(&self, number: u32) -> Result<&Data, Fail> {
-        let place = number.checked_sub(1).ok_or("no packet")?;
-        Ok(self.sent.get(place as usize).ok_or("no packet")?)
+    fn data(&self, number: u32) -> Option<&Data> {
+        self.sent.get((number as usize).checked_sub(1)?)
     }
 
     /// What is said of what comes of a job.
-    fn follow(&mut self, outcome: Outcome) -> Result<String, Fail> {
+    fn follow(&mut self, outcome: Outcome) -> Result<Vec<u8>, Fail> {
         match outcome {
             Outcome::Reply(reply) => reply_text(self.alloc, &reply),
             Outcome::Order(body, pid) => {
@@ -130,79 +127,62 @@ impl Desk {
             }
             Outcome::Out(Packet::Data(data)) => {
                 self.sent.push(data)?;
-                Ok(format!(in self.alloc; "sent {}", self.sent.len())?)
+                Ok(format!(in self.alloc; "sent {}", self.sent.len())?.into_bytes())
             }
         }
     }
 
-    fn learn(&mut self, words: &str) -> Result<String, Fail> {
-        let (name, body) = words.split_once(' ').ok_or("no words")?;
-        let name = read_name(name).ok_or("no name")?;
-        let body = body_from_text(body).ok_or("no body")?;
-        self.registry.absorb(&Op { name, body })?;
-        Ok(String::new(self.alloc))
-    }
-
-    fn finish(&mut self, name: &str) -> Result<String, Fail> {
+    fn finish(&mut self, name: &str) -> Result<Vec<u8>, Fail> {
         let (body, pid) = self.ordered.ok_or("no order")?;
         let name = read_name(name).ok_or("no name")?;
         let op = Op { name, body };
         self.registry.absorb(&op)?;
         self.bench.finish(pid, &op);
-        Ok(String::new(self.alloc))
+        Ok(Vec::new(self.alloc))
     }
 
-    fn cancel(&mut self, pid: &str) -> Result<String, Fail> {
+    fn cancel(&mut self, pid: &str) -> Result<Vec<u8>, Fail> {
         self.bench.cancel(read_pid(pid).ok_or("no pid")?);
-        Ok(String::new(self.alloc))
+        Ok(Vec::new(self.alloc))
     }
 
-    fn packet(&self, number: &str) -> Result<String, Fail> {
+    fn packet(&self, number: &str) -> Result<Vec<u8>, Fail> {
         let number = read_number(number).ok_or("no number")?;
-        let data = self.data(number)?;
-        Ok(format!(in self.alloc;
-            "{} {} {} {} {} {} {} {}",
-            data.sender, data.from, data.receiver, data.to, data.secrecy, data.integrity, data.message.caps,
-            hex_text(self.alloc, data.message.payload.as_slice())?
-        )?)
+        let data = self.data(number).ok_or("no packet")?;
+        packet_text(self.alloc, data)
     }
 
-    fn labels(&self, pid: &str) -> Result<String, Fail> {
+    fn labels(&self, pid: &str) -> Result<Vec<u8>, Fail> {
         match self.bench.process(read_pid(pid).ok_or("no pid")?) {
             Some(process) => labels_text(self.alloc, &process.labels),
-            None => Ok(format!(in self.alloc; "none")?),
+            None => Ok(format!(in self.alloc; "none")?.into_bytes()),
         }
-    }
-
-    fn endpoint(&self, words: &str) -> Result<String, Fail> {
-        let (pid, endpoint) = words.split_once(' ').ok_or("no words")?;
-        let pid = read_pid(pid).ok_or("no pid")?;
-        let endpoint = read_endpoint(endpoint).ok_or("no endpoint")?;
-        let process = self.bench.process(pid).ok_or("no process")?;
-        let opened = process.mailbox.endpoints.get(endpoint).ok_or("not open")?;
-        let labels = labels_text(self.alloc, &opened.labels)?;
-        Ok(format!(in self.alloc; "{:?} {labels}", opened.mode)?)
     }
 }
 
-fn labels_text(alloc: Global, labels: &Labels) -> Result<String, Fail> {
-    Ok(format!(in alloc; "{} {}", labels.secrecy, labels.integrity)?)
+fn labels_text(alloc: Global, labels: &Labels) -> Result<Vec<u8>, Fail> {
+    Ok(format!(in alloc; "{} {}", labels.secrecy, labels.integrity)?.into_bytes())
 }
 
 /// The line with a label of 257 tags in the place of `{long}`.
 fn with_long_label(alloc: Global, line: &str) -> Result<String, Fail> {
-    let Some((front, back)) = line.split_once("{long}") else {
-        return Ok(format!(in alloc; "{line}")?);
-    };
-    let mut long = format!(in alloc; "{front}{{1.1")?;
-    for seq in 2..=257u32 {
-        long.push_str(&format!(in alloc; ",1.{seq}")?)?;
+    match line.split_once("{long}") {
+        Some((front, back)) => Ok(format!(in alloc; "{front}{}{back}", long_label(alloc)?)?),
+        None => Ok(format!(in alloc; "{line}")?),
     }
-    Ok(format!(in alloc; "{long}}}{back}")?)
 }
 
-fn order_text(alloc: Global, body: &Body, pid: Pid) -> Result<String, Fail> {
-    Ok(match body {
+fn long_label(alloc: Global) -> Result<String, Fail> {
+    let mut text = format!(in alloc; "{{1.1")?;
+    for seq in 2..=257u32 {
+        text.push_str(&format!(in alloc; ",1.{seq}")?)?;
+    }
+    text.push_str("}")?;
+    Ok(text)
+}
+
+fn order_text(alloc: Global, body: &Body, pid: Pid) -> Result<Vec<u8>, Fail> {
+    let text = match body {
         Body::MakeTag(policy) => format!(in alloc; "tag {} for {pid}", policy.text())?,
         Body::MakeGroup => format!(in alloc; "group for {pid}")?,
         Body::Put(group, cap) => format!(in alloc; "put {group} {cap} for {pid}")?,
@@ -210,20 +190,21 @@ fn order_text(alloc: Global, body: &Body, pid: Pid) -> Result<String, Fail> {
             let digest = hex_text(alloc, digest.bytes.as_slice())?;
             format!(in alloc; "login {cap} {digest} for {pid}")?
         }
-    })
+    };
+    Ok(text.into_bytes())
 }
 
-/// The body of an operation, where the text of a registry shows it so. Logins are left out.
-fn body_from_text(text: &str) -> Option<Body> {
-    match text.split_once(' ') {
-        Some(("tag", "export")) => Some(Body::MakeTag(Policy::Export)),
-        Some(("tag", "read")) => Some(Body::MakeTag(Policy::Read)),
-        Some(("put", words)) => {
-            let (group, cap) = words.split_once(' ')?;
-            Some(Body::Put(read_name(group)?, read_cap(cap)?))
-        }
-        _ => None,
-    }
+fn packet_text(alloc: Global, data: &Data) -> Result<Vec<u8>, Fail> {
+    let ends = format!(in alloc;
+        "{} {} {} {}",
+        data.sender, data.from, data.receiver, data.to
+    )?;
+    let bytes = hex_text(alloc, data.message.payload.as_slice())?;
+    let text = format!(in alloc;
+        "{ends} {} {} {} {bytes}",
+        data.secrecy, data.integrity, data.message.caps
+    )?;
+    Ok(text.into_bytes())
 }
 
 fn hex_text(alloc: Global, bytes: &[u8]) -> Result<String, Fail> {
@@ -234,23 +215,20 @@ fn hex_text(alloc: Global, bytes: &[u8]) -> Result<String, Fail> {
     Ok(text)
 }
 
-fn reply_text(alloc: Global, reply: &Reply) -> Result<String, Fail> {
+fn reply_text(alloc: Global, reply: &Reply) -> Result<Vec<u8>, Fail> {
     let mut sink = Sink::new(alloc);
     let mut output = Vec::new(alloc);
     write_reply(reply, &mut sink, &mut output)?;
     sink.finish(&mut output)?;
-    line_text(alloc, &output)
+    output.pop();
+    Ok(output)
 }
 
-fn refusal_text(alloc: Global, refusal: Refusal) -> Result<String, Fail> {
+fn refusal_text(alloc: Global, refusal: Refusal) -> Result<Vec<u8>, Fail> {
     let mut sink = Sink::new(alloc);
     let mut output = Vec::new(alloc);
     write_refusal(refusal, &mut sink, &mut output)?;
     sink.finish(&mut output)?;
-    line_text(alloc, &output)
-}
-
-fn line_text(alloc: Global, bytes: &[u8]) -> Result<String, Fail> {
-    let text = str::from_utf8(bytes)?;
-    Ok(format!(in alloc; "{}", text.trim_end())?)
+    output.pop();
+    Ok(output)
 }

@@ -1,6 +1,6 @@
 //! Tests of orders, and of label changes.
 use crate::desk::check;
-use crate::starts::{EMPTY, EXPORT, MADE};
+use crate::starts::{EMPTY, MADE};
 use std::test::Fail;
 
 #[test]
@@ -102,9 +102,12 @@ fn waits_for_its_operation(rt: HostRuntime) -> Result<(), Fail> {
 fn changes_a_label(rt: HostRuntime) -> Result<(), Fail> {
     check(
         &rt,
-        &EXPORT,
+        &EMPTY,
         &[
             ("1 proc", "p1.1.2"),
+            ("1 proc", "p1.1.5"),
+            ("1 tag p1.1.5 export", "tag export for p1.1.5"),
+            ("finish 1.1", ""),
             ("1 label p1.1.2 S {1.1}", "ok"),
             ("1 label p1.1.2 S {}", "refused F3 -1.1"),
             ("labels p1.1.2", "{1.1} {}"),

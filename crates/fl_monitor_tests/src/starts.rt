@@ -15,13 +15,6 @@ pub const LAST: Start = Start {
     lines: &[],
 };
 
-/// A bench where everybody may add a tag.
-pub const EXPORT: Start = Start {
-    first: 2,
-    stride: 3,
-    lines: &[("learn 1.1 tag export", "")],
-};
-
 /// A bench with a maker of a tag and of a group, and another process.
 pub const MADE: Start = Start {
     first: 2,
@@ -36,8 +29,8 @@ pub const MADE: Start = Start {
     ],
 };
 
-/// A bench with the owner of a group, into which another has put to add and to remove a tag, and to add the next one. Everybody
-/// may add the one after.
+/// A bench with the owner of a group, into which another has put to add and to remove a tag, and to add the next one, before it went.
+/// Everybody may add the tag after.
 pub const LENT: Start = Start {
     first: 1,
     stride: 1,
@@ -45,16 +38,25 @@ pub const LENT: Start = Start {
         ("1 proc", "p1.1.1"),
         ("1 group p1.1.1", "group for p1.1.1"),
         ("finish 1.1", ""),
-        ("learn 1.2 tag read", ""),
-        ("learn 1.3 tag read", ""),
-        ("learn 1.4 tag export", ""),
-        ("learn 1.5 put 1.1 +1.2", ""),
-        ("learn 1.6 put 1.1 -1.2", ""),
-        ("learn 1.7 put 1.1 +1.3", ""),
+        ("1 spawn p1.1.1 {^1.1}", "p1.1.2"),
+        ("1 tag p1.1.2 read", "tag read for p1.1.2"),
+        ("finish 1.2", ""),
+        ("1 tag p1.1.2 read", "tag read for p1.1.2"),
+        ("finish 1.3", ""),
+        ("1 tag p1.1.2 export", "tag export for p1.1.2"),
+        ("finish 1.4", ""),
+        ("1 put p1.1.2 1.1 +1.2", "put 1.1 +1.2 for p1.1.2"),
+        ("finish 1.5", ""),
+        ("1 put p1.1.2 1.1 -1.2", "put 1.1 -1.2 for p1.1.2"),
+        ("finish 1.6", ""),
+        ("1 put p1.1.2 1.1 +1.3", "put 1.1 +1.3 for p1.1.2"),
+        ("finish 1.7", ""),
+        ("1 exit p1.1.2", "ok"),
     ],
 };
 
-/// A bench with the owner of a tag, and a second process. Everybody may add the two tags after it, and nobody may remove them.
+/// A bench with the owner of a tag, and a second process. Everybody may add the two tags after it, and nobody may remove them: who
+/// made them went.
 pub const PUBLIC: Start = Start {
     first: 1,
     stride: 1,
@@ -63,8 +65,12 @@ pub const PUBLIC: Start = Start {
         ("1 proc", "p1.1.2"),
         ("1 tag p1.1.1 read", "tag read for p1.1.1"),
         ("finish 1.1", ""),
-        ("learn 1.2 tag export", ""),
-        ("learn 1.3 tag export", ""),
+        ("1 proc", "p1.1.3"),
+        ("1 tag p1.1.3 export", "tag export for p1.1.3"),
+        ("finish 1.2", ""),
+        ("1 tag p1.1.3 export", "tag export for p1.1.3"),
+        ("finish 1.3", ""),
+        ("1 exit p1.1.3", "ok"),
     ],
 };
 
@@ -77,8 +83,12 @@ pub const CONNECTED: Start = Start {
         ("1 proc", "p1.1.2"),
         ("1 tag p1.1.1 read", "tag read for p1.1.1"),
         ("finish 1.1", ""),
-        ("learn 1.2 tag export", ""),
-        ("learn 1.3 tag export", ""),
+        ("1 proc", "p1.1.3"),
+        ("1 tag p1.1.3 export", "tag export for p1.1.3"),
+        ("finish 1.2", ""),
+        ("1 tag p1.1.3 export", "tag export for p1.1.3"),
+        ("finish 1.3", ""),
+        ("1 exit p1.1.3", "ok"),
         ("1 open p1.1.1 w {} {}", "ok e1"),
         ("1 open p1.1.2 r {} {}", "ok e1"),
     ],

@@ -2,6 +2,8 @@
 #![tactic(auto)]
 
 #[cfg(test)]
+mod made;
+#[cfg(test)]
 mod rows;
 #[cfg(test)]
 mod rows_messages;
@@ -9,5 +11,7 @@ mod rows_messages;
 mod streams;
 #[cfg(test)]
 mod tests;
+#[cfg(test)]
+mod tests_made;
 #[cfg(test)]
 mod tests_messages;

@@ -2,14 +2,14 @@
 use crate::rows::Row;
 
 /// An endpoint with a tag that its process has not is safe only for who may both add and remove it.
-pub const ENDPOINT_NEEDS_DUAL: Row = Row {
+pub const ENDPOINT_NEEDS_DUAL: Row<'static> = Row {
     script: b"1 proc\n1 tag p1.1.1 export\n1 proc\n1 open p1.1.1 r {1.1} {}\n1 open p1.1.2 r {1.1} {}\n",
     output: b"p1.1.1\nok 1.1\np1.1.2\nok e1\nrefused F4 e1 1.1\n",
     status: 0,
 };
 
 /// A capability that an endpoint needs is not given up while it is open.
-pub const DROP_KEEPS_ENDPOINTS_SAFE: Row = Row {
+pub const DROP_KEEPS_ENDPOINTS_SAFE: Row<'static> = Row {
     script: b"1 proc\n1 tag p1.1.1 export\n1 proc\n1 open p1.1.1 r {1.1} {}\n1 open p1.1.2 r {1.1} {}\n1 drop p1.1.1 -1.1\n\
 1 close p1.1.1 e1\n1 drop p1.1.1 -1.1\n1 drop p1.1.1 -1.1\n",
     output: b"p1.1.1\nok 1.1\np1.1.2\nok e1\nrefused F4 e1 1.1\nrefused F4 e1 1.1\nok\nok\nrefused F22 -1.1\n",
@@ -17,7 +17,7 @@ pub const DROP_KEEPS_ENDPOINTS_SAFE: Row = Row {
 };
 
 /// A message with a tag that the receiver's endpoint has not does not arrive.
-pub const SECRET_MESSAGE_IS_DROPPED: Row = Row {
+pub const SECRET_MESSAGE_IS_DROPPED: Row<'static> = Row {
     script: b"1 proc\n1 tag p1.1.1 export\n1 label p1.1.1 S {1.1}\n1 open p1.1.1 w {1.1} {}\n2 proc\n2 open p2.1.1 r {} {}\n\
 1 send p1.1.1 e1 p2.1.1 e1 {} 6869\n2 deliver 1\n2 take p2.1.1\n",
     output: b"p1.1.1\nok 1.1\nok\nok e1\np2.1.1\nok e1\nsent 1\ndropped F8 1.1\nempty\n",
@@ -25,7 +25,7 @@ pub const SECRET_MESSAGE_IS_DROPPED: Row = Row {
 };
 
 /// A capability by a login: the secret, another one, and no such login.
-pub const LOGIN_BY_SECRET: Row = Row {
+pub const LOGIN_BY_SECRET: Row<'static> = Row {
     script: b"1 proc\n1 tag p1.1.1 export\n1 proc\n1 open p1.1.1 r {1.1} {}\n1 open p1.1.2 r {1.1} {}\n\
 1 make-login p1.1.1 -1.1 0000000000000000000000000000000000000000000000000000000000000000\n\
 1 enter p1.1.2 1.2 0000000000000000000000000000000000000000000000000000000000000000\n\
@@ -37,7 +37,7 @@ pub const LOGIN_BY_SECRET: Row = Row {
 };
 
 /// A message carries the labels of its endpoint at the time when it is sent; a packet that was not sent is no line.
-pub const TUNED_ENDPOINT_SENDS: Row = Row {
+pub const TUNED_ENDPOINT_SENDS: Row<'static> = Row {
     script: b"1 proc\n1 tag p1.1.1 export\n1 label p1.1.1 S {1.1}\n1 open p1.1.1 w {1.1} {}\n2 proc\n2 open p2.1.1 r {} {}\n\
 1 send p1.1.1 e1 p2.1.1 e1 {} 6869\n2 deliver 1\n2 take p2.1.1\n1 tune p1.1.1 e1 {} {}\n\
 1 send p1.1.1 e1 p2.1.1 e1 {} none\n2 deliver 2\n2 take p2.1.1\n2 close p2.1.1 e1\n2 deliver 2\n2 deliver 9\n",
@@ -47,7 +47,7 @@ message p1.1.1 {} none\nok\ndropped F2 e1\nrefused F19 16\n",
 };
 
 /// What a message brings is owned from then on, and a packet may be delivered again.
-pub const CAPABILITY_IN_A_MESSAGE: Row = Row {
+pub const CAPABILITY_IN_A_MESSAGE: Row<'static> = Row {
     script: b"1 proc\n1 tag p1.1.1 export\n1 open p1.1.1 w {} {}\n2 proc\n2 open p2.1.1 r {} {}\n\
 1 send p1.1.1 e1 p2.1.1 e1 {-1.1} 6869\n2 deliver 1\n2 ask p2.1.1 -1.1\n2 ask p2.1.1 +1.1\n2 take p2.1.1\n\
 2 deliver 1\n",
@@ -57,7 +57,7 @@ arrived p2.1.1\n",
 };
 
 /// Endpoints of each mode beside labels and drops, with aliases, and lines that are not of their form.
-pub const MODES_AND_FORMS: Row = Row {
+pub const MODES_AND_FORMS: Row<'static> = Row {
     script: b"1 proc as $a\n1 tag $a read as $s\n1 tag $a read as $i\n1 proc as $b\n1 tag $b integrity as $n\n\
 1 open $a r {$s} {} as $r\n1 open $a w {} {$i} as $w\n1 open $a rw {$s} {$i} as $rw\n1 open $b rw {$s} {}\n\
 1 open $b r {} {$s}\n1 open $b w {} {$s}\n1 open $b w {$s} {}\n1 open $b r {$i,$s} {}\n1 open $a x {} {}\n\
@@ -80,7 +80,7 @@ $b p1.1.2\n$n 1.3\n$r e1\n$w e2\n$rw e3\n$b2 e2\n",
 };
 
 /// Messages that may not enter: too secret, with too little integrity, at a closed endpoint or one for writing, at another node, with nobody there.
-pub const ARRIVALS: Row = Row {
+pub const ARRIVALS: Row<'static> = Row {
     script: b"1 proc as $a\n1 tag $a export as $t\n1 tag $a integrity as $n\n1 label $a S {$t}\n1 label $a I {$n}\n\
 1 open $a w {$t} {$n} as $e\n1 open $a w {} {} as $low\n2 proc as $q\n2 tag $q export as $u\n2 open $q r {$u} {}\n\
 2 open $q w {} {}\n2 open $q rw {} {}\n1 send $a $e $q e1 {} none\n1 send $a $low $q e2 {} none\n\

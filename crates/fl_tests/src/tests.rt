@@ -8,7 +8,6 @@ use crate::rows::{
 use crate::streams::{AskingReader, FailingReader, FailingWriter, FlushedWriter};
 use fl_cluster::fault::RunFault;
 use fl_cluster::run::run;
-use std::alloc::Global;
 use std::cell::Cell;
 use std::process::Abort;
 use std::test::Fail;
@@ -28,11 +27,16 @@ pub(crate) fn check_row(rt: &(impl Abort + AllocGlobal), row: &Row) -> Result<()
 
 /// The row as it stands.
 pub(crate) fn check_once(rt: &(impl Abort + AllocGlobal), row: &Row) -> Result<(), Fail> {
-    let mut input = row.script;
     let mut output = Vec::new(rt.alloc());
-    assert_eq!(rt; run(rt, &mut input, &mut output)?, row.status);
+    let status = run_on(rt, row.script, &mut output)?;
+    assert_eq!(rt; status, row.status);
     assert_eq!(rt; output.as_slice(), row.output);
     Ok(())
+}
+
+fn run_on(rt: &impl AllocGlobal, script: &[u8], output: &mut Vec<u8>) -> Result<u8, RunFault> {
+    let mut input = script;
+    run(rt, &mut input, output)
 }
 
 /// In pieces of any size the same is written. Where a read fails, a prefix of it is.
@@ -197,79 +201,5 @@ fn answers_before_it_reads_on(rt: HostRuntime) -> Result<(), Fail> {
         b"p1.1.1\nok 1.1\nyes\nnot-yet\np2.1.1\n1.1 tag read\n".as_slice()
     );
     assert_eq!(rt; flushed.get(), output.taken.len());
-    Ok(())
-}
-
-/// A label of 256 tags may be asked for, and one of 257 may not, and tags that are listed twice count once.
-#[test]
-fn label_of_256_tags(rt: HostRuntime) -> Result<(), Fail> {
-    for (tags, answer) in [
-        (256, "p1.1.1\nrefused F3 +2.1\n"),
-        (257, "p1.1.1\nrefused F13\n"),
-    ] {
-        let mut script = format!(in rt.alloc(); "1 proc\n1 label p1.1.1 S {{2.1,2.1")?;
-        for seq in 2..=tags {
-            script.push_str(&format!(in rt.alloc(); ",2.{seq}")?)?;
-        }
-        script.push_str("}\n")?;
-        let mut output = Vec::new(rt.alloc());
-        let mut input = script.as_bytes();
-        assert_eq!(rt; run(&rt, &mut input, &mut output)?, 0);
-        assert_eq!(rt; output.as_slice(), answer.as_bytes());
-    }
-    Ok(())
-}
-
-/// A hundred groups, each of which holds the use of the next: the first reaches the last, and the last not the first.
-#[test]
-fn chain_of_hundred_groups(rt: HostRuntime) -> Result<(), Fail> {
-    let alloc = rt.alloc();
-    let mut script = format!(in alloc; "1 proc\n")?;
-    let mut output = format!(in alloc; "p1.1.1\n")?;
-    make_groups(alloc, &mut script, &mut output)?;
-    put_groups(alloc, &mut script, &mut output)?;
-    script.push_str("1 member *1.1 *1.100\n1 member *1.100 *1.1\n")?;
-    output.push_str("yes\nnot-yet\n")?;
-    let mut written = Vec::new(alloc);
-    let mut input = script.as_bytes();
-    assert_eq!(rt; run(&rt, &mut input, &mut written)?, 0);
-    assert_eq!(rt; written.as_slice(), output.as_bytes());
-    Ok(())
-}
-
-/// A hundred groups are made.
-fn make_groups(alloc: Global, script: &mut String, output: &mut String) -> Result<(), Fail> {
-    for group in 1..=100u32 {
-        script.push_str("1 group p1.1.1\n")?;
-        output.push_str(&format!(in alloc; "ok 1.{group}\n")?)?;
-    }
-    Ok(())
-}
-
-/// The use of each of a hundred groups but the first is put into the one before.
-fn put_groups(alloc: Global, script: &mut String, output: &mut String) -> Result<(), Fail> {
-    for group in 1..100u32 {
-        script.push_str(&format!(in alloc; "1 put p1.1.1 1.{group} *1.{}\n", group + 1)?)?;
-        output.push_str(&format!(in alloc; "ok 1.{}\n", group + 100)?)?;
-    }
-    Ok(())
-}
-
-/// 1,024 aliases may be set. Then no line sets one, not even one that is set; the others are answered as before.
-#[test]
-fn full_table_of_aliases(rt: HostRuntime) -> Result<(), Fail> {
-    let alloc = rt.alloc();
-    let mut script = String::new(alloc);
-    let mut output = String::new(alloc);
-    for serial in 1..=1024u32 {
-        script.push_str(&format!(in alloc; "1 proc as $x{serial}\n")?)?;
-        output.push_str(&format!(in alloc; "p1.1.{serial}\n")?)?;
-    }
-    script.push_str("1 proc as $y\n1 proc as $x1\n1 proc\n1 ask $x1024 +1.1\n1 exit $x1\n")?;
-    output.push_str("refused F19 1025\nrefused F19 1026\np1.1.1025\nnot-yet\nok\n")?;
-    let mut written = Vec::new(alloc);
-    let mut input = script.as_bytes();
-    assert_eq!(rt; run(&rt, &mut input, &mut written)?, 1);
-    assert_eq!(rt; written.as_slice(), output.as_bytes());
     Ok(())
 }
