@@ -32,14 +32,13 @@ use Rattle.fl_rules.specs.Safety.{Takes}
 use Rattle.fl_labels.specs.Caps.{Dual}
 use Rattle.fl_rules.specs.declared.labels.Labels.{Labels}
 use Rattle.fl_mailbox.specs.Endpoints.{Table, IsOpen}
-use Rattle.fl_mailbox.specs.Offenders.{CrossesAt, DualAt}
 use Rattle.fl_mailbox.specs.declared.mailbox.Mailbox.{Mailbox}
 use Rattle.fl_bench.specs.Checks.{Check, no_check, fails, refuse_if, demand, with, ◌then◌}
 use Rattle.fl_bench.specs.Secrets.{digest_of}
 use Rattle.fl_bench.specs.Guards.{grant_check, endpoints_check}
 use Rattle.fl_bench.specs.Mailbox.{mail_checks, arrival_checks, MailDoes, MailTakesMemory}
 use Rattle.fl_bench.specs.Process.{newborn, owns, is_busy, ordering, owning, child_of, effective, side_of, with_side, body_of, receiving, PutTakes}
-use Rattle.fl_bench.specs.Hand.{AtHand, Lacks}
+use Rattle.fl_bench.specs.Hand.{AtHand, Refuses}
 use Rattle.fl_bench.specs.Bench.{State, has_at, gone, IsNext, born}
 use Rattle.fl_bench.specs.declared.process.Process.{Process}
 
@@ -131,7 +130,7 @@ Effect V b (Arrive d) outcome b' = (q : Process) × (map.get b.processes d.recei
 -- the change of a label by who owns these and has these labels and endpoints: what it takes is not at hand, or what the endpoints then need
 abbrev pub RelabelTakesMemory : (Op → Type 0) → SetBy cap_cmp → Labels → Table → Side → SetBy name_cmp → Type 0
 RelabelTakesMemory V owned labels table side label =
-    Lacks (Takes (side_of side labels) label) (AtHand V owned) ⊎ Lacks (CrossesAt (with_side side label labels) table) (DualAt (AtHand V owned))
+    Refuses (change_check (AtHand V owned) (side_of side labels) label) ⊎ Refuses (endpoints_check (AtHand V owned) (with_side side label labels) table)
 
 -- an act of the process p
 abbrev pub ActTakesMemory : (Op → Type 0) → Process → Act → Type 0
@@ -143,7 +142,7 @@ ActTakesMemory V p (Spawn caps) = Unit {0}
 ActTakesMemory V p Exit = ⊥
 ActTakesMemory V p (Drop c) = In (owns p) c × (e : Endpoint) × IsOpen p.mailbox.endpoints e
 ActTakesMemory V p (Enter login secret) = enter_check V login secret None
-ActTakesMemory V p (Emit bytes) = Lacks (In p.labels.secrecy) (Dual (AtHand V (owns p)))
+ActTakesMemory V p (Emit bytes) = Refuses (emission_check (AtHand V (owns p)) p.labels.secrecy)
 ActTakesMemory V p (Mail c) = MailTakesMemory (AtHand V (owns p)) p.labels p.mailbox c
 
 abbrev pub TakesMemory : (Op → Type 0) → State → Job → Type 0

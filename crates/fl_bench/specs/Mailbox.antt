@@ -6,8 +6,7 @@ use Rattle.std.specs.FinMap as map
 use Rattle.fl_labels.specs.declared.cap.Cap.{Cap}
 use Rattle.fl_labels.specs.declared.endpoint.Endpoint.{Endpoint}
 use Rattle.fl_labels.specs.declared.pid.Pid.{Pid}
-use Rattle.fl_rules.specs.Endpoint.{writes, Crosses}
-use Rattle.fl_labels.specs.Caps.{Dual}
+use Rattle.fl_rules.specs.Endpoint.{writes}
 use Rattle.fl_rules.specs.declared.labels.Labels.{Labels}
 use Rattle.fl_wire.specs.declared.packet.Data.{Data}
 use Rattle.fl_wire.specs.declared.packet.Letter.{Letter}
@@ -26,7 +25,7 @@ use Rattle.fl_jobs.specs.declared.answer.Reply.TheVariants.{Done, Opened as Answ
 use Rattle.fl_jobs.specs.declared.answer.Outcome.{Outcome}
 use Rattle.fl_bench.specs.Checks.{Check, no_check, refuse_if, with, with_found, ◌then◌}
 use Rattle.fl_bench.specs.Guards.{grant_check, endpoint_check, pair_check}
-use Rattle.fl_bench.specs.Hand.{Lacks}
+use Rattle.fl_bench.specs.Hand.{Refuses}
 
 -- ---- checks
 
@@ -82,7 +81,7 @@ entered ch d = record ch { inbox = ch.inbox ++ record { sender = d.sender; messa
 abbrev pub MailTakesMemory : (Cap → Type 0) → Labels → Mailbox → Mail → Type 0
 MailTakesMemory H process ch (Open mode given) = (labels : Labels) × (labels_of given ≡ Some labels) × (e : Endpoint) × IsLeastFree ch.endpoints (Some e)
 MailTakesMemory H process ch (Tune e given) =
-    (labels : Labels) × (labels_of given ≡ Some labels) × (opened : OpenEndpoint) × (map.get ch.endpoints e ≡ Some opened) × Lacks (Crosses opened.mode process labels) (Dual H)
+    (labels : Labels) × (labels_of given ≡ Some labels) × (opened : OpenEndpoint) × (map.get ch.endpoints e ≡ Some opened) × Refuses (endpoint_check H process e opened.mode labels)
 MailTakesMemory H process ch (Close e) = ⊥
 MailTakesMemory H process ch (Send from receiver to message) = (opened : OpenEndpoint) × (map.get ch.endpoints from ≡ Some opened) × (writes opened.mode ≡ true)
 MailTakesMemory H process ch Take = ⊥

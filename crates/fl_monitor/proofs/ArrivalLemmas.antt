@@ -20,7 +20,7 @@ use Rattle.fl_bench.specs.Checks.{refuse_if, ◌then◌}
 use Rattle.fl_bench.specs.Guards.{sent_from, entry_refusal, pair_check}
 use Rattle.fl_bench.specs.Mailbox.{arrival_checks, entered}
 use Rattle.fl_bench.specs.Process.{held, is_under_way, is_busy, receiving}
-use Rattle.fl_monitor.specs.parts.Acts.{Receives}
+use Rattle.fl_monitor.specs.parts.Acts.{Arrives}
 use Rattle.fl_bench.specs.declared.process.Holding.{Holding}
 use Rattle.fl_bench.specs.declared.process.Holding.TheVariants.{Idle, Ordering}
 use Rattle.fl_bench.specs.declared.process.Process.{Process}
@@ -31,8 +31,8 @@ under_way (Idle owned) n = absurd (n owned refl)
 under_way (Ordering owned) n = refl
 
 module _ (p : Process) (d : Data) where
-  pub comes_busy : ((owned : SetBy cap_cmp) → p.owned ≡ Idle owned → ⊥) → Receives p d (Err Busy) p
-  comes_busy n = Receives.refused (inl (sym (ap (λ b. cond b (Some Busy) None) (under_way p.owned n))))
+  pub comes_busy : ((owned : SetBy cap_cmp) → p.owned ≡ Idle owned → ⊥) → Arrives p d (Err Busy) p
+  comes_busy n = Arrives.refused (inl (sym (ap (λ b. cond b (Some Busy) None) (under_way p.owned n))))
 
   module _ (owned : SetBy cap_cmp) (is : p.owned ≡ Idle owned) where
     -- the process, of which no operation is under way
@@ -45,10 +45,10 @@ module _ (p : Process) (d : Data) where
     not_busy : refuse_if (is_busy p) Busy None
     not_busy = sym (ap (λ h. cond (is_under_way h) (Some Busy) None) is)
 
-    turned_away : (f : Refusal) → arrival_checks p.mailbox d (Some f) → Receives p d (Err f) idle
-    turned_away f h = subst (Receives p d (Err f)) same (Receives.refused (inr (not_busy, h)))
+    turned_away : (f : Refusal) → arrival_checks p.mailbox d (Some f) → Arrives p d (Err f) idle
+    turned_away f h = subst (Arrives p d (Err f)) same (Arrives.refused (inr (not_busy, h)))
 
-    pub comes_nowhere : map.get p.mailbox.endpoints d.to ≡ None → Receives p d (Err (NoEndpoint d.to)) idle
+    pub comes_nowhere : map.get p.mailbox.endpoints d.to ≡ None → Arrives p d (Err (NoEndpoint d.to)) idle
     comes_nowhere none = turned_away (NoEndpoint d.to) (fails_without (map.get p.mailbox.endpoints d.to) (NoEndpoint d.to) _ none)
 
     -- the endpoint is open, and is looked at beside the end that the message left
@@ -56,14 +56,14 @@ module _ (p : Process) (d : Data) where
       checks_are : (verdict : Option Refusal) → (pair_check d opened then refuse_if (nat_le 256 (length p.mailbox.inbox)) InboxFull) verdict → arrival_checks p.mailbox d verdict
       checks_are verdict h = goes_on_with (map.get p.mailbox.endpoints d.to) (NoEndpoint d.to) _ opened there verdict h
 
-      pub comes_unsafe : (fault : PairFault) → PairFails from to fault → (f : Refusal) → f ≡ entry_refusal d.to fault → Receives p d (Err f) idle
+      pub comes_unsafe : (fault : PairFault) → PairFails from to fault → (f : Refusal) → f ≡ entry_refusal d.to fault → Arrives p d (Err f) idle
       comes_unsafe fault h f e = turned_away f (checks_are (Some f) (inl (fault, e, subst (λ x. PairFails x (end_of opened) fault) left (subst (λ x. PairFails from x fault) opens h))))
 
       module _ (safe : SafePair from to) (full : Bool) (told : full ≡ nat_le 256 (length p.mailbox.inbox)) where
         may_enter : SafePair (sent_from d) (end_of opened)
         may_enter = subst (λ x. SafePair x (end_of opened)) left (subst (SafePair from) opens safe)
 
-        pub comes_full : full ≡ true → Receives p d (Err InboxFull) idle
+        pub comes_full : full ≡ true → Arrives p d (Err InboxFull) idle
         comes_full e = turned_away InboxFull (checks_are (Some InboxFull) (inr (may_enter, sym (ap (λ b. cond b (Some InboxFull) None) (sym told ∙ e)))))
 
         module _ (room : full ≡ false) where
@@ -71,11 +71,11 @@ module _ (p : Process) (d : Data) where
           all_pass = checks_are None (may_enter, sym (ap (λ b. cond b (Some InboxFull) None) (sym told ∙ room)))
 
           -- there is no memory for what it brings
-          pub comes_starved : (inbox : List Letter) → inbox ≡ p.mailbox.inbox → Receives p d (Err Memory) (record p { owned = Idle owned; mailbox = record p.mailbox { inbox = inbox } })
-          comes_starved inbox e = subst (Receives p d (Err Memory)) (λ i. record p { owned = is i; mailbox = record p.mailbox { inbox = sym e i } }) (Receives.no_room (ap is_under_way is) all_pass)
+          pub comes_starved : (inbox : List Letter) → inbox ≡ p.mailbox.inbox → Arrives p d (Err Memory) (record p { owned = Idle owned; mailbox = record p.mailbox { inbox = inbox } })
+          comes_starved inbox e = subst (Arrives p d (Err Memory)) (λ i. record p { owned = is i; mailbox = record p.mailbox { inbox = sym e i } }) (Arrives.no_room (ap is_under_way is) all_pass)
 
           pub comes_in : (joined : SetBy cap_cmp) → joined ≡ set.union owned d.message.caps → (inbox : List Letter) → inbox ≡ p.mailbox.inbox ++ record { sender = d.sender; message = d.message } ∷ []
-              → Receives p d (Ok (Outcome.Reply (Arrived d.receiver))) (record p { owned = Idle joined; mailbox = record p.mailbox { inbox = inbox } })
+              → Arrives p d (Ok (Outcome.Reply (Arrived d.receiver))) (record p { owned = Idle joined; mailbox = record p.mailbox { inbox = inbox } })
           comes_in joined union inbox behind =
               let owned_are : set.union (held p.owned) d.message.caps ≡ joined = ap (λ h. set.union (held h) d.message.caps) is ∙ sym union in
-              subst (Receives p d (Ok (Outcome.Reply (Arrived d.receiver)))) (λ i. record p { owned = Idle (owned_are i); mailbox = record p.mailbox { inbox = sym behind i } }) (Receives.arrives (not_busy, all_pass))
+              subst (Arrives p d (Ok (Outcome.Reply (Arrived d.receiver)))) (λ i. record p { owned = Idle (owned_are i); mailbox = record p.mailbox { inbox = sym behind i } }) (Arrives.arrives (not_busy, all_pass))

@@ -3,7 +3,7 @@ use Rattle.std.proofs.Common.{◌≡◌, ◌⊎◌, inl, inr, refl, sym, ap, sub
 use Rattle.fl_jobs.specs.declared.answer.Refusal.{Refusal}
 use Rattle.fl_jobs.specs.declared.answer.Refusal.TheVariants.{Memory}
 use Rattle.fl_bench.specs.Checks.{Check, with}
-use Rattle.fl_monitor.specs.parts.Acts.{Checked}
+use Rattle.fl_monitor.specs.parts.Checked.{Checked}
 
 same_refusal : {T : Type 0} {f g : Refusal} → ◌≡◌ {A = Result T Refusal} (Err f) (Err g) → f ≡ g
 same_refusal {f} e = ap (λ r. elim r [ Ok u ↦ f | Err g ↦ g ]) e

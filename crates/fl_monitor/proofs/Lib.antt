@@ -4,7 +4,6 @@ pub mod Given
 pub mod ActLemmas
 pub mod JobLemmas
 pub mod Entries
-pub mod GuardLemmas
 pub mod CheckLemmas
 pub mod ChangeLemmas
 pub mod MailLemmas

@@ -10,12 +10,12 @@ use Rattle.std.specs.FinMap.{IsAntisymmetric}
 use Rattle.fl_labels.specs.Cap.{cap_cmp}
 use Rattle.fl_labels.specs.Endpoint.{endpoint_cmp, endpoint_total, endpoint_exact}
 use Rattle.fl_labels.specs.SetBy.{SetBy, In}
-use Rattle.fl_labels.specs.declared.cap.Cap.{Cap}
 use Rattle.fl_labels.specs.declared.endpoint.Endpoint.{Endpoint}
 use Rattle.fl_labels.specs.declared.pid.Pid.{Pid}
-use Rattle.fl_rules.specs.Endpoint.{writes, Crosses}
+use Rattle.fl_ops.specs.Registry.{Registry, InEffect}
+use Rattle.fl_rules.specs.Endpoint.{writes}
 use Rattle.fl_rules.specs.Pair as pairs
-use Rattle.fl_labels.specs.Caps.{Dual}
+use Rattle.fl_labels.specs.Caps.{Caps}
 use Rattle.fl_rules.specs.declared.endpoint.Mode.{Mode}
 use Rattle.fl_rules.specs.declared.labels.Labels.{Labels}
 use Rattle.fl_wire.specs.declared.packet.Data.{Data}
@@ -35,9 +35,10 @@ use Rattle.fl_jobs.specs.declared.answer.Reply.TheVariants.{Done, Opened as Answ
 use Rattle.fl_jobs.specs.declared.answer.Outcome.{Outcome}
 use Rattle.fl_bench.specs.Checks.{refuse_if, ◌then◌}
 use Rattle.fl_bench.specs.Guards.{grant_check, endpoint_check}
-use Rattle.fl_bench.specs.Mailbox.{IsSent, taken, mail_checks, MailDoes, MailTakesMemory}
-use Rattle.fl_bench.specs.Hand.{Lacks}
-use Rattle.fl_monitor.specs.parts.Acts.{Checked, Closes, Works}
+use Rattle.fl_bench.specs.Mailbox.{IsSent, taken, mail_checks, MailDoes}
+use Rattle.fl_bench.specs.Hand.{AtHand, Refuses}
+use Rattle.fl_monitor.specs.parts.Acts.{Closes, Mails}
+use Rattle.fl_monitor.specs.parts.Checked.{Checked}
 use Rattle.fl_monitor.proofs.ActLemmas.{passed_on}
 use Rattle.fl_monitor.proofs.CheckLemmas.{why_refused, has_passed, fails_without, goes_on_with}
 
@@ -62,50 +63,57 @@ module _ (ch : Mailbox) (e : Endpoint) (table : Table) (removed : table ≡ map.
 
   closes_one : (found : Option OpenEndpoint) → map.get ch.endpoints e ≡ found → true ≡ is_some found → Closes ch e (Ok (Outcome.Reply Done)) (record ch { endpoints = table })
   closes_one None h t = absurd (cc)
-  closes_one (Some opened) h t = subst (λ m. Closes ch e (Ok (Outcome.Reply Done)) (record ch { endpoints = m })) (sym removed) (Closes.gone h)
+  closes_one (Some opened) h t = subst (λ m. Closes ch e (Ok (Outcome.Reply Done)) (record ch { endpoints = m })) (sym removed) (Closes.closed h)
 
   pub one_closed : was ≡ true → Closes ch e (Ok (Outcome.Reply Done)) (record ch { endpoints = table })
   one_closed is = closes_one (map.get ch.endpoints e) refl (sym is ∙ told)
 
 -- ---- an endpoint of a process, as it is checked
 
-module _ (E H : Cap → Type 0) (process : Labels) where
+module _ (V : Registry) (owned : SetBy cap_cmp) (process : Labels) where
+  -- what is in effect, and what is at hand
+  abbrev E : Caps
+  E = InEffect V (In owned)
+
+  abbrev H : Caps
+  H = AtHand V owned
+
   -- one of this mode and these labels
   abbrev pub EndpointChecked : Endpoint → pairs.End → Result (Unit {0}) Refusal → Type 0
-  EndpointChecked e end = Checked (endpoint_check E process e end.mode end.labels) (Lacks (Crosses end.mode process end.labels) (Dual H))
+  EndpointChecked e end = Checked (endpoint_check E process e end.mode end.labels) (Refuses (endpoint_check H process e end.mode end.labels))
 
   module _ (pid : Pid) (ch : Mailbox) where
     abbrev IsDone : mailbox.Mail → Result Outcome Refusal → Mailbox → Type 0
-    IsDone = Works E H pid process ch
+    IsDone = Mails V owned pid process ch
 
     -- ---- an endpoint is opened
 
     module _ (mode : Mode) (given : GivenLabels) where
       pub open_too_long : labels_of given ≡ None → IsDone (Open mode given) (Err LabelTooLong) ch
-      open_too_long e = Works.failed (fails_without (labels_of given) LabelTooLong _ e)
+      open_too_long e = Mails.failed (fails_without (labels_of given) LabelTooLong _ e)
 
       module _ (labels : Labels) (fits : labels_of given ≡ Some labels) where
         pub open_full : IsLeastFree ch.endpoints None → IsDone (Open mode given) (Err EndpointsFull) ch
-        open_full h = Works.failed (goes_on_with (labels_of given) LabelTooLong _ labels fits (Some EndpointsFull) (None, h, refl))
+        open_full h = Mails.failed (goes_on_with (labels_of given) LabelTooLong _ labels fits (Some EndpointsFull) (None, h, refl))
 
         module _ (e : Endpoint) (least : IsLeastFree ch.endpoints (Some e)) where
           -- there is no memory for it
           pub open_starved : (table : Table) → table ≡ ch.endpoints → IsDone (Open mode given) (Err Memory) (record ch { endpoints = table })
-          open_starved table same = subst (λ m. IsDone (Open mode given) (Err Memory) (record ch { endpoints = m })) (sym same) (Works.no_room (labels, fits, e, least))
+          open_starved table same = subst (λ m. IsDone (Open mode given) (Err Memory) (record ch { endpoints = m })) (sym same) (Mails.no_room (labels, fits, e, least))
 
           module _ (end : pairs.End) (is : end ≡ record { mode = mode; labels = labels }) {r : Result (Unit {0}) Refusal} (checked : EndpointChecked e end r) where
             endpoint_checked : EndpointChecked e (record { mode = mode; labels = labels }) r
             endpoint_checked = subst (λ end. EndpointChecked e end r) is checked
 
-            open_fails : (f : Refusal) → endpoint_check E process e mode labels (Some f) ⊎ ((f ≡ Memory) × Lacks (Crosses mode process labels) (Dual H)) → IsDone (Open mode given) (Err f) ch
-            open_fails f (inl h) = Works.failed (goes_on_with (labels_of given) LabelTooLong _ labels fits (Some f) (Some e, least, h))
-            open_fails f (inr h) = subst (λ f. IsDone (Open mode given) (Err f) ch) (sym h.0) (Works.no_room (labels, fits, e, least))
+            open_fails : (f : Refusal) → endpoint_check E process e mode labels (Some f) ⊎ ((f ≡ Memory) × Refuses (endpoint_check H process e mode labels)) → IsDone (Open mode given) (Err f) ch
+            open_fails f (inl h) = Mails.failed (goes_on_with (labels_of given) LabelTooLong _ labels fits (Some f) (Some e, least, h))
+            open_fails f (inr h) = subst (λ f. IsDone (Open mode given) (Err f) ch) (sym h.0) (Mails.no_room (labels, fits, e, least))
 
             pub open_unsafe : (f : Refusal) → r ≡ Err f → (q : Result Outcome Refusal) → IsErr q × IsErrAnd q (λ g. g ≡ f) → IsDone (Open mode given) q ch
             open_unsafe f u q s = subst (λ q. IsDone (Open mode given) q ch) (sym (passed_on q f s)) (open_fails f (why_refused endpoint_checked f u))
 
             pub open_done : (u : Unit {0}) → r ≡ Ok u → (table : Table) → table ≡ map.insert ch.endpoints e (record { mode = mode; labels = labels }) → IsDone (Open mode given) (Ok (Outcome.Reply (Answers_opened e))) (record ch { endpoints = table })
-            open_done u passes table put = Works.passed
+            open_done u passes table put = Mails.passed
                 (goes_on_with (labels_of given) LabelTooLong _ labels fits None (Some e, least, has_passed endpoint_checked u passes))
                 (labels, fits, e, least, refl, ap (λ m. record ch { endpoints = m }) put)
 
@@ -113,11 +121,11 @@ module _ (E H : Cap → Type 0) (process : Labels) where
 
     module _ (e : Endpoint) (given : GivenLabels) where
       pub tune_too_long : labels_of given ≡ None → IsDone (Tune e given) (Err LabelTooLong) ch
-      tune_too_long none = Works.failed (fails_without (labels_of given) LabelTooLong _ none)
+      tune_too_long none = Mails.failed (fails_without (labels_of given) LabelTooLong _ none)
 
       module _ (labels : Labels) (fits : labels_of given ≡ Some labels) where
         pub tune_nowhere : map.get ch.endpoints e ≡ None → IsDone (Tune e given) (Err (NoEndpoint e)) ch
-        tune_nowhere none = Works.failed (goes_on_with (labels_of given) LabelTooLong _ labels fits (Some (NoEndpoint e)) (fails_without (map.get ch.endpoints e) (NoEndpoint e) _ none))
+        tune_nowhere none = Mails.failed (goes_on_with (labels_of given) LabelTooLong _ labels fits (Some (NoEndpoint e)) (fails_without (map.get ch.endpoints e) (NoEndpoint e) _ none))
 
         module _ (opened : OpenEndpoint) (there : map.get ch.endpoints e ≡ Some opened) (l : Labels) (is : l ≡ labels) {r : Result (Unit {0}) Refusal} (checked : EndpointChecked e (record { mode = opened.mode; labels = l }) r) where
           tuned_checked : EndpointChecked e (record { mode = opened.mode; labels = labels }) r
@@ -126,55 +134,55 @@ module _ (E H : Cap → Type 0) (process : Labels) where
           verdict_is : (verdict : Option Refusal) → endpoint_check E process e opened.mode labels verdict → mail_checks E process ch (Tune e given) verdict
           verdict_is verdict h = goes_on_with (labels_of given) LabelTooLong _ labels fits verdict (goes_on_with (map.get ch.endpoints e) (NoEndpoint e) _ opened there verdict h)
 
-          tune_fails : (f : Refusal) → endpoint_check E process e opened.mode labels (Some f) ⊎ ((f ≡ Memory) × Lacks (Crosses opened.mode process labels) (Dual H)) → IsDone (Tune e given) (Err f) ch
-          tune_fails f (inl h) = Works.failed (verdict_is (Some f) h)
-          tune_fails f (inr h) = subst (λ f. IsDone (Tune e given) (Err f) ch) (sym h.0) (Works.no_room (labels, fits, opened, there, h.1))
+          tune_fails : (f : Refusal) → endpoint_check E process e opened.mode labels (Some f) ⊎ ((f ≡ Memory) × Refuses (endpoint_check H process e opened.mode labels)) → IsDone (Tune e given) (Err f) ch
+          tune_fails f (inl h) = Mails.failed (verdict_is (Some f) h)
+          tune_fails f (inr h) = subst (λ f. IsDone (Tune e given) (Err f) ch) (sym h.0) (Mails.no_room (labels, fits, opened, there, h.1))
 
           pub tune_unsafe : (f : Refusal) → r ≡ Err f → (q : Result Outcome Refusal) → IsErr q × IsErrAnd q (λ g. g ≡ f) → IsDone (Tune e given) q ch
           tune_unsafe f u q s = subst (λ q. IsDone (Tune e given) q ch) (sym (passed_on q f s)) (tune_fails f (why_refused tuned_checked f u))
 
           pub tune_done : (u : Unit {0}) → r ≡ Ok u → (table : Table) → table ≡ map.insert ch.endpoints e (record opened { labels = labels }) → IsDone (Tune e given) (Ok (Outcome.Reply Done)) (record ch { endpoints = table })
-          tune_done u passes table put = Works.passed (verdict_is None (has_passed tuned_checked u passes)) (labels, fits, opened, there, refl, ap (λ m. record ch { endpoints = m }) put)
+          tune_done u passes table put = Mails.passed (verdict_is None (has_passed tuned_checked u passes)) (labels, fits, opened, there, refl, ap (λ m. record ch { endpoints = m }) put)
 
     -- ---- a message goes
 
     module _ (from : Endpoint) (receiver : Pid) (to : Endpoint) (message : Message) where
       pub send_from_nowhere : map.get ch.endpoints from ≡ None → IsDone (Send from receiver to message) (Err (NoEndpoint from)) ch
-      send_from_nowhere none = Works.failed (fails_without (map.get ch.endpoints from) (NoEndpoint from) _ none)
+      send_from_nowhere none = Mails.failed (fails_without (map.get ch.endpoints from) (NoEndpoint from) _ none)
 
       module _ (opened : OpenEndpoint) (there : map.get ch.endpoints from ≡ Some opened) (yes : Bool) (told : yes ≡ writes opened.mode) where
         verdict_of : (verdict : Option Refusal) → (refuse_if (not (writes opened.mode)) (NotWritable from) then grant_check E message.caps) verdict → mail_checks E process ch (Send from receiver to message) verdict
         verdict_of verdict h = goes_on_with (map.get ch.endpoints from) (NoEndpoint from) _ opened there verdict h
 
         pub send_from_readable : yes ≡ false → IsDone (Send from receiver to message) (Err (NotWritable from)) ch
-        send_from_readable e = Works.failed (verdict_of (Some (NotWritable from)) (inl (sym (ap (λ b. cond (not b) (Some (NotWritable from)) None) (sym told ∙ e)))))
+        send_from_readable e = Mails.failed (verdict_of (Some (NotWritable from)) (inl (sym (ap (λ b. cond (not b) (Some (NotWritable from)) None) (sym told ∙ e)))))
 
         module _ (e : yes ≡ true) where
           is_writable : refuse_if (not (writes opened.mode)) (NotWritable from) None
           is_writable = sym (ap (λ b. cond (not b) (Some (NotWritable from)) None) (sym told ∙ e))
 
           pub send_starved : IsDone (Send from receiver to message) (Err Memory) ch
-          send_starved = Works.no_room (opened, there, sym told ∙ e)
+          send_starved = Mails.no_room (opened, there, sym told ∙ e)
 
           module _ {Q : Type 0} {r : Result (Unit {0}) Refusal} (checked : Checked (grant_check E message.caps) Q r) where
             send_fails : (f : Refusal) → grant_check E message.caps (Some f) ⊎ ((f ≡ Memory) × Q) → IsDone (Send from receiver to message) (Err f) ch
-            send_fails f (inl h) = Works.failed (verdict_of (Some f) (inr (is_writable, h)))
+            send_fails f (inl h) = Mails.failed (verdict_of (Some f) (inr (is_writable, h)))
             send_fails f (inr h) = subst (λ f. IsDone (Send from receiver to message) (Err f) ch) (sym h.0) send_starved
 
             pub send_ungranted : (f : Refusal) → r ≡ Err f → (q : Result Outcome Refusal) → IsErr q × IsErrAnd q (λ g. g ≡ f) → IsDone (Send from receiver to message) q ch
             send_ungranted f u q s = subst (λ q. IsDone (Send from receiver to message) q ch) (sym (passed_on q f s)) (send_fails f (why_refused checked f u))
 
             pub send_done : (u : Unit {0}) → r ≡ Ok u → (d : Data) → IsSent pid from opened.labels receiver to message d → IsDone (Send from receiver to message) (Ok (Outcome.Out (packets.Data d))) ch
-            send_done u passes d sent = Works.passed (verdict_of None (is_writable, has_passed checked u passes)) (opened, there, d, sent, refl, refl)
+            send_done u passes d sent = Mails.passed (verdict_of None (is_writable, has_passed checked u passes)) (opened, there, d, sent, refl, refl)
 
     -- ---- by what is asked for
 
-    pub close_works : (work : mailbox.Mail) (e : Endpoint) → work ≡ Close e → {r : Result Outcome Refusal} {after : Mailbox} → Closes ch e r after → IsDone work r after
-    close_works work e is {r} {after} h = subst (λ work. IsDone work r after) (sym is) (closed_so h)
+    pub close_mails : (work : mailbox.Mail) (e : Endpoint) → work ≡ Close e → {r : Result Outcome Refusal} {after : Mailbox} → Closes ch e r after → IsDone work r after
+    close_mails work e is {r} {after} h = subst (λ work. IsDone work r after) (sym is) (closed_so h)
       where
         closed_so : {r : Result Outcome Refusal} {after : Mailbox} → Closes ch e r after → IsDone (Close e) r after
-        closed_so (Closes.gone {opened} there) = Works.passed (goes_on_with (map.get ch.endpoints e) (NoEndpoint e) _ opened there None refl) (refl, refl)
-        closed_so (Closes.never none) = Works.failed (fails_without (map.get ch.endpoints e) (NoEndpoint e) _ none)
+        closed_so (Closes.closed {opened} there) = Mails.passed (goes_on_with (map.get ch.endpoints e) (NoEndpoint e) _ opened there None refl) (refl, refl)
+        closed_so (Closes.never none) = Mails.failed (fails_without (map.get ch.endpoints e) (NoEndpoint e) _ none)
 
-    pub take_works : (work : mailbox.Mail) → work ≡ Take → (outcome : Outcome) → outcome ≡ Outcome.Reply (taken (oldest ch.inbox)) → (after : Mailbox) → after ≡ record ch { inbox = without_oldest ch.inbox } → IsDone work (Ok outcome) after
-    take_works work is outcome answers after leaves = subst (λ work. IsDone work (Ok outcome) after) (sym is) (Works.passed refl (answers, leaves))
+    pub take_mails : (work : mailbox.Mail) → work ≡ Take → (outcome : Outcome) → outcome ≡ Outcome.Reply (taken (oldest ch.inbox)) → (after : Mailbox) → after ≡ record ch { inbox = without_oldest ch.inbox } → IsDone work (Ok outcome) after
+    take_mails work is outcome answers after leaves = subst (λ work. IsDone work (Ok outcome) after) (sym is) (Mails.passed refl (answers, leaves))

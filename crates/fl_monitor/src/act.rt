@@ -9,15 +9,16 @@ ghost use Rattle.fl_jobs.specs.declared.answer.Reply.TheVariants.{Yes, NotYet};
 ghost use Rattle.fl_bench.specs.Process.{body_of, OneOf, PutTakes};
 ghost use Rattle.fl_bench.specs.Checks.{demand};
 ghost use Rattle.fl_bench.specs.Jobs.{order_checks};
-ghost use Rattle.fl_monitor.specs.parts.Acts.{Checked, Required, Told, Acts};
+ghost use Rattle.fl_monitor.specs.parts.Acts.{Required, Replies, Acts};
+ghost use Rattle.fl_monitor.specs.parts.Checked.{Checked};
 
-use crate::birth::spawn;
-use crate::change::relabel;
-use crate::disown::give_up;
-use crate::emission::emit;
-use crate::login::{digest_of_secret, enter};
-use crate::mail::work;
+use crate::demand::{Demand, check};
+use crate::drop::drop_cap;
+use crate::enter::{digest_of_secret, enter};
+use crate::mail::do_mail;
+use crate::relabel::relabel;
 use crate::sequel::{Sequel, answer_alone};
+use crate::spawn::spawn;
 use crate::view::View;
 use fl_bench::process::{Holding, Process};
 use fl_jobs::answer::{Outcome, Refusal, Reply};
@@ -69,7 +70,8 @@ fn require_both<V: View>(
     greater: Cap,
 ) -> Result<(), Refusal>
     requires in_order { is_gt (cap_cmp lesser greater) ≡ false }
-    ensures checked { Checked (demand cap_cmp (OneOf lesser greater) (InEffect (Listed (V.list view.old)) (In owned.now)) MissingCap) ⊤ result }
+    ensures checked { let E = InEffect (Listed (V.list view.old)) (In owned.now) in
+        Checked (demand cap_cmp (OneOf lesser greater) E MissingCap) ⊤ result }
     ensures same { V.list view.new ≡ V.list view.old }
 {
     require(alloc, view, owned, lesser)?;
@@ -84,7 +86,8 @@ fn check_put<V: View>(
     group: Name,
     cap: Cap,
 ) -> Result<(), Refusal>
-    ensures checked { Checked (demand cap_cmp (PutTakes group cap) (InEffect (Listed (V.list view.old)) (In owned.now)) MissingCap) ⊤ result }
+    ensures checked { let E = InEffect (Listed (V.list view.old)) (In owned.now) in
+        Checked (demand cap_cmp (PutTakes group cap) E MissingCap) ⊤ result }
     ensures same { V.list view.new ≡ V.list view.old }
 {
     let grow = Cap::Grow(group);
@@ -115,7 +118,8 @@ fn check_order<V: View>(
 
 // The reply to whether the capability is in effect.
 fn ask<V: View>(alloc: Global, view: &mut V, owned: &CapSet, cap: Cap) -> Result<Outcome, Refusal>
-    ensures told { Told (InEffect (Listed (V.list view.old)) (In owned.now) cap) ((¬ In owned.now cap) × (¬ IsGlobal (Listed (V.list view.old)) cap)) result }
+    ensures replies { let registry = Listed (V.list view.old) in
+        Replies (InEffect registry (In owned.now) cap) ((¬ In owned.now cap) × (¬ IsGlobal registry cap)) result }
     ensures same { V.list view.new ≡ V.list view.old }
 {
     let Ok(yes) = view.effective(alloc, owned, cap) else {
@@ -157,14 +161,22 @@ pub(crate) fn act_alone<V: View>(
         Act::Drop(cap) => {
             let endpoints = &process.mailbox.endpoints;
             let labels = process.labels.lend();
-            answer_alone(give_up(alloc, view, labels, endpoints, owned, cap))
+            answer_alone(drop_cap(alloc, view, labels, endpoints, owned, cap))
         }
         Act::Enter(login, secret) => answer_alone(enter(view, owned, login, secret)),
-        Act::Emit(bytes) => emit(alloc, view, owned, &process.labels.secrecy, bytes),
+        Act::Emit(bytes) => {
+            check(
+                alloc,
+                view,
+                owned,
+                Demand::Emission(&process.labels.secrecy),
+            )?;
+            Ok(Sequel::Answer(Outcome::Reply(Reply::Out(bytes))))
+        }
         Act::Mail(mail) => {
             let mailbox = &mut process.mailbox;
             let labels = process.labels.lend();
-            answer_alone(work(alloc, view, pid, owned, labels, mailbox, mail))
+            answer_alone(do_mail(alloc, view, pid, owned, labels, mailbox, mail))
         }
     }
 }

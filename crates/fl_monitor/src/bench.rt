@@ -1,4 +1,4 @@
-// Benches: processes that work under one view.
+//! Benches: processes that work under one view.
 ghost use Rattle.std.specs.Option.{option_copied};
 ghost use Rattle.std.specs.Prelude.{◌≡◌, ◌≢◌, ◌≤◌, ◌<◌};
 ghost use Rattle.std.specs.FinMap as map;
@@ -6,7 +6,7 @@ ghost use Rattle.fl_ops.specs.Registry.{Reach, From, Listed};
 ghost use Rattle.fl_jobs.specs.declared.job.Job.TheVariants.{By};
 ghost use Rattle.fl_bench.specs.Bench.{opened};
 ghost use Rattle.fl_bench.specs.Jobs.{Does};
-ghost use Rattle.fl_monitor.specs.parts.Acts.{Births, Told};
+ghost use Rattle.fl_monitor.specs.parts.Acts.{Births, Replies};
 ghost use Rattle.fl_bench.specs.Gifts.{finished, cancelled};
 
 use crate::act::reply_of;
@@ -152,7 +152,7 @@ impl Bench {
             Job::Proc => self.bear(Process::new(alloc)),
             Job::By(pid, act) => self.act(alloc, view, pid, act),
             Job::Member(root, cap) => member(alloc, view, root, cap),
-            Job::Arrive(data) => self.processes.receive(alloc, data),
+            Job::Arrive(data) => self.processes.arrive(alloc, data),
         }
     }
 
@@ -176,7 +176,7 @@ impl Bench {
 
 // The reply to whether the capability is reached from the root.
 fn member<V: View>(alloc: Global, view: &mut V, root: Cap, cap: Cap) -> Result<Outcome, Refusal>
-    ensures told { Told (Reach (Listed (V.list view.old)) (From root) cap) (root ≢ cap) result }
+    ensures replies { Replies (Reach (Listed (V.list view.old)) (From root) cap) (root ≢ cap) result }
     ensures same { V.list view.new ≡ V.list view.old }
 {
     let Ok(yes) = view.reaches(alloc, root, cap) else {

@@ -1,4 +1,4 @@
-// What the holder of capabilities has at hand.
+//! What the holder of capabilities has at hand.
 use crate::view::View;
 use fl_labels::cap::Cap;
 use fl_labels::cap_set::CapSet;

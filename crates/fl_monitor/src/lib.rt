@@ -1,18 +1,17 @@
-//! The reference monitor: processes, and what they may do.
+//! The reference monitor: a bench of processes, and what they may do.
 #![tactic(auto)]
 
 mod act;
-mod arrival;
+mod arrive;
 pub mod bench;
-mod birth;
-mod change;
-mod disown;
-mod emission;
+mod demand;
+mod drop;
+mod enter;
 mod grant;
-mod guard;
 mod held;
-mod login;
 mod mail;
 mod processes;
+mod relabel;
 mod sequel;
+mod spawn;
 pub mod view;

@@ -1,17 +1,14 @@
-// What a process does with its endpoints and messages.
+//! What a process does with its endpoints and messages.
 ghost use Rattle.std.specs.Prelude.{◌≡◌, IfOk};
-ghost use Rattle.fl_labels.specs.SetBy.{In};
 ghost use Rattle.fl_mailbox.specs.Mailbox.{oldest, without_oldest};
 ghost use Rattle.fl_jobs.specs.declared.answer.Outcome.TheVariants as outcomes;
-ghost use Rattle.fl_ops.specs.Registry.{InEffect, Listed};
+ghost use Rattle.fl_ops.specs.Registry.{Listed};
 ghost use Rattle.fl_rules.specs.Labels.{sets_of};
 ghost use Rattle.fl_jobs.specs.declared.job.Mail.TheVariants.{Open, Tune, Send};
 ghost use Rattle.fl_bench.specs.Mailbox.{IsSent, taken};
-ghost use Rattle.fl_bench.specs.Hand.{AtHand};
-ghost use Rattle.fl_monitor.specs.parts.Acts.{Closes, Works};
+ghost use Rattle.fl_monitor.specs.parts.Acts.{Closes, Mails};
 
-use crate::grant::check_grant;
-use crate::guard::check_endpoint;
+use crate::demand::{Demand, check};
 use crate::view::View;
 use fl_jobs::answer::{Outcome, Refusal, Reply};
 use fl_jobs::job::{GivenLabels, Mail};
@@ -27,7 +24,7 @@ use fl_wire::packet::{Data, Message, Packet};
 use std::alloc::{AllocError, Global};
 
 // The least endpoint that is not open is opened, where it is safe.
-fn begin<V: View>(
+fn open<V: View>(
     alloc: Global,
     view: &mut V,
     owned: &CapSet,
@@ -36,7 +33,8 @@ fn begin<V: View>(
     mode: Mode,
     given: GivenLabels,
 ) -> Result<Outcome, Refusal>
-    ensures works { (pid : Pid) → Works (InEffect (Listed (V.list view.old)) (In owned.now)) (AtHand (Listed (V.list view.old)) owned.now) pid (sets_of process.entry) mailbox.old (Open mode given) result mailbox.new }
+    ensures mails { let registry = Listed (V.list view.old) in
+        (pid : Pid) → Mails registry owned.now pid (sets_of process.entry) mailbox.old (Open mode given) result mailbox.new }
     ensures same { V.list view.new ≡ V.list view.old }
 {
     let Some(labels) = given.labels() else {
@@ -46,7 +44,8 @@ fn begin<V: View>(
         return Err(Refusal::EndpointsFull);
     };
     let opened = OpenEndpoint { mode, labels };
-    check_endpoint(alloc, view, owned, process, endpoint, opened.lend())?;
+    let end = opened.lend();
+    check(alloc, view, owned, Demand::Endpoint(process, endpoint, end))?;
     let Ok(()) = mailbox.endpoints.insert(endpoint, opened) else {
         return Err(Refusal::Memory);
     };
@@ -63,7 +62,8 @@ fn tune<V: View>(
     endpoint: Endpoint,
     given: GivenLabels,
 ) -> Result<Outcome, Refusal>
-    ensures works { (pid : Pid) → Works (InEffect (Listed (V.list view.old)) (In owned.now)) (AtHand (Listed (V.list view.old)) owned.now) pid (sets_of process.entry) mailbox.old (Tune endpoint given) result mailbox.new }
+    ensures mails { let registry = Listed (V.list view.old) in
+        (pid : Pid) → Mails registry owned.now pid (sets_of process.entry) mailbox.old (Tune endpoint given) result mailbox.new }
     ensures same { V.list view.new ≡ V.list view.old }
 {
     let Some(labels) = given.labels() else {
@@ -76,7 +76,12 @@ fn tune<V: View>(
         mode: opened.mode,
         labels: labels.lend(),
     };
-    check_endpoint(alloc, view, owned, process, endpoint, tuned)?;
+    check(
+        alloc,
+        view,
+        owned,
+        Demand::Endpoint(process, endpoint, tuned),
+    )?;
     mailbox.endpoints.set_labels(endpoint, labels);
     Ok(Outcome::Reply(Reply::Done))
 }
@@ -91,26 +96,32 @@ fn close(mailbox: &mut Mailbox, endpoint: Endpoint) -> Result<Outcome, Refusal>
     Ok(Outcome::Reply(Reply::Done))
 }
 
+// From whom and where a message goes, and to whom and where.
+#[derive(Clone, Copy)]
+struct Route {
+    sender: Pid,
+    from: Endpoint,
+    receiver: Pid,
+    to: Endpoint,
+}
+
 // The packet of a message from an endpoint of these labels.
 fn packet_of(
     alloc: Global,
-    sender: Pid,
-    from: Endpoint,
+    route: Route,
     labels: &Labels,
-    receiver: Pid,
-    to: Endpoint,
     message: Message,
 ) -> Result<Data, AllocError>
-    ensures { IfOk result (λ d. IsSent sender from labels.now receiver to message d) }
+    ensures { IfOk result (λ d. IsSent route.sender route.from labels.now route.receiver route.to message d) }
 {
     let secrecy = labels.secrecy.copy(alloc)?;
     let integrity = labels.integrity.copy(alloc)?;
     let _tags = (secrecy.len(), integrity.len());
     Ok(Data {
-        sender,
-        from,
-        receiver,
-        to,
+        sender: route.sender,
+        from: route.from,
+        receiver: route.receiver,
+        to: route.to,
         secrecy,
         integrity,
         message,
@@ -121,25 +132,23 @@ fn packet_of(
 fn send<V: View>(
     alloc: Global,
     view: &mut V,
-    sender: Pid,
     owned: &CapSet,
     mailbox: &Mailbox,
-    from: Endpoint,
-    receiver: Pid,
-    to: Endpoint,
+    route: Route,
     message: Message,
 ) -> Result<Outcome, Refusal>
-    ensures works { (process : Labels) → Works (InEffect (Listed (V.list view.old)) (In owned.now)) (AtHand (Listed (V.list view.old)) owned.now) sender process mailbox.now (Send from receiver to message) result mailbox.now }
+    ensures mails { let registry = Listed (V.list view.old) in
+        (process : Labels) → Mails registry owned.now route.sender process mailbox.now (Send route.from route.receiver route.to message) result mailbox.now }
     ensures same { V.list view.new ≡ V.list view.old }
 {
-    let Some(opened) = mailbox.endpoints.get(from) else {
-        return Err(Refusal::NoEndpoint(from));
+    let Some(opened) = mailbox.endpoints.get(route.from) else {
+        return Err(Refusal::NoEndpoint(route.from));
     };
     if !opened.mode.writes() {
-        return Err(Refusal::NotWritable(from));
+        return Err(Refusal::NotWritable(route.from));
     }
-    check_grant(alloc, view, owned, &message.caps)?;
-    match packet_of(alloc, sender, from, &opened.labels, receiver, to, message) {
+    check(alloc, view, owned, Demand::Grant(&message.caps))?;
+    match packet_of(alloc, route, &opened.labels, message) {
         Ok(data) => Ok(Outcome::Out(Packet::Data(data))),
         Err(_) => Err(Refusal::Memory),
     }
@@ -157,7 +166,7 @@ fn take(mailbox: &mut Mailbox) -> Outcome
 }
 
 /// Does what a process of these labels, the owner of these capabilities, asks for of its mailbox.
-pub(crate) fn work<V: View>(
+pub(crate) fn do_mail<V: View>(
     alloc: Global,
     view: &mut V,
     pid: Pid,
@@ -166,11 +175,12 @@ pub(crate) fn work<V: View>(
     mailbox: &mut Mailbox,
     mail: Mail,
 ) -> Result<Outcome, Refusal>
-    ensures works { Works (InEffect (Listed (V.list view.old)) (In owned.now)) (AtHand (Listed (V.list view.old)) owned.now) pid (sets_of process.entry) mailbox.old mail result mailbox.new }
+    ensures mails { let registry = Listed (V.list view.old) in
+        Mails registry owned.now pid (sets_of process.entry) mailbox.old mail result mailbox.new }
     ensures same { V.list view.new ≡ V.list view.old }
 {
     match mail {
-        Mail::Open(mode, given) => begin(alloc, view, owned, process, mailbox, mode, given),
+        Mail::Open(mode, given) => open(alloc, view, owned, process, mailbox, mode, given),
         Mail::Tune(endpoint, given) => {
             tune(alloc, view, owned, process, mailbox, endpoint, given)
         }
@@ -180,9 +190,15 @@ pub(crate) fn work<V: View>(
             receiver,
             to,
             message,
-        } => send(
-            alloc, view, pid, owned, mailbox, from, receiver, to, message,
-        ),
+        } => {
+            let route = Route {
+                sender: pid,
+                from,
+                receiver,
+                to,
+            };
+            send(alloc, view, owned, mailbox, route, message)
+        }
         Mail::Take => Ok(take(mailbox)),
     }
 }

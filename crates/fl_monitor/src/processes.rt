@@ -1,13 +1,13 @@
-// The processes of one bench.
+//! The processes of one bench.
 ghost use Rattle.std.specs.Option.{option_copied};
 ghost use Rattle.std.specs.Prelude.{◌≡◌, [], OnOk, OnErr};
 ghost use Rattle.std.specs.FinMap as map;
 ghost use Rattle.fl_ops.specs.Registry.{Listed};
-ghost use Rattle.fl_monitor.specs.parts.Acts.{ActsAt, ReceivesAt};
+ghost use Rattle.fl_monitor.specs.parts.Acts.{ActsAt, ArrivesAt};
 ghost use Rattle.fl_bench.specs.Gifts.{given, receives};
 
 use crate::act::act_alone;
-use crate::arrival::receive;
+use crate::arrive::arrive;
 use crate::sequel::Sequel;
 use crate::view::View;
 use fl_bench::process::Process;
@@ -93,13 +93,13 @@ impl Processes {
     }
 
     /// Brings a message to its receiver.
-    pub fn receive(&mut self, alloc: Global, data: Data) -> Result<Outcome, Refusal>
-        ensures { ReceivesAt self.old «data» result self.new }
+    pub fn arrive(&mut self, alloc: Global, data: Data) -> Result<Outcome, Refusal>
+        ensures { ArrivesAt self.old «data» result self.new }
     {
         let Some(process) = self.all.get_mut(&data.receiver) else {
             return Err(Refusal::NoProcess(data.receiver));
         };
-        receive(process, alloc, data)
+        arrive(process, alloc, data)
     }
 
     /// Gives a process what the operation gives its maker, if there is that process and its operation is under way.

@@ -1,4 +1,4 @@
-// What follows from acts.
+//! What follows from acts.
 ghost use Rattle.std.specs.Prelude.{◌≡◌};
 ghost use Rattle.fl_monitor.specs.parts.Acts.{answered};
 

@@ -1,4 +1,4 @@
-// Looks at published operations.
+//! Looks at published operations.
 use fl_closure::index::Index;
 use fl_labels::cap::Cap;
 use fl_labels::cap_set::CapSet;

@@ -1,4 +1,4 @@
-use Rattle.fl_monitor.proofs.ActLemmas.{act_busy, act_unchecked, act_full, act_order, act_relabel, act_ask, act_spawn, act_exit, act_drop, act_enter, act_emit, act_mail}
+use Rattle.fl_monitor.proofs.ActLemmas.{act_busy, act_unchecked, act_full, act_order, act_relabel, act_ask, act_spawn, act_exit, act_drop, act_enter, act_kept_in, act_emit, act_mail}
 use Rattle.fl_monitor.proofs.act.act_alone.Goals as goal
 
 pub returns-in_default-clause-acts : goal.returns-in_default-clause-acts
@@ -17,22 +17,25 @@ pub returns-in-Relabel-clause-acts : goal.returns-in-Relabel-clause-acts
 returns-in-Relabel-clause-acts g c = act_relabel _ c.args.pid c.args.process.now c.args.act _ c.in-Idle.is _ _ c.in-Relabel.is c.relabel.ensures.relabels _ c.answer_alone.ensures
 
 pub returns-in-Ask-clause-acts : goal.returns-in-Ask-clause-acts
-returns-in-Ask-clause-acts g c = act_ask _ c.args.pid c.args.process.now c.args.act _ c.in-Idle.is _ c.in-Ask.is c.ask.ensures.told _ c.answer_alone-in-Ask.ensures
+returns-in-Ask-clause-acts g c = act_ask _ c.args.pid c.args.process.now c.args.act _ c.in-Idle.is _ c.in-Ask.is c.ask.ensures.replies _ c.answer_alone-in-Ask.ensures
 
 pub returns-in-Spawn-clause-acts : goal.returns-in-Spawn-clause-acts
-returns-in-Spawn-clause-acts g c = act_spawn _ c.args.pid c.args.process.now c.args.act _ c.in-Idle.is _ c.in-Spawn.is c.spawn.ensures.gives
+returns-in-Spawn-clause-acts g c = act_spawn _ c.args.pid c.args.process.now c.args.act _ c.in-Idle.is _ c.in-Spawn.is c.spawn.ensures.yields
 
 pub returns-in-Exit-clause-acts : goal.returns-in-Exit-clause-acts
 returns-in-Exit-clause-acts g c = act_exit _ c.args.pid c.args.process.now c.args.act _ c.in-Idle.is c.in-Exit.is
 
 pub returns-in-Drop-clause-acts : goal.returns-in-Drop-clause-acts
-returns-in-Drop-clause-acts g c = act_drop _ c.args.pid c.args.process.now c.args.act _ c.in-Idle.is _ c.in-Drop.is _ c.lend-labels.ensures c.give_up.ensures.gives_up _ c.answer_alone-in-Drop.ensures
+returns-in-Drop-clause-acts g c = act_drop _ c.args.pid c.args.process.now c.args.act _ c.in-Idle.is _ c.in-Drop.is _ c.lend-labels.ensures c.drop_cap.ensures.drops _ c.answer_alone-in-Drop.ensures
 
 pub returns-in-Enter-clause-acts : goal.returns-in-Enter-clause-acts
 returns-in-Enter-clause-acts g c = act_enter _ c.args.pid c.args.process.now c.args.act _ c.in-Idle.is _ _ c.in-Enter.is c.enter.ensures.enters _ c.answer_alone-in-Enter.ensures
 
-pub returns-in-Emit-clause-acts : goal.returns-in-Emit-clause-acts
-returns-in-Emit-clause-acts g c = act_emit _ c.args.pid c.args.process.now c.args.act _ c.in-Idle.is _ c.in-Emit.is c.emit.ensures.gives
+pub returns-in_err-check-in-Emit-clause-acts : goal.returns-in_err-check-in-Emit-clause-acts
+returns-in_err-check-in-Emit-clause-acts g c = act_kept_in _ c.args.pid c.args.process.now c.args.act _ c.in-Idle.is _ c.in-Emit.is c.check.ensures.checked _ c.in_err-check-in-Emit.was c.from_residual-in_err-check-in-Emit.ensures
+
+pub returns-in_ok-check-in-Emit-clause-acts : goal.returns-in_ok-check-in-Emit-clause-acts
+returns-in_ok-check-in-Emit-clause-acts g c = act_emit _ c.args.pid c.args.process.now c.args.act _ c.in-Idle.is _ c.in-Emit.is c.check.ensures.checked _ c.in_ok-check-in-Emit.was
 
 pub returns-in-Mail-clause-acts : goal.returns-in-Mail-clause-acts
-returns-in-Mail-clause-acts g c = act_mail _ c.args.pid c.args.process.now c.args.act _ c.in-Idle.is _ c.in-Mail.is _ c.lend-labels-in-Mail.ensures c.work.ensures.works _ c.answer_alone-in-Mail.ensures
+returns-in-Mail-clause-acts g c = act_mail _ c.args.pid c.args.process.now c.args.act _ c.in-Idle.is _ c.in-Mail.is _ c.lend-labels-in-Mail.ensures c.do_mail.ensures.mails _ c.answer_alone-in-Mail.ensures

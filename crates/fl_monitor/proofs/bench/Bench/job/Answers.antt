@@ -1,4 +1,4 @@
-use Rattle.fl_monitor.proofs.JobLemmas.{births_does, receives_does, told_does}
+use Rattle.fl_monitor.proofs.JobLemmas.{births_does, arrives_does, replies_does}
 use Rattle.fl_monitor.proofs.bench.Bench.job.Goals as goal
 
 pub returns-in-Proc-clause-does : goal.returns-in-Proc-clause-does
@@ -8,7 +8,7 @@ pub returns-in-By-clause-does : goal.returns-in-By-clause-does
 returns-in-By-clause-does g c = rw c.in-By.is c.act.ensures.does
 
 pub returns-in-Member-clause-does : goal.returns-in-Member-clause-does
-returns-in-Member-clause-does g c = rw c.in-Member.is (told_does _ c.args.self.now c.in-Member.root c.in-Member.cap c.member.ensures.told)
+returns-in-Member-clause-does g c = rw c.in-Member.is (replies_does _ c.args.self.now c.in-Member.root c.in-Member.cap c.member.ensures.replies)
 
 pub returns-in-Arrive-clause-does : goal.returns-in-Arrive-clause-does
-returns-in-Arrive-clause-does g c = rw c.in-Arrive.is (receives_does _ _ c.args.self.now c.self.view_is c.in-Arrive.data c.receive.ensures)
+returns-in-Arrive-clause-does g c = rw c.in-Arrive.is (arrives_does _ _ c.args.self.now c.self.view_is c.in-Arrive.data c.arrive.ensures)

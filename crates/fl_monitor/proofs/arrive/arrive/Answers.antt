@@ -1,0 +1,24 @@
+use Rattle.std.proofs.Common.{refl, sym}
+use Rattle.fl_monitor.proofs.ArrivalLemmas.{comes_busy, comes_nowhere, comes_unsafe, comes_full, comes_starved, comes_in}
+use Rattle.fl_monitor.proofs.arrive.arrive.Goals as goal
+
+pub returns-in_default : goal.returns-in_default
+returns-in_default c = comes_busy c.args.process.now c.args.data c.in_default.not-Idle
+
+pub returns-in_default-get : goal.returns-in_default-get
+returns-in_default-get c = comes_nowhere c.args.process.now c.args.data _ c.in-Idle.is (sym c.in_default-get.ensures)
+
+pub returns-in-Some-safe_pair : goal.returns-in-Some-safe_pair
+returns-in-Some-safe_pair c = comes_unsafe c.args.process.now c.args.data _ c.in-Idle.is _ (sym c.in-Some.ensures) _ _ c.end_left.ensures c.lend.ensures _ c.in-Some-safe_pair.ensures _ c.refused_entry.ensures
+
+pub returns-then-is_full : goal.returns-then-is_full
+returns-then-is_full c = comes_full c.args.process.now c.args.data _ c.in-Idle.is _ (sym c.in-Some.ensures) _ _ c.end_left.ensures c.lend.ensures c.in_default-safe_pair.ensures _ c.is_full.ensures c.if-is_full.true
+
+pub returns-in_default-union : goal.returns-in_default-union
+returns-in_default-union c = comes_starved c.args.process.now c.args.data _ c.in-Idle.is _ (sym c.in-Some.ensures) _ _ c.end_left.ensures c.lend.ensures c.in_default-safe_pair.ensures _ c.is_full.ensures c.if-is_full.false _ refl
+
+pub returns-in_default-push : goal.returns-in_default-push
+returns-in_default-push c = comes_starved c.args.process.now c.args.data _ c.in-Idle.is _ (sym c.in-Some.ensures) _ _ c.end_left.ensures c.lend.ensures c.in_default-safe_pair.ensures _ c.is_full.ensures c.if-is_full.false _ c.in_default-push.ensures.err
+
+pub returns : goal.returns
+returns c = comes_in c.args.process.now c.args.data _ c.in-Idle.is _ (sym c.in-Some.ensures) _ _ c.end_left.ensures c.lend.ensures c.in_default-safe_pair.ensures _ c.is_full.ensures c.if-is_full.false _ c.in-Ok.ensures _ c.in-Ok-push.ensures.ok

@@ -1,0 +1,44 @@
+//! Entries of processes by logins.
+ghost use Rattle.std.specs.Prelude.{◌≡◌};
+ghost use Rattle.fl_ops.specs.Registry.{Listed};
+ghost use Rattle.fl_bench.specs.Secrets.{digest_of};
+ghost use Rattle.fl_monitor.specs.parts.Acts.{Enters};
+
+use crate::view::View;
+use fl_jobs::answer::{Outcome, Refusal, Reply};
+use fl_jobs::secret::Secret;
+use fl_labels::cap_set::CapSet;
+use fl_labels::name::Name;
+use fl_ops::digest::Digest;
+use sha2::{Digest as Hasher, Sha256};
+
+/// What is kept of a secret: its digest by SHA-256.
+pub(crate) fn digest_of_secret(secret: Secret) -> Digest
+    ensures { result ≡ digest_of secret }
+{
+    Digest {
+        bytes: Sha256::digest(secret.bytes),
+    }
+}
+
+/// Adds the capability of the login of this name, where the secret is that of the login.
+pub(crate) fn enter<V: View>(
+    view: &mut V,
+    owned: &mut CapSet,
+    login: Name,
+    secret: Secret,
+) -> Result<Outcome, Refusal>
+    ensures enters { Enters (Listed (V.list view.old)) owned.old login secret result owned.new }
+    ensures same { V.list view.new ≡ V.list view.old }
+{
+    let Some((cap, digest)) = view.login(login) else {
+        return Err(Refusal::NoLogin(login));
+    };
+    if digest != digest_of_secret(secret) {
+        return Err(Refusal::WrongSecret);
+    }
+    let Ok(_) = owned.insert(cap) else {
+        return Err(Refusal::Memory);
+    };
+    Ok(Outcome::Reply(Reply::Entered(cap)))
+}

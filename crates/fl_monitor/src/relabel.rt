@@ -1,0 +1,76 @@
+//! Changes of labels.
+ghost use Rattle.std.specs.Prelude.{◌≡◌};
+ghost use Rattle.fl_ops.specs.Registry.{Listed};
+ghost use Rattle.fl_rules.specs.Labels.{sets_of};
+ghost use Rattle.fl_bench.specs.Process.{side_of, with_side};
+ghost use Rattle.fl_monitor.specs.parts.Acts.{Relabels};
+
+use crate::demand::{Demand, check};
+use crate::view::View;
+use fl_jobs::answer::{Outcome, Refusal, Reply};
+use fl_jobs::job::{Side, TooLong};
+use fl_labels::cap_set::CapSet;
+use fl_labels::label::Label;
+use fl_mailbox::endpoints::Endpoints;
+use fl_rules::labels::{Labels, LabelsRef};
+use std::alloc::Global;
+
+fn label_of(labels: &Labels, side: Side) -> &Label
+    ensures { result.now ≡ side_of side labels.now }
+{
+    match side {
+        Side::Secrecy => &labels.secrecy,
+        Side::Integrity => &labels.integrity,
+    }
+}
+
+// The labels with another one on this side.
+fn with_label<'a>(labels: &'a Labels, side: Side, label: &'a Label) -> LabelsRef<'a>
+    ensures { sets_of result ≡ with_side side label.now labels.now }
+{
+    match side {
+        Side::Secrecy => LabelsRef {
+            secrecy: label,
+            integrity: &labels.integrity,
+        },
+        Side::Integrity => LabelsRef {
+            secrecy: &labels.secrecy,
+            integrity: label,
+        },
+    }
+}
+
+fn set_label(labels: &mut Labels, side: Side, label: Label)
+    ensures { labels.new ≡ with_side side label labels.old }
+{
+    match side {
+        Side::Secrecy => labels.secrecy = label,
+        Side::Integrity => labels.integrity = label,
+    }
+}
+
+/// Sets the label of a side, where the owner of these capabilities may change it so, and each of its endpoints stays safe. A
+/// label of too many tags is refused before anything is asked.
+pub(crate) fn relabel<V: View>(
+    alloc: Global,
+    view: &mut V,
+    owned: &CapSet,
+    endpoints: &Endpoints,
+    labels: &mut Labels,
+    side: Side,
+    label: Result<Label, TooLong>,
+) -> Result<Outcome, Refusal>
+    ensures relabels { let registry = Listed (V.list view.old) in
+        Relabels registry owned.now endpoints.now labels.old side label result labels.new }
+    ensures same { V.list view.new ≡ V.list view.old }
+{
+    let Ok(label) = label else {
+        return Err(Refusal::LabelTooLong);
+    };
+    let old = label_of(labels, side);
+    check(alloc, view, owned, Demand::Change(old, &label))?;
+    let as_changed = with_label(labels, side, &label);
+    check(alloc, view, owned, Demand::Endpoints(as_changed, endpoints))?;
+    set_label(labels, side, label);
+    Ok(Outcome::Reply(Reply::Done))
+}
