@@ -1,4 +1,3 @@
-pub mod Table
 pub mod Puts
 pub mod Steps
 pub mod Orders

@@ -43,7 +43,7 @@ use Rattle.fl_bench.specs.Jobs.{order_checks, checks_of, act_checks, bench_check
 use Rattle.fl_bench.specs.Following.{Follows}
 use Rattle.fl_bench.specs.Births.{IsBirth, alone, of}
 use Rattle.fl_bench.specs.declared.process.Process.{Process}
-use Rattle.fl_bench.proofs.Table.{put_same}
+use Rattle.fl_mailbox.proofs.Table.{put_same}
 use Rattle.fl_bench.specs.Summary.{Keeps, stays, turns, Changes, keeps, bears, loses, IsOrder, IsSending, Summary, refuses, replies, orders, sends}
 
 -- ---- labels

@@ -21,7 +21,8 @@ use Rattle.fl_rules.specs.Endpoint.{Crosses}
 use Rattle.fl_labels.specs.Caps.{Dual}
 use Rattle.fl_rules.specs.declared.endpoint.Mode.{Mode}
 use Rattle.fl_rules.specs.declared.labels.Labels.{Labels}
-use Rattle.fl_mailbox.specs.Endpoints.{Table, IsLeastFree, one_least_free}
+use Rattle.fl_mailbox.specs.Endpoints.{Table, IsLeastFree}
+use Rattle.fl_mailbox.specs.TableLaws.{one_least_free}
 use Rattle.fl_mailbox.specs.Offenders.{CrossesAt, DualAt}
 use Rattle.fl_mailbox.specs.declared.mailbox.Mailbox.{Mailbox}
 use Rattle.fl_mailbox.specs.declared.endpoints.OpenEndpoint.{OpenEndpoint}

@@ -21,7 +21,7 @@ use Rattle.fl_rules.specs.declared.pair.PairFault.TheVariants as faults
 use Rattle.fl_wire.specs.declared.packet.Data.{Data}
 use Rattle.fl_wire.specs.declared.packet.Message.{Message}
 use Rattle.fl_wire.specs.declared.packet.Packet.TheVariants as packets
-use Rattle.fl_mailbox.specs.Endpoints.{one_least_free}
+use Rattle.fl_mailbox.specs.TableLaws.{one_least_free}
 use Rattle.fl_mailbox.specs.declared.mailbox.Mailbox.{Mailbox}
 use Rattle.fl_mailbox.specs.declared.endpoints.OpenEndpoint.{OpenEndpoint}
 use Rattle.fl_jobs.specs.Given.{labels_of}

@@ -27,7 +27,7 @@ use Rattle.fl_jobs.specs.declared.answer.Refusal.{Refusal}
 use Rattle.fl_jobs.specs.declared.answer.Refusal.TheVariants.{NoProcess, MissingCap, Secrecy, Busy, Memory}
 use Rattle.fl_jobs.specs.declared.answer.Reply.TheVariants.{Made, Entered}
 use Rattle.fl_jobs.specs.declared.answer.Outcome.{Outcome}
-use Rattle.fl_mailbox.specs.Offenders.{offender_total, offender_exact}
+use Rattle.fl_mailbox.specs.TableLaws.{offender_exact, offender_total}
 use Rattle.fl_bench.specs.Checks.{refuse_if, ◌then◌}
 use Rattle.fl_bench.specs.Guards.{endpoints_check, unsafe_by}
 use Rattle.fl_bench.specs.Mailbox.{arrival_checks}

@@ -19,7 +19,7 @@ use Rattle.fl_wire.specs.declared.packet.Packet.{Packet}
 use Rattle.fl_wire.specs.declared.packet.Packet.TheVariants as kinds
 use Rattle.fl_jobs.specs.declared.job.Job.{Job}
 use Rattle.fl_jobs.specs.declared.job.Job.TheVariants.{Arrive}
-use Rattle.fl_bench.proofs.Table.{get_held, one_gone, one_put, put_same, put_through}
+use Rattle.fl_mailbox.proofs.Table.{get_held, one_gone, one_put, put_same, put_through}
 use Rattle.fl_bench.proofs.Orders.{sending_at}
 use Rattle.fl_bench.proofs.Puts.{none_some}
 use Rattle.fl_script.specs.declared.line.Line.TheVariants as line

@@ -1,6 +1,6 @@
 //! Handing on of capabilities.
 ghost use Rattle.std.specs.Prelude.{⊤};
-ghost use Rattle.fl_labels.specs.Found.{IsFirst};
+ghost use Rattle.fl_labels.specs.parts.First.{IsFirst};
 
 use fl_labels::cap::Cap;
 use fl_rules::has::Has;
