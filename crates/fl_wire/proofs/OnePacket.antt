@@ -101,7 +101,7 @@ message_same m n e =
     let first = set_front m.caps n.caps (payload_bytes m.payload) (payload_bytes n.payload) e in
     same_message m n first.0 (ap (drop 2) first.1)
 
-same_data : (a b : Data) → a.sender ≡ b.sender → a.from ≡ b.from → a.receiver ≡ b.receiver → a.to ≡ b.to → a.secrecy ≡ b.secrecy → a.integrity ≡ b.integrity → a.message ≡ b.message → a ≡ b
+pub same_data : (a b : Data) → a.sender ≡ b.sender → a.from ≡ b.from → a.receiver ≡ b.receiver → a.to ≡ b.to → a.secrecy ≡ b.secrecy → a.integrity ≡ b.integrity → a.message ≡ b.message → a ≡ b
 same_data a b p q r s t u m =
     let labels : ◌≡◌ {A = (f : SetBy name_cmp × SetBy name_cmp) × (len f.0 ≤ 256 × len f.1 ≤ 256)}
     ((a.secrecy, a.integrity), (a.secrecy_fits, a.integrity_fits)) ((b.secrecy, b.integrity), (b.secrecy_fits, b.integrity_fits))
