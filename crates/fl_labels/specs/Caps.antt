@@ -1,4 +1,4 @@
--- Sets of capabilities, said as predicates: the members of a finite set, and what is in effect for a process, are both such sets.
+-- Sets of capabilities, said as predicates: both the members of a finite set and what is in effect for a process are such sets.
 use Rattle.std.specs.Prelude.{◌≡◌, Bool, true}
 use Rattle.fl_labels.specs.declared.name.Name.{Name}
 use Rattle.fl_labels.specs.declared.cap.Cap.{Cap}

@@ -24,7 +24,8 @@ endpoint_total = on_total (λ e. e.number) nat_cmp_total
 -- endpoints of equal numbers are equal
 pub same_endpoint : (a b : Endpoint) → a.number ≡ b.number → a ≡ b
 same_endpoint a b p =
-    let parts : ◌≡◌ {A = (n : ℕ) × (0 < n × n ≤ 64)} (a.number, a.number_in_range) (b.number, b.number_in_range) = Σ_prop_path (λ n. ×_prop le_prop le_prop) p in
+    let parts : ◌≡◌ {A = (n : ℕ) × (0 < n × n ≤ 64)} (a.number, a.number_in_range) (b.number, b.number_in_range)
+    = Σ_prop_path (λ n. ×_prop le_prop le_prop) p in
     λ i. record { number = (parts i).0; number_in_range = (parts i).1 }
 
 pub endpoint_exact : IsAntisymmetric endpoint_cmp

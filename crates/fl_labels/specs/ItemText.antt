@@ -25,7 +25,8 @@ pub no_comma-name_text : (n : Name) → NoComma (name_text n)
 no_comma-name_text n =
     All-append (λ b. is_comma b ≡ false) (decimal n.node) (46 ∷ decimal n.seq)
     (digits _ (digits_decimal own n.node (omega (arith, n.node_in_range))))
-    (All-cons (λ b. is_comma b ≡ false) 46 (decimal n.seq) refl (digits _ (digits_decimal own n.seq (omega (arith, n.seq_in_range)))))
+    (All-cons (λ b. is_comma b ≡ false) 46 (decimal n.seq) refl
+    (digits _ (digits_decimal own n.seq (omega (arith, n.seq_in_range)))))
 
 pub no_comma-cap_text : (c : Cap) → NoComma (cap_text c)
 no_comma-cap_text (Plus n) = All-cons (λ b. is_comma b ≡ false) 43 (name_text n) refl (no_comma-name_text n)

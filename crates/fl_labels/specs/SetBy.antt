@@ -62,7 +62,8 @@ true_of false h = absurd h
 
 -- a list of entries rises where its keys do
 module _ {K : Type 0} (R : K → K → Ordering) where
-  below_from : (k : K) (es : List (K × Unit {0})) → T (below_all R k es) → AllByRecursion (λ y. R k y ≡ Less) (mapped (λ e. e.0) es)
+  below_from : (k : K) (es : List (K × Unit {0})) → T (below_all R k es)
+      → AllByRecursion (λ y. R k y ≡ Less) (mapped (λ e. e.0) es)
   below_from k [] h = tt
   below_from k (e ∷ es) h = let h = both_true _ _ h in (less _ h.0, below_from k es h.1)
 
@@ -78,7 +79,8 @@ module _ {K : Type 0} (R : K → K → Ordering) where
   rise_to : (ks : List K) → IsStrictlySortedBy R ks → T (is_sorted R (marked ks))
   unfolding IsStrictlySortedBy
   rise_to [] h = tt
-  rise_to (k ∷ ks) h = subst (λ b. T (b && is_sorted R (marked ks))) (sym (true_of _ (below_to k ks h.0))) (rise_to ks h.1)
+  rise_to (k ∷ ks) h =
+      subst (λ b. T (b && is_sorted R (marked ks))) (sym (true_of _ (below_to k ks h.0))) (rise_to ks h.1)
 
 module _ {K : Type 0} {R : K → K → Ordering} where
   pub empty : SetBy R
@@ -163,9 +165,13 @@ module _ {K : Type 0} {R : K → K → Ordering} (o : IsTotalOrder R) where
   or-false true = refl
   or-false false = refl
 
-  contains-insert_all : (s : SetBy R) (ks : List K) (q : K) → contains (insert_all s ks) q ≡ (contains s q || list_any (eq_by_cmp R q) ks)
+  contains-insert_all : (s : SetBy R) (ks : List K) (q : K)
+      → contains (insert_all s ks) q ≡ (contains s q || list_any (eq_by_cmp R q) ks)
   contains-insert_all s [] q = or-false _
-  contains-insert_all s (k ∷ ks) q = contains-insert _ k q ∙ ap (λ b. eq_by_cmp R q k || b) (contains-insert_all s ks q) ∙ or_swap (eq_by_cmp R q k) (contains s q) _
+  contains-insert_all s (k ∷ ks) q =
+      contains-insert _ k q
+      ∙ ap (λ b. eq_by_cmp R q k || b) (contains-insert_all s ks q)
+      ∙ or_swap (eq_by_cmp R q k) (contains s q) _
 
   pub contains-union : (s t : SetBy R) (q : K) → contains (union s t) q ≡ (contains s q || contains t q)
   unfolding union
@@ -198,7 +204,9 @@ module _ {K : Type 0} {R : K → K → Ordering} (o : IsTotalOrder R) where
         ∙ ap (list_any (eq_by_cmp R q)) (sym (keys-marked ks))
         ∙ sym (is_some-find R q (marked ks))
         ∙ ap is_some (sym (map.get-from_sorted R (marked ks) q sorted))) in
-        ap members same ∙ ap (mapped (λ (e : K × Unit {0}). e.0)) (map.entries-from_sorted R (marked ks) sorted) ∙ keys-marked ks
+        ap members same
+        ∙ ap (mapped (λ (e : K × Unit {0}). e.0)) (map.entries-from_sorted R (marked ks) sorted)
+        ∙ keys-marked ks
 
 -- the members of s, as a predicate
 abbrev pub In : {K : Type 0} {R : K → K → Ordering} → SetBy R → K → Type 0

@@ -19,7 +19,8 @@ pub record IsNode (n : ℕ) (word : List ℕ) : Type 0 where
   pub written : word ≡ decimal n
 
 -- the bytes list the members of s in braces, in any order, a repeated one once
-pub record IsListing {K : Type 0} {R : K → K → Ordering} (text : K → List ℕ) (s : SetBy R) (bytes : List ℕ) : Type 0 where
+pub record IsListing {K : Type 0} {R : K → K → Ordering}
+    (text : K → List ℕ) (s : SetBy R) (bytes : List ℕ) : Type 0 where
   pub items : List K
   pub spelled : bytes ≡ braces text items
   pub same : s ≡ of_list items

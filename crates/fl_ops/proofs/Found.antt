@@ -5,12 +5,9 @@ use Rattle.std.specs.Int.{w16, w32, to_be_bytes, from_be_bytes}
 use Rattle.std.proofs.lemmas.Nat.{be_bytes_2, be_bytes_4}
 use Rattle.std.proofs.lemmas.Bool.{le-leb, lt-ltb, and_parts, leb-true, false≢true}
 use Rattle.fl_labels.specs.declared.name.Name.{Name}
-use Rattle.fl_labels.specs.declared.cap.Cap.{Cap}
-use Rattle.fl_ops.specs.declared.digest.Digest.{Digest}
 use Rattle.fl_ops.specs.declared.op.Body.{Body}
-use Rattle.fl_ops.specs.declared.op.Body.TheVariants.{Put, MakeLogin}
-use Rattle.fl_ops.specs.Bytes.{name_bytes, cap_bytes, kind_byte, body_bytes, op_bytes}
-use Rattle.fl_ops.specs.Grammar.{has_name, has_byte, has_digest, body_fields, cap_fields, first_fault, op_fault}
+use Rattle.fl_ops.specs.Bytes.{name_bytes, kind_byte, body_bytes, op_bytes}
+use Rattle.fl_ops.specs.Grammar.{has_name, has_byte, body_fields, first_fault, op_fault}
 
 -- each cell is a byte
 abbrev pub IsBytes : List ℕ → Type 0
@@ -57,37 +54,6 @@ name_found bs at field node seq fits within is p q some_node some_seq =
       rw (le-leb (at + 6) (length bs) within, ← numbers.0, ← second, lt-ltb 0 node (omega arith), lt-ltb 0 seq (omega arith)) refl,
       sym (take-append-drop 6 (drop at bs)) ∙ (λ i. six_cells i ++ drop-drop 6 at bs i),
     )
-
--- one more field that is there
-fields_then : (fs : List (ℕ × Bool)) (at : ℕ) (there : Bool) → first_fault fs ≡ None → there ≡ true → first_fault (fs ++ (at, there) ∷ []) ≡ None
-fields_then [] at there none is = rw is refl
-fields_then ((place, true) ∷ fs) at there none is = fields_then fs at there none is
-fields_then (field ∷ fs) at there none is = absurd (cc)
-
--- what `body_at` owes where it answers a put
-pub put_found : (bs : List ℕ) (kind : ℕ) (group : Name) (cap : Cap) → kind ≡ 3
-    → (has_name bs 8 ≡ true) × (drop 8 bs ≡ name_bytes group ++ drop 14 bs)
-    → (first_fault (cap_fields bs 14) ≡ None) × (drop 14 bs ≡ cap_bytes cap ++ drop 21 bs)
-    → (first_fault (body_fields bs kind 8) ≡ None) × (kind_byte (Put group cap) ≡ kind)
-    × (take 13 (drop 8 bs) ≡ body_bytes (Put group cap))
-put_found bs kind group cap is named held = (
-  rw (is, named.0, held.0) refl,
-  sym is,
-  ap (take 13) (named.1 ∙ ap (λ l. name_bytes group ++ l) held.1),
-)
-
--- what `body_at` owes where it answers a login
-pub login_found : (bs : List ℕ) (kind : ℕ) (cap : Cap) (digest : Digest) → kind ≡ 4
-    → (first_fault (cap_fields bs 8) ≡ None) × (drop 8 bs ≡ cap_bytes cap ++ drop 15 bs)
-    → (has_digest bs 15 ≡ true) × (take 32 (drop 15 bs) ≡ digest.bytes)
-    → (first_fault (body_fields bs kind 8) ≡ None) × (kind_byte (MakeLogin cap digest) ≡ kind)
-    × (take (length (body_bytes (MakeLogin cap digest))) (drop 8 bs) ≡ body_bytes (MakeLogin cap digest))
-login_found bs kind cap digest is held hashed = (
-  rw is (fields_then (cap_fields bs 8) 15 (has_digest bs 15) held.0 hashed.0),
-  sym is,
-  ap (λ n. take n (drop 8 bs)) (length-append (cap_bytes cap) digest.bytes ∙ ap (λ n. 7 + n) digest.sized)
-      ∙ ap (take 39) held.1 ∙ ap (λ l. cap_bytes cap ++ l) hashed.1,
-)
 
 -- what `decode` owes where it answers an operation
 pub op_found : (bs : List ℕ) (format kind : ℕ) (name : Name) (body : Body) (end : ℕ)

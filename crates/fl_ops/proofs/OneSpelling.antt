@@ -101,7 +101,8 @@ no_fault n (MakeLogin c d) rest =
 
 -- ---- one operation
 
-name_front : (n m : Name) (u v : List ℕ) → name_bytes n ++ u ≡ name_bytes m ++ v → (n ≡ m) × (u ≡ v)
+-- a name, before whatever follows it
+pub name_front : (n m : Name) (u v : List ℕ) → name_bytes n ++ u ≡ name_bytes m ++ v → (n ≡ m) × (u ≡ v)
 name_front n m u v e = (
   same_name n m
       (sym (node_back n) ∙ ap (λ l. from_be_bytes w16 (take 2 l)) e ∙ node_back m)
@@ -109,7 +110,8 @@ name_front n m u v e = (
   ap (drop 6) e,
 )
 
-cap_front : (a b : Cap) (u v : List ℕ) → cap_bytes a ++ u ≡ cap_bytes b ++ v → (a ≡ b) × (u ≡ v)
+-- and a capability
+pub cap_front : (a b : Cap) (u v : List ℕ) → cap_bytes a ++ u ≡ cap_bytes b ++ v → (a ≡ b) × (u ≡ v)
 cap_front a b u v e =
     let rest = name_front (cap_name a) (cap_name b) u v (ap (drop 1) e) in
     (cap_same a b (ap (λ l. get_or l 0 0) e) rest.0, rest.1)

@@ -10,7 +10,8 @@ first_fault (f ∷ fs) = if f.1 then first_fault fs else Some f.0
 
 -- a byte from low to high
 abbrev pub has_byte : List ℕ → ℕ → ℕ → ℕ → Bool
-has_byte bytes at low high = nat_lt at (length bytes) && (nat_le low (slice_index bytes at) && nat_le (slice_index bytes at) high)
+has_byte bytes at low high = nat_lt at (length bytes)
+    && (nat_le low (slice_index bytes at) && nat_le (slice_index bytes at) high)
 
 -- two bytes and four bytes, neither of which are 0 as a number
 abbrev pub has_name : List ℕ → ℕ → Bool
@@ -26,8 +27,8 @@ cap_fields bytes at = (at, has_byte bytes at 1 4) ∷ (at + 1, has_name bytes (a
 abbrev pub has_digest : List ℕ → ℕ → Bool
 has_digest bytes at = nat_le (at + 32) (length bytes)
 
--- what follows the name, by the kind: the policy of a tag, nothing for a group, the group and the capability of a put, and
--- the capability and the digest of a login
+-- what follows the name, by the kind: the policy of a tag, nothing for a group, the group and the capability of a put,
+-- and the capability and the digest of a login
 abbrev pub body_fields : List ℕ → ℕ → ℕ → List (ℕ × Bool)
 body_fields bytes kind at =
     if kind == 1 then (at, has_byte bytes at 1 3) ∷ []

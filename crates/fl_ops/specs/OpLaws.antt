@@ -41,7 +41,8 @@ cap_same a b e k = absurd (cc)
 -- digests of equal bytes are equal
 pub same_digest : (a b : Digest) → a.bytes ≡ b.bytes → a ≡ b
 same_digest a b e =
-    let parts : ◌≡◌ {A = (bytes : List ℕ) × (length bytes ≡ 32)} (a.bytes, a.sized) (b.bytes, b.sized) = Σ_prop_path (λ bytes. ℕ_set _ _) e in
+    let parts : ◌≡◌ {A = (bytes : List ℕ) × (length bytes ≡ 32)} (a.bytes, a.sized) (b.bytes, b.sized)
+    = Σ_prop_path (λ bytes. ℕ_set _ _) e in
     λ i. record { bytes = (parts i).0; sized = (parts i).1 }
 
 policy_same : (p q : Policy) → policy_byte p ≡ policy_byte q → p ≡ q

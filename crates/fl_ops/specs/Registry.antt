@@ -1,5 +1,5 @@
--- Registries, and what they give to those who own capabilities. A registry is a set of operations, said as a predicate: the members of
--- a finite set, the items of a list and a union of both are then all registries.
+-- Registries, and what they give to those who own capabilities. A registry is a set of operations, said as a predicate:
+-- the members of a finite set, the items of a list and a union of both are then all registries.
 use Rattle.std.specs.Prelude.{◌≡◌, ◌⊎◌, List, Bool}
 use Rattle.std.specs.List.{Contains}
 use Rattle.fl_labels.specs.Caps.{Among, Caps}
@@ -32,7 +32,8 @@ Puts MakeGroup group c = ⊥
 Puts (Put into what) group c = (into ≡ group) × (what ≡ c)
 Puts (MakeLogin cap digest) group c = ⊥
 
--- A chain leads from the first capability to the last: each but the last is the use of a group into which the registry puts the next one.
+-- A chain leads from the first capability to the last: each but the last is the use of a group
+-- into which the registry puts the next one.
 pub data Chain (U : Registry) : Cap → Cap → Type 0 where
   here : {c : Cap} → Chain U c c
   into : {op : Op} {group : Name} {b c : Cap} → U op → Puts op.body group b → Chain U b c → Chain U (Use group) c

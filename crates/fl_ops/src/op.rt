@@ -20,8 +20,11 @@ pub const BODY_PLACE: usize = 2 + NAME_SIZE;
 /// Which capability of a new tag everyone gets: to add it, none, or to remove it.
 #[derive(Clone, Copy, Debug, PartialEq, Eq)]
 pub enum Policy {
+    /// Everyone may add the tag.
     Export,
+    /// Nobody else may add or remove the tag.
     Read,
+    /// Everyone may remove the tag.
     Integrity,
 }
 
@@ -41,7 +44,9 @@ pub enum Body {
 /// An entry of the tag registry. Ordered by name, then by its bytes.
 #[derive(Clone, Copy, Debug)]
 pub struct Op {
+    /// What it is called, and so the tag, the group or the login that it makes.
     pub name: Name,
+    /// What it does.
     pub body: Body,
 }
 

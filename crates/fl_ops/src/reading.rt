@@ -8,6 +8,7 @@ use crate::fault::BadField;
 use crate::fields::{CAP_SIZE, NAME_SIZE, byte_at, cap_at, name_at};
 use crate::op::{BODY_PLACE, Body, Op, Policy};
 
+// The policy at a place.
 fn policy_at(bytes: &[u8], at: usize) -> Result<Policy, BadField>
     requires { at < 2 ^ 32 }
     ensures { MatchResult result
@@ -21,6 +22,7 @@ fn policy_at(bytes: &[u8], at: usize) -> Result<Policy, BadField>
     })
 }
 
+// The digest at a place.
 fn digest_at(bytes: &[u8], at: usize) -> Result<Digest, BadField>
     requires { at < 2 ^ 32 }
     ensures { MatchResult result

@@ -7,6 +7,7 @@ use crate::fields::{push_cap, push_name};
 use crate::op::{Body, Op};
 use std::alloc::{AllocError, Global};
 
+// Adds what follows the name.
 fn push_body(out: &mut Vec<u8>, body: &Body) -> Result<(), AllocError>
     ensures ok { OnOk result (out.new.items ≡ out.old.items ++ body_bytes body.now) }
     ensures full { OnErr result

@@ -1,22 +1,20 @@
 -- Bytes spell one packet at most.
-use Rattle.std.proofs.Common.{◌≡◌, ℕ, ◌≤◌, ◌<◌, ◌^◌, List, [], ◌∷◌, ◌++◌, length, get_or, take, drop, refl, sym, ap, ◌∙◌, arith}
+use Rattle.std.proofs.Common.{◌≡◌, ℕ, ◌≤◌, ◌<◌, ◌^◌, List, [], ◌∷◌, ◌++◌, length, get_or, take, drop, refl, sym, ap, ◌∙◌, append_assoc, arith}
 use mathlib.Core.HLevel.{Σ_prop_path}
 use Rattle.std.specs.Coded.{×_prop, le_prop}
 use Rattle.std.specs.Int.{w16, w32, to_be_bytes, from_be_bytes}
 use Rattle.std.specs.List.{flat_map}
 use Rattle.std.proofs.lemmas.Nat.{from_be_bytes-to_be_bytes_2, from_be_bytes-to_be_bytes_4}
-use Rattle.fl_labels.specs.declared.name.Name.{Name}
-use Rattle.fl_labels.specs.declared.cap.Cap.{Cap}
 use Rattle.fl_labels.specs.declared.pid.Pid.{Pid}
 use Rattle.fl_labels.specs.Name.{name_cmp}
-use Rattle.fl_labels.specs.NameOrder.{same_name, name_total, name_exact}
-use Rattle.fl_labels.specs.Cap.{cap_name, cap_rank, cap_cmp}
+use Rattle.fl_labels.specs.NameOrder.{name_total, name_exact}
+use Rattle.fl_labels.specs.Cap.{cap_cmp}
 use Rattle.fl_labels.specs.CapOrder.{cap_total, cap_exact}
 use Rattle.fl_labels.specs.PidOrder.{same_pid}
 use Rattle.fl_labels.specs.Endpoint.{same_endpoint}
 use Rattle.fl_labels.specs.SetBy.{SetBy, of_list, members, len, len-members, of_list-members}
 use Rattle.fl_ops.specs.Bytes.{name_bytes, cap_bytes}
-use Rattle.fl_ops.specs.OpLaws.{cap_same}
+use Rattle.fl_ops.proofs.OneSpelling.{name_front, cap_front}
 use Rattle.fl_wire.specs.declared.packet.Message.{Message}
 use Rattle.fl_wire.specs.declared.packet.Data.{Data}
 use Rattle.fl_wire.specs.declared.packet.Packet.{Packet}
@@ -39,18 +37,6 @@ four_front m n u v h k e = (sym (four_back m h) ∙ ap (λ l. from_be_bytes w32 
 byte_front : (m n : ℕ) (u v : List ℕ) → m ∷ u ≡ n ∷ v → (m ≡ n) × (u ≡ v)
 byte_front m n u v e = (ap (λ l. get_or l 0 0) e, ap (drop 1) e)
 
-name_front : (n m : Name) (u v : List ℕ) → name_bytes n ++ u ≡ name_bytes m ++ v → (n ≡ m) × (u ≡ v)
-name_front n m u v e =
-    let first = two_front n.node m.node (to_be_bytes w32 n.seq ++ u) (to_be_bytes w32 m.seq ++ v) n.node_in_range.1 m.node_in_range.1 e in
-    let second = four_front n.seq m.seq u v n.seq_in_range.1 m.seq_in_range.1 first.1 in
-    (same_name n m first.0 second.0, second.1)
-
-cap_front : (c d : Cap) (u v : List ℕ) → cap_bytes c ++ u ≡ cap_bytes d ++ v → (c ≡ d) × (u ≡ v)
-cap_front c d u v e =
-    let first = byte_front (cap_rank c) (cap_rank d) (name_bytes (cap_name c) ++ u) (name_bytes (cap_name d) ++ v) e in
-    let second = name_front (cap_name c) (cap_name d) u v first.1 in
-    (cap_same c d first.0 second.0, second.1)
-
 pid_front : (p q : Pid) (u v : List ℕ) → pid_bytes p ++ u ≡ pid_bytes q ++ v → (p ≡ q) × (u ≡ v)
 pid_front p q u v e =
     let first = two_front p.node q.node (to_be_bytes w32 p.boot ++ (to_be_bytes w32 p.serial ++ u)) (to_be_bytes w32 q.boot ++ (to_be_bytes w32 q.serial ++ v)) p.node_in_range.1 q.node_in_range.1 e in
@@ -58,35 +44,28 @@ pid_front p q u v e =
     let third = four_front p.serial q.serial u v p.serial_in_range.1 q.serial_in_range.1 second.1 in
     (same_pid p q first.0 second.0 third.0, third.1)
 
--- as many names as others, one after another
-names_front : (xs ys : List Name) (u v : List ℕ) → length xs ≡ length ys → flat_map name_bytes xs ++ u ≡ flat_map name_bytes ys ++ v → (xs ≡ ys) × (u ≡ v)
-names_front [] [] u v n e = (refl, e)
-names_front [] (y ∷ ys) u v n e = absurd (omega arith)
-names_front (x ∷ xs) [] u v n e = absurd (omega arith)
-names_front (x ∷ xs) (y ∷ ys) u v n e =
-    let first = name_front x y (flat_map name_bytes xs ++ u) (flat_map name_bytes ys ++ v) e in
-    let rest = names_front xs ys u v (omega arith) first.1 in
-    (λ i. first.0 i ∷ rest.0 i, rest.1)
-
-caps_front : (xs ys : List Cap) (u v : List ℕ) → length xs ≡ length ys → flat_map cap_bytes xs ++ u ≡ flat_map cap_bytes ys ++ v → (xs ≡ ys) × (u ≡ v)
-caps_front [] [] u v n e = (refl, e)
-caps_front [] (y ∷ ys) u v n e = absurd (omega arith)
-caps_front (x ∷ xs) [] u v n e = absurd (omega arith)
-caps_front (x ∷ xs) (y ∷ ys) u v n e =
-    let first = cap_front x y (flat_map cap_bytes xs ++ u) (flat_map cap_bytes ys ++ v) e in
-    let rest = caps_front xs ys u v (omega arith) first.1 in
-    (λ i. first.0 i ∷ rest.0 i, rest.1)
+-- as many items as others, one after another
+module _ {K : Type 0} (spell : K → List ℕ) (front : (x y : K) (u v : List ℕ) → spell x ++ u ≡ spell y ++ v → (x ≡ y) × (u ≡ v)) where
+  items_front : (xs ys : List K) (u v : List ℕ) → length xs ≡ length ys → flat_map spell xs ++ u ≡ flat_map spell ys ++ v → (xs ≡ ys) × (u ≡ v)
+  items_front [] [] u v n e = (refl, e)
+  items_front [] (y ∷ ys) u v n e = absurd (omega arith)
+  items_front (x ∷ xs) [] u v n e = absurd (omega arith)
+  items_front (x ∷ xs) (y ∷ ys) u v n e =
+      let first = front x y (flat_map spell xs ++ u) (flat_map spell ys ++ v)
+      (sym (append_assoc (spell x) (flat_map spell xs) u) ∙ e ∙ append_assoc (spell y) (flat_map spell ys) v) in
+      let rest = items_front xs ys u v (omega arith) first.1 in
+      (λ i. first.0 i ∷ rest.0 i, rest.1)
 
 label_front : (s t : SetBy name_cmp) (u v : List ℕ) → len s ≤ 256 → len t ≤ 256 → label_bytes s ++ u ≡ label_bytes t ++ v → (s ≡ t) × (u ≡ v)
 label_front s t u v h k e =
     let first = two_front (len s) (len t) (flat_map name_bytes (members s) ++ u) (flat_map name_bytes (members t) ++ v) (omega (arith, h)) (omega (arith, k)) e in
-    let rest = names_front (members s) (members t) u v (sym (len-members s) ∙ first.0 ∙ len-members t) first.1 in
+    let rest = items_front name_bytes name_front (members s) (members t) u v (sym (len-members s) ∙ first.0 ∙ len-members t) first.1 in
     (sym (of_list-members name_total name_exact s) ∙ ap of_list rest.0 ∙ of_list-members name_total name_exact t, rest.1)
 
 set_front : (s t : SetBy cap_cmp) (u v : List ℕ) → caps_bytes s ++ u ≡ caps_bytes t ++ v → (s ≡ t) × (u ≡ v)
 set_front s t u v e =
     let first = byte_front (len s) (len t) (flat_map cap_bytes (members s) ++ u) (flat_map cap_bytes (members t) ++ v) e in
-    let rest = caps_front (members s) (members t) u v (sym (len-members s) ∙ first.0 ∙ len-members t) first.1 in
+    let rest = items_front cap_bytes cap_front (members s) (members t) u v (sym (len-members s) ∙ first.0 ∙ len-members t) first.1 in
     (sym (of_list-members cap_total cap_exact s) ∙ ap of_list rest.0 ∙ of_list-members cap_total cap_exact t, rest.1)
 
 same_message : (m n : Message) → m.caps ≡ n.caps → m.payload ≡ n.payload → m ≡ n
@@ -101,7 +80,9 @@ message_same m n e =
     let first = set_front m.caps n.caps (payload_bytes m.payload) (payload_bytes n.payload) e in
     same_message m n first.0 (ap (drop 2) first.1)
 
-pub same_data : (a b : Data) → a.sender ≡ b.sender → a.from ≡ b.from → a.receiver ≡ b.receiver → a.to ≡ b.to → a.secrecy ≡ b.secrecy → a.integrity ≡ b.integrity → a.message ≡ b.message → a ≡ b
+-- data of equal parts are equal
+pub same_data : (a b : Data) → a.sender ≡ b.sender → a.from ≡ b.from → a.receiver ≡ b.receiver → a.to ≡ b.to
+    → a.secrecy ≡ b.secrecy → a.integrity ≡ b.integrity → a.message ≡ b.message → a ≡ b
 same_data a b p q r s t u m =
     let labels : ◌≡◌ {A = (f : SetBy name_cmp × SetBy name_cmp) × (len f.0 ≤ 256 × len f.1 ≤ 256)}
     ((a.secrecy, a.integrity), (a.secrecy_fits, a.integrity_fits)) ((b.secrecy, b.integrity), (b.secrecy_fits, b.integrity_fits))

@@ -35,7 +35,8 @@ message_bytes m = caps_bytes m.caps ++ payload_bytes m.payload
 abbrev pub data_bytes : Data → List ℕ
 data_bytes d =
     pid_bytes d.sender ++ d.from.number
-    ∷ (pid_bytes d.receiver ++ d.to.number ∷ (label_bytes d.secrecy ++ (label_bytes d.integrity ++ message_bytes d.message)))
+    ∷ (pid_bytes d.receiver ++ d.to.number
+    ∷ (label_bytes d.secrecy ++ (label_bytes d.integrity ++ message_bytes d.message)))
 
 -- the format, the kind, and what the kind asks for
 abbrev pub packet_bytes : Packet → List ℕ

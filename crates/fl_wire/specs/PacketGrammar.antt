@@ -1,4 +1,4 @@
--- The fields of a packet as bytes have them, in their order: where each begins, and whether it is there and keeps the rules.
+-- The fields of a packet as bytes have them, in order: where each begins, and whether it is there and keeps the rules.
 use Rattle.std.specs.Prelude.{ℕ, ◌+◌, ◌*◌, Bool, List, [], ◌∷◌, ◌++◌, length, Option, slice_index, nat_le}
 use Rattle.fl_ops.specs.Bytes.{name_size, cap_size}
 use Rattle.fl_ops.specs.Grammar.{first_fault, has_byte, has_name}

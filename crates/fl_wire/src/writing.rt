@@ -11,6 +11,7 @@ use fl_labels::pid::Pid;
 use fl_ops::fields::{push_cap, push_name};
 use std::alloc::{AllocError, Global};
 
+// A process and one of its endpoints.
 fn push_end(out: &mut Vec<u8>, pid: Pid, endpoint: Endpoint) -> Result<(), AllocError>
     ensures { OnOk result
         (out.new.items ≡ out.old.items ++ (pid_bytes pid ++ endpoint.number ∷ [])) }
@@ -22,6 +23,7 @@ fn push_end(out: &mut Vec<u8>, pid: Pid, endpoint: Endpoint) -> Result<(), Alloc
     Ok(())
 }
 
+// How many tags a label has, and the tags.
 fn push_label(out: &mut Vec<u8>, label: &Label) -> Result<(), AllocError>
     ensures { OnOk result (out.new.items ≡ out.old.items ++ label_bytes label.now) }
 {
@@ -34,6 +36,7 @@ fn push_label(out: &mut Vec<u8>, label: &Label) -> Result<(), AllocError>
     Ok(())
 }
 
+// How many capabilities there are, and each.
 fn push_caps(out: &mut Vec<u8>, caps: &CapSet) -> Result<(), AllocError>
     requires { len caps.now ≤ 64 }
     ensures { OnOk result (out.new.items ≡ out.old.items ++ caps_bytes caps.now) }
@@ -46,6 +49,7 @@ fn push_caps(out: &mut Vec<u8>, caps: &CapSet) -> Result<(), AllocError>
     Ok(())
 }
 
+// The capabilities of a message, how many bytes it has, and the bytes.
 fn push_message(out: &mut Vec<u8>, message: &Message) -> Result<(), AllocError>
     ensures { OnOk result (out.new.items ≡ out.old.items ++ message_bytes message.now) }
 {
@@ -56,6 +60,7 @@ fn push_message(out: &mut Vec<u8>, message: &Message) -> Result<(), AllocError>
     out.extend_from_slice(bytes)
 }
 
+// A message with its ends and its labels.
 fn push_data(out: &mut Vec<u8>, sent: &Data) -> Result<(), AllocError>
     ensures { OnOk result (out.new.items ≡ out.old.items ++ data_bytes sent.now) }
 {

@@ -30,7 +30,8 @@ is_above R (Some before) x = is_lt (R before x)
 
 -- x is the item at the place, above the one before
 pub record IsNext {K : Type 0} (R : K → K → Ordering) (spell : K → List ℕ) (key_of : K → List ℕ)
-    (there : ℕ → Bool) (key : ℕ → List ℕ) (size : ℕ) (bytes : List ℕ) (at : ℕ) (before : Option K) (x : K) : Type 0 where
+    (there : ℕ → Bool) (key : ℕ → List ℕ) (size : ℕ) (bytes : List ℕ) (at : ℕ) (before : Option K) (x : K)
+    : Type 0 where
   pub next : is_next there key at (key_before key_of before) ≡ true
   pub above : is_above R before x ≡ true
   pub keyed : key at ≡ key_of x
