@@ -19,8 +19,10 @@ pub fn write_response<W: Write>(
     sink: &mut Sink,
     output: &mut W,
 ) -> Result<(), WriteFault>
-    ensures ok { OnOk result (Passes (W.contents output.old) (W.contents output.new) sink.old (text_of (shown session.now response.now)) sink.new) }
-    ensures err { OnErr result (Cuts (W.contents output.old) (W.contents output.new) sink.old (text_of (shown session.now response.now))) }
+    ensures ok { OnOk result (Passes (W.contents output.old) (W.contents output.new)
+        sink.old (text_of (shown session.now response.now)) sink.new) }
+    ensures err { OnErr result (Cuts (W.contents output.old) (W.contents output.new)
+        sink.old (text_of (shown session.now response.now))) }
 {
     match response {
         Response::Silence => sink.put_all(output, &[]),
@@ -36,9 +38,12 @@ pub fn write_response<W: Write>(
     }
 }
 
+// Puts the text of a line that is none of the script into the sink.
 fn write_bad_line<W: Write>(number: u64, sink: &mut Sink, output: &mut W) -> Result<(), WriteFault>
-    ensures ok { OnOk result (Passes (W.contents output.old) (W.contents output.new) sink.old (codes "refused F19 " ++ (decimal number ++ codes "\n")) sink.new) }
-    ensures err { OnErr result (Cuts (W.contents output.old) (W.contents output.new) sink.old (codes "refused F19 " ++ (decimal number ++ codes "\n"))) }
+    ensures ok { OnOk result (Passes (W.contents output.old) (W.contents output.new)
+        sink.old (codes "refused F19 " ++ (decimal number ++ codes "\n")) sink.new) }
+    ensures err { OnErr result (Cuts (W.contents output.old) (W.contents output.new)
+        sink.old (codes "refused F19 " ++ (decimal number ++ codes "\n"))) }
 {
     let mut buffer = Buffer::new();
     sink.put_all(

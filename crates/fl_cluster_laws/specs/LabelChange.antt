@@ -16,7 +16,7 @@ use Rattle.fl_aliases.specs.Table.{Table}
 use Rattle.fl_script.specs.Reading.{IsReading}
 use Rattle.fl_script.specs.declared.line.Line.TheVariants as lines
 use Rattle.fl_script.specs.declared.reading.Reading.TheVariants.{Means}
-use Rattle.fl_cluster.specs.State.{NodeState, node_at}
+use Rattle.fl_cluster.specs.Cluster.{NodeState, node_at}
 use Rattle.fl_cluster.specs.Session.{Session, begun}
 use Rattle.fl_cluster.specs.Answer.{Answer, replied}
 use Rattle.fl_cluster.specs.Turn.{Turn}
