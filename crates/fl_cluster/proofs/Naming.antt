@@ -6,21 +6,21 @@ use Rattle.fl_aliases.specs.declared.target.Target.{Target}
 use Rattle.fl_aliases.proofs.Placing.{placed_found, placed_set, taken_back}
 use Rattle.fl_jobs.specs.declared.answer.Outcome.{Outcome}
 use Rattle.fl_jobs.specs.declared.answer.Refusal.{Refusal}
-use Rattle.fl_bench.specs.Bench as bench
+use Rattle.fl_monitor.specs.Bench as bench
 use Rattle.fl_script.specs.Reading.{makes as is_making}
 use Rattle.fl_script.specs.declared.line.Line.{Line}
-use Rattle.fl_cluster.specs.State.{State, NodeState}
+use Rattle.fl_cluster.specs.Cluster.{Cluster, NodeState}
 use Rattle.fl_cluster.specs.NodeStep.{AnswersResult, replies, refuses, makes, spends}
 use Rattle.fl_cluster.specs.Session.{Session}
 use Rattle.fl_cluster.specs.Answer.{Answer, shown, listed}
 use Rattle.fl_cluster.specs.Naming.{with_alias, IsPlaced, as_last, in_place}
-use Rattle.fl_cluster.specs.Turn.{Answers, works, sends, brings, no_room, never_sent, tells, unites, lists}
+use Rattle.fl_cluster.specs.Turn.{AnswersLine, works, sends, brings, no_room, never_sent, shows, unites, lists}
 use Rattle.fl_cluster.specs.declared.response.Response.{Response}
 use Rattle.fl_cluster.specs.declared.response.Response.TheVariants as response
 
 -- sessions with the same nodes and aliases are equal
 pub same_session : (m n : Session) → m.state ≡ n.state → m.aliases ≡ n.aliases → m ≡ n
-same_session m n e f = ap (λ (s : State). record { state = s; aliases = m.aliases }) e ∙ ap (λ (t : Table). record { state = n.state; aliases = t }) f
+same_session m n e f = ap (λ (s : Cluster). record { state = s; aliases = m.aliases }) e ∙ ap (λ (t : Table). record { state = n.state; aliases = t }) f
 
 is_none : {X : Type 0} (o : Option X) → IsNone o → o ≡ None
 is_none None h = refl
@@ -64,18 +64,18 @@ result_no_list (makes next) e = absurd (cc)
 result_no_list (spends last) e = absurd (cc)
 
 -- nor is a line that makes something
-no_list : {place : ℕ} {table other : Table} {old : State} {said : Line} {answer : Answer} {new : State} → is_making said ≡ true → Answers place table old said answer new → answer ≢ listed other
+no_list : {place : ℕ} {table other : Table} {old : Cluster} {said : Line} {answer : Answer} {new : Cluster} → is_making said ≡ true → AnswersLine place table old said answer new → answer ≢ listed other
 no_list made (works w) e = result_no_list w.answered e
 no_list made (sends s) e = absurd (cc)
 no_list made (brings found w) e = absurd (cc)
 no_list made (no_room found) e = absurd (cc)
 no_list made (never_sent none) e = absurd (cc)
-no_list made tells e = absurd (cc)
+no_list made shows e = absurd (cc)
 no_list made unites e = absurd (cc)
 no_list made lists e = absurd (cc)
 
 -- so that its answer is the same whatever the aliases are when it is written
-pub shown_apart : {place : ℕ} {old new : State} {said : Line} (table other : Table) (r : Response) → is_making said ≡ true → Answers place table old said (shown (record { state = new; aliases = table }) r) new → Answers place table old said (shown (record { state = new; aliases = other }) r) new
+pub shown_apart : {place : ℕ} {old new : Cluster} {said : Line} (table other : Table) (r : Response) → is_making said ≡ true → AnswersLine place table old said (shown (record { state = new; aliases = table }) r) new → AnswersLine place table old said (shown (record { state = new; aliases = other }) r) new
 shown_apart table other response.Aliases made h = absurd (no_list made h refl)
 shown_apart table other response.Silence made h = h
 shown_apart table other (response.Reply reply) made h = h

@@ -1,7 +1,7 @@
 -- What the reading loop says of any machine, said of a session.
 use Rattle.std.proofs.Common.{◌≡◌, ◌+◌, ◌++◌, ◌||◌, ◌∙◌, refl, ap, List, [], ◌∷◌, ℕ, cond, Option, None, Some, IfSome, Result, Ok, Err, IfOk, IfErr, OnErr}
 use Rattle.std.specs.List.{flat_map, list_any}
-use Rattle.fl_stream.specs.Turns.{CutsAnswer, LineOutput, texts, any_bad, Run as LoopRun}
+use Rattle.fl_stream.specs.Turns.{AnswerCuts, LineOutput, texts, any_bad, Run as LoopRun}
 use Rattle.fl_stream.specs.Output.{Writes as LoopWrites, WritesOutput as LoopWritesOutput, WritesFirst}
 use Rattle.fl_stream.specs.Served.{Served as LoopServed}
 use Rattle.fl_cluster.specs.Session.{Session, begun}
@@ -71,7 +71,7 @@ served {remaining} {left} {a} {b} s = record {
 }
 
 -- a front of an answer's text was written
-pub cuts_answer : {a b : Option (List ℕ)} {number : ℕ} {old new : Session} {line pending : List ℕ} (answer : Answer) → Turn number old line answer new → Cuts a b pending (text_of answer) → CutsAnswer TurnsOut number old line new a b pending
+pub cuts_answer : {a b : Option (List ℕ)} {number : ℕ} {old new : Session} {line pending : List ℕ} (answer : Answer) → Turn number old line answer new → Cuts a b pending (text_of answer) → AnswerCuts TurnsOut number old line new a b pending
 cuts_answer {a} {b} {number} {old} {new} {line} {pending} answer turn cut = record {
   output = record { text = text_of answer; bad = is_bad answer };
   turn = record { answer = answer; turn = turn; text_is = refl; bad_is = refl };

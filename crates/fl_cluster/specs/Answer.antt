@@ -7,12 +7,13 @@ use Rattle.fl_jobs.specs.declared.answer.Refusal.{Refusal}
 use Rattle.fl_jobs.specs.declared.answer.Refusal.TheVariants.{Memory}
 use Rattle.fl_jobs.specs.declared.answer.Reply.{Reply}
 use Rattle.fl_aliases.specs.Table.{Table}
-use Rattle.fl_cluster.specs.State.{node_at}
+use Rattle.fl_cluster.specs.Cluster.{node_at}
 use Rattle.fl_cluster.specs.Session.{Session}
 use Rattle.fl_cluster.specs.declared.response.Response.{Response}
 use Rattle.fl_cluster.specs.declared.response.Response.TheVariants as response
 
--- nothing; what a job is answered; the name of a new operation; the number of a packet that was sent; a registry; the aliases that are set; a refusal; why a
+-- nothing; what a job is answered; the name of a new operation; the number of a packet that was sent; a
+-- registry; the aliases that are set; a refusal; why a
 -- message does not arrive; or the number of a line that is none
 pub data Answer : Type 0 where
   silence : Answer

@@ -1,11 +1,10 @@
-pub mod State
+pub mod Cluster
 pub mod Session
 pub mod Answer
 pub mod Naming
 pub mod AnswerText
 pub mod LastName
 pub mod NodeStep
-pub mod Worked
 pub mod Turn
 pub mod Output
 pub mod Served

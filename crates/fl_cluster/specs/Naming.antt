@@ -16,7 +16,8 @@ made_by answer = None
 
 -- the alias stands for this now: in its place where it was set, else as the last one
 abbrev pub with_alias : Table → List ℕ → Target → Table
-with_alias table alias target = if is_some (target_of table alias) then retargeted table alias target else (table ++ (alias, target) ∷ [])
+with_alias table alias target =
+    if is_some (target_of table alias) then retargeted table alias target else (table ++ (alias, target) ∷ [])
 
 -- where there is an alias, and something was made, the alias stands for that; else the table stays
 abbrev pub renamed : Table → Option (List ℕ) → Option Target → Table
@@ -26,10 +27,12 @@ renamed table (Some alias) (Some target) = with_alias table alias target
 
 -- the alias is set: as a new one, the last, which stands for anything, or in its place, as it was
 pub data IsPlaced (before : Table) (alias : List ℕ) : Bool → Table → Type 0 where
-  as_last : (target : Target) → target_of before alias ≡ None → IsPlaced before alias true (before ++ (alias, target) ∷ [])
+  as_last : (target : Target) → target_of before alias ≡ None →
+      IsPlaced before alias true (before ++ (alias, target) ∷ [])
   in_place : IsSome (target_of before alias) → IsPlaced before alias false before
 
--- the alias stands for this, and the others for what they did; those that were set keep their order, and a new one is the last
+-- the alias stands for this, and the others for what they did; those that were set keep their order, and a new
+-- one is the last
 pub record SetsAlias (old : Table) (alias : List ℕ) (target : Target) (new : Table) : Type 0 where
   pub set : target_of new alias ≡ Some target
   pub others : (other : List ℕ) → other ≢ alias → target_of new other ≡ target_of old other

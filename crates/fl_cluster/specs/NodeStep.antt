@@ -15,10 +15,10 @@ use Rattle.fl_jobs.specs.declared.answer.Reply.{Reply}
 use Rattle.fl_jobs.specs.declared.answer.Outcome.{Outcome}
 use Rattle.fl_jobs.specs.declared.answer.Outcome.TheVariants as outcome
 use Rattle.fl_wire.specs.declared.packet.Packet.{Packet}
-use Rattle.fl_bench.specs.Bench as bench
-use Rattle.fl_bench.specs.Gifts.{finished, cancelled}
-use Rattle.fl_bench.specs.Jobs.{Does}
-use Rattle.fl_cluster.specs.State.{NodeState}
+use Rattle.fl_monitor.specs.Bench as bench
+use Rattle.fl_monitor.specs.Gifts.{finished, cancelled}
+use Rattle.fl_monitor.specs.Jobs.{Does}
+use Rattle.fl_cluster.specs.Cluster.{NodeState}
 use Rattle.fl_cluster.specs.Answer.{Answer, replied, named, refused}
 use Rattle.fl_cluster.specs.LastName.{IsLast}
 
@@ -41,15 +41,21 @@ pub record IsNextName (node : NodeState) (name : Name) : Type 0 where
   pub node_is : name.node ≡ node.number
   pub seq_is : name.seq ≡ last + 1
 
--- The bench's result of a job, which leaves the bench as after, is answered so, and leaves the node so. The operation of an order gets the next name, or finds none left.
+-- The bench's result of a job, which leaves the bench as after, is answered so, and leaves the node so. The
+-- operation of an order gets the next name, or finds none left.
 pub data AnswersResult (node : NodeState) : Result Outcome Refusal → bench.State → Answer → NodeState → Type 0 where
-  replies : {reply : Reply} {after : bench.State} → AnswersResult node (Ok (outcome.Reply reply)) after (replied reply) (record node { bench = after })
-  refuses : {refusal : Refusal} {after : bench.State} → refusal ≢ Memory → AnswersResult node (Err refusal) after (refused refusal) node
-  makes : {body : Body} {pid : Pid} {after : bench.State} {name : Name} → IsNextName node name → AnswersResult node (Ok (outcome.Order body pid)) after (named name) (with_operation (record node { bench = after }) pid (record { name = name; body = body }))
-  spends : {body : Body} {pid : Pid} {after : bench.State} → IsLast node.registry node.number 4294967295 → AnswersResult node (Ok (outcome.Order body pid)) after (refused NamesSpent) node
+  replies : {reply : Reply} {after : bench.State} →
+      AnswersResult node (Ok (outcome.Reply reply)) after (replied reply) (record node { bench = after })
+  refuses : {refusal : Refusal} {after : bench.State} → refusal ≢ Memory →
+      AnswersResult node (Err refusal) after (refused refusal) node
+  makes : {body : Body} {pid : Pid} {after : bench.State} {name : Name} → IsNextName node name →
+      AnswersResult node (Ok (outcome.Order body pid)) after (named name)
+      (with_operation (record node { bench = after }) pid (record { name = name; body = body }))
+  spends : {body : Body} {pid : Pid} {after : bench.State} → IsLast node.registry node.number 4294967295 →
+      AnswersResult node (Ok (outcome.Order body pid)) after (refused NamesSpent) node
 
 -- the job is answered so at the node, and leaves it so
-pub record Works (node : NodeState) (job : Job) (answer : Answer) (new : NodeState) : Type 0 where
+pub record NodeAnswers (node : NodeState) (job : Job) (answer : Answer) (new : NodeState) : Type 0 where
   pub result : Result Outcome Refusal
   pub after : bench.State
   pub does : Does (view_of node) node.bench job result after

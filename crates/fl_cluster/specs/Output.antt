@@ -11,7 +11,8 @@ use Rattle.fl_cluster.specs.Turn.{Turn}
 -- the lines are answered one after another, the first of them being the number-th
 abbrev pub Run : ℕ → Session → List (List ℕ) → List Answer → Session → Type 0
 Run number old [] [] new = new ≡ old
-Run number old (line ∷ lines) (answer ∷ answers) new = (mid : Session) × Turn number old line answer mid × Run (number + 1) mid lines answers new
+Run number old (line ∷ lines) (answer ∷ answers) new =
+    (mid : Session) × Turn number old line answer mid × Run (number + 1) mid lines answers new
 Run number old [] (answer ∷ answers) new = ⊥
 Run number old (line ∷ lines) [] new = ⊥
 

@@ -5,7 +5,8 @@ use Rattle.std.specs.Io.KnownBytes.{Appends, Consumes}
 use Rattle.fl_stream.specs.Served.{HasNoFeed}
 use Rattle.fl_cluster.specs.Output.{Writes}
 
--- exactly the answers to the lines that ended in what was read are written; bytes beyond were read only where the script is too long
+-- exactly the answers to the lines that ended in what was read are written; bytes beyond were read only where
+-- the script is too long
 pub record Served (remaining left before after : Option (List ℕ)) : Type 0 where
   pub taken : List ℕ
   pub beyond : List ℕ

@@ -3,11 +3,11 @@ use Rattle.std.specs.Prelude.{[], refl}
 use Rattle.std.specs.Coded.{Coded, code_by, coded×, coded_ℕ, coded_list}
 use Rattle.fl_aliases.specs.Table.{Table}
 use Rattle.fl_aliases.specs.contracts.target.Target as targets_row
-use Rattle.fl_cluster.specs.State.{State, start, coded_state}
+use Rattle.fl_cluster.specs.Cluster.{Cluster, start, coded_cluster}
 
 -- what the lines have made, and the aliases that are set
 pub record Session : Type 0 where
-  pub state : State
+  pub state : Cluster
   pub aliases : Table
 
 -- before the first line
@@ -20,4 +20,8 @@ coded_aliases = coded_list (coded× (coded_list coded_ℕ) (targets_row.the_row)
 
 -- a session is stored as the pair of its fields
 abbrev pub coded_session : Coded Session
-coded_session = code_by (State × Table) (coded× coded_state coded_aliases) (λ s. (s.state, s.aliases)) (λ t. record { state = t.0; aliases = t.1 }) (λ _. refl)
+coded_session =
+    code_by (Cluster × Table) (coded× coded_cluster coded_aliases)
+    (λ s. (s.state, s.aliases))
+    (λ t. record { state = t.0; aliases = t.1 })
+    (λ _. refl)

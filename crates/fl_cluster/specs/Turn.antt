@@ -13,27 +13,44 @@ use Rattle.fl_script.specs.declared.line.Line.TheVariants as line
 use Rattle.fl_script.specs.declared.reading.Reading.{Reading}
 use Rattle.fl_script.specs.declared.reading.Reading.TheVariants as reading
 use Rattle.fl_script.specs.Reading.{IsReading, IsAsking}
-use Rattle.fl_cluster.specs.State.{State, NodeState, node_at, packet_at, with_node, with_open, with_packet}
+use Rattle.fl_cluster.specs.Cluster.{Cluster, NodeState, node_at, packet_at, with_node, with_open, with_packet}
 use Rattle.fl_cluster.specs.Session.{Session}
 use Rattle.fl_cluster.specs.Answer.{Answer, silence, sent, text, listed, refused, dropped, bad_line, on_arrival}
 use Rattle.fl_cluster.specs.Naming.{made_by, renamed}
-use Rattle.fl_cluster.specs.NodeStep.{Works, Sends}
+use Rattle.fl_cluster.specs.NodeStep.{NodeAnswers, Sends}
 
--- Where these aliases are set, the line in this place is answered so, and leaves the nodes and the packets so. A node that the line names is open from then
--- on, unless the line is to bring it the message of a packet that was never sent, or one for which there is no memory.
-pub data Answers (place : ℕ) (aliases : Table) (old : State) : Line → Answer → State → Type 0 where
-  works : {number : ℕ} {job : Job} {answer : Answer} {after : NodeState} → Works (node_at old number) job answer after → Answers place aliases old (line.Job number job) answer (with_node old number after)
-  sends : {number : ℕ} {job : Job} {packet : Packet} {after : NodeState} → Sends (node_at old number) job packet after → Answers place aliases old (line.Job number job) (sent (length old.sent + 1)) (with_packet (with_node old number after) packet)
-  brings : {number k : ℕ} {d : Data} {answer : Answer} {after : NodeState} → packet_at old.sent k ≡ Some (packets.Data d) → Works (node_at old number) (Arrive d) answer after → Answers place aliases old (line.Deliver number k) (on_arrival answer) (with_node old number after)
-  no_room : {number k : ℕ} {d : Data} → packet_at old.sent k ≡ Some (packets.Data d) → Answers place aliases old (line.Deliver number k) (dropped Memory) old
-  never_sent : {number k : ℕ} → packet_at old.sent k ≡ None → Answers place aliases old (line.Deliver number k) (bad_line place) old
-  tells : {number : ℕ} → Answers place aliases old (line.Text number) (text (node_at old number).registry) (with_open old number)
-  unites : {first second : ℕ} → Answers place aliases old (line.Union first second) (text (set.union (node_at old first).registry (node_at old second).registry)) (with_open (with_open old first) second)
-  lists : Answers place aliases old line.Aliases (listed aliases) old
+-- Where these aliases are set, the line in this place is answered so, and leaves the nodes and the packets so.
+-- A node that the line names is open from then on, unless the line is to bring it the message of a packet that
+-- was never sent, or one for which there is no memory.
+pub data AnswersLine (place : ℕ) (aliases : Table) (old : Cluster) : Line → Answer → Cluster → Type 0 where
+  works : {number : ℕ} {job : Job} {answer : Answer} {after : NodeState} →
+      NodeAnswers (node_at old number) job answer after →
+      AnswersLine place aliases old (line.Job number job) answer (with_node old number after)
+  sends : {number : ℕ} {job : Job} {packet : Packet} {after : NodeState} →
+      Sends (node_at old number) job packet after →
+      AnswersLine place aliases old (line.Job number job) (sent (length old.sent + 1))
+      (with_packet (with_node old number after) packet)
+  brings : {number k : ℕ} {d : Data} {answer : Answer} {after : NodeState} →
+      packet_at old.sent k ≡ Some (packets.Data d) →
+      NodeAnswers (node_at old number) (Arrive d) answer after →
+      AnswersLine place aliases old (line.Deliver number k) (on_arrival answer) (with_node old number after)
+  no_room : {number k : ℕ} {d : Data} → packet_at old.sent k ≡ Some (packets.Data d) →
+      AnswersLine place aliases old (line.Deliver number k) (dropped Memory) old
+  never_sent : {number k : ℕ} → packet_at old.sent k ≡ None →
+      AnswersLine place aliases old (line.Deliver number k) (bad_line place) old
+  shows : {number : ℕ} →
+      AnswersLine place aliases old (line.Text number) (text (node_at old number).registry) (with_open old number)
+  unites : {first second : ℕ} →
+      AnswersLine place aliases old (line.Union first second)
+      (text (set.union (node_at old first).registry (node_at old second).registry))
+      (with_open (with_open old first) second)
+  lists : AnswersLine place aliases old line.Aliases (listed aliases) old
 
--- the line in this place is answered so, and what it made, if it made something, is what its alias stands for, if it has one
-pub record AnswersNamed (place : ℕ) (old : Session) (line : Line) (alias : Option (List ℕ)) (answer : Answer) (new : Session) : Type 0 where
-  pub answered : Answers place old.aliases old.state line answer new.state
+-- the line in this place is answered so, and what it made, if it made something, is what its alias stands for,
+-- if it has one
+pub record AnswersNamed (place : ℕ) (old : Session) (line : Line) (alias : Option (List ℕ))
+    (answer : Answer) (new : Session) : Type 0 where
+  pub answered : AnswersLine place old.aliases old.state line answer new.state
   pub named : new.aliases ≡ renamed old.aliases alias (made_by answer)
 
 -- what says this is answered so

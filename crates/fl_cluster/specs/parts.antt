@@ -1,2 +1,4 @@
 -- Relations that join the private functions.
+pub mod ComesOf
+pub mod Responds
 pub mod LineTurn

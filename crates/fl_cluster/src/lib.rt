@@ -1,11 +1,11 @@
 //! Runs a script of the registry: each line is answered once it was read, before any more is read.
 #![tactic(auto)]
 
-pub mod answers;
+mod answers;
 pub mod fault;
-pub mod node;
-pub mod nodes;
-pub mod response;
+mod node;
+mod nodes;
+mod response;
 pub mod run;
-pub mod sent;
-pub mod session;
+mod sent;
+mod session;

@@ -1,14 +1,14 @@
 //! A node, job by job.
 ghost use Rattle.std.specs.Prelude.{◌≡◌, ◌≢◌, ◌<◌, IfOk, MatchOption, OnErr, OnOk, Ok};
 ghost use Rattle.fl_jobs.specs.declared.answer.Outcome.TheVariants as outcome;
-ghost use Rattle.fl_cluster.specs.State.{opened};
+ghost use Rattle.fl_cluster.specs.Cluster.{new_node};
 ghost use Rattle.fl_cluster.specs.Session.{Session};
 ghost use Rattle.fl_cluster.specs.Answer.{shown};
 ghost use Rattle.fl_cluster.specs.LastName.{IsLast};
 ghost use Rattle.fl_cluster.specs.NodeStep.{AnswersResult, IsNextName, with_operation, without_order};
-ghost use Rattle.fl_cluster.specs.Worked.{Worked};
+ghost use Rattle.fl_cluster.specs.parts.ComesOf.{ComesOf};
 
-use crate::response::{Response, Work};
+use crate::response::{JobResult, Response};
 use fl_closure::index::Index;
 use fl_jobs::answer::{Outcome, Refusal};
 use fl_jobs::job::Job;
@@ -41,7 +41,7 @@ pub struct Node {
 
 impl Model for Node {
     ghost use Rattle.std.specs.Prelude.{◌<◌};
-    ghost use Rattle.fl_cluster.specs.State.{NodeState, coded_node};
+    ghost use Rattle.fl_cluster.specs.Cluster.{NodeState, coded_node};
 
     ghost Value = { NodeState };
 
@@ -56,7 +56,7 @@ impl Node {
     /// The node of this number at its first opening, with nothing. Takes no memory.
     pub fn new(alloc: Global, number: u16) -> Self
         requires { 0 < number }
-        ensures { result ≡ opened number }
+        ensures { result ≡ new_node number }
     {
         Node {
             number,
@@ -72,22 +72,25 @@ impl Node {
         self.index.ops()
     }
 
-    /// Does a job, and gives a new operation its name. A packet that it sends is for the caller to keep. Want of memory leaves the node.
-    pub fn work(&mut self, alloc: Global, job: Job) -> Result<Work, AllocError>
-        ensures ok { IfOk result (λ work. Worked self.old job work self.new) }
+    /// Does a job, and gives a new operation its name. A packet that it sends is for the caller to keep. Want of memory leaves
+    /// the node.
+    pub fn work(&mut self, alloc: Global, job: Job) -> Result<JobResult, AllocError>
+        ensures ok { IfOk result (λ work. ComesOf self.old job work self.new) }
         ensures err { OnErr result (self.new ≡ self.old) }
     {
         match self.bench.job(alloc, &mut self.index, job) {
-            Ok(Outcome::Reply(reply)) => Ok(Work::Answer(Response::Reply(reply))),
-            Ok(Outcome::Order(body, pid)) => Ok(Work::Answer(self.order(body, pid)?)),
-            Ok(Outcome::Out(packet)) => Ok(Work::Packet(packet)),
-            Err(refusal) => Ok(Work::Answer(refused(refusal)?)),
+            Ok(Outcome::Reply(reply)) => Ok(JobResult::Answer(Response::Reply(reply))),
+            Ok(Outcome::Order(body, pid)) => Ok(JobResult::Answer(self.order(body, pid)?)),
+            Ok(Outcome::Out(packet)) => Ok(JobResult::Packet(packet)),
+            Err(refusal) => Ok(JobResult::Answer(refused(refusal)?)),
         }
     }
 
-    // Gives the operation that is under way the next name, and makes it. Where no name is left, or no memory, the operation is cancelled.
+    // Gives the operation that is under way the next name, and makes it. Where no name is left, or no memory, the operation
+    // is cancelled.
     fn order(&mut self, body: Body, pid: Pid) -> Result<Response, AllocError>
-        ensures ok { IfOk result (λ response. (session : Session) → AnswersResult (without_order self.old pid) (Ok (outcome.Order body pid)) self.old.bench (shown session response) self.new) }
+        ensures ok { IfOk result (λ response. (session : Session) → AnswersResult (without_order self.old pid)
+            (Ok (outcome.Order body pid)) self.old.bench (shown session response) self.new) }
         ensures err { OnErr result (self.new ≡ without_order self.old pid) }
     {
         let Some(name) = self.next_name() else {
@@ -113,7 +116,8 @@ impl Node {
 
     /// The name of the next operation, or none where no sequence number is left.
     fn next_name(&self) -> Option<Name>
-        ensures { MatchOption result (IsLast self.now.registry self.now.number 4294967295) (λ name. IsNextName self.now name) }
+        ensures { MatchOption result (IsLast self.now.registry self.now.number 4294967295)
+            (λ name. IsNextName self.now name) }
     {
         let seq = self.index.ops().last_of(self.number).checked_add(1)?;
         Some(Name {

@@ -1,17 +1,15 @@
 //! The nodes of a script and the packets between them, line by line.
-ghost use Rattle.std.specs.Prelude.{◌≡◌, ◌+◌, ◌<◌, All, IfOk, MatchOption, OnErr, OnOk, ℕ, false, length, not};
+ghost use Rattle.std.specs.Prelude.{◌≡◌, ◌+◌, ◌<◌, All, IfOk, MatchOption, OnErr, OnOk, false, length, not};
 ghost use Rattle.std.specs.FinMap as map;
 ghost use Rattle.fl_labels.specs.SetBy as set;
-ghost use Rattle.fl_aliases.specs.Table.{Table};
 ghost use Rattle.fl_opset.specs.RegistryText.{registry_text};
-ghost use Rattle.fl_sink.specs.Sink.{Puts};
+ghost use Rattle.fl_sink.specs.Sink.{Cuts, Passes};
 ghost use Rattle.fl_script.specs.Grammar.{nodes_of};
-ghost use Rattle.fl_cluster.specs.State.{is_open, node_at, start, with_open, with_packet};
-ghost use Rattle.fl_cluster.specs.Answer.{shown};
-ghost use Rattle.fl_cluster.specs.Turn.{Answers};
+ghost use Rattle.fl_cluster.specs.Cluster.{is_open, node_at, start, with_open, with_packet};
+ghost use Rattle.fl_cluster.specs.parts.Responds.{Responds, RespondsAt};
 
 use crate::node::Node;
-use crate::response::{Response, Work};
+use crate::response::{JobResult, Response};
 use crate::sent::Sent;
 use fl_jobs::answer::Refusal;
 use fl_jobs::job::Job;
@@ -24,8 +22,8 @@ use std::collections::BTreeMap;
 use std::io::Write;
 use std::marker::Model;
 
-/// The nodes of a script by their numbers, and the packets that they sent. Each node has its own registry, and is opened by the first line that
-/// names it.
+/// The nodes of a script by their numbers, and the packets that they sent. Each node has its own registry, and is opened by
+/// the first line that names it.
 #[derive(Debug, Drop)]
 pub struct Nodes {
     all: BTreeMap<u16, Node>,
@@ -34,11 +32,11 @@ pub struct Nodes {
 
 impl Model for Nodes {
     ghost use Rattle.std.specs.FinMap as map;
-    ghost use Rattle.fl_cluster.specs.State.{State, coded_state};
+    ghost use Rattle.fl_cluster.specs.Cluster.{Cluster, coded_cluster};
 
-    ghost Value = { State };
+    ghost Value = { Cluster };
 
-    ghost coded = { coded_state };
+    ghost coded = { coded_cluster };
 
     ghost view = { λ n. record { nodes = map.from_entries n.all.entries; sent = n.sent } };
 }
@@ -54,17 +52,17 @@ impl Nodes {
         }
     }
 
-    /// Answers the line in this place, whatever the aliases are. Want of memory leaves all as it was: a node that the line would open is then not
-    /// open. A message for which there is no memory is dropped, and leaves all as it was too.
+    /// Answers the line in this place, whatever the aliases are. Want of memory leaves all as it was: a node that the line
+    /// would open is then not open. A message for which there is no memory is dropped, and leaves all as it was too.
     pub fn answer(&mut self, alloc: Global, place: u64, line: Line) -> Result<Response, AllocError>
         requires { All (λ node. 0 < node) (nodes_of line) }
-        ensures ok { IfOk result (λ response. (aliases : Table) → Answers place aliases self.old line (shown (record { state = self.new; aliases = aliases }) response) self.new) }
+        ensures ok { IfOk result (λ response. RespondsAt place self.old line response self.new) }
         ensures err { OnErr result (self.new ≡ self.old) }
     {
         match line {
             Line::Job { node, job } => self.work(alloc, node, job),
             Line::Deliver { node, packet } => Ok(self.deliver(alloc, place, node, packet)),
-            Line::Text { node } => self.tell(alloc, node),
+            Line::Text { node } => self.show(alloc, node),
             Line::Union { first, second } => self.unite(alloc, first, second),
             Line::Aliases => Ok(Response::Aliases),
         }
@@ -73,15 +71,15 @@ impl Nodes {
     // Has the node do the job, and opens it where it is not open.
     fn work(&mut self, alloc: Global, number: u16, job: Job) -> Result<Response, AllocError>
         requires { 0 < number }
-        ensures ok { IfOk result (λ response. (place : ℕ) (aliases : Table) → Answers place aliases self.old (Line.Job number job) (shown (record { state = self.new; aliases = aliases }) response) self.new) }
+        ensures ok { IfOk result (λ response. Responds self.old (Line.Job number job) response self.new) }
         ensures err { OnErr result (self.new ≡ self.old) }
     {
         let Some(node) = self.all.get_mut(&number) else {
             return self.open_at_work(alloc, number, job);
         };
         match node.work(alloc, job)? {
-            Work::Answer(response) => Ok(response),
-            Work::Packet(packet) => self.send(packet),
+            JobResult::Answer(response) => Ok(response),
+            JobResult::Packet(packet) => self.send(packet),
         }
     }
 
@@ -99,11 +97,11 @@ impl Nodes {
     fn open_at_work(&mut self, alloc: Global, number: u16, job: Job) -> Result<Response, AllocError>
         requires known { 0 < number }
         requires new { is_open self.old number ≡ false }
-        ensures ok { IfOk result (λ response. (place : ℕ) (aliases : Table) → Answers place aliases self.old (Line.Job number job) (shown (record { state = self.new; aliases = aliases }) response) self.new) }
+        ensures ok { IfOk result (λ response. Responds self.old (Line.Job number job) response self.new) }
         ensures err { OnErr result (self.new ≡ self.old) }
     {
         let mut node = Node::new(alloc, number);
-        let Work::Answer(response) = node.work(alloc, job)? else {
+        let JobResult::Answer(response) = node.work(alloc, job)? else {
             // A new node has no process that sends.
             unreachable!();
         };
@@ -111,10 +109,11 @@ impl Nodes {
         Ok(response)
     }
 
-    // Has the node take the message of the packet of this number, which stays. Where there is no memory, the message is dropped.
+    // Has the node take the message of the packet of this number, which stays. Where there is no memory, the message is
+    // dropped.
     fn deliver(&mut self, alloc: Global, place: u64, number: u16, packet: u32) -> Response
         requires { 0 < number }
-        ensures { (aliases : Table) → Answers place aliases self.old (Line.Deliver number packet) (shown (record { state = self.new; aliases = aliases }) result) self.new }
+        ensures { RespondsAt place self.old (Line.Deliver number packet) result self.new }
     {
         let Some(Packet::Data(sent)) = self.sent.get(packet) else {
             return Response::BadLine(place);
@@ -128,9 +127,10 @@ impl Nodes {
         }
     }
 
-    fn tell(&mut self, alloc: Global, number: u16) -> Result<Response, AllocError>
+    // Has the node's text be written, and opens it where it is not open.
+    fn show(&mut self, alloc: Global, number: u16) -> Result<Response, AllocError>
         requires { 0 < number }
-        ensures ok { IfOk result (λ response. (place : ℕ) (aliases : Table) → Answers place aliases self.old (Line.Text number) (shown (record { state = self.new; aliases = aliases }) response) self.new) }
+        ensures ok { IfOk result (λ response. Responds self.old (Line.Text number) response self.new) }
         ensures err { OnErr result (self.new ≡ self.old) }
     {
         self.open(alloc, number)?;
@@ -141,7 +141,7 @@ impl Nodes {
     fn unite(&mut self, alloc: Global, first: u16, second: u16) -> Result<Response, AllocError>
         requires first { 0 < first }
         requires second { 0 < second }
-        ensures ok { IfOk result (λ response. (place : ℕ) (aliases : Table) → Answers place aliases self.old (Line.Union first second) (shown (record { state = self.new; aliases = aliases }) response) self.new) }
+        ensures ok { IfOk result (λ response. Responds self.old (Line.Union first second) response self.new) }
         ensures err { OnErr result (self.new ≡ self.old) }
     {
         let mut all = OpSet::new(alloc);
@@ -163,7 +163,8 @@ impl Nodes {
 
     // The operations of the node, or none where it is not open.
     fn registry(&self, number: u16) -> Option<&OpSet>
-        ensures { MatchOption result ((node_at self.now number).registry ≡ set.empty) (λ registry. registry.now ≡ (node_at self.now number).registry) }
+        ensures { let there = (node_at self.now number).registry in
+            MatchOption result (there ≡ set.empty) (λ registry. registry.now ≡ there) }
     {
         let node = self.all.get(&number)?;
         Some(node.registry())
@@ -213,8 +214,10 @@ impl Nodes {
         sink: &mut Sink,
         output: &mut W,
     ) -> Result<(), WriteFault>
-        ensures { let text = registry_text (node_at self.now number).registry in
-            Puts (W.contents output.old) (W.contents output.new) sink.old text sink.new result }
+        ensures ok { OnOk result (Passes (W.contents output.old) (W.contents output.new)
+            sink.old (registry_text (node_at self.now number).registry) sink.new) }
+        ensures err { OnErr result (Cuts (W.contents output.old) (W.contents output.new)
+            sink.old (registry_text (node_at self.now number).registry)) }
     {
         match self.registry(number) {
             Some(registry) => registry.write_text(sink, output),

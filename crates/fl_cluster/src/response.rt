@@ -34,7 +34,7 @@ pub enum Response {
 
 /// What comes of a job at its node.
 #[derive(Debug, Drop)]
-pub enum Work {
+pub enum JobResult {
     /// It is answered.
     Answer(Response),
     /// It sends the packet.

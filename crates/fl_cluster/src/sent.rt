@@ -1,6 +1,6 @@
 //! The packets that were sent.
 ghost use Rattle.std.specs.Prelude.{◌≡◌, ◌+◌, ◌++◌, ◌∷◌, [], IfOk, MatchOption, None, OnErr, OnOk, Some, length};
-ghost use Rattle.fl_cluster.specs.State.{packet_at};
+ghost use Rattle.fl_cluster.specs.Cluster.{packet_at};
 
 use fl_wire::packet::Packet;
 use std::alloc::{AllocError, Global};
@@ -15,7 +15,7 @@ pub struct Sent {
 impl Model for Sent {
     ghost use Rattle.std.specs.Prelude.{List};
     ghost use Rattle.fl_wire.specs.declared.packet.Packet.{Packet};
-    ghost use Rattle.fl_cluster.specs.State.{coded_sent};
+    ghost use Rattle.fl_cluster.specs.Cluster.{coded_sent};
 
     ghost Value = { List Packet };
 
@@ -34,7 +34,8 @@ impl Sent {
         }
     }
 
-    /// Keeps a packet as the last one, and answers its number. Fails only where there is not enough memory, and then leaves the others.
+    /// Keeps a packet as the last one, and answers its number. Fails only where there is not enough memory, and then leaves
+    /// the others.
     pub fn push(&mut self, packet: Packet) -> Result<u64, AllocError>
         ensures ok { OnOk result (self.new ≡ self.old ++ packet ∷ []) }
         ensures number { IfOk result (λ number. number ≡ length self.old + 1) }
@@ -46,7 +47,8 @@ impl Sent {
 
     /// The packet of this number, counted from 1, or none where fewer were sent.
     pub fn get(&self, number: u32) -> Option<&Packet>
-        ensures { MatchOption result (packet_at self.now number ≡ None) (λ packet. packet_at self.now number ≡ Some packet.now) }
+        ensures { MatchOption result (packet_at self.now number ≡ None)
+            (λ packet. packet_at self.now number ≡ Some packet.now) }
     {
         let before = number.checked_sub(1)?;
         self.packets.get(before as usize)

@@ -27,10 +27,12 @@ use std::marker::Model;
 /// What an alias stands for until its line is answered.
 const UNMADE: Target = Target::Operation(Name { node: 1, seq: 1 });
 
-// Has an alias that was placed for a line stand for what the line made. Where it made nothing, all aliases are as they were.
+// Has an alias that was placed for a line stand for what the line made. Where it made nothing, all aliases are as they
+// were.
 fn settle(aliases: &mut Aliases, alias: Alias, is_new: bool, made: Option<Target>)
     requires { IsSome (target_of aliases.old alias) }
-    ensures { (before : Table) → IsPlaced before alias is_new aliases.old → aliases.new ≡ renamed before (Some alias) made }
+    ensures { (before : Table) → IsPlaced before alias is_new aliases.old →
+        aliases.new ≡ renamed before (Some alias) made }
 {
     match made {
         Some(target) => aliases.set(alias, target),
@@ -101,7 +103,8 @@ impl Session {
         number: u64,
         line: &[u8],
     ) -> Result<Response, AllocError>
-        ensures ok { IfOk result (λ response. Understood number self.old line.now (shown self.new response) self.new) }
+        ensures ok { IfOk result (λ response.
+            Understood number self.old line.now (shown self.new response) self.new) }
         ensures asks { OnErr result (IsAsking line.now) }
         ensures err { OnErr result (self.new ≡ self.old) }
     {
@@ -115,8 +118,8 @@ impl Session {
         }
     }
 
-    // Answers the line of this number, and has the alias stand for what it made. The alias is placed first, so that there is room for it once
-    // something is made.
+    // Answers the line of this number, and has the alias stand for what it made. The alias is placed first, so that there is
+    // room for it once something is made.
     fn answer_named(
         &mut self,
         alloc: Global,
@@ -127,7 +130,8 @@ impl Session {
         requires nodes { All (λ node. 0 < node) (nodes_of line) }
         requires makes { makes line ≡ true }
         requires room { length self.old.aliases < 1024 }
-        ensures ok { IfOk result (λ response. AnswersNamed number self.old line (Some alias) (shown self.new response) self.new) }
+        ensures ok { IfOk result (λ response.
+            AnswersNamed number self.old line (Some alias) (shown self.new response) self.new) }
         ensures err { OnErr result (self.new ≡ self.old) }
     {
         let is_new = self.aliases.place(alias, UNMADE)?;

@@ -10,13 +10,13 @@ use Rattle.fl_rules.specs.declared.endpoint.Mode.TheVariants.{Write}
 use Rattle.fl_wire.specs.declared.packet.Data.{Data}
 use Rattle.fl_jobs.specs.declared.job.Job.TheVariants.{Arrive}
 use Rattle.fl_jobs.specs.declared.answer.Outcome.{Outcome}
-use Rattle.fl_bench.specs.Bench as bench
-use Rattle.fl_bench.specs.Guards.{sent_from}
-use Rattle.fl_bench.specs.Jobs.{Does, passed}
-use Rattle.fl_bench.specs.Process.{effective}
-use Rattle.fl_bench.specs.declared.process.Process.{Process}
-use Rattle.fl_bench_laws.proofs.Arrivals.{arrival_safe, open_safe}
-use Rattle.fl_cluster.specs.State.{State, node_at}
+use Rattle.fl_monitor.specs.Bench as bench
+use Rattle.fl_monitor.specs.Guards.{sent_from}
+use Rattle.fl_monitor.specs.Jobs.{Does, passed}
+use Rattle.fl_monitor.specs.Process.{effective}
+use Rattle.fl_monitor.specs.declared.process.Process.{Process}
+use Rattle.fl_monitor.proofs.Arrivals.{arrival_safe, open_safe}
+use Rattle.fl_cluster.specs.Cluster.{Cluster, node_at}
 use Rattle.fl_cluster.specs.Session.{Session, begun}
 use Rattle.fl_cluster.specs.Answer.{Answer}
 use Rattle.fl_cluster.specs.NodeStep.{view_of}
@@ -28,7 +28,7 @@ use Rattle.fl_cluster_laws.proofs.Orderly.{script_order}
 use Rattle.fl_cluster_laws.proofs.Packets.{Comes, comes_delivers, comes_to, was_sent}
 
 -- what its sender might send left a safe endpoint
-left_safely : (state : State) (d : Data) (m : MaySend state d) → GuardedNode (node_at state d.sender.node) → SafeEndpoint (effective (view_at state d.sender) m.process) (sent_from d).mode m.process.labels (sent_from d).labels
+left_safely : (state : Cluster) (d : Data) (m : MaySend state d) → GuardedNode (node_at state d.sender.node) → SafeEndpoint (effective (view_at state d.sender) m.process) (sent_from d).mode m.process.labels (sent_from d).labels
 left_safely state d m g =
     let V = view_at state d.sender in
     let safe = open_safe V m.process d.from m.opened (g.each d.sender m.process m.lives) m.is_open in

@@ -1,7 +1,7 @@
 -- What equal nodes tell.
 use Rattle.std.proofs.Common.{◌≡◌, ◌≢◌, ◌↔◌, inl, inr, refl, sym, subst, Option, Some, None, Result, Err}
 use Rattle.std.specs.FinMap as map
-use Rattle.fl_labels.specs.SetBy.{In, members, SameMembers}
+use Rattle.fl_labels.specs.SetBy.{In, members}
 use Rattle.fl_labels.specs.CapOrder.{cap_total, cap_exact}
 use Rattle.fl_labels.specs.declared.cap.Cap.{Cap}
 use Rattle.fl_labels.specs.declared.name.Name.{Name}
@@ -19,16 +19,17 @@ use Rattle.fl_jobs.specs.declared.answer.Refusal.{Refusal}
 use Rattle.fl_jobs.specs.declared.answer.Refusal.TheVariants.{Busy, Memory, NoProcess}
 use Rattle.fl_jobs.specs.declared.answer.Outcome.{Outcome}
 use Rattle.fl_opset.proofs.Join.{same_members}
-use Rattle.fl_bench.specs.Checks.{◌then◌, no_check, refuse_if, with}
-use Rattle.fl_bench.specs.Process.{effective, is_busy, owns}
-use Rattle.fl_bench.specs.Bench as bench
-use Rattle.fl_bench.specs.Jobs.{Answers, act_checks, checks, Does, passed, failed, no_room}
-use Rattle.fl_bench.specs.declared.process.Process.{Process}
-use Rattle.fl_bench.proofs.Orders.{order_at}
-use Rattle.fl_cluster.specs.State.{NodeState}
+use Rattle.fl_monitor.specs.Checks.{◌then◌, no_check, refuse_if, with}
+use Rattle.fl_monitor.specs.Process.{effective, is_busy, owns}
+use Rattle.fl_monitor.specs.Bench as bench
+use Rattle.fl_monitor.specs.Jobs.{Answers, act_checks, checks, Does, passed, failed, no_room}
+use Rattle.fl_monitor.specs.declared.process.Process.{Process}
+use Rattle.fl_monitor.proofs.Orders.{order_at}
+use Rattle.fl_cluster.specs.Cluster.{NodeState}
 use Rattle.fl_cluster.specs.Answer.{Answer}
-use Rattle.fl_cluster.specs.NodeStep.{view_of, AnswersResult, Works, replies, refuses, makes, spends}
+use Rattle.fl_cluster.specs.NodeStep.{view_of, AnswersResult, NodeAnswers, replies, refuses, makes, spends}
 use Rattle.fl_cluster_laws.specs.Living.{process_at}
+use Rattle.fl_cluster_laws.specs.Equal.{SameMembers}
 use Rattle.fl_cluster_laws.proofs.OneStep.{ample}
 
 same_registry : (a b : NodeState) → SameMembers a.registry b.registry → a.registry ≡ b.registry
@@ -75,7 +76,7 @@ module _ (V W : Op → Type 0) (b d : bench.State) (cap : Cap) where
   member_again root alike (no_room t) more = absurd (more refl)
 
 -- what leaves the bench, and is no order, is answered with what the result was answered with elsewhere
-answer_again : (a b : NodeState) (job : Job) {r : Result Outcome Refusal} {after : bench.State} {answer : Answer} {m : NodeState} → ((pid : Pid) (order : orders.Order) → job ≡ By pid (Order order) → ⊥) → Does (view_of b) b.bench job r b.bench → AnswersResult a r after answer m → Works b job answer b
+answer_again : (a b : NodeState) (job : Job) {r : Result Outcome Refusal} {after : bench.State} {answer : Answer} {m : NodeState} → ((pid : Pid) (order : orders.Order) → job ≡ By pid (Order order) → ⊥) → Does (view_of b) b.bench job r b.bench → AnswersResult a r after answer m → NodeAnswers b job answer b
 answer_again a b job never d replies = record { result = _; after = b.bench; does = d; answered = replies }
 answer_again a b job never d (refuses more) = record { result = _; after = b.bench; does = d; answered = refuses more }
 answer_again a b job never d (makes next) = let o = order_at d in absurd (never _ o.order o.asked)
@@ -83,13 +84,13 @@ answer_again a b job never d (spends last) = let o = order_at d in absurd (never
 
 -- equal processes at equal nodes are answered alike
 pub same_reply : (a b m : NodeState) (pid other : Pid) (p q : Process) (cap : Cap) (answer : Answer) → SameMembers a.registry b.registry → SameMembers (owns p) (owns q) → is_busy p ≡ is_busy q →
-    process_at a pid ≡ Some p → process_at b other ≡ Some q → Works a (By pid (Ask cap)) answer m → Works b (By other (Ask cap)) answer b
+    process_at a pid ≡ Some p → process_at b other ≡ Some q → NodeAnswers a (By pid (Ask cap)) answer m → NodeAnswers b (By other (Ask cap)) answer b
 same_reply a b m pid other p q cap answer e f busy here there w =
     answer_again a b (By other (Ask cap)) (λ maker order is. cc)
     (ask_again (view_of a) (view_of b) a.bench b.bench cap pid other p q here there busy (same_effect a b p q cap e f) w.does (ample w.answered)) w.answered
 
 -- and equal nodes tell the same of groups
-pub same_member : (a b m : NodeState) (root cap : Cap) (answer : Answer) → SameMembers a.registry b.registry → Works a (Member root cap) answer m → Works b (Member root cap) answer b
+pub same_member : (a b m : NodeState) (root cap : Cap) (answer : Answer) → SameMembers a.registry b.registry → NodeAnswers a (Member root cap) answer m → NodeAnswers b (Member root cap) answer b
 same_member a b m root cap answer e w =
     let r = same_registry a b e in
     let alike : Reach (view_of a) (From root) cap ↔ Reach (view_of b) (From root) cap =

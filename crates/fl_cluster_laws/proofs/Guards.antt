@@ -17,20 +17,20 @@ use Rattle.fl_jobs.specs.declared.job.Job.{Job}
 use Rattle.fl_jobs.specs.declared.job.Job.TheVariants.{Arrive}
 use Rattle.fl_jobs.specs.declared.answer.Refusal.{Refusal}
 use Rattle.fl_jobs.specs.declared.answer.Outcome.{Outcome}
-use Rattle.fl_bench.specs.Bench as bench
-use Rattle.fl_bench.specs.Gifts.{given}
-use Rattle.fl_bench.specs.Guarded.{IsGuarded}
-use Rattle.fl_bench.specs.Jobs.{Does}
-use Rattle.fl_bench_laws.proofs.Guarded.{does_guarded, opened_guarded, registry_guarded, settles_guarded}
-use Rattle.fl_bench.proofs.Orders.{sending_leaves}
+use Rattle.fl_monitor.specs.Bench as bench
+use Rattle.fl_monitor.specs.Gifts.{given}
+use Rattle.fl_monitor.specs.Guarded.{IsGuarded}
+use Rattle.fl_monitor.specs.Jobs.{Does}
+use Rattle.fl_monitor.proofs.Guarded.{does_guarded, opened_guarded, registry_guarded, settles_guarded}
+use Rattle.fl_monitor.proofs.Orders.{sending_leaves}
 use Rattle.fl_script.specs.declared.line.Line.{Line}
 use Rattle.fl_script.specs.declared.reading.Reading.{Reading}
 use Rattle.fl_script.specs.declared.reading.Reading.TheVariants as reading
-use Rattle.fl_cluster.specs.State.{State, NodeState, opened, start, node_or_opened, node_at, with_node, with_open}
+use Rattle.fl_cluster.specs.Cluster.{Cluster, NodeState, new_node, start, node_or_new, node_at, with_node, with_open}
 use Rattle.fl_cluster.specs.Session.{Session, begun}
 use Rattle.fl_cluster.specs.Answer.{Answer}
-use Rattle.fl_cluster.specs.NodeStep.{view_of, AnswersResult, replies, refuses, makes, spends, Works, Sends}
-use Rattle.fl_cluster.specs.Turn.{Answers, works, sends, brings, no_room, never_sent, tells, unites, lists, AnswersReading, Turn}
+use Rattle.fl_cluster.specs.NodeStep.{view_of, AnswersResult, replies, refuses, makes, spends, NodeAnswers, Sends}
+use Rattle.fl_cluster.specs.Turn.{AnswersLine, works, sends, brings, no_room, never_sent, shows, unites, lists, AnswersReading, Turn}
 use Rattle.fl_cluster.specs.Output.{Run}
 use Rattle.fl_cluster.proofs.NodePuts.{node_put}
 
@@ -60,7 +60,7 @@ module _ (node : NodeState) (job : Job) (h : GuardedNode node) where
       registry_guarded (all_listed node.registry op) (settles_guarded (view_of node) after (does_guarded (view_of node) node.bench h d) pid (given op))
   result_guarded r after a m d (spends last) = h
 
-  work_guarded : (a : Answer) (m : NodeState) → Works node job a m → GuardedNode m
+  work_guarded : (a : Answer) (m : NodeState) → NodeAnswers node job a m → GuardedNode m
   work_guarded a m w = result_guarded w.result w.after a m w.does w.answered
 
   send_guarded : {packet : Packet} {m : NodeState} → Sends node job packet m → GuardedNode m
@@ -68,29 +68,29 @@ module _ (node : NodeState) (job : Job) (h : GuardedNode node) where
 
 -- ---- each node of the state
 
-pub record HasGuard (s : State) : Type 0 where
+pub record HasGuard (s : Cluster) : Type 0 where
   pub node_is : (number : ℕ) → GuardedNode (node_at s number)
 
 start_guard : HasGuard start
-start_guard = record { node_is = λ number. subst (λ o. GuardedNode (node_or_opened number o)) (sym (map.get-empty nat_cmp number)) (opened_guarded (view_of (opened number)) number 1 1 1) }
+start_guard = record { node_is = λ number. subst (λ o. GuardedNode (node_or_new number o)) (sym (map.get-empty nat_cmp number)) (opened_guarded (view_of (new_node number)) number 1 1 1) }
 
-with_guard : (s : State) (number : ℕ) (node : NodeState) → HasGuard s → GuardedNode node → HasGuard (with_node s number node)
+with_guard : (s : Cluster) (number : ℕ) (node : NodeState) → HasGuard s → GuardedNode node → HasGuard (with_node s number node)
 with_guard s number node h k = record { node_is = λ m. by_place m (node_put s number node m) }
   where
     by_place : (m : ℕ) → ((m ≡ number) × (node_at (with_node s number node) m ≡ node)) ⊎ (node_at (with_node s number node) m ≡ node_at s m) → GuardedNode (node_at (with_node s number node) m)
     by_place m (inl e) = subst GuardedNode (sym e.1) k
     by_place m (inr e) = subst GuardedNode (sym e) (h.node_is m)
 
-open_guard : (s : State) (number : ℕ) → HasGuard s → HasGuard (with_open s number)
+open_guard : (s : Cluster) (number : ℕ) → HasGuard s → HasGuard (with_open s number)
 open_guard s number h = with_guard s number (node_at s number) h (h.node_is number)
 
-answers_guard : {place : ℕ} {table : Table} {old : State} {l : Line} {a : Answer} {m : State} → HasGuard old → Answers place table old l a m → HasGuard m
+answers_guard : {place : ℕ} {table : Table} {old : Cluster} {l : Line} {a : Answer} {m : Cluster} → HasGuard old → AnswersLine place table old l a m → HasGuard m
 answers_guard {old} {a = a} h (works {number} {job} {after} k) = with_guard old number after h (work_guarded (node_at old number) job (h.node_is number) a after k)
 answers_guard {old} h (sends {number} {job} {after} k) = record { node_is = (with_guard old number after h (send_guarded (node_at old number) job (h.node_is number) k)).node_is }
 answers_guard {old} h (brings {number} {d} {answer} {after} found k) = with_guard old number after h (work_guarded (node_at old number) (Arrive d) (h.node_is number) answer after k)
 answers_guard h (no_room found) = h
 answers_guard h (never_sent none) = h
-answers_guard {old} h (tells {number}) = open_guard old number h
+answers_guard {old} h (shows {number}) = open_guard old number h
 answers_guard {old} h (unites {first} {second}) = open_guard (with_open old first) second (open_guard old first h)
 answers_guard h lists = h
 

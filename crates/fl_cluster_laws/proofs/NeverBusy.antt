@@ -5,16 +5,16 @@ use Rattle.fl_jobs.specs.declared.job.Job.{Job}
 use Rattle.fl_jobs.specs.declared.answer.Refusal.{Refusal}
 use Rattle.fl_jobs.specs.declared.answer.Refusal.TheVariants.{Busy}
 use Rattle.fl_jobs.specs.declared.answer.Outcome.{Outcome}
-use Rattle.fl_bench.specs.Bench as bench
-use Rattle.fl_bench.specs.Jobs.{Does}
+use Rattle.fl_monitor.specs.Bench as bench
+use Rattle.fl_monitor.specs.Jobs.{Does}
 use Rattle.fl_script.specs.declared.line.Line.{Line}
 use Rattle.fl_script.specs.declared.reading.Reading.{Reading}
 use Rattle.fl_script.specs.declared.reading.Reading.TheVariants as reading
-use Rattle.fl_cluster.specs.State.{State, NodeState}
+use Rattle.fl_cluster.specs.Cluster.{Cluster, NodeState}
 use Rattle.fl_cluster.specs.Session.{Session}
 use Rattle.fl_cluster.specs.Answer.{Answer, silence, replied, named, sent, text, listed, refused, dropped, bad_line, on_arrival}
-use Rattle.fl_cluster.specs.NodeStep.{view_of, AnswersResult, replies, refuses, makes, spends, Works}
-use Rattle.fl_cluster.specs.Turn.{Answers, works, sends, brings, no_room, never_sent, tells, unites, lists, AnswersReading, Turn}
+use Rattle.fl_cluster.specs.NodeStep.{view_of, AnswersResult, replies, refuses, makes, spends, NodeAnswers}
+use Rattle.fl_cluster.specs.Turn.{AnswersLine, works, sends, brings, no_room, never_sent, shows, unites, lists, AnswersReading, Turn}
 use Rattle.fl_cluster_laws.proofs.Idle.{IsIdle, never_busy}
 use Rattle.fl_cluster_laws.proofs.Orderly.{HasOrder}
 
@@ -54,16 +54,16 @@ module _ (node : NodeState) (job : Job) (h : IsIdle node.bench) where
   result_not r after a m d (spends last) (inl e) = absurd (cc)
   result_not r after a m d (spends last) (inr e) = absurd (cc)
 
-  work_not : (a : Answer) (m : NodeState) → Works node job a m → IsBusy a → ⊥
+  work_not : (a : Answer) (m : NodeState) → NodeAnswers node job a m → IsBusy a → ⊥
   work_not a m w e = result_not w.result w.after a m w.does w.answered e
 
-answers_not : {place : ℕ} {table : Table} {old : State} {l : Line} {a : Answer} {m : State} → HasOrder old → Answers place table old l a m → IsBusy a → ⊥
+answers_not : {place : ℕ} {table : Table} {old : Cluster} {l : Line} {a : Answer} {m : Cluster} → HasOrder old → AnswersLine place table old l a m → IsBusy a → ⊥
 answers_not {a = a} h (works {number} {job} {after} w) e = work_not _ job (h.bench_is number).idle a after w e
 answers_not h (sends s) e = elim e [ inl f ↦ absurd (cc) | inr f ↦ absurd (cc) ]
 answers_not h (brings {number} {answer} {after} found w) e = work_not _ _ (h.bench_is number).idle answer after w (from_arrival answer e)
 answers_not h (no_room found) e = elim e [ inl f ↦ absurd (cc) | inr f ↦ absurd (cc) ]
 answers_not h (never_sent none) e = elim e [ inl f ↦ absurd (cc) | inr f ↦ absurd (cc) ]
-answers_not h tells e = elim e [ inl f ↦ absurd (cc) | inr f ↦ absurd (cc) ]
+answers_not h shows e = elim e [ inl f ↦ absurd (cc) | inr f ↦ absurd (cc) ]
 answers_not h unites e = elim e [ inl f ↦ absurd (cc) | inr f ↦ absurd (cc) ]
 answers_not h lists e = elim e [ inl f ↦ absurd (cc) | inr f ↦ absurd (cc) ]
 

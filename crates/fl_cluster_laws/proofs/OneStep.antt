@@ -11,12 +11,12 @@ use Rattle.fl_jobs.specs.declared.answer.Outcome.{Outcome}
 use Rattle.fl_jobs.specs.declared.answer.Refusal.{Refusal}
 use Rattle.fl_jobs.specs.declared.answer.Refusal.TheVariants.{Memory}
 use Rattle.fl_wire.specs.declared.packet.Packet.{Packet}
-use Rattle.fl_bench.specs.Bench as bench
-use Rattle.fl_bench_laws.proofs.OneResult.{one_result}
-use Rattle.fl_cluster.specs.State.{NodeState}
+use Rattle.fl_monitor.specs.Bench as bench
+use Rattle.fl_monitor.proofs.OneResult.{one_result}
+use Rattle.fl_cluster.specs.Cluster.{NodeState}
 use Rattle.fl_cluster.specs.Answer.{Answer, silence, replied, named, sent, text, listed, refused, dropped, bad_line, IsStarved, on_arrival}
 use Rattle.fl_cluster.specs.LastName.{IsLast}
-use Rattle.fl_cluster.specs.NodeStep.{view_of, with_operation, IsNextName, AnswersResult, replies, refuses, makes, spends, Works, Sends}
+use Rattle.fl_cluster.specs.NodeStep.{view_of, with_operation, IsNextName, AnswersResult, replies, refuses, makes, spends, NodeAnswers, Sends}
 
 -- one last name's number is no less than the other
 no_less : (s : SetBy op_cmp) (node l m : ℕ) → IsLast s node l → IsLast s node m → m ≤ l
@@ -66,7 +66,7 @@ one_answer {node} (makes {name} h) (spends k) = absurd (none_after node name h k
 one_answer {node} (spends h) (makes {name} k) = absurd (none_after node name k h)
 one_answer (spends h) (spends k) = (refl, refl)
 
-pub one_work : (node : NodeState) (job : Job) (a b : Answer) (m n : NodeState) → Works node job a m → Works node job b n → Same a b m n
+pub one_work : (node : NodeState) (job : Job) (a b : Answer) (m n : NodeState) → NodeAnswers node job a m → NodeAnswers node job b n → Same a b m n
 one_work node job a b m n h k =
     let e = one_result (view_of node) node.bench job h.result k.result h.after k.after h.does k.does (ample h.answered) (ample k.answered) in
     one_answer h.answered (subst (λ after. AnswersResult node h.result after b n) (sym e.1) (subst (λ r. AnswersResult node r k.after b n) (sym e.0) k.answered))
@@ -83,7 +83,7 @@ is_ok : {x : Outcome} → Ok x ≢ Err Memory
 is_ok e = absurd (cc)
 
 -- is not answered by the node
-pub work_or_send : (node : NodeState) (job : Job) (a : Answer) (packet : Packet) (m n : NodeState) → Works node job a m → Sends node job packet n → ⊥
+pub work_or_send : (node : NodeState) (job : Job) (a : Answer) (packet : Packet) (m n : NodeState) → NodeAnswers node job a m → Sends node job packet n → ⊥
 work_or_send node job a packet m n h k =
     no_send h.answered (one_result (view_of node) node.bench job h.result (Ok (Outcome.Out packet)) h.after k.after h.does k.does (ample h.answered) is_ok).0
 
@@ -111,7 +111,7 @@ fed_answer (makes next) (inr e) = absurd (cc)
 fed_answer (spends last) (inl e) = absurd (cc)
 fed_answer (spends last) (inr e) = absurd (cc)
 
-pub fed_work : {node : NodeState} {job : Job} {a : Answer} {m : NodeState} → Works node job a m → ¬ IsStarved a
+pub fed_work : {node : NodeState} {job : Job} {a : Answer} {m : NodeState} → NodeAnswers node job a m → ¬ IsStarved a
 fed_work w = fed_answer w.answered
 
 -- a message that comes is said to be dropped where the job would be said to be refused
@@ -135,5 +135,5 @@ from_arrival (dropped refusal) (inr e) = inr e
 from_arrival (bad_line number) (inl e) = absurd (cc)
 from_arrival (bad_line number) (inr e) = absurd (cc)
 
-pub fed_arrival : {node : NodeState} {job : Job} {a : Answer} {m : NodeState} → Works node job a m → ¬ IsStarved (on_arrival a)
+pub fed_arrival : {node : NodeState} {job : Job} {a : Answer} {m : NodeState} → NodeAnswers node job a m → ¬ IsStarved (on_arrival a)
 fed_arrival {a} w h = fed_work w (from_arrival a h)

@@ -9,12 +9,12 @@ use Rattle.fl_script.specs.declared.line.Line.{Line}
 use Rattle.fl_script.specs.declared.reading.Reading.{Reading}
 use Rattle.fl_script.specs.declared.reading.Reading.TheVariants as reading
 use Rattle.fl_script.proofs.OneReading.{one_reading}
-use Rattle.fl_cluster.specs.State.{State, NodeState, node_at, with_node, with_packet}
+use Rattle.fl_cluster.specs.Cluster.{Cluster, NodeState, node_at, with_node, with_packet}
 use Rattle.fl_cluster.specs.Session.{Session}
 use Rattle.fl_cluster.specs.Answer.{Answer, IsStarved, on_arrival}
 use Rattle.fl_cluster.specs.Naming.{made_by, renamed}
-use Rattle.fl_cluster.specs.Turn.{Answers, works, sends, brings, no_room, never_sent, tells, unites, lists, AnswersNamed, AnswersReading, Turn}
-use Rattle.fl_cluster.specs.NodeStep.{Works}
+use Rattle.fl_cluster.specs.Turn.{AnswersLine, works, sends, brings, no_room, never_sent, shows, unites, lists, AnswersNamed, AnswersReading, Turn}
+use Rattle.fl_cluster.specs.NodeStep.{NodeAnswers}
 use Rattle.fl_cluster.specs.Output.{Run, IsAmple}
 use Rattle.fl_cluster.proofs.Naming.{same_session}
 use Rattle.fl_cluster_laws.proofs.OneStep.{Same, fed_work, fed_arrival, one_work, one_send, work_or_send}
@@ -26,13 +26,13 @@ same_data h k = cc
 data_or_none : {o : Option Packet} {d : Data} → o ≡ Some (packets.Data d) → o ≡ None → ⊥
 data_or_none h k = absurd (cc)
 
-module _ (place : ℕ) (table : Table) (old : State) where
-  one_message : (number : ℕ) (d e : Data) (a b : Answer) (x y : NodeState) → d ≡ e → Works (node_at old number) (Arrive d) a x → Works (node_at old number) (Arrive e) b y → Same (on_arrival a) (on_arrival b) (with_node old number x) (with_node old number y)
+module _ (place : ℕ) (table : Table) (old : Cluster) where
+  one_message : (number : ℕ) (d e : Data) (a b : Answer) (x y : NodeState) → d ≡ e → NodeAnswers (node_at old number) (Arrive d) a x → NodeAnswers (node_at old number) (Arrive e) b y → Same (on_arrival a) (on_arrival b) (with_node old number x) (with_node old number y)
   one_message number d e a b x y same h k =
-      let f = one_work (node_at old number) (Arrive d) a b x y h (subst (λ d. Works (node_at old number) (Arrive d) b y) (sym same) k) in
+      let f = one_work (node_at old number) (Arrive d) a b x y h (subst (λ d. NodeAnswers (node_at old number) (Arrive d) b y) (sym same) k) in
       (ap on_arrival f.0, ap (with_node old number) f.1)
 
-  one_line_answer : (l : Line) (a b : Answer) (m n : State) → Answers place table old l a m → Answers place table old l b n → ¬ IsStarved a → ¬ IsStarved b → Same a b m n
+  one_line_answer : (l : Line) (a b : Answer) (m n : Cluster) → AnswersLine place table old l a m → AnswersLine place table old l b n → ¬ IsStarved a → ¬ IsStarved b → Same a b m n
   one_line_answer l a b m n (works {number} {job} {after = x} h) (works {after = y} k) p q =
       let e = one_work (node_at old number) job a b x y h k in
       (e.0, ap (with_node old number) e.1)
@@ -48,7 +48,7 @@ module _ (place : ℕ) (table : Table) (old : State) where
   one_line_answer l a b m n (never_sent none) (brings found k) p q = absurd (data_or_none found none)
   one_line_answer l a b m n (never_sent none) (no_room found) p q = absurd (data_or_none found none)
   one_line_answer l a b m n (never_sent none) (never_sent also) p q = (refl, refl)
-  one_line_answer l a b m n tells tells p q = (refl, refl)
+  one_line_answer l a b m n shows shows p q = (refl, refl)
   one_line_answer l a b m n unites unites p q = (refl, refl)
   one_line_answer l a b m n lists lists p q = (refl, refl)
 
@@ -86,13 +86,13 @@ one_run number old (l ∷ ls) (a ∷ cs) [] m n h k p q = absurd k
 abbrev Fed : {S : Type 0} → Answer → S → S → Type 0
 Fed a old m = (¬ IsStarved a) ⊎ (IsStarved a × (m ≡ old))
 
-fed_line : {place : ℕ} {table : Table} {old : State} {l : Line} {a : Answer} {m : State} → Answers place table old l a m → Fed a old m
+fed_line : {place : ℕ} {table : Table} {old : Cluster} {l : Line} {a : Answer} {m : Cluster} → AnswersLine place table old l a m → Fed a old m
 fed_line (works w) = inl (fed_work w)
 fed_line (sends s) = inl (λ starved. elim starved [ inl e ↦ absurd (cc) | inr e ↦ absurd (cc) ])
 fed_line (brings found w) = inl (fed_arrival w)
 fed_line (no_room found) = inr (inr refl, refl)
 fed_line (never_sent none) = inl (λ starved. elim starved [ inl e ↦ absurd (cc) | inr e ↦ absurd (cc) ])
-fed_line tells = inl (λ starved. elim starved [ inl e ↦ absurd (cc) | inr e ↦ absurd (cc) ])
+fed_line shows = inl (λ starved. elim starved [ inl e ↦ absurd (cc) | inr e ↦ absurd (cc) ])
 fed_line unites = inl (λ starved. elim starved [ inl e ↦ absurd (cc) | inr e ↦ absurd (cc) ])
 fed_line lists = inl (λ starved. elim starved [ inl e ↦ absurd (cc) | inr e ↦ absurd (cc) ])
 

@@ -8,20 +8,20 @@ use Rattle.fl_jobs.specs.declared.job.Job.{Job}
 use Rattle.fl_jobs.specs.declared.job.Job.TheVariants.{Arrive}
 use Rattle.fl_jobs.specs.declared.answer.Refusal.{Refusal}
 use Rattle.fl_jobs.specs.declared.answer.Outcome.{Outcome}
-use Rattle.fl_bench.specs.Bench as bench
-use Rattle.fl_bench.specs.Gifts.{given}
-use Rattle.fl_bench.specs.Jobs.{Does}
-use Rattle.fl_bench.specs.Orderly.{IsOrderly}
-use Rattle.fl_bench_laws.proofs.Orderly.{opened_orderly, does_orderly, settles_orderly}
-use Rattle.fl_bench.proofs.Orders.{sending_leaves}
+use Rattle.fl_monitor.specs.Bench as bench
+use Rattle.fl_monitor.specs.Gifts.{given}
+use Rattle.fl_monitor.specs.Jobs.{Does}
+use Rattle.fl_monitor.specs.Orderly.{IsOrderly}
+use Rattle.fl_monitor.proofs.Orderly.{opened_orderly, does_orderly, settles_orderly}
+use Rattle.fl_monitor.proofs.Orders.{sending_leaves}
 use Rattle.fl_script.specs.declared.line.Line.{Line}
 use Rattle.fl_script.specs.declared.reading.Reading.{Reading}
 use Rattle.fl_script.specs.declared.reading.Reading.TheVariants as reading
-use Rattle.fl_cluster.specs.State.{State, NodeState, opened, start, node_or_opened, node_at, with_node, with_open, with_packet}
+use Rattle.fl_cluster.specs.Cluster.{Cluster, NodeState, new_node, start, node_or_new, node_at, with_node, with_open, with_packet}
 use Rattle.fl_cluster.specs.Session.{Session, begun}
 use Rattle.fl_cluster.specs.Answer.{Answer}
-use Rattle.fl_cluster.specs.NodeStep.{view_of, AnswersResult, replies, refuses, makes, spends, Works, Sends}
-use Rattle.fl_cluster.specs.Turn.{Answers, works, sends, brings, no_room, never_sent, tells, unites, lists, AnswersReading, Turn}
+use Rattle.fl_cluster.specs.NodeStep.{view_of, AnswersResult, replies, refuses, makes, spends, NodeAnswers, Sends}
+use Rattle.fl_cluster.specs.Turn.{AnswersLine, works, sends, brings, no_room, never_sent, shows, unites, lists, AnswersReading, Turn}
 use Rattle.fl_cluster.specs.Output.{Run}
 use Rattle.fl_cluster_laws.proofs.Idle.{IsIdle, opened_idle, replied_idle, finished_idle}
 use Rattle.fl_cluster.proofs.NodePuts.{node_put}
@@ -30,7 +30,7 @@ pub record IsOrdered (number : ℕ) (b : bench.State) : Type 0 where
   pub orderly : IsOrderly number b
   pub idle : IsIdle b
 
-opened_ordered : (number : ℕ) → IsOrdered number (opened number).bench
+opened_ordered : (number : ℕ) → IsOrdered number (new_node number).bench
 opened_ordered number = record { orderly = opened_orderly number 1 1 1 (omega arith); idle = opened_idle number 1 1 1 }
 
 module _ {number : ℕ} (node : NodeState) (job : Job) (h : IsOrdered number node.bench) where
@@ -43,39 +43,39 @@ module _ {number : ℕ} (node : NodeState) (job : Job) (h : IsOrdered number nod
   }
   result_ordered r after a m d (spends last) = h
 
-  work_ordered : (a : Answer) (m : NodeState) → Works node job a m → IsOrdered number m.bench
+  work_ordered : (a : Answer) (m : NodeState) → NodeAnswers node job a m → IsOrdered number m.bench
   work_ordered a m w = result_ordered w.result w.after a m w.does w.answered
 
   send_ordered : {packet : Packet} {m : NodeState} → Sends node job packet m → IsOrdered number m.bench
   send_ordered s = subst (λ (x : NodeState). IsOrdered number x.bench) (sym s.left) (subst (IsOrdered number) (sym (sending_leaves s.does)) h)
 
 -- each node of the state has such a bench
-pub record HasOrder (s : State) : Type 0 where
+pub record HasOrder (s : Cluster) : Type 0 where
   pub bench_is : (number : ℕ) → IsOrdered number (node_at s number).bench
 
 pub start_order : HasOrder start
-start_order = record { bench_is = λ number. subst (λ o. IsOrdered number (node_or_opened number o).bench) (sym (map.get-empty nat_cmp number)) (opened_ordered number) }
+start_order = record { bench_is = λ number. subst (λ o. IsOrdered number (node_or_new number o).bench) (sym (map.get-empty nat_cmp number)) (opened_ordered number) }
 
-with_order : (s : State) (number : ℕ) (node : NodeState) → HasOrder s → IsOrdered number node.bench → HasOrder (with_node s number node)
+with_order : (s : Cluster) (number : ℕ) (node : NodeState) → HasOrder s → IsOrdered number node.bench → HasOrder (with_node s number node)
 with_order s number node h k = record { bench_is = λ m. by_place m (node_put s number node m) }
   where
     by_place : (m : ℕ) → ((m ≡ number) × (node_at (with_node s number node) m ≡ node)) ⊎ (node_at (with_node s number node) m ≡ node_at s m) → IsOrdered m (node_at (with_node s number node) m).bench
     by_place m (inl e) = subst (λ (x : NodeState). IsOrdered m x.bench) (sym e.1) (subst (λ n. IsOrdered n node.bench) (sym e.0) k)
     by_place m (inr e) = subst (λ (x : NodeState). IsOrdered m x.bench) (sym e) (h.bench_is m)
 
-open_order : (s : State) (number : ℕ) → HasOrder s → HasOrder (with_open s number)
+open_order : (s : Cluster) (number : ℕ) → HasOrder s → HasOrder (with_open s number)
 open_order s number h = with_order s number (node_at s number) h (h.bench_is number)
 
-packet_order : (s : State) (packet : Packet) → HasOrder s → HasOrder (with_packet s packet)
+packet_order : (s : Cluster) (packet : Packet) → HasOrder s → HasOrder (with_packet s packet)
 packet_order s packet h = record { bench_is = h.bench_is }
 
-answers_order : {place : ℕ} {table : Table} {old : State} {l : Line} {a : Answer} {m : State} → HasOrder old → Answers place table old l a m → HasOrder m
+answers_order : {place : ℕ} {table : Table} {old : Cluster} {l : Line} {a : Answer} {m : Cluster} → HasOrder old → AnswersLine place table old l a m → HasOrder m
 answers_order {old} {a = a} h (works {number} {job} {after} k) = with_order old number after h (work_ordered (node_at old number) job (h.bench_is number) a after k)
 answers_order {old} h (sends {number} {job} {packet} {after} k) = packet_order (with_node old number after) packet (with_order old number after h (send_ordered (node_at old number) job (h.bench_is number) k))
 answers_order {old} h (brings {number} {d} {answer} {after} found k) = with_order old number after h (work_ordered (node_at old number) (Arrive d) (h.bench_is number) answer after k)
 answers_order h (no_room found) = h
 answers_order h (never_sent none) = h
-answers_order {old} h (tells {number}) = open_order old number h
+answers_order {old} h (shows {number}) = open_order old number h
 answers_order {old} h (unites {first} {second}) = open_order (with_open old first) second (open_order old first h)
 answers_order h lists = h
 

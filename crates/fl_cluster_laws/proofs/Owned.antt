@@ -11,11 +11,11 @@ use Rattle.fl_labels.specs.declared.pid.Pid.{Pid}
 use Rattle.fl_ops.specs.declared.op.Op.{Op}
 use Rattle.fl_jobs.specs.declared.job.Job.{Job}
 use Rattle.fl_jobs.specs.declared.answer.Reply.TheVariants.{Made}
-use Rattle.fl_bench.specs.Bench as bench
-use Rattle.fl_bench.specs.Births.{IsChild, alone, of}
-use Rattle.fl_bench.specs.Process.{owns}
-use Rattle.fl_bench.specs.declared.process.Process.{Process}
-use Rattle.fl_cluster.specs.State.{node_or_opened, start}
+use Rattle.fl_monitor.specs.Bench as bench
+use Rattle.fl_monitor.specs.Births.{IsChild, alone, of}
+use Rattle.fl_monitor.specs.Process.{owns}
+use Rattle.fl_monitor.specs.declared.process.Process.{Process}
+use Rattle.fl_cluster.specs.Cluster.{node_or_new, start}
 use Rattle.fl_cluster.specs.Session.{Session, begun}
 use Rattle.fl_cluster.specs.Answer.{Answer, replied}
 use Rattle.fl_cluster_laws.specs.Living.{living, process_at}
@@ -101,7 +101,7 @@ module _ (pid : Pid) (c : Cap) where
   run_owned number old (l ∷ ls) [] end r h = absurd r
 
   begun_none : living start pid ≡ None
-  begun_none = ap (λ o. process_at (node_or_opened pid.node o) pid) (map.get-empty nat_cmp pid.node) ∙ map.get-empty pid_cmp pid
+  begun_none = ap (λ o. process_at (node_or_new pid.node o) pid) (map.get-empty nat_cmp pid.node) ∙ map.get-empty pid_cmp pid
 
   pub was_given : (ls : List (List ℕ)) (bs : List Answer) (end : Session) (p : Process) → Run 1 begun ls bs end → living end.state pid ≡ Some p → In (owns p) c → WasGiven 1 begun ls bs pid c
   was_given ls bs end p r lives owned = elim (run_owned 1 begun ls bs end r (record { process = p; lives = lives; owned = owned })) [

@@ -24,13 +24,13 @@ use Rattle.fl_jobs.specs.declared.job.Job.TheVariants.{Proc, By, Member, Arrive}
 use Rattle.fl_jobs.specs.declared.answer.Reply.TheVariants.{Arrived}
 use Rattle.fl_jobs.specs.declared.answer.Refusal.{Refusal}
 use Rattle.fl_jobs.specs.declared.answer.Outcome.{Outcome}
-use Rattle.fl_bench.specs.Bench as bench
-use Rattle.fl_bench.specs.Mailbox.{taken, MailDoes}
-use Rattle.fl_bench.specs.Jobs.{Answers as Tells, Performs, Effect, Does, passed}
-use Rattle.fl_bench.specs.Process.{effective}
-use Rattle.fl_bench.specs.declared.process.Process.{Process}
-use Rattle.fl_bench.proofs.Orders.{sending_at}
-use Rattle.fl_bench.specs.Summary.{IsSending}
+use Rattle.fl_monitor.specs.Bench as bench
+use Rattle.fl_monitor.specs.Mailbox.{taken, MailDoes}
+use Rattle.fl_monitor.specs.Jobs.{Answers as Tells, Performs, Effect, Does, passed}
+use Rattle.fl_monitor.specs.Process.{effective}
+use Rattle.fl_monitor.specs.declared.process.Process.{Process}
+use Rattle.fl_monitor.proofs.Orders.{sending_at}
+use Rattle.fl_monitor.proofs.Steps.{IsSending}
 use Rattle.fl_aliases.specs.Table.{Table}
 use Rattle.fl_script.specs.Grammar.{Spells}
 use Rattle.fl_script.specs.Reading.{IsReading, Says as IsSaid}
@@ -38,14 +38,14 @@ use Rattle.fl_script.specs.declared.line.Line.{Line}
 use Rattle.fl_script.specs.declared.line.Line.TheVariants as lines
 use Rattle.fl_script.specs.declared.reading.Reading.{Reading}
 use Rattle.fl_script.specs.declared.reading.Reading.TheVariants as reading
-use Rattle.fl_cluster.specs.State.{State, NodeState, node_at, packet_at}
+use Rattle.fl_cluster.specs.Cluster.{Cluster, NodeState, node_at, packet_at}
 use Rattle.fl_cluster.specs.Session.{Session, begun}
 use Rattle.fl_cluster.specs.Answer.{Answer, silence, replied, named, sent, text, listed, refused, dropped, bad_line, on_arrival}
-use Rattle.fl_cluster.specs.NodeStep.{view_of, AnswersResult, replies, refuses, makes, spends, Works, Sends}
+use Rattle.fl_cluster.specs.NodeStep.{view_of, AnswersResult, replies, refuses, makes, spends, NodeAnswers, Sends}
 use Rattle.fl_cluster_laws.specs.Living.{process_at}
 use Rattle.fl_cluster_laws.specs.Lives.{Says}
 use Rattle.fl_cluster_laws.specs.Sent.{MaySend, WasSent, Delivers}
-use Rattle.fl_cluster.specs.Turn.{Answers, works, sends, brings, no_room, never_sent, tells, unites, lists, AnswersReading, Turn}
+use Rattle.fl_cluster.specs.Turn.{AnswersLine, works, sends, brings, no_room, never_sent, shows, unites, lists, AnswersReading, Turn}
 use Rattle.fl_cluster.specs.Output.{Run}
 use Rattle.fl_cluster_laws.proofs.Orderly.{HasOrder, start_order, turn_order}
 
@@ -107,10 +107,10 @@ module _ (old : Session) (line : List ℕ) (h : HasOrder old.state) where
 
   module _ (k : ℕ) (d : Data) where
     -- it was sent before, or by this line
-    abbrev Known : Answer → State → Type 0
+    abbrev Known : Answer → Cluster → Type 0
     Known a m = packet_at m.sent k ≡ Some (packets.Data d) → (packet_at old.state.sent k ≡ Some (packets.Data d)) ⊎ SentAt old line a k d
 
-    answers_known : {place : ℕ} {l : Line} {a : Answer} {m : State} → Says old line l → Answers place old.aliases old.state l a m → Known a m
+    answers_known : {place : ℕ} {l : Line} {a : Answer} {m : Cluster} → Says old line l → AnswersLine place old.aliases old.state l a m → Known a m
     answers_known says (works w) e = inl e
     answers_known says (sends {number} {job} {packet} {after} s) e = elim (one_more old.state.sent packet (packets.Data d) k e) [
       | inl before ↦ inl before
@@ -119,7 +119,7 @@ module _ (old : Session) (line : List ℕ) (h : HasOrder old.state) where
     answers_known says (brings found w) e = inl e
     answers_known says (no_room found) e = inl e
     answers_known says (never_sent none) e = inl e
-    answers_known says tells e = inl e
+    answers_known says shows e = inl e
     answers_known says unites e = inl e
     answers_known says lists e = inl e
 
@@ -242,7 +242,7 @@ module _ (pid : Pid) where
   result_takes_in node job r after a m d (makes next) e = absurd (cc)
   result_takes_in node job r after a m d (spends last) e = absurd (cc)
 
-  work_takes_in : {node : NodeState} {job : Job} {a : Answer} {m : NodeState} → Works node job a m → a ≡ replied (Arrived pid) → TakesIn node job pid
+  work_takes_in : {node : NodeState} {job : Job} {a : Answer} {m : NodeState} → NodeAnswers node job a m → a ≡ replied (Arrived pid) → TakesIn node job pid
   work_takes_in {node} {job} {a} {m} w e = result_takes_in node job w.result w.after a m w.does w.answered e
 
   arrival_of : {node : NodeState} {job : Job} → TakesIn node job pid → IsArrival job pid
@@ -273,13 +273,13 @@ module _ (pid : Pid) where
     asked_none : {n : ℕ} {job : Job} → Says old line (lines.Job n job) → IsArrival job pid → ⊥
     asked_none {n} says is = let reads = subst (λ j. Says old line (lines.Job n j)) is.job_is says in said_none old.aliases n is.arriving reads.alias _ reads.reads.said
 
-    answers_comes : {place : ℕ} {l : Line} {a : Answer} {m : State} → Says old line l → Answers place old.aliases old.state l a m → a ≡ replied (Arrived pid) → Comes old line pid
+    answers_comes : {place : ℕ} {l : Line} {a : Answer} {m : Cluster} → Says old line l → AnswersLine place old.aliases old.state l a m → a ≡ replied (Arrived pid) → Comes old line pid
     answers_comes says (works w) e = absurd (asked_none says (arrival_of (work_takes_in w e)))
     answers_comes says (sends s) e = absurd (cc)
     answers_comes says (brings {number} {k} {d} {answer} found w) e = record { number = number; k = k; packet = d; says = says; was_sent = found; takes_in = work_takes_in w (from_arrival answer e) }
     answers_comes says (no_room found) e = absurd (cc)
     answers_comes says (never_sent none) e = absurd (cc)
-    answers_comes says tells e = absurd (cc)
+    answers_comes says shows e = absurd (cc)
     answers_comes says unites e = absurd (cc)
     answers_comes says lists e = absurd (cc)
 

@@ -4,9 +4,9 @@ use Rattle.std.specs.FinMap as map
 use Rattle.fl_labels.specs.declared.pid.Pid.{Pid}
 use Rattle.fl_ops.specs.declared.op.Op.{Op}
 use Rattle.fl_jobs.specs.declared.job.Job.{Job}
-use Rattle.fl_bench.specs.Bench as bench
-use Rattle.fl_bench.specs.declared.process.Process.{Process}
-use Rattle.fl_cluster.specs.State.{State, node_at}
+use Rattle.fl_monitor.specs.Bench as bench
+use Rattle.fl_monitor.specs.declared.process.Process.{Process}
+use Rattle.fl_cluster.specs.Cluster.{Cluster, node_at}
 use Rattle.fl_cluster.specs.Session.{Session}
 use Rattle.fl_cluster.specs.Answer.{Answer}
 use Rattle.fl_cluster_laws.specs.Living.{living}
@@ -18,11 +18,11 @@ use Rattle.fl_cluster_laws.proofs.Orderly.{HasOrder}
 use Rattle.fl_cluster_laws.proofs.Turns.{TurnAt, rests, works_at, turn_at}
 
 -- the next serial of its node is past the identifier's
-pub record IsGiven (s : State) (pid : Pid) : Type 0 where
+pub record IsGiven (s : Cluster) (pid : Pid) : Type 0 where
   pub below : pid.serial < (node_at s pid.node).bench.next
 
 -- of one that is there
-pub given_there : (s : State) (pid : Pid) (p : Process) → HasOrder s → living s pid ≡ Some p → IsGiven s pid
+pub given_there : (s : Cluster) (pid : Pid) (p : Process) → HasOrder s → living s pid ≡ Some p → IsGiven s pid
 given_there s pid p h e = record { below = ((h.bench_is pid.node).orderly.each pid p e).below }
 
 module _ (old : Session) (line : List ℕ) where

@@ -13,22 +13,22 @@ use Rattle.fl_jobs.specs.declared.job.Job.TheVariants.{By, Arrive}
 use Rattle.fl_jobs.specs.declared.answer.Reply.TheVariants.{Done}
 use Rattle.fl_jobs.specs.declared.answer.Outcome.{Outcome}
 use Rattle.fl_jobs.specs.declared.answer.Refusal.{Refusal}
-use Rattle.fl_bench.specs.Bench as bench
-use Rattle.fl_bench.specs.Following.{Follows}
-use Rattle.fl_bench.specs.Jobs.{Does}
-use Rattle.fl_bench.specs.Orderly.{IsOrderly}
-use Rattle.fl_bench_laws.proofs.Following.{follows_same, follows_does, follows_finished, Set, does_set, set_is_no_order}
-use Rattle.fl_bench.proofs.Orders.{sending_leaves}
+use Rattle.fl_monitor.specs.Bench as bench
+use Rattle.fl_monitor.specs.Following.{Follows}
+use Rattle.fl_monitor.specs.Jobs.{Does}
+use Rattle.fl_monitor.specs.Orderly.{IsOrderly}
+use Rattle.fl_monitor.proofs.Following.{follows_same, follows_does, follows_finished, Set, does_set, set_is_no_order}
+use Rattle.fl_monitor.proofs.Orders.{sending_leaves}
 use Rattle.fl_script.specs.declared.line.Line.{Line}
 use Rattle.fl_script.specs.declared.line.Line.TheVariants as line
 use Rattle.fl_script.specs.declared.reading.Reading.{Reading}
 use Rattle.fl_script.specs.declared.reading.Reading.TheVariants as reading
 use Rattle.fl_script.proofs.OneReading.{one_reading}
-use Rattle.fl_cluster.specs.State.{State, NodeState, node_at, with_node, with_open}
+use Rattle.fl_cluster.specs.Cluster.{Cluster, NodeState, node_at, with_node, with_open}
 use Rattle.fl_cluster.specs.Session.{Session}
 use Rattle.fl_cluster.specs.Answer.{Answer, replied}
-use Rattle.fl_cluster.specs.NodeStep.{view_of, AnswersResult, replies, refuses, makes, spends, Works, Sends}
-use Rattle.fl_cluster.specs.Turn.{Answers, works, sends, brings, no_room, never_sent, tells, unites, lists, AnswersReading, Turn}
+use Rattle.fl_cluster.specs.NodeStep.{view_of, AnswersResult, replies, refuses, makes, spends, NodeAnswers, Sends}
+use Rattle.fl_cluster.specs.Turn.{AnswersLine, works, sends, brings, no_room, never_sent, shows, unites, lists, AnswersReading, Turn}
 use Rattle.fl_cluster_laws.specs.LabelChange.{SetsSafely, AsksForLabel}
 use Rattle.fl_cluster_laws.specs.Living.{living, view_at}
 use Rattle.fl_cluster_laws.proofs.Orderly.{HasOrder}
@@ -45,36 +45,36 @@ module _ (node : NodeState) (q : Pid) where
   follows_result job r after a m h d (makes next) = follows_finished (view_of node) d _ q
   follows_result job r after a m h d (spends last) = follows_same _ _
 
-  follows_work : (job : Job) (a : Answer) (m : NodeState) {number : ℕ} → IsOrderly number node.bench → Works node job a m → To m
+  follows_work : (job : Job) (a : Answer) (m : NodeState) {number : ℕ} → IsOrderly number node.bench → NodeAnswers node job a m → To m
   follows_work job a m h w = follows_result job w.result w.after a m h w.does w.answered
 
   follows_send : {job : Job} {packet : Packet} {m : NodeState} → Sends node job packet m → To m
   follows_send s = subst To (sym s.left) (subst (λ (b : bench.State). Follows (view_of node) (map.get node.bench.processes q) (map.get b.processes q)) (sym (sending_leaves s.does)) (follows_same _ _))
 
 -- what becomes of q
-abbrev From : State → Pid → State → Type 0
+abbrev From : Cluster → Pid → Cluster → Type 0
 From old q new = Follows (view_at old q) (living old q) (living new q)
 
 -- its node is now this one
-follows_at : (old m : State) (q : Pid) (after : NodeState) → node_at m q.node ≡ after → To (node_at old q.node) q after → From old q m
+follows_at : (old m : Cluster) (q : Pid) (after : NodeState) → node_at m q.node ≡ after → To (node_at old q.node) q after → From old q m
 follows_at old m q after e h = subst (λ (x : NodeState). To (node_at old q.node) q x) (sym e) h
 
-follows_node : (old m : State) (q : Pid) → node_at m q.node ≡ node_at old q.node → From old q m
+follows_node : (old m : Cluster) (q : Pid) → node_at m q.node ≡ node_at old q.node → From old q m
 follows_node old m q e = follows_at old m q (node_at old q.node) e (follows_same _ _)
 
-follows_put : (old : State) (number : ℕ) (after : NodeState) (q : Pid) → To (node_at old number) q after → From old q (with_node old number after)
+follows_put : (old : Cluster) (number : ℕ) (after : NodeState) (q : Pid) → To (node_at old number) q after → From old q (with_node old number after)
 follows_put old number after q h = elim (node_put old number after q.node) [
   | inl e ↦ follows_at old (with_node old number after) q after e.1 (subst (λ n. To (node_at old n) q after) (sym e.0) h)
   | inr e ↦ follows_node old (with_node old number after) q e
 ]
 
-follows_answer : {place : ℕ} {table : Table} {old : State} {l : Line} {a : Answer} {m : State} (q : Pid) → HasOrder old → Answers place table old l a m → From old q m
+follows_answer : {place : ℕ} {table : Table} {old : Cluster} {l : Line} {a : Answer} {m : Cluster} (q : Pid) → HasOrder old → AnswersLine place table old l a m → From old q m
 follows_answer {old} {a = a} q h (works {number} {job} {after} k) = follows_put old number after q (follows_work (node_at old number) q job a after (h.bench_is number).orderly k)
 follows_answer {old} q h (sends {number} {after} k) = follows_put old number after q (follows_send (node_at old number) q k)
 follows_answer {old} q h (brings {number} {d} {answer} {after} found k) = follows_put old number after q (follows_work (node_at old number) q (Arrive d) answer after (h.bench_is number).orderly k)
 follows_answer {old} q h (no_room found) = follows_node old old q refl
 follows_answer {old} q h (never_sent none) = follows_node old old q refl
-follows_answer {old} q h (tells {number}) = follows_node old (with_open old number) q (node_open old number q.node)
+follows_answer {old} q h (shows {number}) = follows_node old (with_open old number) q (node_open old number q.node)
 follows_answer {old} q h (unites {first} {second}) = follows_node old (with_open (with_open old first) second) q (node_open_both old first second q.node)
 follows_answer {old} q h lists = follows_node old old q refl
 
@@ -103,21 +103,21 @@ module _ (pid : Pid) (side : Side) (label : SetBy name_cmp) where
   result_set node r after a m d (makes next) e = absurd (set_is_no_order d)
   result_set node r after a m d (spends last) e = absurd (set_is_no_order d)
 
-  work_set : (node : NodeState) (a : Answer) (m : NodeState) → Works node Setting a m → a ≡ replied Done → Set (view_of node) node.bench pid side label m.bench
+  work_set : (node : NodeState) (a : Answer) (m : NodeState) → NodeAnswers node Setting a m → a ≡ replied Done → Set (view_of node) node.bench pid side label m.bench
   work_set node a m w e = result_set node w.result w.after a m w.does w.answered e
 
-  answer_set : {place : ℕ} {table : Table} {old : State} {l : Line} {a : Answer} {m : State} (asked : ℕ) → Answers place table old l a m → l ≡ line.Job asked Setting → a ≡ replied Done → SetsSafely (node_at old asked) pid side label (node_at m asked)
+  answer_set : {place : ℕ} {table : Table} {old : Cluster} {l : Line} {a : Answer} {m : Cluster} (asked : ℕ) → AnswersLine place table old l a m → l ≡ line.Job asked Setting → a ≡ replied Done → SetsSafely (node_at old asked) pid side label (node_at m asked)
   answer_set {old} {a = a} asked (works {number} {job} {after} k) is e =
       let same : job ≡ Setting = cc in
       let here : number ≡ asked = cc in
-      let s = work_set (node_at old number) a after (subst (λ j. Works (node_at old number) j a after) same k) e in
+      let s = work_set (node_at old number) a after (subst (λ j. NodeAnswers (node_at old number) j a after) same k) e in
       subst (λ n. SetsSafely (node_at old n) pid side label (node_at (with_node old number after) n)) here
       (subst (SetsSafely (node_at old number) pid side label) (sym (node_here old number after)) (record { process = s.process; lived = s.lived; safe = s.safe; lives = s.lives }))
   answer_set asked (sends s) is e = absurd (cc)
   answer_set asked (brings found w) is e = absurd (cc)
   answer_set asked (no_room found) is e = absurd (cc)
   answer_set asked (never_sent none) is e = absurd (cc)
-  answer_set asked tells is e = absurd (cc)
+  answer_set asked shows is e = absurd (cc)
   answer_set asked unites is e = absurd (cc)
   answer_set asked lists is e = absurd (cc)
 
@@ -133,7 +133,7 @@ module _ (pid : Pid) (side : Side) (label : SetBy name_cmp) where
   turn_set number asked old bytes m asks (inr k) = let e = k.answered in absurd (cc)
 
   -- in what a script has made, only the process's own node can have set it
-  pub own_set : (asked : ℕ) (old m : State) → HasOrder old → SetsSafely (node_at old asked) pid side label (node_at m asked) → SetsSafely (node_at old pid.node) pid side label (node_at m pid.node)
+  pub own_set : (asked : ℕ) (old m : Cluster) → HasOrder old → SetsSafely (node_at old asked) pid side label (node_at m asked) → SetsSafely (node_at old pid.node) pid side label (node_at m pid.node)
   own_set asked old m h s =
       let own : pid.node ≡ asked = ((h.bench_is asked).orderly.each pid s.process s.lived).own in
       subst (λ n. SetsSafely (node_at old n) pid side label (node_at m n)) (sym own) s

@@ -5,3 +5,4 @@ pub mod LabelChange
 pub mod Lives
 pub mod Owned
 pub mod Sent
+pub mod Equal

@@ -7,13 +7,13 @@ use Rattle.fl_jobs.specs.declared.job.Act.TheVariants.{Exit}
 use Rattle.fl_jobs.specs.declared.job.Job.{Job}
 use Rattle.fl_jobs.specs.declared.job.Job.TheVariants.{By, Arrive}
 use Rattle.fl_jobs.specs.declared.answer.Reply.TheVariants.{Made, Done}
-use Rattle.fl_bench.specs.Births.{IsBirth}
-use Rattle.fl_bench.specs.declared.process.Process.{Process}
+use Rattle.fl_monitor.specs.Births.{IsBirth}
+use Rattle.fl_monitor.specs.declared.process.Process.{Process}
 use Rattle.fl_script.specs.Reading.{IsReading}
 use Rattle.fl_script.specs.declared.line.Line.{Line}
 use Rattle.fl_script.specs.declared.line.Line.TheVariants as lines
 use Rattle.fl_script.specs.declared.reading.Reading.TheVariants.{Means}
-use Rattle.fl_cluster.specs.State.{node_at, packet_at}
+use Rattle.fl_cluster.specs.Cluster.{node_at, packet_at}
 use Rattle.fl_cluster.specs.Session.{Session}
 use Rattle.fl_cluster.specs.Answer.{Answer, replied}
 use Rattle.fl_cluster_laws.specs.Living.{view_at}

@@ -12,10 +12,10 @@ use Rattle.fl_mailbox.specs.declared.endpoints.OpenEndpoint.{OpenEndpoint}
 use Rattle.fl_jobs.specs.declared.job.Act.TheVariants.{Mail}
 use Rattle.fl_jobs.specs.declared.job.Mail.TheVariants.{Send}
 use Rattle.fl_jobs.specs.declared.job.Job.TheVariants.{By}
-use Rattle.fl_bench.specs.Process.{effective}
-use Rattle.fl_bench.specs.declared.process.Process.{Process}
+use Rattle.fl_monitor.specs.Process.{effective}
+use Rattle.fl_monitor.specs.declared.process.Process.{Process}
 use Rattle.fl_script.specs.declared.line.Line.TheVariants as lines
-use Rattle.fl_cluster.specs.State.{State, packet_at}
+use Rattle.fl_cluster.specs.Cluster.{Cluster, packet_at}
 use Rattle.fl_cluster.specs.Session.{Session, begun}
 use Rattle.fl_cluster.specs.Answer.{Answer, sent}
 use Rattle.fl_cluster_laws.specs.Living.{living, view_at}
@@ -23,7 +23,7 @@ use Rattle.fl_cluster_laws.specs.Lives.{Says}
 use Rattle.fl_cluster.specs.Output.{Run}
 
 -- its sender may send the packet: it has an open endpoint to write to, whose labels the packet has, and has in effect what the message carries
-pub record MaySend (state : State) (d : Data) : Type 0 where
+pub record MaySend (state : Cluster) (d : Data) : Type 0 where
   pub process : Process
   pub lives : living state d.sender ≡ Some process
   pub opened : OpenEndpoint

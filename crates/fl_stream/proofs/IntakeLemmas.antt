@@ -7,12 +7,12 @@ use Rattle.std.specs.Str.Lines.{lines}
 use Rattle.fl_stream.specs.Turns.{Turns, Run, texts, any_bad}
 use Rattle.fl_stream.specs.Output.{Writes, WritesOutput, WritesFirst}
 use Rattle.fl_stream.specs.Served.{Served, HasNoFeed}
-use Rattle.fl_stream.specs.parts.Interpreter.{Halts, fresh}
-use Rattle.fl_stream.specs.parts.Stream.{StreamState, Advances, Stops, Ends, StopsAtEnd, fresh_stream}
-use Rattle.fl_stream.specs.parts.Intake.{IsReady, Reads, StopsReading, Overruns}
+use Rattle.fl_stream.specs.parts.Interpreter.{LinesCut, fresh}
+use Rattle.fl_stream.specs.parts.Stream.{StreamState, BytesPass, BytesCut, EndPasses, EndCuts, fresh_stream}
+use Rattle.fl_stream.specs.parts.Intake.{IsReady, ReadingPasses, ReadingCuts, Overruns}
 use Rattle.fl_stream.proofs.RunLemmas.{Run-append}
-use Rattle.fl_stream.proofs.InterpreterLemmas.{halts_then, texts-append, any_bad-append}
-use Rattle.fl_stream.proofs.StreamLemmas.{advances_split, advances_none, advances_then, stops_then, stops_advanced, no_feed_nil}
+use Rattle.fl_stream.proofs.InterpreterLemmas.{lines_cut_then, texts-append, any_bad-append}
+use Rattle.fl_stream.proofs.StreamLemmas.{bytes_pass_split, bytes_pass_none, bytes_pass_then, bytes_cut_then, bytes_cut_passed, no_feed_nil}
 
 -- what holds of each value holds of one that may be there
 pub if_some_always : {T : Type 0} (o : Option T) (P : T → Type 0) → ((x : T) → P x) → IfSome o P
@@ -25,51 +25,51 @@ appends_same {b} {c} a text e w = subst (λ x. Appends a x text) (sym e) w
 
 module _ {M : Type 0} {turns : Turns M} where
   -- nothing was read
-  pub reads_none : (r a : Option (List ℕ)) (s : StreamState M) (room : ℕ) → Reads turns r r a a s s room room
-  reads_none r a s room = record { bytes = []; consumed = Consumes-nil r; advance = advances_none a s; fits = omega arith }
+  pub reading_none : (r a : Option (List ℕ)) (s : StreamState M) (room : ℕ) → ReadingPasses turns r r a a s s room room
+  reading_none r a s room = record { bytes = []; consumed = Consumes-nil r; advance = bytes_pass_none a s; fits = omega arith }
 
   -- the end was read
-  pub reads_end : {r l a : Option (List ℕ)} (s : StreamState M) (room : ℕ) (bytes : List ℕ) → bytes ≡ [] → Consumes r l bytes → Reads turns r l a a s s room room
-  reads_end {r} {l} {a} s room bytes none q = record { bytes = []; consumed = rw none at q; advance = advances_none a s; fits = omega arith }
+  pub reading_end : {r l a : Option (List ℕ)} (s : StreamState M) (room : ℕ) (bytes : List ℕ) → bytes ≡ [] → Consumes r l bytes → ReadingPasses turns r l a a s s room room
+  reading_end {r} {l} {a} s room bytes none q = record { bytes = []; consumed = rw none at q; advance = bytes_pass_none a s; fits = omega arith }
 
   -- bytes were read, taken and sent
-  pub reads_sent : {r l a b : Option (List ℕ)} {s t u : StreamState M} {room less : ℕ} (c : Option (List ℕ)) (bytes : List ℕ) → Consumes r l bytes → Advances turns s t a b bytes → Advances turns t u b c [] → length bytes + less ≡ room → Reads turns r l a c s u room less
-  reads_sent {r} {l} {a} {b} {s} {t} {u} {room} {less} c bytes q taken sent fits = record {
+  pub reading_sent : {r l a b : Option (List ℕ)} {s t u : StreamState M} {room less : ℕ} (c : Option (List ℕ)) (bytes : List ℕ) → Consumes r l bytes → BytesPass turns s t a b bytes → BytesPass turns t u b c [] → length bytes + less ≡ room → ReadingPasses turns r l a c s u room less
+  reading_sent {r} {l} {a} {b} {s} {t} {u} {room} {less} c bytes q taken sent fits = record {
     bytes = bytes;
     consumed = q;
-    advance = subst (λ x. Advances turns s u a c x) (append-nil bytes) (advances_then c taken sent);
+    advance = subst (λ x. BytesPass turns s u a c x) (append-nil bytes) (bytes_pass_then c taken sent);
     fits = fits;
   }
 
   -- more was read
-  pub reads_then : {r l m a b c : Option (List ℕ)} {s t u : StreamState M} {room less least : ℕ} → Reads turns r l a b s t room less → Reads turns l m b c t u less least → Reads turns r m a c s u room least
-  reads_then {r} {l} {m} {a} {b} {c} {s} {t} {u} {room} {less} {least} p q = record {
+  pub reading_then : {r l m a b c : Option (List ℕ)} {s t u : StreamState M} {room less least : ℕ} → ReadingPasses turns r l a b s t room less → ReadingPasses turns l m b c t u less least → ReadingPasses turns r m a c s u room least
+  reading_then {r} {l} {m} {a} {b} {c} {s} {t} {u} {room} {less} {least} p q = record {
     bytes = p.bytes ++ q.bytes;
     consumed = Consumes-trans r l m p.bytes q.bytes p.consumed q.consumed;
-    advance = advances_then c p.advance q.advance;
+    advance = bytes_pass_then c p.advance q.advance;
     fits = omega (arith, p.fits, q.fits, length-append p.bytes q.bytes);
   }
 
   -- more was read than was taken
-  pub stops_beyond : {r l a : Option (List ℕ)} (s : StreamState M) (bytes : List ℕ) → Consumes r l bytes → StopsReading turns r l a a s
-  stops_beyond {r} {l} {a} s bytes q = record { bytes = bytes; consumed = q; stops = stops_advanced bytes (advances_none a s) }
+  pub reading_cuts_beyond : {r l a : Option (List ℕ)} (s : StreamState M) (bytes : List ℕ) → Consumes r l bytes → ReadingCuts turns r l a a s
+  reading_cuts_beyond {r} {l} {a} s bytes q = record { bytes = bytes; consumed = q; stops = bytes_cut_passed bytes (bytes_pass_none a s) }
 
   -- what was read was taken, and its answers stopped
-  pub stops_sending : {r l a b : Option (List ℕ)} {s t : StreamState M} (c : Option (List ℕ)) (bytes : List ℕ) → Consumes r l bytes → Advances turns s t a b bytes → Stops turns t b c [] → StopsReading turns r l a c s
-  stops_sending {r} {l} {a} {b} {s} {t} c bytes q p stop = record {
+  pub reading_cuts_sending : {r l a b : Option (List ℕ)} {s t : StreamState M} (c : Option (List ℕ)) (bytes : List ℕ) → Consumes r l bytes → BytesPass turns s t a b bytes → BytesCut turns t b c [] → ReadingCuts turns r l a c s
+  reading_cuts_sending {r} {l} {a} {b} {s} {t} c bytes q p stop = record {
     bytes = bytes;
     consumed = q;
-    stops = subst (λ x. Stops turns s a c x) (append-nil bytes) (stops_then c [] p stop);
+    stops = subst (λ x. BytesCut turns s a c x) (append-nil bytes) (bytes_cut_then c [] p stop);
   }
 
   -- all that was read was the whole script, and it was answered
-  output_end : {a b : Option (List ℕ)} {start : M} {s : StreamState M} {bad : Bool} (c : Option (List ℕ)) (taken : List ℕ) → Advances turns (fresh_stream start) s a b taken → Ends turns s b c bad → WritesOutput turns start a c taken (cond bad 1 0)
+  output_end : {a b : Option (List ℕ)} {start : M} {s : StreamState M} {bad : Bool} (c : Option (List ℕ)) (taken : List ℕ) → BytesPass turns (fresh_stream start) s a b taken → EndPasses turns s b c bad → WritesOutput turns start a c taken (cond bad 1 0)
   output_end {a} {b} {start} {s} {bad} c taken p q = record {
     text = texts (p.proceeds.outputs ++ q.outputs);
     output = record {
       outputs = p.proceeds.outputs ++ q.outputs;
       end = q.end;
-      run = rw (← append-nil taken, advances_split p [], append-nil s.held) (Run-append turns 1 start p.seen p.proceeds.outputs s.interpreter.machine (lines s.held) q.outputs q.end p.proceeds.run (rw p.proceeds.count at q.run));
+      run = rw (← append-nil taken, bytes_pass_split p [], append-nil s.held) (Run-append turns 1 start p.seen p.proceeds.outputs s.interpreter.machine (lines s.held) q.outputs q.end p.proceeds.run (rw p.proceeds.count at q.run));
       text_is = refl;
       status_is = ap (λ x. cond x 1 0) (q.bad_is ∙ ap (λ x. x || any_bad q.outputs) p.proceeds.bad_is ∙ sym (any_bad-append p.proceeds.outputs q.outputs));
     };
@@ -77,7 +77,7 @@ module _ {M : Type 0} {turns : Turns M} where
   }
 
   -- a front of the text of the first lines was written
-  first_halts : {a b : Option (List ℕ)} {start : M} (script : List ℕ) (first later : List (List ℕ)) → lines script ≡ first ++ later → Halts turns (fresh start) a b first → WritesFirst turns start a b script
+  first_halts : {a b : Option (List ℕ)} {start : M} (script : List ℕ) (first later : List (List ℕ)) → lines script ≡ first ++ later → LinesCut turns (fresh start) a b first → WritesFirst turns start a b script
   first_halts {a} {b} {start} script first later split h = record {
     first = first;
     later = later;
@@ -90,15 +90,15 @@ module _ {M : Type 0} {turns : Turns M} where
   }
 
   -- a front of the script was taken, and stopped
-  first_stops : (r l a c : Option (List ℕ)) {start : M} (taken : List ℕ) → Consumes r l taken → Stops turns (fresh_stream start) a c taken → IfSome r (λ script. WritesFirst turns start a c script)
+  first_stops : (r l a c : Option (List ℕ)) {start : M} (taken : List ℕ) → Consumes r l taken → BytesCut turns (fresh_stream start) a c taken → IfSome r (λ script. WritesFirst turns start a c script)
   first_stops None l a c taken p q = tt
   first_stops (Some xs) None a c taken p q = absurd p
   first_stops (Some xs) (Some ys) a c taken p q = rw p (first_halts (taken ++ ys) q.seen (lines (q.left ++ ys)) (q.split ys) q.halts)
 
   -- all was taken, and the answers to what was held stopped
-  first_ends : {a b : Option (List ℕ)} {start : M} {s : StreamState M} (c : Option (List ℕ)) (taken : List ℕ) → Advances turns (fresh_stream start) s a b taken → StopsAtEnd turns s b c → WritesFirst turns start a c taken
+  first_ends : {a b : Option (List ℕ)} {start : M} {s : StreamState M} (c : Option (List ℕ)) (taken : List ℕ) → BytesPass turns (fresh_stream start) s a b taken → EndCuts turns s b c → WritesFirst turns start a c taken
   first_ends {a} {b} {start} {s} c taken p q =
-      first_halts taken (p.seen ++ lines s.held) [] (ap lines (sym (append-nil taken)) ∙ advances_split p [] ∙ ap (λ x. p.seen ++ lines x) (append-nil s.held) ∙ sym (append-nil (p.seen ++ lines s.held))) (halts_then c p.proceeds q.halts)
+      first_halts taken (p.seen ++ lines s.held) [] (ap lines (sym (append-nil taken)) ∙ bytes_pass_split p [] ∙ ap (λ x. p.seen ++ lines x) (append-nil s.held) ∙ sym (append-nil (p.seen ++ lines s.held))) (lines_cut_then c p.proceeds q.halts)
 
   -- nothing is written for no line
   pub first_none : (a : Option (List ℕ)) (start : M) (script : List ℕ) → WritesFirst turns start a a script
@@ -114,33 +114,33 @@ module _ {M : Type 0} {turns : Turns M} where
   }
 
   -- what was read may stop, before the next read
-  pub reads_first : {r l a b : Option (List ℕ)} {start : M} {s : StreamState M} {room less : ℕ} → Reads turns r l a b (fresh_stream start) s room less → IfSome r (λ script. WritesFirst turns start a b script)
-  reads_first {r} {l} {a} {b} {start} {s} {room} {less} p =
-      first_stops r l a b p.bytes p.consumed (subst (λ x. Stops turns (fresh_stream start) a b x) (append-nil p.bytes) (stops_advanced [] p.advance))
+  pub reading_first : {r l a b : Option (List ℕ)} {start : M} {s : StreamState M} {room less : ℕ} → ReadingPasses turns r l a b (fresh_stream start) s room less → IfSome r (λ script. WritesFirst turns start a b script)
+  reading_first {r} {l} {a} {b} {start} {s} {room} {less} p =
+      first_stops r l a b p.bytes p.consumed (subst (λ x. BytesCut turns (fresh_stream start) a b x) (append-nil p.bytes) (bytes_cut_passed [] p.advance))
 
   -- more was read, and taking it stopped
-  pub reads_stop : {r l m a b c : Option (List ℕ)} {start : M} {s : StreamState M} {room less : ℕ} → Reads turns r l a b (fresh_stream start) s room less → StopsReading turns l m b c s → IfSome r (λ script. WritesFirst turns start a c script)
-  reads_stop {r} {l} {m} {a} {b} {c} {start} {s} {room} {less} p q =
-      first_stops r m a c (p.bytes ++ q.bytes) (Consumes-trans r l m p.bytes q.bytes p.consumed q.consumed) (subst (λ x. Stops turns (fresh_stream start) a c (p.bytes ++ x)) (append-nil q.bytes) (stops_then c [] p.advance q.stops))
+  pub reading_cuts : {r l m a b c : Option (List ℕ)} {start : M} {s : StreamState M} {room less : ℕ} → ReadingPasses turns r l a b (fresh_stream start) s room less → ReadingCuts turns l m b c s → IfSome r (λ script. WritesFirst turns start a c script)
+  reading_cuts {r} {l} {m} {a} {b} {c} {start} {s} {room} {less} p q =
+      first_stops r m a c (p.bytes ++ q.bytes) (Consumes-trans r l m p.bytes q.bytes p.consumed q.consumed) (subst (λ x. BytesCut turns (fresh_stream start) a c (p.bytes ++ x)) (append-nil q.bytes) (bytes_cut_then c [] p.advance q.stops))
 
   -- there was no more to read, and all was answered
-  pub reads_answered : {r l a b : Option (List ℕ)} {start : M} {s : StreamState M} {room less : ℕ} {bad : Bool} (c : Option (List ℕ)) → Reads turns r l a b (fresh_stream start) s room less → IsAtEnd l → Ends turns s b c bad → IfSome r (λ script. WritesOutput turns start a c script (cond bad 1 0))
-  reads_answered {r} {l} {a} {b} {start} {s} {room} {less} {bad} c p end e =
+  pub reading_answered : {r l a b : Option (List ℕ)} {start : M} {s : StreamState M} {room less : ℕ} {bad : Bool} (c : Option (List ℕ)) → ReadingPasses turns r l a b (fresh_stream start) s room less → IsAtEnd l → EndPasses turns s b c bad → IfSome r (λ script. WritesOutput turns start a c script (cond bad 1 0))
+  reading_answered {r} {l} {a} {b} {start} {s} {room} {less} {bad} c p end e =
       Consumes-whole r l p.bytes (λ script. WritesOutput turns start a c script (cond bad 1 0)) p.consumed end (output_end c p.bytes p.advance e)
 
   -- there was no more to read, and the answers stopped
-  pub reads_stop_at_end : {r l a b : Option (List ℕ)} {start : M} {s : StreamState M} {room less : ℕ} (c : Option (List ℕ)) → Reads turns r l a b (fresh_stream start) s room less → IsAtEnd l → StopsAtEnd turns s b c → IfSome r (λ script. WritesFirst turns start a c script)
-  reads_stop_at_end {r} {l} {a} {b} {start} {s} {room} {less} c p end e =
+  pub reading_end_cuts : {r l a b : Option (List ℕ)} {start : M} {s : StreamState M} {room less : ℕ} (c : Option (List ℕ)) → ReadingPasses turns r l a b (fresh_stream start) s room less → IsAtEnd l → EndCuts turns s b c → IfSome r (λ script. WritesFirst turns start a c script)
+  reading_end_cuts {r} {l} {a} {b} {start} {s} {room} {less} c p end e =
       Consumes-whole r l p.bytes (λ script. WritesFirst turns start a c script) p.consumed end (first_ends c p.bytes p.advance e)
 
   -- the whole script was read, and there was room for it
-  pub reads_short : {r l a b : Option (List ℕ)} {old s : StreamState M} {room less : ℕ} → Reads turns r l a b old s room less → IsAtEnd l → IfSome r (λ script. length script ≤ room)
-  reads_short {r} {l} {a} {b} {old} {s} {room} {less} p end =
+  pub reading_short : {r l a b : Option (List ℕ)} {old s : StreamState M} {room less : ℕ} → ReadingPasses turns r l a b old s room less → IsAtEnd l → IfSome r (λ script. length script ≤ room)
+  reading_short {r} {l} {a} {b} {old} {s} {room} {less} p end =
       Consumes-whole r l p.bytes (λ script. length script ≤ room) p.consumed end (omega (arith, p.fits))
 
   -- all answers were sent: exactly the lines that ended are answered
-  pub reads_served : {r l m a b c : Option (List ℕ)} {start : M} {s : StreamState M} {less : ℕ} → Reads turns r l a b (fresh_stream start) s 16777216 less → Overruns l m b c less → IsReady s less → Served turns start r m a c
-  reads_served {r} {l} {m} {a} {b} {c} {start} {s} {less} p q ready = record {
+  pub reading_served : {r l m a b c : Option (List ℕ)} {start : M} {s : StreamState M} {less : ℕ} → ReadingPasses turns r l a b (fresh_stream start) s 16777216 less → Overruns l m b c less → IsReady s less → Served turns start r m a c
+  reading_served {r} {l} {m} {a} {b} {c} {start} {s} {less} p q ready = record {
     taken = p.bytes;
     beyond = q.beyond;
     consumed = Consumes-trans r l m p.bytes q.beyond p.consumed q.consumed;

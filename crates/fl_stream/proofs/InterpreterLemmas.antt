@@ -7,8 +7,8 @@ use Rattle.std.proofs.KnownBytes.{Appends-kept}
 use Rattle.std.specs.Io.KnownBytes.{Appends, Keeps}
 use Rattle.fl_sink.specs.Sink.{Passes, Cuts}
 use Rattle.fl_sink.proofs.SinkLemmas.{passes_then, cuts_then, cuts_passed, passes_none}
-use Rattle.fl_stream.specs.Turns.{Turns, LineOutput, Answers, CutsAnswer, texts, any_bad}
-use Rattle.fl_stream.specs.parts.Interpreter.{InterpreterState, Proceeds, Halts}
+use Rattle.fl_stream.specs.Turns.{Turns, LineOutput, AnswerPasses, AnswerCuts, texts, any_bad}
+use Rattle.fl_stream.specs.parts.Interpreter.{InterpreterState, LinesPass, LinesCut}
 use Rattle.fl_stream.proofs.RunLemmas.{Run-append}
 
 or_false : (x : Bool) → x || false ≡ x
@@ -27,8 +27,8 @@ any_bad-append a b = list_any-append (λ o. o.bad) a b
 
 module _ {M : Type 0} {turns : Turns M} where
   -- no line was answered
-  pub proceeds_none : (a : Option (List ℕ)) (d : InterpreterState M) → Proceeds turns d d a a []
-  proceeds_none a d = record {
+  pub lines_pass_none : (a : Option (List ℕ)) (d : InterpreterState M) → LinesPass turns d d a a []
+  lines_pass_none a d = record {
     outputs = [];
     run = refl;
     count = omega arith;
@@ -37,8 +37,8 @@ module _ {M : Type 0} {turns : Turns M} where
   }
 
   -- one line was answered
-  pub proceeds_one : {a b : Option (List ℕ)} {line : List ℕ} {bad : Bool} {new : M} {rest : List ℕ} (d : InterpreterState M) → Answers turns d.number d.machine line bad new a b d.pending rest → Proceeds turns d (record { number = d.number + 1; bad = d.bad || bad; machine = new; pending = rest }) a b (line ∷ [])
-  proceeds_one {a} {b} {line} {bad} {new} {rest} d t = record {
+  pub lines_pass_one : {a b : Option (List ℕ)} {line : List ℕ} {bad : Bool} {new : M} {rest : List ℕ} (d : InterpreterState M) → AnswerPasses turns d.number d.machine line bad new a b d.pending rest → LinesPass turns d (record { number = d.number + 1; bad = d.bad || bad; machine = new; pending = rest }) a b (line ∷ [])
+  lines_pass_one {a} {b} {line} {bad} {new} {rest} d t = record {
     outputs = record { text = t.text; bad = bad } ∷ [];
     run = (new, t.turn, refl);
     count = refl;
@@ -47,8 +47,8 @@ module _ {M : Type 0} {turns : Turns M} where
   }
 
   -- a front of one line's text was written
-  pub halts_one : {a b : Option (List ℕ)} {line : List ℕ} {new : M} (d : InterpreterState M) → CutsAnswer turns d.number d.machine line new a b d.pending → Halts turns d a b (line ∷ [])
-  halts_one {a} {b} {line} {new} d t = record {
+  pub lines_cut_one : {a b : Option (List ℕ)} {line : List ℕ} {new : M} (d : InterpreterState M) → AnswerCuts turns d.number d.machine line new a b d.pending → LinesCut turns d a b (line ∷ [])
+  lines_cut_one {a} {b} {line} {new} d t = record {
     outputs = t.output ∷ [];
     end = new;
     run = (new, t.turn, refl);
@@ -56,8 +56,8 @@ module _ {M : Type 0} {turns : Turns M} where
   }
 
   -- lines were answered after others
-  pub proceeds_then : {a b : Option (List ℕ)} {d e f : InterpreterState M} {ls ms : List (List ℕ)} (c : Option (List ℕ)) → Proceeds turns d e a b ls → Proceeds turns e f b c ms → Proceeds turns d f a c (ls ++ ms)
-  proceeds_then {a} {b} {d} {e} {f} {ls} {ms} c p q = record {
+  pub lines_pass_then : {a b : Option (List ℕ)} {d e f : InterpreterState M} {ls ms : List (List ℕ)} (c : Option (List ℕ)) → LinesPass turns d e a b ls → LinesPass turns e f b c ms → LinesPass turns d f a c (ls ++ ms)
+  lines_pass_then {a} {b} {d} {e} {f} {ls} {ms} c p q = record {
     outputs = p.outputs ++ q.outputs;
     run = Run-append turns d.number d.machine ls p.outputs e.machine ms q.outputs f.machine p.run (rw p.count at q.run);
     count = omega (arith, p.count, q.count, length-append ls ms);
@@ -66,8 +66,8 @@ module _ {M : Type 0} {turns : Turns M} where
   }
 
   -- a front of more lines' text was written
-  pub halts_then : {a b : Option (List ℕ)} {d e : InterpreterState M} {ls ms : List (List ℕ)} (c : Option (List ℕ)) → Proceeds turns d e a b ls → Halts turns e b c ms → Halts turns d a c (ls ++ ms)
-  halts_then {a} {b} {d} {e} {ls} {ms} c p q =
+  pub lines_cut_then : {a b : Option (List ℕ)} {d e : InterpreterState M} {ls ms : List (List ℕ)} (c : Option (List ℕ)) → LinesPass turns d e a b ls → LinesCut turns e b c ms → LinesCut turns d a c (ls ++ ms)
+  lines_cut_then {a} {b} {d} {e} {ls} {ms} c p q =
       let r = subst (λ x. Cuts a c d.pending (texts p.outputs ++ x)) (append-nil (texts q.outputs)) (cuts_then c (texts q.outputs) [] p.passed q.cut) in record {
         outputs = p.outputs ++ q.outputs;
         end = q.end;
@@ -76,8 +76,8 @@ module _ {M : Type 0} {turns : Turns M} where
       }
 
   -- what goes on may halt
-  pub halts_proceeds : {a b : Option (List ℕ)} {d e : InterpreterState M} {ls : List (List ℕ)} → Proceeds turns d e a b ls → Halts turns d a b ls
-  halts_proceeds {a} {b} {d} {e} {ls} p = record {
+  pub lines_cut_passed : {a b : Option (List ℕ)} {d e : InterpreterState M} {ls : List (List ℕ)} → LinesPass turns d e a b ls → LinesCut turns d a b ls
+  lines_cut_passed {a} {b} {d} {e} {ls} p = record {
     outputs = p.outputs;
     end = e.machine;
     run = p.run;
@@ -85,8 +85,8 @@ module _ {M : Type 0} {turns : Turns M} where
   }
 
   -- all that was pending was written
-  pub proceeds_sent : (a b c : Option (List ℕ)) (d : InterpreterState M) (left : List ℕ) → left ≡ [] → Appends a b d.pending → Keeps b c → Proceeds turns d (record d { pending = left }) a c []
-  proceeds_sent a b c d left empty w k = record {
+  pub lines_pass_sent : (a b c : Option (List ℕ)) (d : InterpreterState M) (left : List ℕ) → left ≡ [] → Appends a b d.pending → Keeps b c → LinesPass turns d (record d { pending = left }) a c []
+  lines_pass_sent a b c d left empty w k = record {
     outputs = [];
     run = refl;
     count = omega arith;
@@ -95,8 +95,8 @@ module _ {M : Type 0} {turns : Turns M} where
   }
 
   -- a front of what was pending was written
-  pub halts_sent : {a b : Option (List ℕ)} (d : InterpreterState M) → Cuts a b [] d.pending → Halts turns d a b []
-  halts_sent {a} {b} d w = record {
+  pub lines_cut_sent : {a b : Option (List ℕ)} (d : InterpreterState M) → Cuts a b [] d.pending → LinesCut turns d a b []
+  lines_cut_sent {a} {b} d w = record {
     outputs = [];
     end = d.machine;
     run = refl;

@@ -9,8 +9,10 @@ use Rattle.fl_stream.specs.Output.{Writes}
 abbrev pub HasNoFeed : List ℕ → Type 0
 HasNoFeed text = All (λ b. (b == 10) ≡ false) text
 
--- exactly the answers to the lines that ended in what was read are written; bytes beyond were read only where the script is too long
-pub record Served {M : Type 0} (turns : Turns M) (start : M) (remaining left before after : Option (List ℕ)) : Type 0 where
+-- exactly the answers to the lines that ended in what was read are written; bytes beyond were read only where
+-- the script is too long
+pub record Served {M : Type 0} (turns : Turns M) (start : M) (remaining left before after : Option (List ℕ))
+    : Type 0 where
   pub taken : List ℕ
   pub beyond : List ℕ
   pub consumed : Consumes remaining left (taken ++ beyond)

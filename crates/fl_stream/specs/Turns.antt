@@ -15,7 +15,8 @@ Turns M = ℕ → M → List ℕ → LineOutput → M → Type 0
 -- the lines are answered one after another, the first of them being the number-th
 abbrev pub Run : {M : Type 0} → Turns M → ℕ → M → List (List ℕ) → List LineOutput → M → Type 0
 Run turns number old [] [] new = new ≡ old
-Run {M} turns number old (line ∷ lines) (output ∷ outputs) new = (mid : M) × turns number old line output mid × Run turns (number + 1) mid lines outputs new
+Run {M} turns number old (line ∷ lines) (output ∷ outputs) new =
+    (mid : M) × turns number old line output mid × Run turns (number + 1) mid lines outputs new
 Run turns number old [] (output ∷ outputs) new = ⊥
 Run turns number old (line ∷ lines) [] new = ⊥
 
@@ -28,13 +29,15 @@ abbrev pub any_bad : List LineOutput → Bool
 any_bad outputs = list_any (λ o. o.bad) outputs
 
 -- the number-th line was answered, and its text passed on
-pub record Answers {M : Type 0} (turns : Turns M) (number : ℕ) (old : M) (line : List ℕ) (bad : Bool) (new : M) (before after : Option (List ℕ)) (pending rest : List ℕ) : Type 0 where
+pub record AnswerPasses {M : Type 0} (turns : Turns M) (number : ℕ) (old : M) (line : List ℕ) (bad : Bool)
+    (new : M) (before after : Option (List ℕ)) (pending rest : List ℕ) : Type 0 where
   pub text : List ℕ
   pub turn : turns number old line (record { text = text; bad = bad }) new
   pub passed : Passes before after pending text rest
 
 -- the number-th line was answered, and a front of its text written
-pub record CutsAnswer {M : Type 0} (turns : Turns M) (number : ℕ) (old : M) (line : List ℕ) (new : M) (before after : Option (List ℕ)) (pending : List ℕ) : Type 0 where
+pub record AnswerCuts {M : Type 0} (turns : Turns M) (number : ℕ) (old : M) (line : List ℕ) (new : M)
+    (before after : Option (List ℕ)) (pending : List ℕ) : Type 0 where
   pub output : LineOutput
   pub turn : turns number old line output new
   pub cut : Cuts before after pending output.text

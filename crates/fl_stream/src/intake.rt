@@ -1,7 +1,7 @@
 //! A script is read, some bytes at a time.
 ghost use Rattle.std.specs.Prelude.{◌≡◌, IfErr, IfOk, OnErr, OnOk, false, vec_len};
 ghost use Rattle.std.specs.Io.KnownBytes.{IsAtEnd};
-ghost use Rattle.fl_stream.specs.parts.Intake.{IsReady, Overruns, Reads, StopsReading};
+ghost use Rattle.fl_stream.specs.parts.Intake.{IsReady, Overruns, ReadingPasses, ReadingCuts};
 
 use crate::fault::RunFault;
 use crate::machine::Machine;
@@ -30,14 +30,16 @@ impl<M: Machine> Intake<M> {
     ) -> Result<bool, RunFault>
         requires ready { IsReady self.old.stream self.old.room }
         requires chunk { vec_len self.old.chunk ≡ 65536 }
-        ensures reads { OnOk result (Reads M.turns (R.remaining input.old) (R.remaining input.new)
-            (W.contents output.old) (W.contents output.new) self.old.stream self.new.stream self.old.room self.new.room) }
+        ensures reads { OnOk result (ReadingPasses M.turns (R.remaining input.old) (R.remaining input.new)
+            (W.contents output.old) (W.contents output.new)
+            self.old.stream self.new.stream self.old.room self.new.room) }
         ensures end { IfOk result (λ more. more ≡ false → IsAtEnd (R.remaining input.new)) }
         ensures ready { OnOk result (IsReady self.new.stream self.new.room) }
         ensures chunk { OnOk result (vec_len self.new.chunk ≡ 65536) }
-        ensures served { IfErr result (λ e. e ≡ RunFault.Read → Overruns (R.remaining input.old) (R.remaining input.new)
+        ensures served { IfErr result (λ e. e ≡ RunFault.Read →
+            Overruns (R.remaining input.old) (R.remaining input.new)
             (W.contents output.old) (W.contents output.new) self.old.room) }
-        ensures err { OnErr result (StopsReading M.turns (R.remaining input.old) (R.remaining input.new)
+        ensures err { OnErr result (ReadingCuts M.turns (R.remaining input.old) (R.remaining input.new)
             (W.contents output.old) (W.contents output.new) self.old.stream) }
     {
         let count = match input.read(&mut self.chunk) {

@@ -1,6 +1,6 @@
 //! Lines are answered, one after another.
 ghost use Rattle.std.specs.Prelude.{◌≡◌, ◌≤◌, ◌∷◌, [], OnErr, OnOk};
-ghost use Rattle.fl_stream.specs.parts.Interpreter.{Halts, Proceeds, fresh};
+ghost use Rattle.fl_stream.specs.parts.Interpreter.{LinesCut, LinesPass, fresh};
 
 use crate::machine::Machine;
 use fl_sink::sink::{Sink, WriteFault};
@@ -24,7 +24,12 @@ impl<M> Model for Interpreter<M> {
 
     ghost coded = { coded_interpreter M.code };
 
-    ghost view = { λ i. record { number = i.number; bad = i.any_bad; machine = i.machine; pending = i.sink } };
+    ghost view = { λ i. record {
+      number = i.number;
+      bad = i.any_bad;
+      machine = i.machine;
+      pending = i.sink;
+    } };
 }
 
 impl<M: Machine> Interpreter<M> {
@@ -58,9 +63,11 @@ impl<M: Machine> Interpreter<M> {
     ) -> Result<(), WriteFault>
         requires { self.old.number ≤ 16777217 }
         ensures ok { OnOk result (
-            Proceeds M.turns self.old self.new (W.contents output.old) (W.contents output.new) (line.now ∷ [])) }
+            LinesPass M.turns self.old self.new
+            (W.contents output.old) (W.contents output.new) (line.now ∷ [])) }
         ensures err { OnErr result (
-            Halts M.turns self.old (W.contents output.old) (W.contents output.new) (line.now ∷ [])) }
+            LinesCut M.turns self.old
+            (W.contents output.old) (W.contents output.new) (line.now ∷ [])) }
     {
         let bad = self
             .machine
@@ -74,9 +81,11 @@ impl<M: Machine> Interpreter<M> {
     ///
     /// At a fault a front of what waited was written, and the interpreter may not be used again.
     pub fn send<W: Write>(&mut self, output: &mut W) -> Result<(), WriteFault>
-        ensures ok { OnOk result (Proceeds M.turns self.old self.new (W.contents output.old) (W.contents output.new) []) }
+        ensures ok { OnOk result (LinesPass M.turns self.old self.new
+            (W.contents output.old) (W.contents output.new) []) }
         ensures empty { OnOk result (self.new.pending ≡ []) }
-        ensures err { OnErr result (Halts M.turns self.old (W.contents output.old) (W.contents output.new) []) }
+        ensures err { OnErr result (LinesCut M.turns self.old
+            (W.contents output.old) (W.contents output.new) []) }
     {
         self.sink.finish(output)?;
         if output.flush().is_err() {

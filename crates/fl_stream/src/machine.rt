@@ -1,6 +1,6 @@
 //! What answers lines.
 ghost use Rattle.std.specs.Prelude.{IfOk, OnErr};
-ghost use Rattle.fl_stream.specs.Turns.{Answers, CutsAnswer, Turns};
+ghost use Rattle.fl_stream.specs.Turns.{AnswerPasses, AnswerCuts, Turns};
 
 use fl_sink::sink::{Sink, WriteFault};
 use std::alloc::Global;
@@ -11,7 +11,8 @@ pub trait Machine {
     // The line of this number is answered so at the first state, and leaves the second.
     ghost turns: { Turns Self };
 
-    /// Answers the line of this number, given without its end. Its text is put into the sink, and the result says whether it is none of the script.
+    /// Answers the line of this number, given without its end. Its text is put into the sink, and the result says whether the
+    /// line is none of the script.
     ///
     /// At a fault a front of what waited and the text was written, and the machine is not used again.
     fn answer<W: Write>(
@@ -23,7 +24,9 @@ pub trait Machine {
         output: &mut W,
     ) -> Result<bool, WriteFault>
         ensures ok { IfOk result (λ bad.
-            Answers turns number self.old line.now bad self.new (W.contents output.old) (W.contents output.new) sink.old sink.new) }
+            AnswerPasses turns number self.old line.now bad self.new
+            (W.contents output.old) (W.contents output.new) sink.old sink.new) }
         ensures err { OnErr result (
-            CutsAnswer turns number self.old line.now self.new (W.contents output.old) (W.contents output.new) sink.old) };
+            AnswerCuts turns number self.old line.now self.new
+            (W.contents output.old) (W.contents output.new) sink.old) };
 }

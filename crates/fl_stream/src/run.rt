@@ -47,13 +47,15 @@ pub fn run<RT: AllocGlobal, M: Machine + Drop, R: Read, W: Write>(
     output: &mut W,
 ) -> Result<u8, RunFault>
     ensures ok { IfOk result (λ status. IfSome (R.remaining input.old) (λ script.
-        WritesOutput M.turns machine (W.contents output.old) (W.contents output.new) script status)) }
+        WritesOutput M.turns machine
+        (W.contents output.old) (W.contents output.new) script status)) }
     ensures whole { OnOk result (IsAtEnd (R.remaining input.new)) }
     ensures short { OnOk result (IfSome (R.remaining input.old) (λ script. length script ≤ 16777216)) }
 
     // Any read may fail, so that all lines that have ended are answered before each.
     ensures served { IfErr result (λ e. e ≡ RunFault.Read → Served M.turns machine
-        (R.remaining input.old) (R.remaining input.new) (W.contents output.old) (W.contents output.new)) }
+        (R.remaining input.old) (R.remaining input.new)
+        (W.contents output.old) (W.contents output.new)) }
     ensures err { OnErr result (IfSome (R.remaining input.old) (λ script.
         WritesFirst M.turns machine (W.contents output.old) (W.contents output.new) script)) }
 {

@@ -2,8 +2,8 @@
 ghost use Rattle.std.specs.Prelude.{◌≡◌, ◌≢◌, ◌≤◌, ◌+◌, ◌∷◌, ◌++◌, [], IfErr, IfOk, OnErr, OnOk, length};
 ghost use Rattle.std.specs.Str.Lines.{lines};
 ghost use Rattle.fl_stream.specs.Served.{HasNoFeed};
-ghost use Rattle.fl_stream.specs.parts.Interpreter.{Halts, Proceeds};
-ghost use Rattle.fl_stream.specs.parts.Stream.{Advances, Ends, Stops, StopsAtEnd, fresh_stream};
+ghost use Rattle.fl_stream.specs.parts.Interpreter.{LinesCut, LinesPass};
+ghost use Rattle.fl_stream.specs.parts.Stream.{BytesPass, EndPasses, BytesCut, EndCuts, fresh_stream};
 
 use crate::fault::RunFault;
 use crate::interpreter::Interpreter;
@@ -53,12 +53,14 @@ impl<M: Machine> Stream<M> {
         requires part { HasNoFeed self.old.held }
         requires line { HasNoFeed line.now }
         ensures ok { OnOk result (
-            Advances M.turns self.old self.new (W.contents output.old) (W.contents output.new) (line.now ++ 10 ∷ [])) }
+            BytesPass M.turns self.old self.new
+            (W.contents output.old) (W.contents output.new) (line.now ++ 10 ∷ [])) }
         ensures number { OnOk result (self.new.interpreter.number ≡ self.old.interpreter.number + 1) }
         ensures part { OnOk result (self.new.held ≡ []) }
         ensures kind { IfErr result (λ e. e ≢ RunFault.Read) }
         ensures err { OnErr result (
-            Stops M.turns self.old (W.contents output.old) (W.contents output.new) (line.now ++ 10 ∷ [])) }
+            BytesCut M.turns self.old
+            (W.contents output.old) (W.contents output.new) (line.now ++ 10 ∷ [])) }
     {
         if self.held.is_empty() {
             self.interpreter
@@ -87,13 +89,14 @@ impl<M: Machine> Stream<M> {
         requires number { self.old.interpreter.number + length bytes.now ≤ 16777217 }
         requires part { HasNoFeed self.old.held }
         ensures ok { OnOk result (
-            Advances M.turns self.old self.new (W.contents output.old) (W.contents output.new) bytes.now) }
+            BytesPass M.turns self.old self.new
+            (W.contents output.old) (W.contents output.new) bytes.now) }
         ensures number { OnOk result (
             self.new.interpreter.number ≤ self.old.interpreter.number + length bytes.now) }
         ensures part { OnOk result (HasNoFeed self.new.held) }
         ensures kind { IfErr result (λ e. e ≢ RunFault.Read) }
         ensures err { OnErr result (
-            Stops M.turns self.old (W.contents output.old) (W.contents output.new) bytes.now) }
+            BytesCut M.turns self.old (W.contents output.old) (W.contents output.new) bytes.now) }
     {
         let mut rest = bytes;
         while let Some((line, after)) = cut_line(rest) {
@@ -109,11 +112,13 @@ impl<M: Machine> Stream<M> {
     /// Writes the answers that wait, and flushes the writer. At a fault a front of them was written, and the stream may not
     /// be used again.
     pub fn send<W: Write>(&mut self, output: &mut W) -> Result<(), WriteFault>
-        ensures ok { OnOk result (Advances M.turns self.old self.new (W.contents output.old) (W.contents output.new) []) }
+        ensures ok { OnOk result (BytesPass M.turns self.old self.new
+            (W.contents output.old) (W.contents output.new) []) }
         ensures same { OnOk result (self.new.interpreter.number ≡ self.old.interpreter.number) }
         ensures held { self.new.held ≡ self.old.held }
         ensures empty { OnOk result (self.new.interpreter.pending ≡ []) }
-        ensures err { OnErr result (Stops M.turns self.old (W.contents output.old) (W.contents output.new) []) }
+        ensures err { OnErr result (BytesCut M.turns self.old
+            (W.contents output.old) (W.contents output.new) []) }
     {
         self.interpreter.send(output)
     }
@@ -122,9 +127,9 @@ impl<M: Machine> Stream<M> {
     fn answer_last<W: Write>(&mut self, alloc: Global, output: &mut W) -> Result<(), WriteFault>
         requires number { self.old.interpreter.number ≤ 16777217 }
         requires part { HasNoFeed self.old.held }
-        ensures ok { OnOk result (Proceeds M.turns self.old.interpreter self.new.interpreter
+        ensures ok { OnOk result (LinesPass M.turns self.old.interpreter self.new.interpreter
             (W.contents output.old) (W.contents output.new) (lines self.old.held)) }
-        ensures err { OnErr result (Halts M.turns self.old.interpreter
+        ensures err { OnErr result (LinesCut M.turns self.old.interpreter
             (W.contents output.old) (W.contents output.new) (lines self.old.held)) }
     {
         if self.held.is_empty() {
@@ -138,8 +143,10 @@ impl<M: Machine> Stream<M> {
     pub fn finish<W: Write>(&mut self, alloc: Global, output: &mut W) -> Result<bool, WriteFault>
         requires number { self.old.interpreter.number ≤ 16777217 }
         requires part { HasNoFeed self.old.held }
-        ensures ok { IfOk result (λ bad. Ends M.turns self.old (W.contents output.old) (W.contents output.new) bad) }
-        ensures err { OnErr result (StopsAtEnd M.turns self.old (W.contents output.old) (W.contents output.new)) }
+        ensures ok { IfOk result (λ bad. EndPasses M.turns self.old
+            (W.contents output.old) (W.contents output.new) bad) }
+        ensures err { OnErr result (EndCuts M.turns self.old
+            (W.contents output.old) (W.contents output.new)) }
     {
         self.answer_last(alloc, output)?;
         self.interpreter.send(output)?;

@@ -7,7 +7,8 @@ use Rattle.fl_cluster.specs.AnswerText.{text_of}
 use Rattle.fl_cluster.specs.Turn.{Turn}
 
 -- the number-th line has an answer with this text, which says that the line is none of the script, or does not
-pub record TurnsOut (number : ℕ) (old : Session) (line : List ℕ) (output : LineOutput) (new : Session) : Type 0 where
+pub record TurnsOut (number : ℕ) (old : Session) (line : List ℕ) (output : LineOutput) (new : Session)
+    : Type 0 where
   pub answer : Answer
   pub turn : Turn number old line answer new
   pub text_is : output.text ≡ text_of answer

@@ -3,7 +3,7 @@ use Rattle.std.specs.Prelude.{◌≡◌, ◌+◌, ◌<◌, ◌≤◌, ◌⊎◌,
 use Rattle.std.specs.Io.KnownBytes.{Consumes}
 use Rattle.fl_stream.specs.Turns.{Turns}
 use Rattle.fl_stream.specs.Served.{HasNoFeed}
-use Rattle.fl_stream.specs.parts.Stream.{StreamState, Advances, Stops}
+use Rattle.fl_stream.specs.parts.Stream.{StreamState, BytesPass, BytesCut}
 
 -- all answers were sent, and so many more bytes have no more lines than there are numbers for
 pub record IsReady {M : Type 0} (stream : StreamState M) (room : ℕ) : Type 0 where
@@ -12,17 +12,19 @@ pub record IsReady {M : Type 0} (stream : StreamState M) (room : ℕ) : Type 0 w
   pub sent : stream.interpreter.pending ≡ []
 
 -- bytes were read, for which there was room, and were taken
-pub record Reads {M : Type 0} (turns : Turns M) (remaining left before after : Option (List ℕ)) (old new : StreamState M) (room less : ℕ) : Type 0 where
+pub record ReadingPasses {M : Type 0} (turns : Turns M) (remaining left before after : Option (List ℕ))
+    (old new : StreamState M) (room less : ℕ) : Type 0 where
   pub bytes : List ℕ
   pub consumed : Consumes remaining left bytes
-  pub advance : Advances turns old new before after bytes
+  pub advance : BytesPass turns old new before after bytes
   pub fits : length bytes + less ≡ room
 
 -- bytes were read, and taking them stopped
-pub record StopsReading {M : Type 0} (turns : Turns M) (remaining left before after : Option (List ℕ)) (old : StreamState M) : Type 0 where
+pub record ReadingCuts {M : Type 0} (turns : Turns M) (remaining left before after : Option (List ℕ))
+    (old : StreamState M) : Type 0 where
   pub bytes : List ℕ
   pub consumed : Consumes remaining left bytes
-  pub stops : Stops turns old before after bytes
+  pub stops : BytesCut turns old before after bytes
 
 -- nothing was written, and more than there is room for was read, or nothing
 pub record Overruns (remaining left before after : Option (List ℕ)) (room : ℕ) : Type 0 where

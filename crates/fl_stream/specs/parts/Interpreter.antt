@@ -19,7 +19,8 @@ abbrev pub fresh : {M : Type 0} → M → InterpreterState M
 fresh machine = record { number = 1; bad = false; machine = machine; pending = [] }
 
 -- these lines were answered, and their text passed on
-pub record Proceeds {M : Type 0} (turns : Turns M) (old new : InterpreterState M) (before after : Option (List ℕ)) (lines : List (List ℕ)) : Type 0 where
+pub record LinesPass {M : Type 0} (turns : Turns M) (old new : InterpreterState M)
+    (before after : Option (List ℕ)) (lines : List (List ℕ)) : Type 0 where
   pub outputs : List LineOutput
   pub run : Run turns old.number old.machine lines outputs new.machine
   pub count : new.number ≡ old.number + length lines
@@ -27,7 +28,8 @@ pub record Proceeds {M : Type 0} (turns : Turns M) (old new : InterpreterState M
   pub passed : Passes before after old.pending (texts outputs) new.pending
 
 -- these lines were answered, and a front of their text written
-pub record Halts {M : Type 0} (turns : Turns M) (old : InterpreterState M) (before after : Option (List ℕ)) (lines : List (List ℕ)) : Type 0 where
+pub record LinesCut {M : Type 0} (turns : Turns M) (old : InterpreterState M) (before after : Option (List ℕ))
+    (lines : List (List ℕ)) : Type 0 where
   pub outputs : List LineOutput
   pub end : M
   pub run : Run turns old.number old.machine lines outputs end

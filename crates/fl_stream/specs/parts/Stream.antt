@@ -4,7 +4,7 @@ use Rattle.std.specs.Coded.{Coded, code_by, coded×, coded_ℕ, coded_list}
 use Rattle.std.specs.Str.Lines.{lines}
 use Rattle.std.specs.Io.KnownBytes.{Appends}
 use Rattle.fl_stream.specs.Turns.{Turns, LineOutput, Run, texts, any_bad}
-use Rattle.fl_stream.specs.parts.Interpreter.{InterpreterState, coded_interpreter, Proceeds, Halts, fresh}
+use Rattle.fl_stream.specs.parts.Interpreter.{InterpreterState, coded_interpreter, LinesPass, LinesCut, fresh}
 
 -- an interpreter, and the line that has not ended yet
 pub record StreamState (M : Type 0) : Type 0 where
@@ -16,22 +16,25 @@ abbrev pub fresh_stream : {M : Type 0} → M → StreamState M
 fresh_stream machine = record { interpreter = fresh machine; held = [] }
 
 -- the bytes were taken: the lines that ended in them were answered, whatever comes later
-pub record Advances {M : Type 0} (turns : Turns M) (old new : StreamState M) (before after : Option (List ℕ)) (bytes : List ℕ) : Type 0 where
+pub record BytesPass {M : Type 0} (turns : Turns M) (old new : StreamState M)
+    (before after : Option (List ℕ)) (bytes : List ℕ) : Type 0 where
   pub seen : List (List ℕ)
   pub done : List ℕ
   pub cut : old.held ++ bytes ≡ done ++ new.held
   pub split : (later : List ℕ) → lines (done ++ later) ≡ seen ++ lines later
-  pub proceeds : Proceeds turns old.interpreter new.interpreter before after seen
+  pub proceeds : LinesPass turns old.interpreter new.interpreter before after seen
 
 -- some of the lines that ended in the bytes were answered, and a front of their text written
-pub record Stops {M : Type 0} (turns : Turns M) (old : StreamState M) (before after : Option (List ℕ)) (bytes : List ℕ) : Type 0 where
+pub record BytesCut {M : Type 0} (turns : Turns M) (old : StreamState M) (before after : Option (List ℕ))
+    (bytes : List ℕ) : Type 0 where
   pub seen : List (List ℕ)
   pub left : List ℕ
   pub split : (later : List ℕ) → lines (old.held ++ (bytes ++ later)) ≡ seen ++ lines (left ++ later)
-  pub halts : Halts turns old.interpreter before after seen
+  pub halts : LinesCut turns old.interpreter before after seen
 
 -- the bytes are the end: all lines were answered and written, and some was none of the script or none was
-pub record Ends {M : Type 0} (turns : Turns M) (old : StreamState M) (before after : Option (List ℕ)) (bad : Bool) : Type 0 where
+pub record EndPasses {M : Type 0} (turns : Turns M) (old : StreamState M) (before after : Option (List ℕ))
+    (bad : Bool) : Type 0 where
   pub outputs : List LineOutput
   pub end : M
   pub run : Run turns old.interpreter.number old.interpreter.machine (lines old.held) outputs end
@@ -39,8 +42,9 @@ pub record Ends {M : Type 0} (turns : Turns M) (old : StreamState M) (before aft
   pub written : Appends before after (old.interpreter.pending ++ texts outputs)
 
 -- the bytes are the end: all lines were answered, and a front of their text written
-pub record StopsAtEnd {M : Type 0} (turns : Turns M) (old : StreamState M) (before after : Option (List ℕ)) : Type 0 where
-  pub halts : Halts turns old.interpreter before after (lines old.held)
+pub record EndCuts {M : Type 0} (turns : Turns M) (old : StreamState M) (before after : Option (List ℕ))
+    : Type 0 where
+  pub halts : LinesCut turns old.interpreter before after (lines old.held)
 
 -- a state is stored as the pair of its fields
 abbrev pub coded_stream : {M : Type 0} → Coded M → Coded (StreamState M)

@@ -1,5 +1,5 @@
 use Rattle.std.proofs.Common.{◌∙◌, sym, ap}
-use Rattle.fl_cluster.specs.State.{NodeState}
+use Rattle.fl_cluster.specs.Cluster.{NodeState}
 use Rattle.fl_cluster.proofs.NodesTable.{held, node_at-None, node_at-Some}
 use Rattle.fl_cluster.proofs.nodes.Nodes.registry.Goals as goal
 

@@ -3,14 +3,14 @@ use Rattle.std.proofs.lemmas.Result.{on_err_weaker}
 use Rattle.std.specs.BTreeMap.{BTreeMap}
 use Rattle.std.specs.FinMap as map
 use Rattle.fl_sink.proofs.SinkLemmas.{on_err_always}
-use Rattle.fl_cluster.specs.State.{State, NodeState, is_open}
+use Rattle.fl_cluster.specs.Cluster.{Cluster, NodeState, is_open}
 use Rattle.fl_cluster.proofs.NodesTable.{held, is_open-held, kept_so, node_at-Some, node_through, not_worked, worked_so}
 use Rattle.fl_cluster.proofs.nodes.Nodes.work.Goals as goal
 
 pub open_at_work-requires-clause-new : goal.open_at_work-requires-clause-new
 open_at_work-requires-clause-new c =
     ap (λ (t : BTreeMap ℕ NodeState). is_open (record { nodes = map.from_entries t.entries; sent = c.self.inside.sent }) c.args.number) c.get_mut.follows.holds-at-none
-    ∙ ap (λ (s : State). is_open s c.args.number) c.self.view_is
+    ∙ ap (λ (s : Cluster). is_open s c.args.number) c.self.view_is
     ∙ sym (is_open-held c.self.inside.all.entries c.self.inside.sent c.args.self.now c.args.number c.self.view_is)
     ∙ ap is_some (sym c.in_default.ensures.value)
 

@@ -1,10 +1,10 @@
 use Rattle.std.proofs.Common.{refl}
 use Rattle.std.proofs.lemmas.Result.{on_ok_weaker, on_err_weaker}
-use Rattle.fl_stream.proofs.StreamLemmas.{stops_sent, advances_sent}
+use Rattle.fl_stream.proofs.StreamLemmas.{bytes_cut_sent, bytes_pass_sent}
 use Rattle.fl_stream.proofs.stream.Stream.send.Goals as goal
 
 pub returns-clause-ok : goal.returns-clause-ok
-returns-clause-ok g c = on_ok_weaker c.send.result (λ p. rw (← c.self.view_is) (advances_sent refl p)) c.send.ensures.ok
+returns-clause-ok g c = on_ok_weaker c.send.result (λ p. rw (← c.self.view_is) (bytes_pass_sent refl p)) c.send.ensures.ok
 
 pub returns-clause-err : goal.returns-clause-err
-returns-clause-err g c = on_err_weaker c.send.result (λ p. rw (← c.self.view_is) (stops_sent p)) c.send.ensures.err
+returns-clause-err g c = on_err_weaker c.send.result (λ p. rw (← c.self.view_is) (bytes_cut_sent p)) c.send.ensures.err

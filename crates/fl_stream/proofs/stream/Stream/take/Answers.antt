@@ -1,25 +1,25 @@
 use Rattle.std.proofs.Common.{◌≡◌, ◌++◌, arith, rules}
 use Rattle.fl_sink.proofs.SinkLemmas.{on_err_always}
-use Rattle.fl_stream.proofs.StreamLemmas.{took_none, took_more, stops_more, stops_took, advances_took, no_feed_nil}
+use Rattle.fl_stream.proofs.StreamLemmas.{front_passes_none, front_passes_more, bytes_cut_more, bytes_cut_front, bytes_pass_front, no_feed_nil}
 use Rattle.fl_stream.proofs.stream.Stream.take.Goals as goal
 
 pub loop-line-init : goal.loop-line-init
-loop-line-init g c = record { took = took_none _ _ _; part = c.requires.part; number = omega arith }
+loop-line-init g c = record { took = front_passes_none _ _ _; part = c.requires.part; number = omega arith }
 
 pub loop-line-preserved : goal.loop-line-preserved
 loop-line-preserved g c = record {
-  took = took_more _ _ _ c.loop-line.invariant.took c.in-Some.ensures.cut c.in_ok-end_line.ensures.ok;
+  took = front_passes_more _ _ _ c.loop-line.invariant.took c.in-Some.ensures.cut c.in_ok-end_line.ensures.ok;
   part = no_feed_nil _ c.in_ok-end_line.ensures.part;
   number = omega (arith, c.loop-line.invariant.number, c.in_ok-end_line.ensures.number, c.in-Some.ensures.shorter);
 }
 
 pub returns-in_err-end_line-clause-err : goal.returns-in_err-end_line-clause-err
-returns-in_err-end_line-clause-err g c = on_err_always _ (stops_more _ _ _ c.loop-line.invariant.took c.in-Some.ensures.cut c.in_err-end_line.ensures.err)
+returns-in_err-end_line-clause-err g c = on_err_always _ (bytes_cut_more _ _ _ c.loop-line.invariant.took c.in-Some.ensures.cut c.in_err-end_line.ensures.err)
 
 pub returns-then-is_err-clause-err : goal.returns-then-is_err-clause-err
-returns-then-is_err-clause-err g c = stops_took c.loop-line.invariant.took
+returns-then-is_err-clause-err g c = bytes_cut_front c.loop-line.invariant.took
 
 pub returns-clause-ok : goal.returns-clause-ok
 returns-clause-ok g c =
     let grown : c.extend_from_slice.new.self.items ≡ c.self.inside.held.items ++ c.loop-line.rest.now = search rules in
-    advances_took c.extend_from_slice.new.self.items (rw (← c.self.view_is) at c.loop-line.invariant.took) grown
+    bytes_pass_front c.extend_from_slice.new.self.items (rw (← c.self.view_is) at c.loop-line.invariant.took) grown

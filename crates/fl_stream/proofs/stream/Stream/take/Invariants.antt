@@ -1,11 +1,11 @@
 use Rattle.std.proofs.Common.{◌≤◌, ◌+◌, length}
 use Rattle.fl_stream.specs.Served.{HasNoFeed}
-use Rattle.fl_stream.proofs.StreamLemmas.{Took}
+use Rattle.fl_stream.proofs.StreamLemmas.{FrontPasses}
 use Rattle.fl_stream.proofs.stream.Stream.take.Given as goal
 
 abbrev pub invariant-loop-line : goal.invariant-loop-line
 invariant-loop-line g l = record {
-  took : Took g.M.Machine.turns l.initial.self l.self (g.W.Write.contents l.initial.output) (g.W.Write.contents l.output) l.bytes l.rest;
+  took : FrontPasses g.M.Machine.turns l.initial.self l.self (g.W.Write.contents l.initial.output) (g.W.Write.contents l.output) l.bytes l.rest;
   part : HasNoFeed l.self.held;
   number : l.self.interpreter.number + length l.rest ≤ l.initial.self.interpreter.number + length l.bytes;
 }

@@ -11,7 +11,7 @@ use Rattle.fl_ops.specs.OpOrder.{op_cmp}
 use Rattle.fl_ops.specs.OpLaws.{coded_op}
 use Rattle.fl_wire.specs.declared.packet.Packet.{Packet}
 use Rattle.fl_wire.specs.contracts.packet.Packet as packets_row
-use Rattle.fl_bench.specs.Bench as bench
+use Rattle.fl_monitor.specs.Bench as bench
 
 -- a node: its number, its operations, and its processes
 pub record NodeState : Type 0 where
@@ -20,41 +20,41 @@ pub record NodeState : Type 0 where
   pub bench : bench.State
 
 -- the nodes that are open, by their numbers, and the packets that were sent, in their order
-pub record State : Type 0 where
+pub record Cluster : Type 0 where
   pub nodes : map.FinMap nat_cmp NodeState
   pub sent : List Packet
 
 -- a node at its first opening: no operation, and one bench, with no process
-abbrev pub opened : ℕ → NodeState
-opened number = record { number = number; registry = set.empty; bench = bench.opened number 1 1 1 }
+abbrev pub new_node : ℕ → NodeState
+new_node number = record { number = number; registry = set.empty; bench = bench.opened number 1 1 1 }
 
 -- before the first line
-abbrev pub start : State
+abbrev pub start : Cluster
 start = record { nodes = map.empty; sent = [] }
 
 -- some line has named the node of this number
-abbrev pub is_open : State → ℕ → Bool
+abbrev pub is_open : Cluster → ℕ → Bool
 is_open state number = is_some (map.get state.nodes number)
 
 -- the node that there is, or the one of this number at its first opening
-abbrev pub node_or_opened : ℕ → Option NodeState → NodeState
-node_or_opened number None = opened number
-node_or_opened number (Some node) = node
+abbrev pub node_or_new : ℕ → Option NodeState → NodeState
+node_or_new number None = new_node number
+node_or_new number (Some node) = node
 
 -- the node of this number, as it opens where no line has named it
-abbrev pub node_at : State → ℕ → NodeState
-node_at state number = node_or_opened number (map.get state.nodes number)
+abbrev pub node_at : Cluster → ℕ → NodeState
+node_at state number = node_or_new number (map.get state.nodes number)
 
 -- the node of this number is now this one
-abbrev pub with_node : State → ℕ → NodeState → State
+abbrev pub with_node : Cluster → ℕ → NodeState → Cluster
 with_node state number node = record state { nodes = map.insert state.nodes number node }
 
 -- the node of this number is open, and else all is as before
-abbrev pub with_open : State → ℕ → State
+abbrev pub with_open : Cluster → ℕ → Cluster
 with_open state number = with_node state number (node_at state number)
 
 -- the packet was sent as the last one
-abbrev pub with_packet : State → Packet → State
+abbrev pub with_packet : Cluster → Packet → Cluster
 with_packet state packet = record state { sent = state.sent ++ packet ∷ [] }
 
 -- the packet of this number, counted from 1, if so many were sent
@@ -73,8 +73,8 @@ coded_node =
 abbrev pub coded_sent : Coded (List Packet)
 coded_sent = coded_list (packets_row.the_row).coded
 
-abbrev pub coded_state : Coded State
-coded_state =
+abbrev pub coded_cluster : Coded Cluster
+coded_cluster =
     code_by (map.FinMap nat_cmp NodeState × List Packet) (coded× (map.code coded_ℕ coded_node) coded_sent)
     (λ s. (s.nodes, s.sent))
     (λ t. record { nodes = t.0; sent = t.1 })
