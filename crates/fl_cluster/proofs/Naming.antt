@@ -6,7 +6,7 @@ use Rattle.fl_aliases.specs.declared.target.Target.{Target}
 use Rattle.fl_aliases.proofs.Placing.{placed_found, placed_set, taken_back}
 use Rattle.fl_jobs.specs.declared.answer.Outcome.{Outcome}
 use Rattle.fl_jobs.specs.declared.answer.Refusal.{Refusal}
-use Rattle.fl_monitor.specs.Bench as bench
+use Rattle.fl_bench.specs.Bench as bench
 use Rattle.fl_script.specs.Reading.{makes as is_making}
 use Rattle.fl_script.specs.declared.line.Line.{Line}
 use Rattle.fl_cluster.specs.Cluster.{Cluster, NodeState}

@@ -8,7 +8,7 @@ use Rattle.fl_labels.specs.declared.name.Name.{Name}
 use Rattle.fl_ops.specs.declared.op.Op.{Op}
 use Rattle.fl_ops.specs.OpOrder.{op_cmp}
 use Rattle.fl_ops.specs.OpLaws.{op_total, op_exact}
-use Rattle.fl_monitor.specs.Bench as bench
+use Rattle.fl_bench.specs.Bench as bench
 use Rattle.fl_cluster.specs.Cluster.{NodeState}
 use Rattle.fl_cluster.specs.LastName.{IsLast}
 use Rattle.fl_cluster.specs.NodeStep.{IsNextName}

@@ -11,7 +11,7 @@ use Rattle.fl_ops.specs.OpOrder.{op_cmp}
 use Rattle.fl_ops.specs.OpLaws.{coded_op}
 use Rattle.fl_wire.specs.declared.packet.Packet.{Packet}
 use Rattle.fl_wire.specs.contracts.packet.Packet as packets_row
-use Rattle.fl_monitor.specs.Bench as bench
+use Rattle.fl_bench.specs.Bench as bench
 
 -- a node: its number, its operations, and its processes
 pub record NodeState : Type 0 where

@@ -15,9 +15,9 @@ use Rattle.fl_jobs.specs.declared.answer.Reply.{Reply}
 use Rattle.fl_jobs.specs.declared.answer.Outcome.{Outcome}
 use Rattle.fl_jobs.specs.declared.answer.Outcome.TheVariants as outcome
 use Rattle.fl_wire.specs.declared.packet.Packet.{Packet}
-use Rattle.fl_monitor.specs.Bench as bench
-use Rattle.fl_monitor.specs.Gifts.{finished, cancelled}
-use Rattle.fl_monitor.specs.Jobs.{Does}
+use Rattle.fl_bench.specs.Bench as bench
+use Rattle.fl_bench.specs.Gifts.{finished, cancelled}
+use Rattle.fl_bench.specs.Jobs.{Does}
 use Rattle.fl_cluster.specs.Cluster.{NodeState}
 use Rattle.fl_cluster.specs.Answer.{Answer, replied, named, refused}
 use Rattle.fl_cluster.specs.LastName.{IsLast}

@@ -1,7 +1,7 @@
 //! The text of the answers. Writing takes no memory but the sink's, and does without.
-ghost use Rattle.std.specs.Prelude.{◌++◌, OnOk, OnErr, codes};
+ghost use Rattle.std.specs.Prelude.{◌++◌, codes};
 ghost use Rattle.std.specs.Fmt.{decimal};
-ghost use Rattle.fl_sink.specs.Sink.{Cuts, Passes};
+ghost use Rattle.fl_sink.specs.Sink.{Puts};
 ghost use Rattle.fl_cluster.specs.Answer.{shown};
 ghost use Rattle.fl_cluster.specs.AnswerText.{text_of};
 
@@ -19,10 +19,8 @@ pub fn write_response<W: Write>(
     sink: &mut Sink,
     output: &mut W,
 ) -> Result<(), WriteFault>
-    ensures ok { OnOk result (Passes (W.contents output.old) (W.contents output.new)
-        sink.old (text_of (shown session.now response.now)) sink.new) }
-    ensures err { OnErr result (Cuts (W.contents output.old) (W.contents output.new)
-        sink.old (text_of (shown session.now response.now))) }
+    ensures { let text = text_of (shown session.now response.now) in
+        Puts (W.contents output.old) (W.contents output.new) sink.old text sink.new result }
 {
     match response {
         Response::Silence => sink.put_all(output, &[]),
@@ -40,10 +38,8 @@ pub fn write_response<W: Write>(
 
 // Puts the text of a line that is none of the script into the sink.
 fn write_bad_line<W: Write>(number: u64, sink: &mut Sink, output: &mut W) -> Result<(), WriteFault>
-    ensures ok { OnOk result (Passes (W.contents output.old) (W.contents output.new)
-        sink.old (codes "refused F19 " ++ (decimal number ++ codes "\n")) sink.new) }
-    ensures err { OnErr result (Cuts (W.contents output.old) (W.contents output.new)
-        sink.old (codes "refused F19 " ++ (decimal number ++ codes "\n"))) }
+    ensures { let text = codes "refused F19 " ++ (decimal number ++ codes "\n") in
+        Puts (W.contents output.old) (W.contents output.new) sink.old text sink.new result }
 {
     let mut buffer = Buffer::new();
     sink.put_all(

@@ -3,7 +3,7 @@ ghost use Rattle.std.specs.Prelude.{◌≡◌, ◌+◌, ◌<◌, All, IfOk, Matc
 ghost use Rattle.std.specs.FinMap as map;
 ghost use Rattle.fl_labels.specs.SetBy as set;
 ghost use Rattle.fl_opset.specs.RegistryText.{registry_text};
-ghost use Rattle.fl_sink.specs.Sink.{Cuts, Passes};
+ghost use Rattle.fl_sink.specs.Sink.{Puts};
 ghost use Rattle.fl_script.specs.Grammar.{nodes_of};
 ghost use Rattle.fl_cluster.specs.Cluster.{is_open, node_at, start, with_open, with_packet};
 ghost use Rattle.fl_cluster.specs.parts.Responds.{Responds, RespondsAt};
@@ -214,10 +214,8 @@ impl Nodes {
         sink: &mut Sink,
         output: &mut W,
     ) -> Result<(), WriteFault>
-        ensures ok { OnOk result (Passes (W.contents output.old) (W.contents output.new)
-            sink.old (registry_text (node_at self.now number).registry) sink.new) }
-        ensures err { OnErr result (Cuts (W.contents output.old) (W.contents output.new)
-            sink.old (registry_text (node_at self.now number).registry)) }
+        ensures { let text = registry_text (node_at self.now number).registry in
+            Puts (W.contents output.old) (W.contents output.new) sink.old text sink.new result }
     {
         match self.registry(number) {
             Some(registry) => registry.write_text(sink, output),

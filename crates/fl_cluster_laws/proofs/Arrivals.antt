@@ -10,12 +10,12 @@ use Rattle.fl_rules.specs.declared.endpoint.Mode.TheVariants.{Write}
 use Rattle.fl_wire.specs.declared.packet.Data.{Data}
 use Rattle.fl_jobs.specs.declared.job.Job.TheVariants.{Arrive}
 use Rattle.fl_jobs.specs.declared.answer.Outcome.{Outcome}
-use Rattle.fl_monitor.specs.Bench as bench
-use Rattle.fl_monitor.specs.Guards.{sent_from}
-use Rattle.fl_monitor.specs.Jobs.{Does, passed}
-use Rattle.fl_monitor.specs.Process.{effective}
-use Rattle.fl_monitor.specs.declared.process.Process.{Process}
-use Rattle.fl_monitor.proofs.Arrivals.{arrival_safe, open_safe}
+use Rattle.fl_bench.specs.Bench as bench
+use Rattle.fl_bench.specs.Guards.{sent_from}
+use Rattle.fl_bench.specs.Jobs.{Does, passed}
+use Rattle.fl_bench.specs.Process.{effective}
+use Rattle.fl_bench.specs.declared.process.Process.{Process}
+use Rattle.fl_bench_laws.proofs.Arrivals.{arrival_safe, open_safe}
 use Rattle.fl_cluster.specs.Cluster.{Cluster, node_at}
 use Rattle.fl_cluster.specs.Session.{Session, begun}
 use Rattle.fl_cluster.specs.Answer.{Answer}

@@ -1,7 +1,7 @@
 -- What equal nodes tell.
 use Rattle.std.proofs.Common.{◌≡◌, ◌≢◌, ◌↔◌, inl, inr, refl, sym, subst, Option, Some, None, Result, Err}
 use Rattle.std.specs.FinMap as map
-use Rattle.fl_labels.specs.SetBy.{In, members}
+use Rattle.fl_labels.specs.SetBy.{In, members, SameMembers}
 use Rattle.fl_labels.specs.CapOrder.{cap_total, cap_exact}
 use Rattle.fl_labels.specs.declared.cap.Cap.{Cap}
 use Rattle.fl_labels.specs.declared.name.Name.{Name}
@@ -19,17 +19,16 @@ use Rattle.fl_jobs.specs.declared.answer.Refusal.{Refusal}
 use Rattle.fl_jobs.specs.declared.answer.Refusal.TheVariants.{Busy, Memory, NoProcess}
 use Rattle.fl_jobs.specs.declared.answer.Outcome.{Outcome}
 use Rattle.fl_opset.proofs.Join.{same_members}
-use Rattle.fl_monitor.specs.Checks.{◌then◌, no_check, refuse_if, with}
-use Rattle.fl_monitor.specs.Process.{effective, is_busy, owns}
-use Rattle.fl_monitor.specs.Bench as bench
-use Rattle.fl_monitor.specs.Jobs.{Answers, act_checks, checks, Does, passed, failed, no_room}
-use Rattle.fl_monitor.specs.declared.process.Process.{Process}
-use Rattle.fl_monitor.proofs.Orders.{order_at}
+use Rattle.fl_bench.specs.Checks.{◌then◌, no_check, refuse_if, with}
+use Rattle.fl_bench.specs.Process.{effective, is_busy, owns}
+use Rattle.fl_bench.specs.Bench as bench
+use Rattle.fl_bench.specs.Jobs.{Answers, act_checks, checks, Does, passed, failed, no_room}
+use Rattle.fl_bench.specs.declared.process.Process.{Process}
+use Rattle.fl_bench.proofs.Orders.{order_at}
 use Rattle.fl_cluster.specs.Cluster.{NodeState}
 use Rattle.fl_cluster.specs.Answer.{Answer}
 use Rattle.fl_cluster.specs.NodeStep.{view_of, AnswersResult, NodeAnswers, replies, refuses, makes, spends}
 use Rattle.fl_cluster_laws.specs.Living.{process_at}
-use Rattle.fl_cluster_laws.specs.Equal.{SameMembers}
 use Rattle.fl_cluster_laws.proofs.OneStep.{ample}
 
 same_registry : (a b : NodeState) → SameMembers a.registry b.registry → a.registry ≡ b.registry

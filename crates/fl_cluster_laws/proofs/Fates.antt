@@ -10,11 +10,11 @@ use Rattle.fl_jobs.specs.declared.job.Act.TheVariants.{Exit}
 use Rattle.fl_jobs.specs.declared.job.Job.{Job}
 use Rattle.fl_jobs.specs.declared.job.Job.TheVariants.{By}
 use Rattle.fl_jobs.specs.declared.answer.Reply.TheVariants.{Made, Done}
-use Rattle.fl_monitor.specs.Births.{IsBirth}
-use Rattle.fl_monitor.specs.Bench as bench
-use Rattle.fl_monitor.specs.Process.{owns}
-use Rattle.fl_monitor.specs.declared.process.Process.{Process}
-use Rattle.fl_monitor.proofs.Puts.{get_put, get_gone}
+use Rattle.fl_bench.specs.Births.{IsBirth}
+use Rattle.fl_bench.specs.Bench as bench
+use Rattle.fl_bench.specs.Process.{owns}
+use Rattle.fl_bench.specs.declared.process.Process.{Process}
+use Rattle.fl_bench.proofs.Puts.{get_put, get_gone}
 use Rattle.fl_cluster.specs.Answer.{Answer, replied}
 use Rattle.fl_cluster_laws.specs.Owned.{Gives}
 use Rattle.fl_cluster_laws.proofs.Leaves.{Leaves, stays, turns, bears, loses}

@@ -17,12 +17,12 @@ use Rattle.fl_jobs.specs.declared.job.Job.{Job}
 use Rattle.fl_jobs.specs.declared.job.Job.TheVariants.{Arrive}
 use Rattle.fl_jobs.specs.declared.answer.Refusal.{Refusal}
 use Rattle.fl_jobs.specs.declared.answer.Outcome.{Outcome}
-use Rattle.fl_monitor.specs.Bench as bench
-use Rattle.fl_monitor.specs.Gifts.{given}
-use Rattle.fl_monitor.specs.Guarded.{IsGuarded}
-use Rattle.fl_monitor.specs.Jobs.{Does}
-use Rattle.fl_monitor.proofs.Guarded.{does_guarded, opened_guarded, registry_guarded, settles_guarded}
-use Rattle.fl_monitor.proofs.Orders.{sending_leaves}
+use Rattle.fl_bench.specs.Bench as bench
+use Rattle.fl_bench.specs.Gifts.{given}
+use Rattle.fl_bench.specs.Guarded.{IsGuarded}
+use Rattle.fl_bench.specs.Jobs.{Does}
+use Rattle.fl_bench_laws.proofs.Guarded.{does_guarded, opened_guarded, registry_guarded, settles_guarded}
+use Rattle.fl_bench.proofs.Orders.{sending_leaves}
 use Rattle.fl_script.specs.declared.line.Line.{Line}
 use Rattle.fl_script.specs.declared.reading.Reading.{Reading}
 use Rattle.fl_script.specs.declared.reading.Reading.TheVariants as reading

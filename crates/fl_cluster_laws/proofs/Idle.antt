@@ -30,16 +30,16 @@ use Rattle.fl_jobs.specs.declared.answer.Reply.{Reply}
 use Rattle.fl_jobs.specs.declared.answer.Refusal.{Refusal}
 use Rattle.fl_jobs.specs.declared.answer.Refusal.TheVariants.{NoProcess, Busy, NoEndpoint, EndpointsFull, NotWritable, NamesSpent, LabelTooLong, NotOwned, InboxFull}
 use Rattle.fl_jobs.specs.declared.answer.Outcome.{Outcome}
-use Rattle.fl_monitor.specs.Checks.{Check, refuse_if, with, with_found, ◌then◌}
-use Rattle.fl_monitor.specs.Mailbox.{mail_checks, arrival_checks}
-use Rattle.fl_monitor.specs.Guards.{grant_check, endpoint_check, pair_check, entry_refusal}
-use Rattle.fl_monitor.specs.Process.{newborn, owns, is_busy, child_of, receiving, effective}
-use Rattle.fl_monitor.specs.Bench.{State, opened, has_at, gone, born}
-use Rattle.fl_monitor.specs.Gifts.{given, finished}
-use Rattle.fl_monitor.specs.Jobs.{order_checks, checks_of, act_checks, bench_checks, checks, Performs, Effect, Does, passed, failed}
-use Rattle.fl_monitor.specs.declared.process.Process.{Process}
-use Rattle.fl_monitor.proofs.Puts.{get_put, get_gone, none_some}
-use Rattle.fl_monitor.proofs.Orders.{rested, order_at, finished_at}
+use Rattle.fl_bench.specs.Checks.{Check, refuse_if, with, with_found, ◌then◌}
+use Rattle.fl_bench.specs.Mailbox.{mail_checks, arrival_checks}
+use Rattle.fl_bench.specs.Guards.{grant_check, endpoint_check, pair_check, entry_refusal}
+use Rattle.fl_bench.specs.Process.{newborn, owns, is_busy, child_of, receiving, effective}
+use Rattle.fl_bench.specs.Bench.{State, opened, has_at, gone, born}
+use Rattle.fl_bench.specs.Gifts.{given, finished}
+use Rattle.fl_bench.specs.Jobs.{order_checks, checks_of, act_checks, bench_checks, checks, Performs, Effect, Does, passed, failed}
+use Rattle.fl_bench.specs.declared.process.Process.{Process}
+use Rattle.fl_bench.proofs.Puts.{get_put, get_gone, none_some}
+use Rattle.fl_bench.proofs.Orders.{rested, order_at, finished_at}
 
 pub record IsIdle (b : State) : Type 0 where
   pub each : (pid : Pid) (p : Process) → map.get b.processes pid ≡ Some p → is_busy p ≡ false

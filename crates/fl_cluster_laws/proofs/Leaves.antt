@@ -25,15 +25,15 @@ use Rattle.fl_jobs.specs.declared.answer.Refusal.TheVariants.{NoProcess}
 use Rattle.fl_jobs.specs.declared.answer.Reply.{Reply}
 use Rattle.fl_jobs.specs.declared.answer.Reply.TheVariants.{Made, Done, Entered}
 use Rattle.fl_jobs.specs.declared.answer.Outcome.{Outcome}
-use Rattle.fl_monitor.specs.Births.{IsBirth, alone, of}
-use Rattle.fl_monitor.specs.Bench as bench
-use Rattle.fl_monitor.specs.Bench.{has_at, gone, born}
-use Rattle.fl_monitor.specs.Checks.{with, ◌then◌}
-use Rattle.fl_monitor.specs.Gifts.{given_by, given, finished}
-use Rattle.fl_monitor.specs.Jobs.{act_checks, bench_checks, checks, Performs, Effect, Does, passed}
-use Rattle.fl_monitor.specs.Process.{newborn, owns, owning, child_of, receiving}
-use Rattle.fl_monitor.specs.declared.process.Process.{Process}
-use Rattle.fl_monitor.proofs.Orders.{rested, order_at, finished_at, sending_leaves}
+use Rattle.fl_bench.specs.Births.{IsBirth, alone, of}
+use Rattle.fl_bench.specs.Bench as bench
+use Rattle.fl_bench.specs.Bench.{has_at, gone, born}
+use Rattle.fl_bench.specs.Checks.{with, ◌then◌}
+use Rattle.fl_bench.specs.Gifts.{given_by, given, finished}
+use Rattle.fl_bench.specs.Jobs.{act_checks, bench_checks, checks, Performs, Effect, Does, passed}
+use Rattle.fl_bench.specs.Process.{newborn, owns, owning, child_of, receiving}
+use Rattle.fl_bench.specs.declared.process.Process.{Process}
+use Rattle.fl_bench.proofs.Orders.{rested, order_at, finished_at, sending_leaves}
 use Rattle.fl_cluster.specs.Cluster.{NodeState}
 use Rattle.fl_cluster.specs.Answer.{Answer, replied, named, on_arrival}
 use Rattle.fl_cluster.specs.NodeStep.{view_of, AnswersResult, replies, refuses, makes, spends, NodeAnswers, Sends}

@@ -6,9 +6,9 @@ use Rattle.fl_ops.specs.declared.op.Op.{Op}
 use Rattle.fl_jobs.specs.declared.job.Act.TheVariants.{Exit}
 use Rattle.fl_jobs.specs.declared.job.Job.{Job}
 use Rattle.fl_jobs.specs.declared.job.Job.TheVariants.{By}
-use Rattle.fl_monitor.specs.Bench as bench
-use Rattle.fl_monitor.specs.Births.{IsBirth, IsChild, alone, of}
-use Rattle.fl_monitor.specs.declared.process.Process.{Process}
+use Rattle.fl_bench.specs.Bench as bench
+use Rattle.fl_bench.specs.Births.{IsBirth, IsChild, alone, of}
+use Rattle.fl_bench.specs.declared.process.Process.{Process}
 use Rattle.fl_script.specs.declared.line.Line.TheVariants as lines
 use Rattle.fl_cluster.specs.Cluster.{node_at}
 use Rattle.fl_cluster.specs.Session.{Session}

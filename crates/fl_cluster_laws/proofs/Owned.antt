@@ -11,10 +11,10 @@ use Rattle.fl_labels.specs.declared.pid.Pid.{Pid}
 use Rattle.fl_ops.specs.declared.op.Op.{Op}
 use Rattle.fl_jobs.specs.declared.job.Job.{Job}
 use Rattle.fl_jobs.specs.declared.answer.Reply.TheVariants.{Made}
-use Rattle.fl_monitor.specs.Bench as bench
-use Rattle.fl_monitor.specs.Births.{IsChild, alone, of}
-use Rattle.fl_monitor.specs.Process.{owns}
-use Rattle.fl_monitor.specs.declared.process.Process.{Process}
+use Rattle.fl_bench.specs.Bench as bench
+use Rattle.fl_bench.specs.Births.{IsChild, alone, of}
+use Rattle.fl_bench.specs.Process.{owns}
+use Rattle.fl_bench.specs.declared.process.Process.{Process}
 use Rattle.fl_cluster.specs.Cluster.{node_or_new, start}
 use Rattle.fl_cluster.specs.Session.{Session, begun}
 use Rattle.fl_cluster.specs.Answer.{Answer, replied}

@@ -24,13 +24,13 @@ use Rattle.fl_jobs.specs.declared.job.Job.TheVariants.{Proc, By, Member, Arrive}
 use Rattle.fl_jobs.specs.declared.answer.Reply.TheVariants.{Arrived}
 use Rattle.fl_jobs.specs.declared.answer.Refusal.{Refusal}
 use Rattle.fl_jobs.specs.declared.answer.Outcome.{Outcome}
-use Rattle.fl_monitor.specs.Bench as bench
-use Rattle.fl_monitor.specs.Mailbox.{taken, MailDoes}
-use Rattle.fl_monitor.specs.Jobs.{Answers as Tells, Performs, Effect, Does, passed}
-use Rattle.fl_monitor.specs.Process.{effective}
-use Rattle.fl_monitor.specs.declared.process.Process.{Process}
-use Rattle.fl_monitor.proofs.Orders.{sending_at}
-use Rattle.fl_monitor.proofs.Steps.{IsSending}
+use Rattle.fl_bench.specs.Bench as bench
+use Rattle.fl_bench.specs.Mailbox.{taken, MailDoes}
+use Rattle.fl_bench.specs.Jobs.{Answers as Tells, Performs, Effect, Does, passed}
+use Rattle.fl_bench.specs.Process.{effective}
+use Rattle.fl_bench.specs.declared.process.Process.{Process}
+use Rattle.fl_bench.proofs.Orders.{sending_at}
+use Rattle.fl_bench.specs.Summary.{IsSending}
 use Rattle.fl_aliases.specs.Table.{Table}
 use Rattle.fl_script.specs.Grammar.{Spells}
 use Rattle.fl_script.specs.Reading.{IsReading, Says as IsSaid}

@@ -4,8 +4,8 @@ use Rattle.std.specs.FinMap as map
 use Rattle.fl_labels.specs.declared.pid.Pid.{Pid}
 use Rattle.fl_ops.specs.declared.op.Op.{Op}
 use Rattle.fl_jobs.specs.declared.job.Job.{Job}
-use Rattle.fl_monitor.specs.Bench as bench
-use Rattle.fl_monitor.specs.declared.process.Process.{Process}
+use Rattle.fl_bench.specs.Bench as bench
+use Rattle.fl_bench.specs.declared.process.Process.{Process}
 use Rattle.fl_cluster.specs.Cluster.{Cluster, node_at}
 use Rattle.fl_cluster.specs.Session.{Session}
 use Rattle.fl_cluster.specs.Answer.{Answer}

@@ -13,12 +13,12 @@ use Rattle.fl_jobs.specs.declared.job.Job.TheVariants.{By, Arrive}
 use Rattle.fl_jobs.specs.declared.answer.Reply.TheVariants.{Done}
 use Rattle.fl_jobs.specs.declared.answer.Outcome.{Outcome}
 use Rattle.fl_jobs.specs.declared.answer.Refusal.{Refusal}
-use Rattle.fl_monitor.specs.Bench as bench
-use Rattle.fl_monitor.specs.Following.{Follows}
-use Rattle.fl_monitor.specs.Jobs.{Does}
-use Rattle.fl_monitor.specs.Orderly.{IsOrderly}
-use Rattle.fl_monitor.proofs.Following.{follows_same, follows_does, follows_finished, Set, does_set, set_is_no_order}
-use Rattle.fl_monitor.proofs.Orders.{sending_leaves}
+use Rattle.fl_bench.specs.Bench as bench
+use Rattle.fl_bench.specs.Following.{Follows}
+use Rattle.fl_bench.specs.Jobs.{Does}
+use Rattle.fl_bench.specs.Orderly.{IsOrderly}
+use Rattle.fl_bench_laws.proofs.Following.{follows_same, follows_does, follows_finished, Set, does_set, set_is_no_order}
+use Rattle.fl_bench.proofs.Orders.{sending_leaves}
 use Rattle.fl_script.specs.declared.line.Line.{Line}
 use Rattle.fl_script.specs.declared.line.Line.TheVariants as line
 use Rattle.fl_script.specs.declared.reading.Reading.{Reading}

@@ -10,8 +10,8 @@ use Rattle.fl_jobs.specs.declared.job.Act.TheVariants.{Relabel}
 use Rattle.fl_jobs.specs.declared.job.Job.TheVariants.{By}
 use Rattle.fl_jobs.specs.declared.answer.Reply.TheVariants.{Done}
 use Rattle.fl_rules.specs.Safety.{SafeChange}
-use Rattle.fl_monitor.specs.Process.{effective, side_of, with_side}
-use Rattle.fl_monitor.specs.declared.process.Process.{Process}
+use Rattle.fl_bench.specs.Process.{effective, side_of, with_side}
+use Rattle.fl_bench.specs.declared.process.Process.{Process}
 use Rattle.fl_aliases.specs.Table.{Table}
 use Rattle.fl_script.specs.Reading.{IsReading}
 use Rattle.fl_script.specs.declared.line.Line.TheVariants as lines

@@ -5,4 +5,3 @@ pub mod LabelChange
 pub mod Lives
 pub mod Owned
 pub mod Sent
-pub mod Equal

@@ -7,8 +7,8 @@ use Rattle.fl_jobs.specs.declared.job.Act.TheVariants.{Exit}
 use Rattle.fl_jobs.specs.declared.job.Job.{Job}
 use Rattle.fl_jobs.specs.declared.job.Job.TheVariants.{By, Arrive}
 use Rattle.fl_jobs.specs.declared.answer.Reply.TheVariants.{Made, Done}
-use Rattle.fl_monitor.specs.Births.{IsBirth}
-use Rattle.fl_monitor.specs.declared.process.Process.{Process}
+use Rattle.fl_bench.specs.Births.{IsBirth}
+use Rattle.fl_bench.specs.declared.process.Process.{Process}
 use Rattle.fl_script.specs.Reading.{IsReading}
 use Rattle.fl_script.specs.declared.line.Line.{Line}
 use Rattle.fl_script.specs.declared.line.Line.TheVariants as lines

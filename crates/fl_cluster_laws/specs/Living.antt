@@ -9,8 +9,8 @@ use Rattle.fl_labels.specs.declared.name.Name.{Name}
 use Rattle.fl_labels.specs.declared.pid.Pid.{Pid}
 use Rattle.fl_ops.specs.declared.op.Op.{Op}
 use Rattle.fl_jobs.specs.declared.job.Side.{Side}
-use Rattle.fl_monitor.specs.Process.{effective, side_of}
-use Rattle.fl_monitor.specs.declared.process.Process.{Process}
+use Rattle.fl_bench.specs.Process.{effective, side_of}
+use Rattle.fl_bench.specs.declared.process.Process.{Process}
 use Rattle.fl_cluster.specs.Cluster.{Cluster, NodeState, node_at}
 use Rattle.fl_cluster.specs.NodeStep.{view_of}
 

@@ -13,8 +13,8 @@ use Rattle.fl_jobs.specs.declared.job.Job.{Job}
 use Rattle.fl_wire.specs.declared.packet.Data.{Data}
 use Rattle.fl_jobs.specs.declared.job.Job.TheVariants.{By, Arrive}
 use Rattle.fl_jobs.specs.declared.answer.Reply.TheVariants.{Made, Entered, Arrived}
-use Rattle.fl_monitor.specs.Gifts.{given_by}
-use Rattle.fl_monitor.specs.Process.{body_of}
+use Rattle.fl_bench.specs.Gifts.{given_by}
+use Rattle.fl_bench.specs.Process.{body_of}
 use Rattle.fl_cluster.specs.Session.{Session}
 use Rattle.fl_cluster.specs.Answer.{Answer, replied, named}
 use Rattle.fl_cluster.specs.Output.{Run}

@@ -12,8 +12,8 @@ use Rattle.fl_mailbox.specs.declared.endpoints.OpenEndpoint.{OpenEndpoint}
 use Rattle.fl_jobs.specs.declared.job.Act.TheVariants.{Mail}
 use Rattle.fl_jobs.specs.declared.job.Mail.TheVariants.{Send}
 use Rattle.fl_jobs.specs.declared.job.Job.TheVariants.{By}
-use Rattle.fl_monitor.specs.Process.{effective}
-use Rattle.fl_monitor.specs.declared.process.Process.{Process}
+use Rattle.fl_bench.specs.Process.{effective}
+use Rattle.fl_bench.specs.declared.process.Process.{Process}
 use Rattle.fl_script.specs.declared.line.Line.TheVariants as lines
 use Rattle.fl_cluster.specs.Cluster.{Cluster, packet_at}
 use Rattle.fl_cluster.specs.Session.{Session, begun}

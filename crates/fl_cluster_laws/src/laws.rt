@@ -2,7 +2,7 @@
 ghost use Rattle.std.specs.Prelude.{◌≡◌, ◌≢◌, ◌↔◌, ◌+◌, ◌++◌, ◌∷◌, List, ℕ, Option, None, Some, false, length, take};
 ghost use Rattle.std.specs.Str.Lines.{lines};
 ghost use Rattle.fl_labels.specs.Name.{name_cmp};
-ghost use Rattle.fl_labels.specs.SetBy.{In, SetBy};
+ghost use Rattle.fl_labels.specs.SetBy.{In, SetBy, SameMembers};
 ghost use Rattle.fl_labels.specs.declared.cap.Cap.TheVariants.{Plus, Minus};
 ghost use Rattle.fl_labels.specs.declared.cap.Cap.{Cap};
 ghost use Rattle.fl_labels.specs.declared.name.Name.{Name};
@@ -18,10 +18,10 @@ ghost use Rattle.fl_jobs.specs.declared.job.Side.{Side};
 ghost use Rattle.fl_jobs.specs.declared.job.Act.TheVariants.{Ask};
 ghost use Rattle.fl_jobs.specs.declared.job.Job.TheVariants.{By, Member};
 ghost use Rattle.fl_opset.specs.RegistryText.{registry_text};
-ghost use Rattle.fl_monitor.specs.Following.{Follows};
-ghost use Rattle.fl_monitor.specs.Guarded.{IsGuarded};
-ghost use Rattle.fl_monitor.specs.Process.{effective, is_busy, owns, side_of};
-ghost use Rattle.fl_monitor.specs.declared.process.Process.{Process};
+ghost use Rattle.fl_bench.specs.Following.{Follows};
+ghost use Rattle.fl_bench.specs.Guarded.{IsGuarded};
+ghost use Rattle.fl_bench.specs.Process.{effective, is_busy, owns, side_of};
+ghost use Rattle.fl_bench.specs.declared.process.Process.{Process};
 ghost use Rattle.fl_script.specs.Reading.{IsReading};
 ghost use Rattle.fl_script.specs.declared.line.Line.{Line};
 ghost use Rattle.fl_script.specs.declared.reading.Reading.TheVariants.{Means};
@@ -39,7 +39,6 @@ ghost use Rattle.fl_cluster_laws.specs.Lives.{Exits, IsBorn};
 ghost use Rattle.fl_cluster_laws.specs.Owned.{WasGiven};
 ghost use Rattle.fl_cluster_laws.specs.Sent.{ComesSafely, Delivers, WasSent};
 ghost use Rattle.fl_cluster.specs.NodeStep.{NodeAnswers, view_of};
-ghost use Rattle.fl_cluster_laws.specs.Equal.{SameMembers};
 
 /// Where no answer is for want of memory, a script has one run.
 pub fn law_output()

@@ -1,7 +1,7 @@
 use Rattle.std.proofs.Common.{◌+◌, length}
 use Rattle.fl_labels.specs.SetBy.{In}
-use Rattle.fl_monitor.specs.Process.{side_of}
-use Rattle.fl_monitor.specs.declared.process.Process.{Process}
+use Rattle.fl_bench.specs.Process.{side_of}
+use Rattle.fl_bench.specs.declared.process.Process.{Process}
 use Rattle.fl_cluster_laws.specs.Living.{living}
 use Rattle.fl_cluster_laws.proofs.Orderly.{script_order}
 use Rattle.fl_cluster_laws.proofs.Pids.{given_there}

@@ -1,6 +1,6 @@
 use Rattle.std.proofs.Common.{◌≡◌, refl}
 use Rattle.fl_sink.proofs.SinkLemmas.{on_err_always}
-use Rattle.fl_monitor.proofs.Orders.{cancel_back, refusal_leaves, sending_leaves}
+use Rattle.fl_bench.proofs.Orders.{cancel_back, refusal_leaves, sending_leaves}
 use Rattle.fl_cluster.specs.NodeStep.{replies, refuses}
 use Rattle.fl_cluster.proofs.NodeLemmas.{same_registry}
 use Rattle.fl_cluster.proofs.node.Node.work.Goals as goal
