@@ -12,7 +12,7 @@ use Rattle.fl_jobs.specs.declared.answer.Refusal.{Refusal}
 use Rattle.fl_jobs.specs.declared.answer.Outcome.{Outcome}
 use Rattle.fl_wire.specs.declared.packet.Packet.{Packet}
 use Rattle.fl_bench.specs.Process.{owns, is_busy, ordering}
-use Rattle.fl_bench.specs.Bench.{State, has_at}
+use Rattle.fl_bench.specs.Bench.{BenchState, has_at}
 use Rattle.fl_bench.specs.Gifts.{given, receives, settles, finished, cancelled}
 use Rattle.fl_bench.specs.Jobs.{Does}
 use Rattle.fl_bench.specs.declared.process.Holding.{Holding}
@@ -28,7 +28,7 @@ abbrev pub rested : Process → List Cap → Process
 rested p caps = record p { owned = Idle (set.insert_all (owns p) caps) }
 
 -- at a bench where pid has its operation under way, it is settled as this process
-settles_at : (b : State) (pid : Pid) (p : Process) (caps : List Cap) → settles (has_at b pid (ordering p)) pid caps ≡ has_at b pid (rested p caps)
+settles_at : (b : BenchState) (pid : Pid) (p : Process) (caps : List Cap) → settles (has_at b pid (ordering p)) pid caps ≡ has_at b pid (rested p caps)
 settles_at b pid p caps =
     ap (λ o. record b { processes = receives (map.insert b.processes pid (ordering p)) pid caps o }) (get_here pid_total b.processes pid (ordering p))
     ∙ ap (λ m. record b { processes = m }) (put_twice pid_total pid_exact b.processes pid (ordering p) (rested p caps))
@@ -41,8 +41,8 @@ rested_same p e = by_holding p.owned e
     by_holding (Idle caps) e = refl
     by_holding (Ordering caps) e = absurd (cc)
 
-module _ {V : Op → Type 0} {b : State} {job : Job} where
-  module _ {body : Body} {pid : Pid} {after : State} where
+module _ {V : Op → Type 0} {b : BenchState} {job : Job} where
+  module _ {body : Body} {pid : Pid} {after : BenchState} where
     -- an order is one of an idle process, and leaves it with an operation under way
     pub order_at : Does V b job (Ok (Outcome.Order body pid)) after → IsOrder V b job body pid after
     order_at d = by_step (does_step V b d)
@@ -51,7 +51,7 @@ module _ {V : Op → Type 0} {b : State} {job : Job} where
         by_step (orders o) = o
 
     settled_at : (o : IsOrder V b job body pid after) (caps : List Cap) → settles after pid caps ≡ has_at b pid (rested o.process caps)
-    settled_at o caps = ap (λ (x : State). settles x pid caps) o.leaves ∙ settles_at b pid o.process caps
+    settled_at o caps = ap (λ (x : BenchState). settles x pid caps) o.leaves ∙ settles_at b pid o.process caps
 
     -- which has what the operation gives when it is finished
     pub finished_at : (o : IsOrder V b job body pid after) (op : Op) → finished after pid op ≡ has_at b pid (rested o.process (given op))
@@ -63,7 +63,7 @@ module _ {V : Op → Type 0} {b : State} {job : Job} where
         let o = order_at d in
         settled_at o [] ∙ ap (has_at b pid) (rested_same o.process o.idle) ∙ ap (λ m. record b { processes = m }) (put_same pid_total pid_exact b.processes pid o.process o.lived)
 
-  module _ {packet : Packet} {after : State} where
+  module _ {packet : Packet} {after : BenchState} where
     step_sends : Summary V b job (Ok (Outcome.Out packet)) after → IsSending V b job packet × (after ≡ b)
     step_sends (sends h is) = (h, is)
 
@@ -76,8 +76,8 @@ module _ {V : Op → Type 0} {b : State} {job : Job} where
     sending_leaves d = (step_sends (does_step V b d)).1
 
 -- a refusal leaves the bench as it was
-refused_same : {V : Op → Type 0} {b : State} {job : Job} {refusal : Refusal} {after : State} → Summary V b job (Err refusal) after → after ≡ b
+refused_same : {V : Op → Type 0} {b : BenchState} {job : Job} {refusal : Refusal} {after : BenchState} → Summary V b job (Err refusal) after → after ≡ b
 refused_same refuses = refl
 
-pub refusal_leaves : {V : Op → Type 0} {b : State} {job : Job} {refusal : Refusal} {after : State} → Does V b job (Err refusal) after → after ≡ b
+pub refusal_leaves : {V : Op → Type 0} {b : BenchState} {job : Job} {refusal : Refusal} {after : BenchState} → Does V b job (Err refusal) after → after ≡ b
 refusal_leaves {V} {b} d = refused_same (does_step V b d)

@@ -38,7 +38,7 @@ use Rattle.fl_bench.specs.Checks.{refuse_if, with, ◌then◌}
 use Rattle.fl_bench.specs.Guards.{grant_check}
 use Rattle.fl_bench.specs.Mailbox.{mail_checks, IsSent}
 use Rattle.fl_bench.specs.Process.{newborn, owns, is_busy, ordering, owning, child_of, effective, side_of, with_side, body_of, receiving}
-use Rattle.fl_bench.specs.Bench.{State, has_at, gone, born}
+use Rattle.fl_bench.specs.Bench.{BenchState, has_at, gone, born}
 use Rattle.fl_bench.specs.Jobs.{order_checks, checks_of, act_checks, bench_checks, checks, Answers, Performs, Effect, Does, passed, failed, no_room}
 use Rattle.fl_bench.specs.Following.{Follows}
 use Rattle.fl_bench.specs.Births.{IsBirth, alone, of}
@@ -69,20 +69,20 @@ module _ (V : Op → Type 0) where
 
   -- ---- the step of each job
 
-  module _ (b : State) where
-    replied : {job : Job} {x : Outcome} {reply : Reply} {after : State} → x ≡ Outcome.Reply reply → Changes V b job after → Summary V b job (Ok x) after
+  module _ (b : BenchState) where
+    replied : {job : Job} {x : Outcome} {reply : Reply} {after : BenchState} → x ≡ Outcome.Reply reply → Changes V b job after → Summary V b job (Ok x) after
     replied {job} {after} e h = subst (λ x. Summary V b job (Ok x) after) (sym e) (replies h)
 
-    answered : {job : Job} {x : Outcome} {P : Type 0} {after : State} → Answers x P → after ≡ b → Summary V b job (Ok x) after
+    answered : {job : Job} {x : Outcome} {P : Type 0} {after : BenchState} → Answers x P → after ≡ b → Summary V b job (Ok x) after
     answered (inl h) e = replied h.0 (keeps (stays e))
     answered (inr h) e = replied h.0 (keeps (stays e))
 
     -- a process that has its mailbox still is put back
-    unchanged : (pid : Pid) (p : Process) (ch : Mailbox) {after : State} → map.get b.processes pid ≡ Some p → ch ≡ p.mailbox → after ≡ has_at b pid (record p { mailbox = ch }) → after ≡ b
+    unchanged : (pid : Pid) (p : Process) (ch : Mailbox) {after : BenchState} → map.get b.processes pid ≡ Some p → ch ≡ p.mailbox → after ≡ has_at b pid (record p { mailbox = ch }) → after ≡ b
     unchanged pid p ch e same is = is ∙ ap (λ c. has_at b pid (record p { mailbox = c })) same ∙ ap (λ m. record b { processes = m }) (put_same pid_total pid_exact b.processes pid p e)
 
     -- a process that works with its mailbox has its labels still
-    mailbox_turn : (pid : Pid) (p : Process) (ch : Mailbox) {after : State} → map.get b.processes pid ≡ Some p → after ≡ has_at b pid (record p { mailbox = ch }) → Keeps V b after
+    mailbox_turn : (pid : Pid) (p : Process) (ch : Mailbox) {after : BenchState} → map.get b.processes pid ≡ Some p → after ≡ has_at b pid (record p { mailbox = ch }) → Keeps V b after
     mailbox_turn pid p ch e is = turns pid p (record p { mailbox = ch }) e (same_labels p (record p { mailbox = ch }) refl) is
 
     is_writable : (may : Bool) (f : Refusal) → refuse_if (not may) f None → may ≡ true
@@ -114,7 +114,7 @@ module _ (V : Op → Type 0) where
           granted = subst (λ (m : Message). Within (In m.caps) (effective V p)) (sym is.message_is) both.1;
         }
 
-    mail_step : (pid : Pid) (p : Process) (work : mailbox.Mail) (x : Outcome) (after : State) → map.get b.processes pid ≡ Some p → mail_checks (effective V p) p.labels p.mailbox work None → Performs V b pid p (Mail work) x after → Summary V b (By pid (Mail work)) (Ok x) after
+    mail_step : (pid : Pid) (p : Process) (work : mailbox.Mail) (x : Outcome) (after : BenchState) → map.get b.processes pid ≡ Some p → mail_checks (effective V p) p.labels p.mailbox work None → Performs V b pid p (Mail work) x after → Summary V b (By pid (Mail work)) (Ok x) after
     mail_step pid p (Open mode given) x after e h f = replied f.1.4 (keeps (mailbox_turn pid p f.0 e f.2))
     mail_step pid p (Tune end given) x after e h f = replied f.1.4 (keeps (mailbox_turn pid p f.0 e f.2))
     mail_step pid p (Close end) x after e h f = replied f.1.0 (keeps (mailbox_turn pid p f.0 e f.2))
@@ -123,7 +123,7 @@ module _ (V : Op → Type 0) where
         (sends (is_sending pid p from to receiver message f.1.0 f.1.2 e f.1.1 h f.1.3) (unchanged pid p f.0 e f.1.5 f.2))
     mail_step pid p Take x after e h f = replied f.1.0 (keeps (mailbox_turn pid p f.0 e f.2))
 
-    act_step : (pid : Pid) (p : Process) (act : Act) (x : Outcome) (after : State) → map.get b.processes pid ≡ Some p → is_busy p ≡ false → checks_of V p act None → Performs V b pid p act x after → Summary V b (By pid act) (Ok x) after
+    act_step : (pid : Pid) (p : Process) (act : Act) (x : Outcome) (after : BenchState) → map.get b.processes pid ≡ Some p → is_busy p ≡ false → checks_of V p act None → Performs V b pid p act x after → Summary V b (By pid act) (Ok x) after
     act_step pid p (Order order) x after e idle h f =
         subst (λ x. Summary V b (By pid (Order order)) (Ok x) after) (sym f.0)
         (orders (record { process = p; lived = e; idle = idle; order = order; asked = refl; allowed = h; body_is = refl; leaves = f.1 }))
@@ -148,7 +148,7 @@ module _ (V : Op → Type 0) where
     is_idle true h = absurd (cc)
     is_idle false h = refl
 
-    job_step : (job : Job) (x : Outcome) (after : State) → checks V b job None → Effect V b job x after → Summary V b job (Ok x) after
+    job_step : (job : Job) (x : Outcome) (after : BenchState) → checks V b job None → Effect V b job x after → Summary V b job (Ok x) after
     job_step Proc x after h f = replied f.2 (bears f.0 newborn (record { next = f.1; child_is = alone refl }) f.3)
     job_step (By pid act) x after h f =
         let both = passed_by pid act f.0 f.1 h in
@@ -156,7 +156,7 @@ module _ (V : Op → Type 0) where
     job_step (Member root c) x after h f = answered f.0 f.1
     job_step (Arrive d) x after h f = let new = receiving f.0 d in replied f.2 (keeps (turns d.receiver f.0 new f.1 (same_labels f.0 new refl) f.3))
 
-    pub does_step : {job : Job} {r : Result Outcome Refusal} {after : State} → Does V b job r after → Summary V b job r after
+    pub does_step : {job : Job} {r : Result Outcome Refusal} {after : BenchState} → Does V b job r after → Summary V b job r after
     does_step {job} {after} (passed {outcome} h f) = job_step job outcome after h f
     does_step (failed h) = refuses
     does_step (no_room t) = refuses

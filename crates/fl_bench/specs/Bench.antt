@@ -8,8 +8,9 @@ use Rattle.fl_labels.specs.declared.pid.Pid.{Pid}
 use Rattle.fl_bench.specs.declared.process.Process.{Process}
 use Rattle.fl_bench.specs.contracts.process.Process as processes_row
 
--- The node and its boot, and the processes. The next process gets the serial next, and the one after that a serial greater by stride.
-pub record State : Type 0 where
+-- The node and its boot, and the processes. The next process gets the serial next, and the one after that a serial
+-- greater by stride.
+pub record BenchState : Type 0 where
   pub node : ℕ
   pub boot : ℕ
   pub next : ℕ
@@ -17,29 +18,30 @@ pub record State : Type 0 where
   pub processes : map.FinMap pid_cmp Process
 
 -- with no process, as the bench index of stride benches
-abbrev pub opened : ℕ → ℕ → ℕ → ℕ → State
-opened node boot index stride = record { node = node; boot = boot; next = index; stride = stride; processes = map.empty }
+abbrev pub new_bench : ℕ → ℕ → ℕ → ℕ → BenchState
+new_bench node boot index stride =
+    record { node = node; boot = boot; next = index; stride = stride; processes = map.empty }
 
 -- with the process p as pid
-abbrev pub has_at : State → Pid → Process → State
+abbrev pub has_at : BenchState → Pid → Process → BenchState
 has_at b pid p = record b { processes = map.insert b.processes pid p }
 
 -- with no process as pid
-abbrev pub gone : State → Pid → State
+abbrev pub gone : BenchState → Pid → BenchState
 gone b pid = record b { processes = map.remove b.processes pid }
 
 -- pid is what the next process is called
-pub record IsNext (b : State) (pid : Pid) : Type 0 where
+pub record IsNext (b : BenchState) (pid : Pid) : Type 0 where
   pub node : pid.node ≡ b.node
   pub boot : pid.boot ≡ b.boot
   pub serial : pid.serial ≡ b.next
 
 -- with p as its next process
-abbrev pub born : State → Pid → Process → State
+abbrev pub born : BenchState → Pid → Process → BenchState
 born b pid p = record b { next = b.next + b.stride; processes = map.insert b.processes pid p }
 
 -- a state is stored as the tuple of its fields
-abbrev pub coded_state : Coded State
+abbrev pub coded_state : Coded BenchState
 coded_state =
     code_by (ℕ × (ℕ × (ℕ × (ℕ × map.FinMap pid_cmp Process)))) (coded× coded_ℕ (coded× coded_ℕ (coded× coded_ℕ (coded× coded_ℕ (map.code coded_pid (processes_row.the_row).coded)))))
     (λ b. (b.node, (b.boot, (b.next, (b.stride, b.processes)))))

@@ -6,26 +6,28 @@ use Rattle.fl_labels.specs.Cap.{cap_cmp}
 use Rattle.fl_labels.specs.Found.{Within}
 use Rattle.fl_labels.specs.SetBy.{SetBy, In}
 use Rattle.fl_labels.specs.declared.pid.Pid.{Pid}
-use Rattle.fl_ops.specs.declared.op.Op.{Op}
+use Rattle.fl_ops.specs.Registry.{Registry}
 use Rattle.fl_jobs.specs.declared.job.Act.TheVariants.{Spawn}
 use Rattle.fl_jobs.specs.declared.job.Job.{Job}
 use Rattle.fl_jobs.specs.declared.job.Job.TheVariants.{Proc, By}
 use Rattle.fl_bench.specs.Process.{newborn, child_of, effective}
-use Rattle.fl_bench.specs.Bench.{State, IsNext}
+use Rattle.fl_bench.specs.Bench.{BenchState, IsNext}
 use Rattle.fl_bench.specs.declared.process.Process.{Process}
 
--- who the job bears at the bench b: a process with nothing, or one with the labels of its parent and a part of what that has in effect
-pub data IsChild (V : Op → Type 0) (b : State) (job : Job) : Process → Type 0 where
+-- who the job bears at the bench b: a process with nothing, or one with the labels of its parent and a part of what
+-- that has in effect
+pub data IsChild (V : Registry) (b : BenchState) (job : Job) : Process → Type 0 where
   alone : job ≡ Proc → IsChild V b job newborn
-  of : {parent : Pid} {p : Process} {caps : SetBy cap_cmp} → job ≡ By parent (Spawn caps) → map.get b.processes parent ≡ Some p → Within (In caps) (effective V p) → IsChild V b job (child_of p caps)
+  of : {parent : Pid} {p : Process} {caps : SetBy cap_cmp} → job ≡ By parent (Spawn caps)
+      → map.get b.processes parent ≡ Some p → Within (In caps) (effective V p) → IsChild V b job (child_of p caps)
 
 -- a process that the job bore as pid, under the next serial
-pub record IsBirth (V : Op → Type 0) (b : State) (job : Job) (pid : Pid) (child : Process) : Type 0 where
+pub record IsBirth (V : Registry) (b : BenchState) (job : Job) (pid : Pid) (child : Process) : Type 0 where
   pub next : IsNext b pid
   pub child_is : IsChild V b job child
 
 -- the bench names who is born as before, and gives no serial again
-pub record GoesOn (b after : State) : Type 0 where
+pub record GoesOn (b after : BenchState) : Type 0 where
   pub node_is : after.node ≡ b.node
   pub boot_is : after.boot ≡ b.boot
   pub stride_is : after.stride ≡ b.stride

@@ -15,9 +15,10 @@ use Rattle.fl_ops.specs.declared.op.Body.TheVariants.{MakeTag, MakeGroup, Put, M
 use Rattle.fl_bench.specs.declared.process.Holding.{Holding}
 use Rattle.fl_bench.specs.declared.process.Holding.TheVariants.{Idle, Ordering}
 use Rattle.fl_bench.specs.declared.process.Process.{Process}
-use Rattle.fl_bench.specs.Bench.{State}
+use Rattle.fl_bench.specs.Bench.{BenchState}
 
--- what an operation of this body and name gives its maker: of a tag, to add and to remove it; of a group, to use and to grow it
+-- what an operation of this body and name gives its maker: of a tag, to add and to remove it; of a group, to use and
+-- to grow it
 abbrev pub given_by : Body → Name → List Cap
 given_by (MakeTag policy) tag = Plus tag ∷ Minus tag ∷ []
 given_by MakeGroup group = Use group ∷ Grow group ∷ []
@@ -39,13 +40,13 @@ receives m pid caps None = m
 receives m pid caps (Some p) = map.insert m pid (record p { owned = settled p.owned caps })
 
 -- the operation of pid that is under way is over, and gives these
-abbrev pub settles : State → Pid → List Cap → State
+abbrev pub settles : BenchState → Pid → List Cap → BenchState
 settles b pid caps = record b { processes = receives b.processes pid caps (map.get b.processes pid) }
 
 -- with what the operation gives to its maker pid
-abbrev pub finished : State → Pid → Op → State
+abbrev pub finished : BenchState → Pid → Op → BenchState
 finished b pid op = settles b pid (given op)
 
 -- with no operation of pid under way, and nothing given
-abbrev pub cancelled : State → Pid → State
+abbrev pub cancelled : BenchState → Pid → BenchState
 cancelled b pid = settles b pid []

@@ -9,7 +9,7 @@ use Rattle.fl_labels.specs.declared.endpoint.Endpoint.{Endpoint}
 use Rattle.fl_rules.specs.Endpoint.{Crosses}
 use Rattle.fl_rules.specs.Pair as pairs
 use Rattle.fl_rules.specs.Pair.{SafePair, PairFails}
-use Rattle.fl_labels.specs.Caps.{Dual}
+use Rattle.fl_labels.specs.Caps.{Caps, Dual}
 use Rattle.fl_rules.specs.declared.endpoint.Mode.{Mode}
 use Rattle.fl_rules.specs.declared.endpoint.Mode.TheVariants.{Write}
 use Rattle.fl_rules.specs.declared.labels.Labels.{Labels}
@@ -25,18 +25,18 @@ use Rattle.fl_jobs.specs.declared.answer.Refusal.TheVariants.{MissingCap, Unsafe
 use Rattle.fl_bench.specs.Checks.{Check, demand}
 
 -- of handing these on, by who has E in effect
-abbrev pub grant_check : (Cap → Type 0) → SetBy cap_cmp → Check
+abbrev pub grant_check : Caps → SetBy cap_cmp → Check
 grant_check E caps = demand cap_cmp (In caps) E MissingCap
 
 -- of an endpoint of this mode and these labels, at a process of these labels, by who has E in effect
-abbrev pub endpoint_check : (Cap → Type 0) → Labels → Endpoint → Mode → Labels → Check
+abbrev pub endpoint_check : Caps → Labels → Endpoint → Mode → Labels → Check
 endpoint_check E process e mode labels = demand name_cmp (Crosses mode process labels) (Dual E) (UnsafeEndpoint e)
 
 abbrev pub unsafe_by : Offender → Refusal
 unsafe_by x = UnsafeEndpoint x.endpoint x.tag
 
 -- of all open endpoints
-abbrev pub endpoints_check : (Cap → Type 0) → Labels → Table → Check
+abbrev pub endpoints_check : Caps → Labels → Table → Check
 endpoints_check E process table = demand offender_cmp (CrossesAt process table) (DualAt E) unsafe_by
 
 -- the end that a message left
@@ -53,4 +53,5 @@ entry_refusal e (faults.Integrity tag) = Integrity tag
 -- of the message on its way into the open endpoint
 abbrev pub pair_check : Data → OpenEndpoint → Check
 pair_check d opened None = SafePair (sent_from d) (end_of opened)
-pair_check d opened (Some f) = (fault : PairFault) × (f ≡ entry_refusal d.to fault) × PairFails (sent_from d) (end_of opened) fault
+pair_check d opened (Some f) =
+    (fault : PairFault) × (f ≡ entry_refusal d.to fault) × PairFails (sent_from d) (end_of opened) fault

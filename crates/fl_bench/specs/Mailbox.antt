@@ -3,6 +3,7 @@ use Rattle.std.specs.Prelude.{◌≡◌, ◌∷◌, [], ◌++◌, true, not, nat
 use Rattle.std.specs.declared.option.Option.{Option}
 use Rattle.std.specs.declared.option.Option.TheVariants.{None, Some}
 use Rattle.std.specs.FinMap as map
+use Rattle.fl_labels.specs.Caps.{Caps}
 use Rattle.fl_labels.specs.declared.cap.Cap.{Cap}
 use Rattle.fl_labels.specs.declared.endpoint.Endpoint.{Endpoint}
 use Rattle.fl_labels.specs.declared.pid.Pid.{Pid}
@@ -30,7 +31,7 @@ use Rattle.fl_bench.specs.Hand.{Refuses}
 -- ---- checks
 
 -- by a process of these labels and mailbox, which has E in effect
-abbrev pub mail_checks : (Cap → Type 0) → Labels → Mailbox → Mail → Check
+abbrev pub mail_checks : Caps → Labels → Mailbox → Mail → Check
 mail_checks E process ch (Open mode given) = with (labels_of given) LabelTooLong (λ labels. with_found (IsLeastFree ch.endpoints) EndpointsFull (λ e. endpoint_check E process e mode labels))
 mail_checks E process ch (Tune e given) = with (labels_of given) LabelTooLong (λ labels. with (map.get ch.endpoints e) (NoEndpoint e) (λ opened. endpoint_check E process e opened.mode labels))
 mail_checks E process ch (Close e) = with (map.get ch.endpoints e) (NoEndpoint e) (λ _. no_check)
@@ -39,7 +40,8 @@ mail_checks E process ch Take = no_check
 
 -- of a message that comes to these mailbox
 abbrev pub arrival_checks : Mailbox → Data → Check
-arrival_checks ch d = with (map.get ch.endpoints d.to) (NoEndpoint d.to) (λ opened. pair_check d opened then refuse_if (nat_le 256 (length ch.inbox)) InboxFull)
+arrival_checks ch d = with (map.get ch.endpoints d.to) (NoEndpoint d.to) (λ opened.
+    pair_check d opened then refuse_if (nat_le 256 (length ch.inbox)) InboxFull)
 
 -- ---- effects
 
@@ -61,15 +63,21 @@ taken (Some letter) = Taken letter
 abbrev pub MailDoes : Pid → Mailbox → Mail → Outcome → Mailbox → Type 0
 MailDoes pid ch (Open mode given) outcome ch' =
     (labels : Labels) × (labels_of given ≡ Some labels) × (e : Endpoint) × IsLeastFree ch.endpoints (Some e)
-    × (outcome ≡ Outcome.Reply (Answers_opened e)) × (ch' ≡ record ch { endpoints = map.insert ch.endpoints e (record { mode = mode; labels = labels }) })
+    × (outcome ≡ Outcome.Reply (Answers_opened e))
+    × (ch' ≡ record ch { endpoints = map.insert ch.endpoints e (record { mode = mode; labels = labels }) })
 MailDoes pid ch (Tune e given) outcome ch' =
-    (labels : Labels) × (labels_of given ≡ Some labels) × (opened : OpenEndpoint) × (map.get ch.endpoints e ≡ Some opened)
-    × (outcome ≡ Outcome.Reply Done) × (ch' ≡ record ch { endpoints = map.insert ch.endpoints e (record opened { labels = labels }) })
-MailDoes pid ch (Close e) outcome ch' = (outcome ≡ Outcome.Reply Done) × (ch' ≡ record ch { endpoints = map.remove ch.endpoints e })
+    (labels : Labels) × (labels_of given ≡ Some labels) × (opened : OpenEndpoint)
+    × (map.get ch.endpoints e ≡ Some opened)
+    × (outcome ≡ Outcome.Reply Done)
+    × (ch' ≡ record ch { endpoints = map.insert ch.endpoints e (record opened { labels = labels }) })
+MailDoes pid ch (Close e) outcome ch' =
+    (outcome ≡ Outcome.Reply Done) × (ch' ≡ record ch { endpoints = map.remove ch.endpoints e })
 MailDoes pid ch (Send from receiver to message) outcome ch' =
-    (opened : OpenEndpoint) × (map.get ch.endpoints from ≡ Some opened) × (d : Data) × IsSent pid from opened.labels receiver to message d
+    (opened : OpenEndpoint) × (map.get ch.endpoints from ≡ Some opened) × (d : Data)
+    × IsSent pid from opened.labels receiver to message d
     × (outcome ≡ Outcome.Out (packets.Data d)) × (ch' ≡ ch)
-MailDoes pid ch Take outcome ch' = (outcome ≡ Outcome.Reply (taken (oldest ch.inbox))) × (ch' ≡ record ch { inbox = without_oldest ch.inbox })
+MailDoes pid ch Take outcome ch' =
+    (outcome ≡ Outcome.Reply (taken (oldest ch.inbox))) × (ch' ≡ record ch { inbox = without_oldest ch.inbox })
 
 -- with the message that came, as the last
 abbrev pub entered : Mailbox → Data → Mailbox
@@ -78,10 +86,13 @@ entered ch d = record ch { inbox = ch.inbox ++ record { sender = d.sender; messa
 -- ---- when memory may be wanted
 
 -- by a process of these labels and mailbox, with H at hand
-abbrev pub MailTakesMemory : (Cap → Type 0) → Labels → Mailbox → Mail → Type 0
-MailTakesMemory H process ch (Open mode given) = (labels : Labels) × (labels_of given ≡ Some labels) × (e : Endpoint) × IsLeastFree ch.endpoints (Some e)
+abbrev pub MailTakesMemory : Caps → Labels → Mailbox → Mail → Type 0
+MailTakesMemory H process ch (Open mode given) =
+    (labels : Labels) × (labels_of given ≡ Some labels) × (e : Endpoint) × IsLeastFree ch.endpoints (Some e)
 MailTakesMemory H process ch (Tune e given) =
-    (labels : Labels) × (labels_of given ≡ Some labels) × (opened : OpenEndpoint) × (map.get ch.endpoints e ≡ Some opened) × Refuses (endpoint_check H process e opened.mode labels)
+    (labels : Labels) × (labels_of given ≡ Some labels) × (opened : OpenEndpoint)
+    × (map.get ch.endpoints e ≡ Some opened) × Refuses (endpoint_check H process e opened.mode labels)
 MailTakesMemory H process ch (Close e) = ⊥
-MailTakesMemory H process ch (Send from receiver to message) = (opened : OpenEndpoint) × (map.get ch.endpoints from ≡ Some opened) × (writes opened.mode ≡ true)
+MailTakesMemory H process ch (Send from receiver to message) =
+    (opened : OpenEndpoint) × (map.get ch.endpoints from ≡ Some opened) × (writes opened.mode ≡ true)
 MailTakesMemory H process ch Take = ⊥

@@ -7,10 +7,9 @@ use Rattle.fl_labels.specs.SetBy.{In}
 use Rattle.fl_labels.specs.declared.name.Name.{Name}
 use Rattle.fl_labels.specs.declared.cap.Cap.{Cap}
 use Rattle.fl_labels.specs.declared.cap.Cap.TheVariants.{Grow}
-use Rattle.fl_ops.specs.declared.op.Op.{Op}
 use Rattle.fl_ops.specs.declared.op.Body.{Body}
 use Rattle.fl_ops.specs.declared.op.Body.TheVariants as bodies
-use Rattle.fl_ops.specs.Registry.{InEffect}
+use Rattle.fl_ops.specs.Registry.{Registry, InEffect}
 use Rattle.fl_jobs.specs.declared.job.Side.{Side}
 use Rattle.fl_jobs.specs.declared.job.Side.TheVariants.{Secrecy, Integrity}
 use Rattle.fl_jobs.specs.declared.job.Order.{Order}
@@ -26,7 +25,8 @@ use Rattle.fl_bench.specs.declared.process.Process.{Process}
 
 -- with nothing
 abbrev pub newborn : Process
-newborn = record { labels = record { secrecy = set.empty; integrity = set.empty }; owned = Idle set.empty; mailbox = closed }
+newborn =
+    record { labels = record { secrecy = set.empty; integrity = set.empty }; owned = Idle set.empty; mailbox = closed }
 
 abbrev pub held : Holding → set.SetBy cap_cmp
 held (Idle caps) = caps
@@ -61,7 +61,7 @@ abbrev pub receiving : Process → Data → Process
 receiving p d = record p { owned = Idle (set.union (owns p) d.message.caps); mailbox = entered p.mailbox d }
 
 -- what the process has in effect under the registry V
-abbrev pub effective : (Op → Type 0) → Process → Cap → Type 0
+abbrev pub effective : Registry → Process → Cap → Type 0
 effective V p = InEffect V (In (owns p))
 
 abbrev pub side_of : Side → Labels → set.SetBy name_cmp

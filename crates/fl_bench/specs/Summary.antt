@@ -22,7 +22,7 @@ use Rattle.fl_wire.specs.declared.packet.Packet.{Packet}
 use Rattle.fl_wire.specs.declared.packet.Packet.TheVariants as packets
 use Rattle.fl_mailbox.specs.declared.endpoints.OpenEndpoint.{OpenEndpoint}
 use Rattle.fl_bench.specs.Process.{is_busy, ordering, effective, body_of}
-use Rattle.fl_bench.specs.Bench.{State, has_at, gone, born}
+use Rattle.fl_bench.specs.Bench.{BenchState, has_at, gone, born}
 use Rattle.fl_bench.specs.Jobs.{order_checks}
 use Rattle.fl_bench.specs.Following.{Follows}
 use Rattle.fl_bench.specs.Births.{IsBirth}
@@ -30,20 +30,20 @@ use Rattle.fl_bench.specs.declared.process.Process.{Process}
 use Rattle.fl_ops.specs.Registry.{Registry}
 
 -- the bench has its processes still, of which one may have changed
-pub data Keeps (V : Registry) (b after : State) : Type 0 where
+pub data Keeps (V : Registry) (b after : BenchState) : Type 0 where
   stays : after ≡ b → Keeps V b after
   turns : (pid : Pid) (old new : Process) → map.get b.processes pid ≡ Some old → Follows V (Some old) (Some new)
       → after ≡ has_at b pid new → Keeps V b after
 
 -- or has them still and a new one, or the one that asked to go is gone
-pub data Changes (V : Registry) (b : State) (job : Job) (after : State) : Type 0 where
+pub data Changes (V : Registry) (b : BenchState) (job : Job) (after : BenchState) : Type 0 where
   keeps : Keeps V b after → Changes V b job after
   bears : (pid : Pid) (child : Process) → IsBirth V b job pid child → after ≡ born b pid child
       → Changes V b job after
   loses : (pid : Pid) → job ≡ By pid Exit → after ≡ gone b pid → Changes V b job after
 
 -- the job is the order of an idle process that stands as pid, and may ask for it
-pub record IsOrder (V : Registry) (b : State) (job : Job) (body : Body) (pid : Pid) (after : State) : Type 0 where
+pub record IsOrder (V : Registry) (b : BenchState) (job : Job) (body : Body) (pid : Pid) (after : BenchState) : Type 0 where
   pub process : Process
   pub lived : map.get b.processes pid ≡ Some process
   pub idle : is_busy process ≡ false
@@ -54,7 +54,7 @@ pub record IsOrder (V : Registry) (b : State) (job : Job) (body : Body) (pid : P
   pub leaves : after ≡ has_at b pid (ordering process)
 
 -- the job sends the packet from an open endpoint that is for writing, with what its process has in effect
-pub record IsSending (V : Registry) (b : State) (job : Job) (packet : Packet) : Type 0 where
+pub record IsSending (V : Registry) (b : BenchState) (job : Job) (packet : Packet) : Type 0 where
   pub sent : Data
   pub packet_is : packet ≡ packets.Data sent
   pub process : Process
@@ -68,11 +68,11 @@ pub record IsSending (V : Registry) (b : State) (job : Job) (packet : Packet) : 
   pub granted : Within (In sent.message.caps) (effective V process)
 
 -- the job is refused and leaves all, replies, orders an operation, or sends a packet, which leaves the bench
-pub data Summary (V : Registry) (b : State) (job : Job) : Result Outcome Refusal → State → Type 0 where
+pub data Summary (V : Registry) (b : BenchState) (job : Job) : Result Outcome Refusal → BenchState → Type 0 where
   refuses : {f : Refusal} → Summary V b job (Err f) b
-  replies : {reply : Reply} {after : State} → Changes V b job after
+  replies : {reply : Reply} {after : BenchState} → Changes V b job after
       → Summary V b job (Ok (Outcome.Reply reply)) after
-  orders : {body : Body} {pid : Pid} {after : State} → IsOrder V b job body pid after
+  orders : {body : Body} {pid : Pid} {after : BenchState} → IsOrder V b job body pid after
       → Summary V b job (Ok (Outcome.Order body pid)) after
-  sends : {packet : Packet} {after : State} → IsSending V b job packet → after ≡ b
+  sends : {packet : Packet} {after : BenchState} → IsSending V b job packet → after ≡ b
       → Summary V b job (Ok (Outcome.Out packet)) after

@@ -54,7 +54,8 @@ impl Holding {
         }
     }
 
-    /// With an operation under way. An error says that none was and that there is no room for what it may give, and leaves them.
+    /// With an operation under way. An error says that none was and that there is no room for what it may give, and
+    /// leaves them.
     pub fn begin(&mut self, alloc: Global) -> Result<(), AllocError>
         ensures ok { OnOk result (self.new ≡ Ordering (held self.old)) }
         ensures err { OnErr result (self.new ≡ self.old) }

@@ -29,7 +29,7 @@ use Rattle.fl_bench.specs.Checks.{refuse_if, with, ◌then◌}
 use Rattle.fl_bench.specs.Guards.{pair_check, sent_from}
 use Rattle.fl_bench.specs.Mailbox.{arrival_checks}
 use Rattle.fl_bench.specs.Process.{is_busy, effective}
-use Rattle.fl_bench.specs.Bench.{State}
+use Rattle.fl_bench.specs.Bench.{BenchState}
 use Rattle.fl_bench.specs.Guarded.{Guarded, IsGuarded}
 use Rattle.fl_bench.specs.Jobs.{Does, passed}
 use Rattle.fl_bench.specs.declared.process.Process.{Process}
@@ -63,7 +63,7 @@ entered_at ch d h = by_found (map.get ch.endpoints d.to) refl h
     by_found None e h = absurd (cc)
     by_found (Some end) e h = record { end = end; is_open = e; pair = h.0 }
 
-module _ {V : Op → Type 0} {b after : State} {d : Data} {x : Outcome} (q : Process) (lives : map.get b.processes d.receiver ≡ Some q) where
+module _ {V : Op → Type 0} {b after : BenchState} {d : Data} {x : Outcome} (q : Process) (lives : map.get b.processes d.receiver ≡ Some q) where
   entered : Does V b (Arrive d) (Ok x) after → Entered q.mailbox d
   entered (passed s f) = entered_at q.mailbox d (subst (λ o. with o (NoProcess d.receiver) (λ q. refuse_if (is_busy q) Busy then arrival_checks q.mailbox d) None) lives s).1
 
@@ -78,7 +78,7 @@ module _ {V : Op → Type 0} {b after : State} {d : Data} {x : Outcome} (q : Pro
 same_packet : {d e : Data} → packets.Data d ≡ packets.Data e → d ≡ e
 same_packet e = ap (λ (p : Packet). elim p [ packets.Data d ↦ d ]) e
 
-module _ {V : Op → Type 0} {b : State} {job : Job} where
+module _ {V : Op → Type 0} {b : BenchState} {job : Job} where
   left_safe : (o : Packet) (s : IsSending V b job o) → IsGuarded V b → SafeEndpoint (effective V s.process) Write s.process.labels (sent_from s.sent).labels
   left_safe o s h =
       let safe = open_safe V s.process s.sent.from s.opened (h.each s.sent.sender s.process s.lived) s.is_open in
@@ -86,7 +86,7 @@ module _ {V : Op → Type 0} {b : State} {job : Job} where
       subst (λ l. SafeEndpoint (effective V s.process) Write s.process.labels l) same (record { read = λ e. absurd (false≢true e); write = λ e. safe.write s.writable })
 
   -- a message that is sent left a safe endpoint
-  pub sent_safe : {after : State} (d : Data) (p : Process) → map.get b.processes d.sender ≡ Some p → IsGuarded V b → Does V b job (Ok (Outcome.Out (packets.Data d))) after → SafeEndpoint (effective V p) (sent_from d).mode p.labels (sent_from d).labels
+  pub sent_safe : {after : BenchState} (d : Data) (p : Process) → map.get b.processes d.sender ≡ Some p → IsGuarded V b → Does V b job (Ok (Outcome.Out (packets.Data d))) after → SafeEndpoint (effective V p) (sent_from d).mode p.labels (sent_from d).labels
   sent_safe d p lived h does =
       let s = sending_at does in
       let e : s.sent ≡ d = same_packet (sym s.packet_is) in

@@ -10,7 +10,7 @@ use Rattle.fl_jobs.specs.declared.job.Job.{Job}
 use Rattle.fl_jobs.specs.declared.answer.Refusal.{Refusal}
 use Rattle.fl_jobs.specs.declared.answer.Outcome.{Outcome}
 use Rattle.fl_bench.specs.Process.{owns}
-use Rattle.fl_bench.specs.Bench.{State, has_at}
+use Rattle.fl_bench.specs.Bench.{BenchState, has_at}
 use Rattle.fl_bench.specs.Gifts.{given, settled, receives, settles, finished}
 use Rattle.fl_bench.specs.Jobs.{Does}
 use Rattle.fl_bench.specs.declared.process.Holding.{Holding}
@@ -22,10 +22,10 @@ use Rattle.fl_bench.proofs.Orders.{finished_at}
 
 module _ (V : Op → Type 0) where
   -- a process that has its labels still, and holds this
-  same_labelled : {b after : State} (pid : Pid) (p : Process) (owned : Holding) → map.get b.processes pid ≡ Some p → after ≡ has_at b pid (record p { owned = owned }) → Keeps V b after
+  same_labelled : {b after : BenchState} (pid : Pid) (p : Process) (owned : Holding) → map.get b.processes pid ≡ Some p → after ≡ has_at b pid (record p { owned = owned }) → Keeps V b after
   same_labelled pid p owned e is = turns pid p (record p { owned = owned }) e (same_labels V p (record p { owned = owned }) refl) is
 
-  module _ {b after : State} {job : Job} where
+  module _ {b after : BenchState} {job : Job} where
     order_keeps : {body : Body} {pid : Pid} → IsOrder V b job body pid after → Keeps V b after
     order_keeps {pid} o = same_labelled pid o.process (Ordering (owns o.process)) o.lived o.leaves
 
@@ -33,17 +33,17 @@ module _ (V : Op → Type 0) where
     pub finished_keeps : {body : Body} {pid : Pid} → IsOrder V b job body pid after → (op : Op) → Keeps V b (finished after pid op)
     finished_keeps {pid} o op = same_labelled pid o.process (Idle (set.insert_all (owns o.process) (given op))) o.lived (finished_at o op)
 
-  step_changes : {b after : State} {job : Job} {r : Result Outcome Refusal} → Summary V b job r after → Changes V b job after
+  step_changes : {b after : BenchState} {job : Job} {r : Result Outcome Refusal} → Summary V b job r after → Changes V b job after
   step_changes refuses = keeps (stays refl)
   step_changes (replies h) = h
   step_changes (orders o) = keeps (order_keeps o)
   step_changes (sends h is) = keeps (stays is)
 
-  pub does_changes : {b after : State} {job : Job} {r : Result Outcome Refusal} → Does V b job r after → Changes V b job after
+  pub does_changes : {b after : BenchState} {job : Job} {r : Result Outcome Refusal} → Does V b job r after → Changes V b job after
   does_changes {b} d = step_changes (does_step V b d)
 
   -- a finish and a cancel
-  pub settles_keeps : (b : State) (pid : Pid) (caps : List Cap) → Keeps V b (settles b pid caps)
+  pub settles_keeps : (b : BenchState) (pid : Pid) (caps : List Cap) → Keeps V b (settles b pid caps)
   settles_keeps b pid caps = by_found (map.get b.processes pid) refl
     where
       by_found : (o : Option Process) → map.get b.processes pid ≡ o → Keeps V b (record b { processes = receives b.processes pid caps o })

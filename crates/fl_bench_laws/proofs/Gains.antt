@@ -24,7 +24,7 @@ use Rattle.fl_jobs.specs.declared.answer.Outcome.{Outcome}
 use Rattle.fl_wire.specs.declared.packet.Data.{Data}
 use Rattle.fl_bench.specs.Secrets.{digest_of}
 use Rattle.fl_bench.specs.Process.{newborn, owns, held, is_busy, is_under_way, ordering, owning, child_of, receiving}
-use Rattle.fl_bench.specs.Bench.{State, IsNext, has_at, gone, born}
+use Rattle.fl_bench.specs.Bench.{BenchState, IsNext, has_at, gone, born}
 use Rattle.fl_bench.specs.Gifts.{given, settled, receives, finished, cancelled}
 use Rattle.fl_bench.specs.Jobs.{act_checks, checks, Performs, Effect, Does, passed, failed, no_room}
 use Rattle.fl_bench.specs.Gains.{OwnsAt, Gains, GainsAtEnd}
@@ -67,12 +67,12 @@ added s (c ∷ caps) d h = elim (inserted (set.insert_all s caps) c d h) [
 
 -- ---- one process
 
-module _ (b : State) (pid : Pid) (c : Cap) where
-  owns_same : (after : State) → after ≡ b → OwnsAt after pid c → OwnsAt b pid c
+module _ (b : BenchState) (pid : Pid) (c : Cap) where
+  owns_same : (after : BenchState) → after ≡ b → OwnsAt after pid c → OwnsAt b pid c
   owns_same after e = subst (λ x. OwnsAt x pid c) e
 
   -- at a bench where a process was put
-  put_owns : (q : Pid) (new : Process) (next : State) → next.processes ≡ map.insert b.processes q new → OwnsAt next pid c → OwnsAt b pid c ⊎ ((pid ≡ q) × In (owns new) c)
+  put_owns : (q : Pid) (new : Process) (next : BenchState) → next.processes ≡ map.insert b.processes q new → OwnsAt next pid c → OwnsAt b pid c ⊎ ((pid ≡ q) × In (owns new) c)
   put_owns q new next is o =
       let there : map.get (map.insert b.processes q new) pid ≡ Some o.process = sym (ap (λ m. map.get m pid) is) ∙ o.lives in
       elim (get_put pid_total pid_exact b.processes q new pid) [
@@ -97,22 +97,22 @@ module _ (b : State) (pid : Pid) (c : Cap) where
 
   module _ (V : Op → Type 0) where
     -- what pid owns it owned before, or came to own
-    abbrev pub Accounted : Job → State → Type 0
+    abbrev pub Accounted : Job → BenchState → Type 0
     Accounted job after = OwnsAt after pid c → OwnsAt b pid c ⊎ Gains V b job pid c
 
-    as_it_was : {job : Job} {after : State} → after ≡ b → Accounted job after
+    as_it_was : {job : Job} {after : BenchState} → after ≡ b → Accounted job after
     as_it_was e o = inl (owns_same _ e o)
 
-    less : {job : Job} (q : Pid) (p new : Process) {after : State} → map.get b.processes q ≡ Some p → (In (owns new) c → In (owns p) c) → after ≡ has_at b q new → Accounted job after
+    less : {job : Job} (q : Pid) (p new : Process) {after : BenchState} → map.get b.processes q ≡ Some p → (In (owns new) c → In (owns p) c) → after ≡ has_at b q new → Accounted job after
     less q p new there h is o = inl (no_more q p new there h (subst (λ x. OwnsAt x pid c) is o))
 
-    proc_owned : (q : Pid) {after : State} → after ≡ born b q newborn → Accounted Proc after
+    proc_owned : (q : Pid) {after : BenchState} → after ≡ born b q newborn → Accounted Proc after
     proc_owned q {after} is o = elim (put_owns q newborn (born b q newborn) refl (subst (λ x. OwnsAt x pid c) is o)) [
       | inl o ↦ inl o
       | inr h ↦ absurd (false≢true (sym (set.contains-empty cap_cmp c) ∙ h.1))
     ]
 
-    act_owned : (q : Pid) (p : Process) (act : Act) (x : Outcome) (after : State) → map.get b.processes q ≡ Some p → act_checks V p act None → Performs V b q p act x after → Accounted (By q act) after
+    act_owned : (q : Pid) (p : Process) (act : Act) (x : Outcome) (after : BenchState) → map.get b.processes q ≡ Some p → act_checks V p act None → Performs V b q p act x after → Accounted (By q act) after
     act_owned q p (Order order) x after e h f = less q p (ordering p) e (λ m. m) f.1
     act_owned q p (Relabel side (Ok label)) x after e h f = less q p _ e (λ m. m) f.1
     act_owned q p (Relabel side (Err long)) x after e h f = absurd f
@@ -135,7 +135,7 @@ module _ (b : State) (pid : Pid) (c : Cap) where
     act_owned q p (Mail work) x after e h f = less q p (record p { mailbox = f.0 }) e (λ m. m) f.2
 
     -- the receiver owns what the message brings
-    arrival_owned : (d : Data) (q : Process) {after : State} → map.get b.processes d.receiver ≡ Some q → after ≡ has_at b d.receiver (receiving q d) → Accounted (Arrive d) after
+    arrival_owned : (d : Data) (q : Process) {after : BenchState} → map.get b.processes d.receiver ≡ Some q → after ≡ has_at b d.receiver (receiving q d) → Accounted (Arrive d) after
     arrival_owned d q e is o = elim (put_owns d.receiver (receiving q d) (has_at b d.receiver (receiving q d)) refl (subst (λ x. OwnsAt x pid c) is o)) [
       | inl o ↦ inl o
       | inr m ↦ elim (joined (owns q) d.message.caps c m.1) [
@@ -144,13 +144,13 @@ module _ (b : State) (pid : Pid) (c : Cap) where
       ]
     ]
 
-    effect_owned : (job : Job) (x : Outcome) (after : State) → checks V b job None → Effect V b job x after → Accounted job after
+    effect_owned : (job : Job) (x : Outcome) (after : BenchState) → checks V b job None → Effect V b job x after → Accounted job after
     effect_owned Proc x after h f = proc_owned f.0 f.3
     effect_owned (By q act) x after h f = act_owned q f.0 act x after f.1 (passed_by V b q act f.0 f.1 h) f.2
     effect_owned (Member root d) x after h f = as_it_was f.1
     effect_owned (Arrive d) x after h f = arrival_owned d f.0 f.1 f.3
 
-    pub does_owned : {job : Job} {r : Result Outcome Refusal} {after : State} → Does V b job r after → Accounted job after
+    pub does_owned : {job : Job} {r : Result Outcome Refusal} {after : BenchState} → Does V b job r after → Accounted job after
     does_owned {job} (passed {outcome} {b' = after} h f) = effect_owned job outcome after h f
     does_owned (failed h) = as_it_was refl
     does_owned (no_room t) = as_it_was refl

@@ -41,7 +41,7 @@ use Rattle.fl_bench.specs.Checks.{with, with_found}
 use Rattle.fl_bench.specs.Guards.{endpoint_check}
 use Rattle.fl_bench.specs.Mailbox.{mail_checks, MailDoes}
 use Rattle.fl_bench.specs.Process.{newborn, held, owns, ordering, owning, child_of, effective, receiving}
-use Rattle.fl_bench.specs.Bench.{State, opened, has_at, gone, born}
+use Rattle.fl_bench.specs.Bench.{BenchState, new_bench, has_at, gone, born}
 use Rattle.fl_bench.specs.Gifts.{settled, receives, settles}
 use Rattle.fl_bench.specs.Guarded.{Guarded, IsGuarded}
 use Rattle.fl_bench.specs.Jobs.{act_checks, checks, Performs, Effect, Does, passed, failed, no_room}
@@ -119,33 +119,33 @@ grown_guarded more p h owned all x c =
 -- ---- a bench
 
 module _ (V : Op → Type 0) where
-  pub opened_guarded : (node boot index stride : ℕ) → IsGuarded V (opened node boot index stride)
+  pub opened_guarded : (node boot index stride : ℕ) → IsGuarded V (new_bench node boot index stride)
   opened_guarded node boot index stride = record { each = λ pid p e. absurd (none_some (map.get-empty pid_cmp pid) e) }
 
-  module _ (b : State) (h : IsGuarded V b) where
-    same_guarded : {after : State} → after ≡ b → IsGuarded V after
+  module _ (b : BenchState) (h : IsGuarded V b) where
+    same_guarded : {after : BenchState} → after ≡ b → IsGuarded V after
     same_guarded e = subst (IsGuarded V) (sym e) h
 
     -- a process whose endpoints are safe was put
-    put_guarded : (pid : Pid) (new : Process) {after : State} → Guarded V new → after.processes ≡ map.insert b.processes pid new → IsGuarded V after
+    put_guarded : (pid : Pid) (new : Process) {after : BenchState} → Guarded V new → after.processes ≡ map.insert b.processes pid new → IsGuarded V after
     put_guarded pid new {after} safe is = record { each = λ k p e. by_place k p (sym (ap (λ m. map.get m k) is) ∙ e) (get_put pid_total pid_exact b.processes pid new k) }
       where
         by_place : (k : Pid) (p : Process) → map.get (map.insert b.processes pid new) k ≡ Some p → ((k ≡ pid) × (map.get (map.insert b.processes pid new) k ≡ Some new)) ⊎ (map.get (map.insert b.processes pid new) k ≡ map.get b.processes k) → Guarded V p
         by_place k p e (inl s) = subst (Guarded V) (same_found s.1 e) safe
         by_place k p e (inr s) = h.each k p (sym s ∙ e)
 
-    put : (pid : Pid) (new : Process) {after : State} → Guarded V new → after ≡ has_at b pid new → IsGuarded V after
-    put pid new safe is = put_guarded pid new safe (ap (λ (x : State). x.processes) is)
+    put : (pid : Pid) (new : Process) {after : BenchState} → Guarded V new → after ≡ has_at b pid new → IsGuarded V after
+    put pid new safe is = put_guarded pid new safe (ap (λ (x : BenchState). x.processes) is)
 
-    bears : (pid : Pid) (child : Process) {after : State} → Guarded V child → after ≡ born b pid child → IsGuarded V after
-    bears pid child safe is = put_guarded pid child safe (ap (λ (x : State). x.processes) is)
+    bears : (pid : Pid) (child : Process) {after : BenchState} → Guarded V child → after ≡ born b pid child → IsGuarded V after
+    bears pid child safe is = put_guarded pid child safe (ap (λ (x : BenchState). x.processes) is)
 
-    gone_guarded : (pid : Pid) {after : State} → after ≡ gone b pid → IsGuarded V after
+    gone_guarded : (pid : Pid) {after : BenchState} → after ≡ gone b pid → IsGuarded V after
     gone_guarded pid is = subst (IsGuarded V) (sym is) (record { each = λ k p e. h.each k p (left_there pid_total pid_exact b.processes pid k p e) })
 
     -- ---- jobs
 
-    act_guarded : (pid : Pid) (p : Process) (act : Act) (x : Outcome) {after : State} → map.get b.processes pid ≡ Some p → act_checks V p act None → Performs V b pid p act x after → IsGuarded V after
+    act_guarded : (pid : Pid) (p : Process) (act : Act) (x : Outcome) {after : BenchState} → map.get b.processes pid ≡ Some p → act_checks V p act None → Performs V b pid p act x after → IsGuarded V after
     act_guarded pid p (Order order) x e s f = put pid (ordering p) (h.each pid p e) f.1
     act_guarded pid p (Relabel side (Ok label)) x e s f = put pid _ s.1.1 f.1
     act_guarded pid p (Relabel side (Err long)) x e s f = absurd f
@@ -159,7 +159,7 @@ module _ (V : Op → Type 0) where
     act_guarded pid p (Emit bytes) x e s f = same_guarded f.1
     act_guarded pid p (Mail work) x e s f = put pid (record p { mailbox = f.0 }) (mail_safe (effective V p) p.labels p.mailbox pid work x f.0 s.1 f.1 (h.each pid p e)) f.2
 
-    effect_guarded : (job : Job) (x : Outcome) {after : State} → checks V b job None → Effect V b job x after → IsGuarded V after
+    effect_guarded : (job : Job) (x : Outcome) {after : BenchState} → checks V b job None → Effect V b job x after → IsGuarded V after
     effect_guarded Proc x s f = bears f.0 newborn (closed_guarded V newborn.labels set.empty) f.3
     effect_guarded (By pid act) x s f = act_guarded pid f.0 act x f.1 (passed_by V b pid act f.0 f.1 s) f.2
     effect_guarded (Member root c) x s f = same_guarded f.1
@@ -167,7 +167,7 @@ module _ (V : Op → Type 0) where
         let caps = set.union (owns f.0) d.message.caps in
         put d.receiver (receiving f.0 d) (grown_guarded (λ op u. u) f.0 (Idle caps) (joined_still (owns f.0) d.message.caps) (h.each d.receiver f.0 f.1)) f.3
 
-    pub does_guarded : {job : Job} {r : Result Outcome Refusal} {after : State} → Does V b job r after → IsGuarded V after
+    pub does_guarded : {job : Job} {r : Result Outcome Refusal} {after : BenchState} → Does V b job r after → IsGuarded V after
     does_guarded {job} (passed {outcome} s f) = effect_guarded job outcome s f
     does_guarded (failed s) = h
     does_guarded (no_room t) = h
@@ -186,5 +186,5 @@ module _ (V : Op → Type 0) where
         by_found (Some p) e = put pid (record p { owned = settled p.owned caps }) (grown_guarded (λ op u. u) p (settled p.owned caps) (settled_still p.owned caps) (h.each pid p e)) refl
 
 -- the registry grows
-pub registry_guarded : {V W : Op → Type 0} {b : State} → Within V W → IsGuarded V b → IsGuarded W b
+pub registry_guarded : {V W : Op → Type 0} {b : BenchState} → Within V W → IsGuarded V b → IsGuarded W b
 registry_guarded more h = record { each = λ pid p e. grown_guarded more p p.owned (λ c m. m) (h.each pid p e) }

@@ -33,7 +33,7 @@ use Rattle.fl_bench.specs.Guards.{endpoints_check, unsafe_by}
 use Rattle.fl_bench.specs.Mailbox.{arrival_checks}
 use Rattle.fl_bench.specs.Secrets.{digest_of}
 use Rattle.fl_bench.specs.Process.{newborn, owns, owning, child_of, is_busy, effective, receiving}
-use Rattle.fl_bench.specs.Bench.{State, IsNext, has_at, born}
+use Rattle.fl_bench.specs.Bench.{BenchState, IsNext, has_at, born}
 use Rattle.fl_bench.specs.Jobs.{order_checks, enter_check, checks_of, act_checks, bench_checks, checks, Answers, Performs, Effect, Does, passed, failed, no_room}
 use Rattle.fl_bench.specs.declared.process.Process.{Process}
 use Rattle.fl_bench.proofs.Puts.{same_found}
@@ -83,7 +83,7 @@ module _ (V : Op → Type 0) where
   one_check_of p (Emit bytes) = one_demand name_total name_exact _ _ Secrecy
   one_check_of p (Mail work) = one_mail_check (effective V p) p.labels p.mailbox work
 
-  one_bench_check : (b : State) (act : Act) → OneVerdict (bench_checks b act)
+  one_bench_check : (b : BenchState) (act : Act) → OneVerdict (bench_checks b act)
   one_bench_check b (Spawn caps) = one_said
   one_bench_check b (Order order) = one_said
   one_bench_check b (Relabel side label) = one_said
@@ -94,10 +94,10 @@ module _ (V : Op → Type 0) where
   one_bench_check b (Emit bytes) = one_said
   one_bench_check b (Mail work) = one_said
 
-  one_act_check : (b : State) (act : Act) (p : Process) → OneVerdict (act_checks V p act then bench_checks b act)
+  one_act_check : (b : BenchState) (act : Act) (p : Process) → OneVerdict (act_checks V p act then bench_checks b act)
   one_act_check b act p = one_then (act_checks V p act) (bench_checks b act) (one_then (refuse_if (is_busy p) Busy) (checks_of V p act) one_said (one_check_of p act)) (one_bench_check b act)
 
-  one_check : (b : State) (job : Job) → OneVerdict (checks V b job)
+  one_check : (b : BenchState) (job : Job) → OneVerdict (checks V b job)
   one_check b Proc = one_said
   one_check b (By pid act) = one_with (map.get b.processes pid) (NoProcess pid) (λ p. act_checks V p act then bench_checks b act) (one_act_check b act)
   one_check b (Member root c) = one_said
@@ -106,24 +106,24 @@ module _ (V : Op → Type 0) where
 -- ---- each job that passes has one end
 
 -- the same result, and the same bench
-abbrev Same : {A : Type 0} → A → A → State → State → Type 0
+abbrev Same : {A : Type 0} → A → A → BenchState → BenchState → Type 0
 Same x y c d = (x ≡ y) × (c ≡ d)
 
 -- one outcome, and one bench
-abbrev OneEnd : (Outcome → State → Type 0) → Type 0
-OneEnd Ends = (x y : Outcome) (c d : State) → Ends x c → Ends y d → Same x y c d
+abbrev OneEnd : (Outcome → BenchState → Type 0) → Type 0
+OneEnd Ends = (x y : Outcome) (c d : BenchState) → Ends x c → Ends y d → Same x y c d
 
 -- an end that says both
-one_end : {outcome : Outcome} {after : State} → OneEnd (λ x c. (x ≡ outcome) × (c ≡ after))
+one_end : {outcome : Outcome} {after : BenchState} → OneEnd (λ x c. (x ≡ outcome) × (c ≡ after))
 one_end x y c d h k = (h.0 ∙ sym k.0, h.1 ∙ sym k.1)
 
-one_answer : {P : Type 0} {after : State} → OneEnd (λ x c. Answers x P × (c ≡ after))
+one_answer : {P : Type 0} {after : BenchState} → OneEnd (λ x c. Answers x P × (c ≡ after))
 one_answer x y c d (inl h, e) (inl k, f) = (h.0 ∙ sym k.0, e ∙ sym f)
 one_answer x y c d (inl h, e) (inr k, f) = absurd (k.1 h.1)
 one_answer x y c d (inr h, e) (inl k, f) = absurd (h.1 k.1)
 one_answer x y c d (inr h, e) (inr k, f) = (h.0 ∙ sym k.0, e ∙ sym f)
 
-module _ (V : Op → Type 0) (b : State) where
+module _ (V : Op → Type 0) (b : BenchState) where
   one_next : (p q : Pid) → IsNext b p → IsNext b q → p ≡ q
   one_next p q h k = same_pid p q (h.node ∙ sym k.node) (h.boot ∙ sym k.boot) (h.serial ∙ sym k.serial)
 
@@ -159,7 +159,7 @@ module _ (V : Op → Type 0) (b : State) where
 
   -- ---- a job
 
-  pub one_result : (job : Job) (r s : Result Outcome Refusal) (c d : State) → Does V b job r c → Does V b job s d → r ≢ Err Memory → s ≢ Err Memory → Same r s c d
+  pub one_result : (job : Job) (r s : Result Outcome Refusal) (c d : BenchState) → Does V b job r c → Does V b job s d → r ≢ Err Memory → s ≢ Err Memory → Same r s c d
   one_result job r s c d (passed {outcome = x} h f) (passed {outcome = y} k g) p q =
       let e = one_effect job x y c d f g in
       (ap Ok e.0, e.1)

@@ -9,7 +9,7 @@ use Rattle.fl_ops.specs.declared.op.Op.{Op}
 use Rattle.fl_jobs.specs.declared.job.Job.{Job}
 use Rattle.fl_jobs.specs.declared.answer.Refusal.{Refusal}
 use Rattle.fl_jobs.specs.declared.answer.Outcome.{Outcome}
-use Rattle.fl_bench.specs.Bench.{State, IsNext, opened, has_at, gone, born}
+use Rattle.fl_bench.specs.Bench.{BenchState, IsNext, new_bench, has_at, gone, born}
 use Rattle.fl_bench.specs.Gifts.{settles}
 use Rattle.fl_bench.specs.Jobs.{Does}
 use Rattle.fl_bench.specs.Orderly.{IsPlace, IsOrderly}
@@ -18,7 +18,7 @@ use Rattle.fl_bench.proofs.Puts.{get_put, left_there, none_some}
 use Rattle.fl_bench.specs.Summary.{loses, bears, keeps, Changes, turns, stays, Keeps}
 use Rattle.fl_bench_laws.proofs.Changes.{does_changes, settles_keeps}
 
-pub opened_orderly : (number boot index stride : ℕ) → 0 < stride → IsOrderly number (opened number boot index stride)
+pub opened_orderly : (number boot index stride : ℕ) → 0 < stride → IsOrderly number (new_bench number boot index stride)
 opened_orderly number boot index stride forward = record { node_is = refl; forward = forward; each = λ pid p e. absurd (none_some (map.get-empty pid_cmp pid) e) }
 
 -- what stands after a put has its place
@@ -30,7 +30,7 @@ put_places {number} {next} m pid new here each k x e = by_place (get_put pid_tot
     by_place (inl s) = subst (IsPlace number next) (sym s.0) here
     by_place (inr s) = each k x (sym s ∙ e)
 
-module _ {number : ℕ} {b : State} (h : IsOrderly number b) where
+module _ {number : ℕ} {b : BenchState} (h : IsOrderly number b) where
   put_orderly : (pid : Pid) (old new : Process) → map.get b.processes pid ≡ Some old → IsOrderly number (has_at b pid new)
   put_orderly pid old new e = record { node_is = h.node_is; forward = h.forward; each = put_places b.processes pid new (h.each pid old e) h.each }
 
@@ -46,16 +46,16 @@ module _ {number : ℕ} {b : State} (h : IsOrderly number b) where
         (λ k x e. let place = h.each k x e in record { own = place.own; below = omega (arith, place.below) });
   }
 
-  keeps_orderly : (V : Op → Type 0) {after : State} → Keeps V b after → IsOrderly number after
+  keeps_orderly : (V : Op → Type 0) {after : BenchState} → Keeps V b after → IsOrderly number after
   keeps_orderly V (stays e) = subst (IsOrderly number) (sym e) h
   keeps_orderly V (turns pid old new e follows is) = subst (IsOrderly number) (sym is) (put_orderly pid old new e)
 
-  changes_orderly : (V : Op → Type 0) {job : Job} {after : State} → Changes V b job after → IsOrderly number after
+  changes_orderly : (V : Op → Type 0) {job : Job} {after : BenchState} → Changes V b job after → IsOrderly number after
   changes_orderly V (keeps k) = keeps_orderly V k
   changes_orderly V (bears pid child birth is) = subst (IsOrderly number) (sym is) (born_orderly pid child birth.next)
   changes_orderly V (loses pid asked is) = subst (IsOrderly number) (sym is) (gone_orderly pid)
 
-  pub does_orderly : {V : Op → Type 0} {after : State} {job : Job} {r : Result Outcome Refusal} → Does V b job r after → IsOrderly number after
+  pub does_orderly : {V : Op → Type 0} {after : BenchState} {job : Job} {r : Result Outcome Refusal} → Does V b job r after → IsOrderly number after
   does_orderly {V} d = changes_orderly V (does_changes V d)
 
   -- a finish and a cancel

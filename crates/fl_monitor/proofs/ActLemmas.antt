@@ -39,7 +39,7 @@ use Rattle.fl_bench.specs.Process.{is_busy, is_under_way, ordering, child_of, wi
 use Rattle.fl_bench.specs.Hand.{AtHand, Refuses}
 use Rattle.fl_bench.specs.Checks.{Check, demand, with, ◌then◌}
 use Rattle.fl_bench.specs.Guards.{grant_check}
-use Rattle.fl_bench.specs.Bench.{State, has_at, gone}
+use Rattle.fl_bench.specs.Bench.{BenchState, has_at, gone}
 use Rattle.fl_bench.specs.Jobs.{Answers, order_checks, emission_check, checks_of, act_checks, bench_checks, checks, Performs, ActTakesMemory, Does}
 use Rattle.fl_bench.specs.declared.process.Holding.{Holding}
 use Rattle.fl_bench.specs.declared.process.Holding.TheVariants.{Idle, Ordering}
@@ -167,12 +167,12 @@ busy (Ordering owned) n = refl
 -- ---- acts as jobs
 
 -- to put back who is there changes nothing
-pub stays : (b : State) (pid : Pid) (p : Process) → map.get b.processes pid ≡ Some p → has_at b pid p ≡ b
+pub stays : (b : BenchState) (pid : Pid) (p : Process) → map.get b.processes pid ≡ Some p → has_at b pid p ≡ b
 stays b pid p e = ap (λ m. record b { processes = m }) (put_same pid_total pid_exact b.processes pid p e)
 
 module _ (V : Registry) (pid : Pid) (p : Process) (act : Act) where
   -- what passes, or fails, for the process that asks
-  asks : (b : State) → map.get b.processes pid ≡ Some p → (v : Option Refusal) → (act_checks V p act then bench_checks b act) v → checks V b (By pid act) v
+  asks : (b : BenchState) → map.get b.processes pid ≡ Some p → (v : Option Refusal) → (act_checks V p act then bench_checks b act) v → checks V b (By pid act) v
   asks b e v h = subst (λ o. with o (NoProcess pid) (λ p. act_checks V p act then bench_checks b act) v) (sym e) h
 
   is_refused : {f : Refusal} → act_checks V p act (Some f) → Acts V pid p act (Err f) p
@@ -182,8 +182,8 @@ module _ (V : Registry) (pid : Pid) (p : Process) (act : Act) where
   starves idle h = Acts.failed (λ b e. Does.no_room (p, e, idle, h))
 
   -- nothing follows but the answer
-  is_answered : (o : Outcome) (p' : Process) → act_checks V p act None → ((b : State) → bench_checks b act None)
-      → ((b : State) → map.get b.processes pid ≡ Some p → Performs V b pid p act o (has_at b pid p')) → Acts V pid p act (Ok (Answer o)) p'
+  is_answered : (o : Outcome) (p' : Process) → act_checks V p act None → ((b : BenchState) → bench_checks b act None)
+      → ((b : BenchState) → map.get b.processes pid ≡ Some p → Performs V b pid p act o (has_at b pid p')) → Acts V pid p act (Ok (Answer o)) p'
   is_answered o p' passes none does = Acts.passed (λ b e r b' s.
       subst (λ r. Does V b (By pid act) r b') (sym s.0)
       (subst (λ x. Does V b (By pid act) (Ok o) x) (sym s.1) (Does.passed (asks b e None (passes, none b)) (p, e, does b e))))
@@ -225,7 +225,7 @@ module _ (V : Registry) (pid : Pid) (l : Labels) (owned : SetBy cap_cmp) (ch : M
   asked c (Replies.no_room h) = starves V pid idle (Ask c) refl h
 
   -- a child is born, or may not be
-  spawns : (caps : SetBy cap_cmp) → grant_check (InEffect V (In owned)) caps None → (b : State) → map.get b.processes pid ≡ Some idle → {r : Result Outcome Refusal} {b' : State} → Births b (child_of idle caps) r b' → Does V b (By pid (Spawn caps)) r b'
+  spawns : (caps : SetBy cap_cmp) → grant_check (InEffect V (In owned)) caps None → (b : BenchState) → map.get b.processes pid ≡ Some idle → {r : Result Outcome Refusal} {b' : BenchState} → Births b (child_of idle caps) r b' → Does V b (By pid (Spawn caps)) r b'
   spawns caps h b there (Births.made {pid = child} left next) = Does.passed (asks V pid idle (Spawn caps) b there None ((refl, h), left)) (idle, there, (child, next, refl, refl))
   spawns caps h b there (Births.spent spent) = Does.failed (asks V pid idle (Spawn caps) b there (Some NamesSpent) (inr ((refl, h), spent)))
   spawns caps h b there (Births.full left) = Does.no_room (idle, there, refl, tt)
@@ -238,7 +238,7 @@ module _ (V : Registry) (pid : Pid) (l : Labels) (owned : SetBy cap_cmp) (ch : M
   leaves : Acts V pid idle Exit (Ok End) idle
   leaves = Acts.passed (λ b there r b' s.
       subst (λ r. Does V b (By pid Exit) r b') (sym s.0)
-      (Does.passed (asks V pid idle Exit b there None ((refl, refl), refl)) (idle, there, (refl, s.1 ∙ ap (λ (x : State). gone x pid) (stays b pid idle there)))))
+      (Does.passed (asks V pid idle Exit b there None ((refl, refl), refl)) (idle, there, (refl, s.1 ∙ ap (λ (x : BenchState). gone x pid) (stays b pid idle there)))))
 
   dropped : (c : Cap) {r : Result Outcome Refusal} {s : SetBy cap_cmp} → Drops V l ch.endpoints owned c r s → Acts V pid idle (Drop c) (answered r) (record idle { owned = Idle s })
   dropped c {s = s} (Drops.dropped h) = is_answered V pid idle (Drop c) (Outcome.Reply Done) (record idle { owned = Idle s }) (refl, h) (λ b. refl) (λ b there. (refl, refl))

@@ -17,7 +17,7 @@ use Rattle.fl_wire.specs.declared.packet.Data.{Data}
 use Rattle.fl_bench.specs.Mailbox.{arrival_checks}
 use Rattle.fl_bench.specs.Checks.{with, refuse_if, ◌then◌}
 use Rattle.fl_bench.specs.Process.{newborn, is_busy}
-use Rattle.fl_bench.specs.Bench.{State, IsNext, has_at}
+use Rattle.fl_bench.specs.Bench.{BenchState, IsNext, has_at}
 use Rattle.fl_bench.specs.Jobs.{act_checks, bench_checks, checks, Does, serials_left}
 use Rattle.fl_bench.specs.declared.process.Process.{Process}
 use Rattle.fl_monitor.specs.parts.Acts.{Acts, ActsAt, Births, Settles, Arrives, ArrivesAt, Replies}
@@ -36,7 +36,7 @@ no_sequel e = cc
 
 -- ---- an act at the processes of a bench, and what follows, is a job
 
-module _ (V : Registry) (b : State) (pid : Pid) (act : Act) where
+module _ (V : Registry) (b : BenchState) (pid : Pid) (act : Act) where
   nobody_asks : map.get b.processes pid ≡ None → Does V b (By pid act) (Err (NoProcess pid)) b
   nobody_asks e = Does.failed (subst (λ o. with o (NoProcess pid) (λ p. act_checks V p act then bench_checks b act) (Some (NoProcess pid))) (sym e) refl)
 
@@ -46,33 +46,33 @@ module _ (V : Registry) (b : State) (pid : Pid) (act : Act) where
   refused (ActsAt.did {p} e (Acts.failed {f = g} h)) f is = subst (λ x. Does V b (By pid act) (Err f) x) (sym (stays b pid p e)) (subst (λ g. Does V b (By pid act) (Err g) b) (same_refusal is) (h b e))
 
   settled : {r : Result Sequel Refusal} {m : map.FinMap pid_cmp Process} → ActsAt V b.processes pid act r m → (s : Sequel) → r ≡ Ok s
-      → (q : Result Outcome Refusal) (after : State) → Settles (record b { processes = m }) pid s q after → Does V b (By pid act) q after
+      → (q : Result Outcome Refusal) (after : BenchState) → Settles (record b { processes = m }) pid s q after → Does V b (By pid act) q after
   settled (ActsAt.nobody e) s is q after t = absurd (no_sequel is)
   settled (ActsAt.did {p'} e (Acts.passed h)) s is q after t = h b e q after (subst (λ s. Settles (has_at b pid p') pid s q after) (sym (same_sequel is)) t)
   settled (ActsAt.did e (Acts.failed h)) s is q after t = absurd (no_sequel is)
 
-module _ (V : Registry) (a b : State) (is : a ≡ b) (pid : Pid) (act : Act) {r : Result Sequel Refusal} {m : map.FinMap pid_cmp Process} (acts : ActsAt V a.processes pid act r m) where
+module _ (V : Registry) (a b : BenchState) (is : a ≡ b) (pid : Pid) (act : Act) {r : Result Sequel Refusal} {m : map.FinMap pid_cmp Process} (acts : ActsAt V a.processes pid act r m) where
   pub refused_does : (f : Refusal) → r ≡ Err f → (q : Result Outcome Refusal) → IsErr q × IsErrAnd q (λ g. g ≡ f) → Does V b (By pid act) q (record a { processes = m })
   refused_does f e q s =
       subst (λ q. Does V b (By pid act) q (record a { processes = m })) (sym (passed_on q f s))
       (subst (λ x. Does V x (By pid act) (Err f) (record a { processes = m })) is (refused V a pid act acts f e))
 
-  pub settled_does : (s : Sequel) → r ≡ Ok s → (q : Result Outcome Refusal) (after : State) → Settles (record a { processes = m }) pid s q after → Does V b (By pid act) q after
+  pub settled_does : (s : Sequel) → r ≡ Ok s → (q : Result Outcome Refusal) (after : BenchState) → Settles (record a { processes = m }) pid s q after → Does V b (By pid act) q after
   settled_does s e q after t = subst (λ x. Does V x (By pid act) q after) is (settled V a pid act acts s e q after t)
 
   pub end_does : r ≡ Ok End → (n : map.FinMap pid_cmp Process) → n ≡ map.remove m pid → Does V b (By pid act) (Ok (Outcome.Reply Done)) (record a { processes = n })
   end_does e n removed = settled_does End e (Ok (Outcome.Reply Done)) (record a { processes = n }) (refl, ap (λ m. record a { processes = m }) removed)
 
-pub births_does : (V : Registry) (b : State) (p : Process) → p ≡ newborn → {r : Result Outcome Refusal} {b' : State} → Births b p r b' → Does V b Proc r b'
+pub births_does : (V : Registry) (b : BenchState) (p : Process) → p ≡ newborn → {r : Result Outcome Refusal} {b' : BenchState} → Births b p r b' → Does V b Proc r b'
 births_does V b p is {r} {b'} h = alone (subst (λ p. Births b p r b') is h)
   where
-    alone : {r : Result Outcome Refusal} {b' : State} → Births b newborn r b' → Does V b Proc r b'
+    alone : {r : Result Outcome Refusal} {b' : BenchState} → Births b newborn r b' → Does V b Proc r b'
     alone (Births.made {pid} c next) = Does.passed c (pid, next, refl, refl)
     alone (Births.spent c) = Does.failed c
     alone (Births.full left) = Does.no_room left
 
 -- a message that comes to the processes of a bench is a job
-module _ (V : Registry) (b : State) (d : Data) where
+module _ (V : Registry) (b : BenchState) (d : Data) where
   -- what passes, or fails, for the receiver
   comes : (q : Process) → map.get b.processes d.receiver ≡ Some q → (v : Option Refusal) → (refuse_if (is_busy q) Busy then arrival_checks q.mailbox d) v → checks V b (Arrive d) v
   comes q e v h = subst (λ o. with o (NoProcess d.receiver) (λ q. refuse_if (is_busy q) Busy then arrival_checks q.mailbox d) v) (sym e) h
@@ -93,11 +93,11 @@ module _ (V : Registry) (b : State) (d : Data) where
   arrives (ArrivesAt.nobody e) = Does.failed (nobody_receives e)
   arrives (ArrivesAt.came {p} e h) = received p e h
 
-pub arrives_does : (V : Registry) (a b : State) → a ≡ b → (d : Data) {r : Result Outcome Refusal} {m : map.FinMap pid_cmp Process} → ArrivesAt a.processes d r m → Does V b (Arrive d) r (record a { processes = m })
+pub arrives_does : (V : Registry) (a b : BenchState) → a ≡ b → (d : Data) {r : Result Outcome Refusal} {m : map.FinMap pid_cmp Process} → ArrivesAt a.processes d r m → Does V b (Arrive d) r (record a { processes = m })
 arrives_does V a b is d {r} {m} h = subst (λ x. Does V x (Arrive d) r (record a { processes = m })) is (arrives V a d h)
 
 -- the reply to a question whether a capability is reached is a job
-pub replies_does : (V : Registry) (b : State) (root c : Cap) {r : Result Outcome Refusal} → Replies (Reach V (From root) c) (root ≢ c) r → Does V b (Member root c) r b
+pub replies_does : (V : Registry) (b : BenchState) (root c : Cap) {r : Result Outcome Refusal} → Replies (Reach V (From root) c) (root ≢ c) r → Does V b (Member root c) r b
 replies_does V b root c (Replies.replied h) = Does.passed refl (h, refl)
 replies_does V b root c (Replies.no_room h) = Does.no_room h
 
@@ -107,7 +107,7 @@ is_above a b h = grind (arith)
 not_above : (a b : ℕ) → b ≤ a → nat_lt a b ≡ false
 not_above a b h = grind (arith)
 
-module _ (a b : State) (is : a ≡ b) (p : Process) where
+module _ (a b : BenchState) (is : a ≡ b) (p : Process) where
   pub spent_births : ¬ (a.next < 4294967296) → Births b p (Err NamesSpent) b
   spent_births h = subst (λ x. Births x p (Err NamesSpent) x) is (Births.spent (subst (λ t. refuse_if t NamesSpent (Some NamesSpent)) (sym (is_above 4294967295 a.next (omega (arith, h)))) refl))
 

@@ -6,7 +6,8 @@ use fl_labels::name::Name;
 use fl_ops::digest::Digest;
 use std::alloc::{AllocError, Global};
 
-/// A list of operations, which questions do not change. The answers to some questions are searched for, which takes memory.
+/// A list of operations, which questions do not change. The answers to some questions are searched for, which takes
+/// memory.
 pub trait View {
     ghost use Rattle.std.specs.Prelude.{◌≡◌, ◌≢◌, ◌↔◌, List, IfOk, OnErr, MatchOption};
     ghost use Rattle.fl_labels.specs.Found.{Tells};
@@ -19,14 +20,16 @@ pub trait View {
     // the operations
     ghost list: { Self → List Op };
 
-    /// Whether the owner of these capabilities has this one in effect. An error says that there was not enough memory for a
+    /// Whether the owner of these capabilities has this one in effect. An error says that there was not enough memory
+    /// for a
     /// search: none for a capability that is owned, or everybody's.
     fn effective(&mut self, alloc: Global, owned: &CapSet, cap: Cap) -> Result<bool, AllocError>
         ensures answer { IfOk result (λ yes. Tells yes (InEffect (Listed (list self.old)) (In owned.now) cap)) }
         ensures err { OnErr result ((¬ In owned.now cap) × (¬ IsGlobal (Listed (list self.old)) cap)) }
         ensures same { list self.new ≡ list self.old };
 
-    /// Whether the capability is reached from the root. An error says that there was not enough memory for a search: none for
+    /// Whether the capability is reached from the root. An error says that there was not enough memory for a search:
+    /// none for
     /// the root itself.
     fn reaches(&mut self, alloc: Global, root: Cap, cap: Cap) -> Result<bool, AllocError>
         ensures answer { IfOk result (λ yes. Tells yes (Reach (Listed (list self.old)) (From root) cap)) }
@@ -35,7 +38,8 @@ pub trait View {
 
     /// All that the owner of these capabilities reaches. An error says that there was not enough memory.
     fn reached(&mut self, alloc: Global, owned: &CapSet) -> Result<CapSet, AllocError>
-        ensures answer { IfOk result (λ reached. (cap : Cap) → In reached cap ↔ Reach (Listed (list self.old)) (In owned.now) cap) }
+        ensures answer { IfOk result (λ reached. (cap : Cap)
+            → In reached cap ↔ Reach (Listed (list self.old)) (In owned.now) cap) }
         ensures same { list self.new ≡ list self.old };
 
     /// Whether everybody has the capability. Takes no memory.

@@ -39,7 +39,7 @@ use Rattle.fl_bench.specs.Mailbox.{mail_checks, arrival_checks, MailDoes, MailTa
 use Rattle.fl_bench.specs.Secrets.{digest_of}
 use Rattle.fl_bench.specs.Process.{is_busy, receiving, side_of, with_side}
 use Rattle.fl_bench.specs.Jobs.{change_check, serials_left, Answers, RelabelTakesMemory, Does}
-use Rattle.fl_bench.specs.Bench.{State, IsNext, born, has_at, gone}
+use Rattle.fl_bench.specs.Bench.{BenchState, IsNext, born, has_at, gone}
 use Rattle.fl_bench.specs.declared.process.Process.{Process}
 use Rattle.fl_monitor.specs.declared.sequel.Sequel.{Sequel}
 use Rattle.fl_monitor.specs.declared.sequel.Sequel.TheVariants.{Answer, Birth, End}
@@ -66,34 +66,44 @@ pub data Replies (P Q : Type 0) : Result Outcome Refusal → Type 0 where
 -- the label of a side is set by who owns these and has these endpoints, or the labels stay
 pub data Relabels (V : Registry) (owned : SetBy cap_cmp) (table : Table) (old : Labels) (side : Side) (given : Result (SetBy name_cmp) TooLong) : Result Outcome Refusal → Labels → Type 0 where
   safe : {label : SetBy name_cmp} → given ≡ Ok label
-      → (change_check (InEffect V (In owned)) (side_of side old) label then endpoints_check (InEffect V (In owned)) (with_side side label old) table) None
+      → (change_check (InEffect V (In owned)) (side_of side old) label
+      then endpoints_check (InEffect V (In owned)) (with_side side label old) table) None
       → Relabels V owned table old side given (Ok (Outcome.Reply Done)) (with_side side label old)
   unsafe : {label : SetBy name_cmp} {f : Refusal} → given ≡ Ok label
-      → (change_check (InEffect V (In owned)) (side_of side old) label then endpoints_check (InEffect V (In owned)) (with_side side label old) table) (Some f)
+      → (change_check (InEffect V (In owned)) (side_of side old) label
+      then endpoints_check (InEffect V (In owned)) (with_side side label old) table) (Some f)
       → Relabels V owned table old side given (Err f) old
   too_long : {e : TooLong} → given ≡ Err e → Relabels V owned table old side given (Err LabelTooLong) old
-  no_room : {label : SetBy name_cmp} → given ≡ Ok label → RelabelTakesMemory V owned old table side label → Relabels V owned table old side given (Err Memory) old
+  no_room : {label : SetBy name_cmp} → given ≡ Ok label → RelabelTakesMemory V owned old table side label
+      → Relabels V owned table old side given (Err Memory) old
 
 -- who owns these and has these labels and endpoints drops c, or keeps it
 pub data Drops (V : Registry) (labels : Labels) (table : Table) (owned : SetBy cap_cmp) (c : Cap) : Result Outcome Refusal → SetBy cap_cmp → Type 0 where
-  dropped : (refuse_if (not (set.contains owned c)) (NotOwned c) then endpoints_check (InEffect V (In (set.remove owned c))) labels table) None
+  dropped : (refuse_if (not (set.contains owned c)) (NotOwned c)
+      then endpoints_check (InEffect V (In (set.remove owned c))) labels table) None
       → Drops V labels table owned c (Ok (Outcome.Reply Done)) (set.remove owned c)
-  kept : {f : Refusal} → (refuse_if (not (set.contains owned c)) (NotOwned c) then endpoints_check (InEffect V (In (set.remove owned c))) labels table) (Some f)
+  kept : {f : Refusal} → (refuse_if (not (set.contains owned c)) (NotOwned c)
+      then endpoints_check (InEffect V (In (set.remove owned c))) labels table) (Some f)
       → Drops V labels table owned c (Err f) owned
   no_room : In owned c → (e : Endpoint) → IsOpen table e → Drops V labels table owned c (Err Memory) owned
 
 -- who owns these enters a login by a secret
-pub data Enters (V : Registry) (owned : SetBy cap_cmp) (login : Name) (secret : Secret) : Result Outcome Refusal → SetBy cap_cmp → Type 0 where
-  enters : {c : Cap} → IsFirstLogin V login c (digest_of secret) → Enters V owned login secret (Ok (Outcome.Reply (Entered c))) (set.insert owned c)
+pub data Enters (V : Registry) (owned : SetBy cap_cmp) (login : Name) (secret : Secret) : Result Outcome Refusal
+    → SetBy cap_cmp → Type 0 where
+  enters : {c : Cap} → IsFirstLogin V login c (digest_of secret)
+      → Enters V owned login secret (Ok (Outcome.Reply (Entered c))) (set.insert owned c)
   unknown : HasNoLogin V login → Enters V owned login secret (Err (NoLogin login)) owned
-  wrong : {c : Cap} {digest : Digest} → IsFirstLogin V login c digest → digest ≢ digest_of secret → Enters V owned login secret (Err WrongSecret) owned
+  wrong : {c : Cap} {digest : Digest} → IsFirstLogin V login c digest → digest ≢ digest_of secret
+      → Enters V owned login secret (Err WrongSecret) owned
   no_room : {c : Cap} → IsFirstLogin V login c (digest_of secret) → Enters V owned login secret (Err Memory) owned
 
 -- who owns these, a process of these labels, uses its mailbox
 pub data Mails (V : Registry) (owned : SetBy cap_cmp) (pid : Pid) (labels : Labels) (ch : Mailbox) (mail : Mail) : Result Outcome Refusal → Mailbox → Type 0 where
-  passed : {outcome : Outcome} {ch' : Mailbox} → mail_checks (InEffect V (In owned)) labels ch mail None → MailDoes pid ch mail outcome ch'
+  passed : {outcome : Outcome} {ch' : Mailbox} → mail_checks (InEffect V (In owned)) labels ch mail None
+      → MailDoes pid ch mail outcome ch'
       → Mails V owned pid labels ch mail (Ok outcome) ch'
-  failed : {f : Refusal} → mail_checks (InEffect V (In owned)) labels ch mail (Some f) → Mails V owned pid labels ch mail (Err f) ch
+  failed : {f : Refusal} → mail_checks (InEffect V (In owned)) labels ch mail (Some f)
+      → Mails V owned pid labels ch mail (Err f) ch
   no_room : MailTakesMemory (AtHand V owned) labels ch mail → Mails V owned pid labels ch mail (Err Memory) ch
 
 -- an endpoint is closed, or was not open
@@ -104,8 +114,10 @@ pub data Closes (ch : Mailbox) (e : Endpoint) : Result Outcome Refusal → Mailb
 
 -- a message comes to the process
 pub data Arrives (p : Process) (d : Data) : Result Outcome Refusal → Process → Type 0 where
-  arrives : (refuse_if (is_busy p) Busy then arrival_checks p.mailbox d) None → Arrives p d (Ok (Outcome.Reply (Arrived d.receiver))) (receiving p d)
-  refused : {f : Refusal} → (refuse_if (is_busy p) Busy then arrival_checks p.mailbox d) (Some f) → Arrives p d (Err f) p
+  arrives : (refuse_if (is_busy p) Busy then arrival_checks p.mailbox d) None
+      → Arrives p d (Ok (Outcome.Reply (Arrived d.receiver))) (receiving p d)
+  refused : {f : Refusal} → (refuse_if (is_busy p) Busy then arrival_checks p.mailbox d) (Some f)
+      → Arrives p d (Err f) p
   no_room : is_busy p ≡ false → arrival_checks p.mailbox d None → Arrives p d (Err Memory) p
 
 -- an answer that nothing follows
@@ -116,30 +128,38 @@ answered (Err f) = Err f
 -- ---- what follows at a bench
 
 -- the process p is put as the next, where a serial and room are left
-pub data Births (b : State) (p : Process) : Result Outcome Refusal → State → Type 0 where
+pub data Births (b : BenchState) (p : Process) : Result Outcome Refusal → BenchState → Type 0 where
   made : {pid : Pid} → serials_left b None → IsNext b pid → Births b p (Ok (Outcome.Reply (Made pid))) (born b pid p)
   spent : serials_left b (Some NamesSpent) → Births b p (Err NamesSpent) b
   full : serials_left b None → Births b p (Err Memory) b
 
 -- the bench b does what follows from an act of pid
-abbrev pub Settles : State → Pid → Sequel → Result Outcome Refusal → State → Type 0
+abbrev pub Settles : BenchState → Pid → Sequel → Result Outcome Refusal → BenchState → Type 0
 Settles b pid (Answer outcome) r b' = (r ≡ Ok outcome) × (b' ≡ b)
 Settles b pid (Birth child) r b' = Births b child r b'
 Settles b pid End r b' = (r ≡ Ok (Outcome.Reply Done)) × (b' ≡ gone b pid)
 
--- The act of the process p, which it leaves as p', is a job at any bench where p stands as pid: what follows is settled there, or it is refused.
+-- The act of the process p, which it leaves as p', is a job at any bench where p stands as pid: what follows is
+-- settled there, or it is refused.
 pub data Acts (V : Registry) (pid : Pid) (p : Process) (act : Act) : Result Sequel Refusal → Process → Type 0 where
   passed : {sequel : Sequel} {p' : Process}
-      → ((b : State) → map.get b.processes pid ≡ Some p → (r : Result Outcome Refusal) (b' : State) → Settles (has_at b pid p') pid sequel r b' → Does V b (By pid act) r b')
+      → ((b : BenchState) → map.get b.processes pid ≡ Some p → (r : Result Outcome Refusal) (b' : BenchState)
+      → Settles (has_at b pid p') pid sequel r b' → Does V b (By pid act) r b')
       → Acts V pid p act (Ok sequel) p'
-  failed : {f : Refusal} → ((b : State) → map.get b.processes pid ≡ Some p → Does V b (By pid act) (Err f) b) → Acts V pid p act (Err f) p
+  failed : {f : Refusal}
+      → ((b : BenchState) → map.get b.processes pid ≡ Some p → Does V b (By pid act) (Err f) b)
+      → Acts V pid p act (Err f) p
 
 -- one process of many acts by itself
-pub data ActsAt (V : Registry) (m : map.FinMap pid_cmp Process) (pid : Pid) (act : Act) : Result Sequel Refusal → map.FinMap pid_cmp Process → Type 0 where
+pub data ActsAt (V : Registry) (m : map.FinMap pid_cmp Process) (pid : Pid) (act : Act) : Result Sequel Refusal
+    → map.FinMap pid_cmp Process → Type 0 where
   nobody : map.get m pid ≡ None → ActsAt V m pid act (Err (NoProcess pid)) m
-  did : {p p' : Process} {result : Result Sequel Refusal} → map.get m pid ≡ Some p → Acts V pid p act result p' → ActsAt V m pid act result (map.insert m pid p')
+  did : {p p' : Process} {result : Result Sequel Refusal} → map.get m pid ≡ Some p → Acts V pid p act result p'
+      → ActsAt V m pid act result (map.insert m pid p')
 
 -- a message comes to one process of many
-pub data ArrivesAt (m : map.FinMap pid_cmp Process) (d : Data) : Result Outcome Refusal → map.FinMap pid_cmp Process → Type 0 where
+pub data ArrivesAt (m : map.FinMap pid_cmp Process) (d : Data) : Result Outcome Refusal
+    → map.FinMap pid_cmp Process → Type 0 where
   nobody : map.get m d.receiver ≡ None → ArrivesAt m d (Err (NoProcess d.receiver)) m
-  came : {p p' : Process} {result : Result Outcome Refusal} → map.get m d.receiver ≡ Some p → Arrives p d result p' → ArrivesAt m d result (map.insert m d.receiver p')
+  came : {p p' : Process} {result : Result Outcome Refusal} → map.get m d.receiver ≡ Some p
+      → Arrives p d result p' → ArrivesAt m d result (map.insert m d.receiver p')
