@@ -37,7 +37,7 @@ pub fn law_one_step()
 /// What comes of any job: it is refused and leaves the bench, orders an operation and marks its process, sends a packet and leaves the
 /// bench, or replies; and then it leaves all, changes one process whose labels follow, bears one, or loses the one that asked to go.
 pub fn law_summary()
-    ensures { (ops : List Op) (b after : State) (job : Job) (result : Result Outcome Refusal) →
+    ensures { (ops : List Op) (b after : BenchState) (job : Job) (result : Result Outcome Refusal) →
         Does (Listed ops) b job result after → Summary (Listed ops) b job result after }
 {}
 

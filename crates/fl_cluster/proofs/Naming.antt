@@ -57,7 +57,7 @@ placed_then_left old (as_last target none) = absurd (cc)
 placed_then_left old (in_place some) = refl
 
 -- no job is answered with the aliases
-result_no_list : {node : NodeState} {r : Result Outcome Refusal} {after : bench.State} {answer : Answer} {m : NodeState} {table : Table} → AnswersResult node r after answer m → answer ≢ listed table
+result_no_list : {node : NodeState} {r : Result Outcome Refusal} {after : bench.BenchState} {answer : Answer} {m : NodeState} {table : Table} → AnswersResult node r after answer m → answer ≢ listed table
 result_no_list replies e = absurd (cc)
 result_no_list (refuses more) e = absurd (cc)
 result_no_list (makes next) e = absurd (cc)

@@ -22,7 +22,7 @@ pub is_last : {s : SetBy op_cmp} {node last n : ℕ} → last ≡ n → ((op : O
 is_last {s} {node} {last} {n} e upper reached = subst (λ x. IsLast s node x) e (record { upper = upper; reached = reached })
 
 -- the next name is the same whatever the bench
-pub next_elsewhere : {node : NodeState} {name : Name} {other : bench.State} → IsNextName node name → IsNextName (record node { bench = other }) name
+pub next_elsewhere : {node : NodeState} {name : Name} {other : bench.BenchState} → IsNextName node name → IsNextName (record node { bench = other }) name
 next_elsewhere h = record { last = h.last; is_last = h.is_last; node_is = h.node_is; seq_is = h.seq_is }
 
 -- no operation rises

@@ -17,7 +17,7 @@ use Rattle.fl_bench.specs.Bench as bench
 pub record NodeState : Type 0 where
   pub number : ℕ
   pub registry : set.SetBy op_cmp
-  pub bench : bench.State
+  pub bench : bench.BenchState
 
 -- the nodes that are open, by their numbers, and the packets that were sent, in their order
 pub record Cluster : Type 0 where
@@ -26,7 +26,7 @@ pub record Cluster : Type 0 where
 
 -- a node at its first opening: no operation, and one bench, with no process
 abbrev pub new_node : ℕ → NodeState
-new_node number = record { number = number; registry = set.empty; bench = bench.opened number 1 1 1 }
+new_node number = record { number = number; registry = set.empty; bench = bench.new_bench number 1 1 1 }
 
 -- before the first line
 abbrev pub start : Cluster
@@ -65,7 +65,7 @@ packet_at sent (suc before) = slice_get sent before
 -- states are stored as the tuples of their fields
 abbrev pub coded_node : Coded NodeState
 coded_node =
-    code_by (ℕ × (set.SetBy op_cmp × bench.State)) (coded× coded_ℕ (coded× (set.code coded_op) bench.coded_state))
+    code_by (ℕ × (set.SetBy op_cmp × bench.BenchState)) (coded× coded_ℕ (coded× (set.code coded_op) bench.coded_state))
     (λ n. (n.number, (n.registry, n.bench)))
     (λ t. record { number = t.0; registry = t.1.0; bench = t.1.1 })
     (λ _. refl)

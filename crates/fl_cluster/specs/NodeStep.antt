@@ -43,26 +43,26 @@ pub record IsNextName (node : NodeState) (name : Name) : Type 0 where
 
 -- The bench's result of a job, which leaves the bench as after, is answered so, and leaves the node so. The
 -- operation of an order gets the next name, or finds none left.
-pub data AnswersResult (node : NodeState) : Result Outcome Refusal → bench.State → Answer → NodeState → Type 0 where
-  replies : {reply : Reply} {after : bench.State} →
+pub data AnswersResult (node : NodeState) : Result Outcome Refusal → bench.BenchState → Answer → NodeState → Type 0 where
+  replies : {reply : Reply} {after : bench.BenchState} →
       AnswersResult node (Ok (outcome.Reply reply)) after (replied reply) (record node { bench = after })
-  refuses : {refusal : Refusal} {after : bench.State} → refusal ≢ Memory →
+  refuses : {refusal : Refusal} {after : bench.BenchState} → refusal ≢ Memory →
       AnswersResult node (Err refusal) after (refused refusal) node
-  makes : {body : Body} {pid : Pid} {after : bench.State} {name : Name} → IsNextName node name →
+  makes : {body : Body} {pid : Pid} {after : bench.BenchState} {name : Name} → IsNextName node name →
       AnswersResult node (Ok (outcome.Order body pid)) after (named name)
       (with_operation (record node { bench = after }) pid (record { name = name; body = body }))
-  spends : {body : Body} {pid : Pid} {after : bench.State} → IsLast node.registry node.number 4294967295 →
+  spends : {body : Body} {pid : Pid} {after : bench.BenchState} → IsLast node.registry node.number 4294967295 →
       AnswersResult node (Ok (outcome.Order body pid)) after (refused NamesSpent) node
 
 -- the job is answered so at the node, and leaves it so
 pub record NodeAnswers (node : NodeState) (job : Job) (answer : Answer) (new : NodeState) : Type 0 where
   pub result : Result Outcome Refusal
-  pub after : bench.State
+  pub after : bench.BenchState
   pub does : Does (view_of node) node.bench job result after
   pub answered : AnswersResult node result after answer new
 
 -- the node does a job that sends the packet, and is left so
 pub record Sends (node : NodeState) (job : Job) (packet : Packet) (new : NodeState) : Type 0 where
-  pub after : bench.State
+  pub after : bench.BenchState
   pub does : Does (view_of node) node.bench job (Ok (outcome.Out packet)) after
   pub left : new ≡ record node { bench = after }

@@ -36,11 +36,11 @@ left_safely state d m g =
     subst (λ l. SafeEndpoint (effective V m.process) Write m.process.labels l) same (record { read = λ e. absurd (false≢true e); write = λ e. safe.write m.writes_it })
 
 -- who takes a message in is there
-record TakenBy (b : bench.State) (d : Data) : Type 0 where
+record TakenBy (b : bench.BenchState) (d : Data) : Type 0 where
   process : Process
   lives : map.get b.processes d.receiver ≡ Some process
 
-taken_by : {V : Op → Type 0} {b after : bench.State} {d : Data} {x : Outcome} → Does V b (Arrive d) (Ok x) after → TakenBy b d
+taken_by : {V : Op → Type 0} {b after : bench.BenchState} {d : Data} {x : Outcome} → Does V b (Arrive d) (Ok x) after → TakenBy b d
 taken_by (passed h f) = record { process = f.0; lives = f.1 }
 
 module _ (before : List (List ℕ)) (answers : List Answer) (old : Session) (line : List ℕ) (pid : Pid) (r : Run 1 begun before answers old) where

@@ -51,7 +51,7 @@ same_answer x e (inr h) = inr (h.0, λ k. h.1 (e.1 k))
 
 -- ---- a node that is asked again
 
-module _ (V W : Op → Type 0) (b d : bench.State) (cap : Cap) where
+module _ (V W : Op → Type 0) (b d : bench.BenchState) (cap : Cap) where
   module _ (pid other : Pid) (p q : Process) (here : map.get b.processes pid ≡ Some p) (there : map.get d.processes other ≡ Some q) where
     -- the check looks at nothing that is in effect
     same_check : is_busy p ≡ is_busy q → (v : Option Refusal) → checks V b (By pid (Ask cap)) v → checks W d (By other (Ask cap)) v
@@ -62,20 +62,20 @@ module _ (V W : Op → Type 0) (b d : bench.State) (cap : Cap) where
     the_one : (o : Option Process) (p x : Process) → o ≡ Some p → o ≡ Some x → x ≡ p
     the_one o p x e f = cc
 
-    ask_again : is_busy p ≡ is_busy q → effective V p cap ↔ effective W q cap → {r : Result Outcome Refusal} {after : bench.State} → Does V b (By pid (Ask cap)) r after → r ≢ Err Memory → Does W d (By other (Ask cap)) r d
+    ask_again : is_busy p ≡ is_busy q → effective V p cap ↔ effective W q cap → {r : Result Outcome Refusal} {after : bench.BenchState} → Does V b (By pid (Ask cap)) r after → r ≢ Err Memory → Does W d (By other (Ask cap)) r d
     ask_again busy alike (passed {outcome} s f) more =
         let told : Answers outcome (effective V p cap) = subst (λ x. Answers outcome (effective V x cap)) (the_one _ p f.0 here f.1) f.2.0 in
         passed (same_check busy None s) (q, there, (same_answer outcome alike told, refl))
     ask_again busy alike (failed {f} s) more = failed (same_check busy (Some f) s)
     ask_again busy alike (no_room t) more = absurd (more refl)
 
-  member_again : (root : Cap) → Reach V (From root) cap ↔ Reach W (From root) cap → {r : Result Outcome Refusal} {after : bench.State} → Does V b (Member root cap) r after → r ≢ Err Memory → Does W d (Member root cap) r d
+  member_again : (root : Cap) → Reach V (From root) cap ↔ Reach W (From root) cap → {r : Result Outcome Refusal} {after : bench.BenchState} → Does V b (Member root cap) r after → r ≢ Err Memory → Does W d (Member root cap) r d
   member_again root alike (passed {outcome} s f) more = passed s (same_answer outcome alike f.0, refl)
   member_again root alike (failed s) more = failed s
   member_again root alike (no_room t) more = absurd (more refl)
 
 -- what leaves the bench, and is no order, is answered with what the result was answered with elsewhere
-answer_again : (a b : NodeState) (job : Job) {r : Result Outcome Refusal} {after : bench.State} {answer : Answer} {m : NodeState} → ((pid : Pid) (order : orders.Order) → job ≡ By pid (Order order) → ⊥) → Does (view_of b) b.bench job r b.bench → AnswersResult a r after answer m → NodeAnswers b job answer b
+answer_again : (a b : NodeState) (job : Job) {r : Result Outcome Refusal} {after : bench.BenchState} {answer : Answer} {m : NodeState} → ((pid : Pid) (order : orders.Order) → job ≡ By pid (Order order) → ⊥) → Does (view_of b) b.bench job r b.bench → AnswersResult a r after answer m → NodeAnswers b job answer b
 answer_again a b job never d replies = record { result = _; after = b.bench; does = d; answered = replies }
 answer_again a b job never d (refuses more) = record { result = _; after = b.bench; does = d; answered = refuses more }
 answer_again a b job never d (makes next) = let o = order_at d in absurd (never _ o.order o.asked)

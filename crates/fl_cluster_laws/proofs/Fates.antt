@@ -20,15 +20,15 @@ use Rattle.fl_cluster_laws.specs.Owned.{Gives}
 use Rattle.fl_cluster_laws.proofs.Leaves.{Leaves, stays, turns, bears, loses}
 
 -- it is as it was, owns more only by what gives it that, came, or went
-pub data Fate (V : Op → Type 0) (b : bench.State) (job : Job) (answer : Answer) (q : Pid) (o : Option Process) : Type 0 where
+pub data Fate (V : Op → Type 0) (b : bench.BenchState) (job : Job) (answer : Answer) (q : Pid) (o : Option Process) : Type 0 where
   same : o ≡ map.get b.processes q → Fate V b job answer q o
   turned : (old new : Process) → map.get b.processes q ≡ Some old → o ≡ Some new → ((c : Cap) → In (owns new) c → In (owns old) c ⊎ Gives job answer q c) → Fate V b job answer q o
   came : (child : Process) → o ≡ Some child → IsBirth V b job q child → answer ≡ replied (Made q) → Fate V b job answer q o
   went : o ≡ None → job ≡ By q Exit → answer ≡ replied Done → Fate V b job answer q o
 
-module _ (V : Op → Type 0) (b : bench.State) (job : Job) (answer : Answer) where
+module _ (V : Op → Type 0) (b : bench.BenchState) (job : Job) (answer : Answer) where
   -- of q, where the bench becomes this one
-  abbrev At : Pid → bench.State → Type 0
+  abbrev At : Pid → bench.BenchState → Type 0
   At q after = Fate V b job answer q (map.get after.processes q)
 
   turned_at : (pid q : Pid) (old new : Process) → map.get b.processes pid ≡ Some old → ((c : Cap) → In (owns new) c → In (owns old) c ⊎ Gives job answer pid c) → At q (bench.has_at b pid new)
@@ -49,11 +49,11 @@ module _ (V : Op → Type 0) (b : bench.State) (job : Job) (answer : Answer) whe
     | inr h ↦ same h
   ]
 
-  fate_in : (after : bench.State) (q : Pid) → Leaves V b job answer after → At q after
-  fate_in after q (stays e) = same (ap (λ (x : bench.State). map.get x.processes q) e)
+  fate_in : (after : bench.BenchState) (q : Pid) → Leaves V b job answer after → At q after
+  fate_in after q (stays e) = same (ap (λ (x : bench.BenchState). map.get x.processes q) e)
   fate_in after q (turns pid old new lived gains e) = subst (At q) (sym e) (turned_at pid q old new lived gains)
   fate_in after q (bears pid child birth is e) = subst (At q) (sym e) (came_at pid q child birth is)
   fate_in after q (loses pid asked is e) = subst (At q) (sym e) (went_at pid q asked is)
 
-pub fate_at : {V : Op → Type 0} {b : bench.State} {job : Job} {answer : Answer} {after : bench.State} (q : Pid) → Leaves V b job answer after → Fate V b job answer q (map.get after.processes q)
+pub fate_at : {V : Op → Type 0} {b : bench.BenchState} {job : Job} {answer : Answer} {after : bench.BenchState} (q : Pid) → Leaves V b job answer after → Fate V b job answer q (map.get after.processes q)
 fate_at {V} {b} {job} {answer} {after} q h = fate_in V b job answer after q h

@@ -52,7 +52,7 @@ abbrev pub GuardedNode : NodeState → Type 0
 GuardedNode node = IsGuarded (view_of node) node.bench
 
 module _ (node : NodeState) (job : Job) (h : GuardedNode node) where
-  result_guarded : (r : Result Outcome Refusal) (after : bench.State) (a : Answer) (m : NodeState) → Does (view_of node) node.bench job r after → AnswersResult node r after a m → GuardedNode m
+  result_guarded : (r : Result Outcome Refusal) (after : bench.BenchState) (a : Answer) (m : NodeState) → Does (view_of node) node.bench job r after → AnswersResult node r after a m → GuardedNode m
   result_guarded r after a m d replies = does_guarded (view_of node) node.bench h d
   result_guarded r after a m d (refuses more) = h
   result_guarded r after a m d (makes {body} {pid} {name} next) =

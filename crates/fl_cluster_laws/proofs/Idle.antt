@@ -34,14 +34,14 @@ use Rattle.fl_bench.specs.Checks.{Check, refuse_if, with, with_found, ◌then◌
 use Rattle.fl_bench.specs.Mailbox.{mail_checks, arrival_checks}
 use Rattle.fl_bench.specs.Guards.{grant_check, endpoint_check, pair_check, entry_refusal}
 use Rattle.fl_bench.specs.Process.{newborn, owns, is_busy, child_of, receiving, effective}
-use Rattle.fl_bench.specs.Bench.{State, opened, has_at, gone, born}
+use Rattle.fl_bench.specs.Bench.{BenchState, new_bench as opened, has_at, gone, born}
 use Rattle.fl_bench.specs.Gifts.{given, finished}
 use Rattle.fl_bench.specs.Jobs.{order_checks, checks_of, act_checks, bench_checks, checks, Performs, Effect, Does, passed, failed}
 use Rattle.fl_bench.specs.declared.process.Process.{Process}
 use Rattle.fl_bench.proofs.Puts.{get_put, get_gone, none_some}
 use Rattle.fl_bench.proofs.Orders.{rested, order_at, finished_at}
 
-pub record IsIdle (b : State) : Type 0 where
+pub record IsIdle (b : BenchState) : Type 0 where
   pub each : (pid : Pid) (p : Process) → map.get b.processes pid ≡ Some p → is_busy p ≡ false
 
 pub opened_idle : (number boot index stride : ℕ) → IsIdle (opened number boot index stride)
@@ -58,13 +58,13 @@ put_idle m pid new idle each k x e = by_place (get_put pid_total pid_exact m pid
         some_same e = cc
     by_place (inr s) = each k x (sym s ∙ e)
 
-has_idle : {b : State} (pid : Pid) (new : Process) → is_busy new ≡ false → IsIdle b → IsIdle (has_at b pid new)
+has_idle : {b : BenchState} (pid : Pid) (new : Process) → is_busy new ≡ false → IsIdle b → IsIdle (has_at b pid new)
 has_idle {b} pid new idle h = record { each = put_idle b.processes pid new idle h.each }
 
-born_idle : {b : State} (pid : Pid) (child : Process) → is_busy child ≡ false → IsIdle b → IsIdle (born b pid child)
+born_idle : {b : BenchState} (pid : Pid) (child : Process) → is_busy child ≡ false → IsIdle b → IsIdle (born b pid child)
 born_idle {b} pid child idle h = record { each = put_idle b.processes pid child idle h.each }
 
-gone_idle : {b : State} (pid : Pid) → IsIdle b → IsIdle (gone b pid)
+gone_idle : {b : BenchState} (pid : Pid) → IsIdle b → IsIdle (gone b pid)
 gone_idle {b} pid h = record { each = λ k x e. by_place k x e (get_gone pid_total pid_exact b.processes pid k) }
   where
     by_place : (k : Pid) (x : Process) → map.get (map.remove b.processes pid) k ≡ Some x → ((k ≡ pid) × (map.get (map.remove b.processes pid) k ≡ None)) ⊎ (map.get (map.remove b.processes pid) k ≡ map.get b.processes k) → is_busy x ≡ false
@@ -73,8 +73,8 @@ gone_idle {b} pid h = record { each = λ k x e. by_place k x e (get_gone pid_tot
 
 -- ---- a reply leaves none busy
 
-module _ (V : Op → Type 0) {b : State} (h : IsIdle b) where
-  performs_idle : (pid : Pid) (p : Process) (act : Act) (reply : Reply) (after : State) → map.get b.processes pid ≡ Some p → Performs V b pid p act (Outcome.Reply reply) after → IsIdle after
+module _ (V : Op → Type 0) {b : BenchState} (h : IsIdle b) where
+  performs_idle : (pid : Pid) (p : Process) (act : Act) (reply : Reply) (after : BenchState) → map.get b.processes pid ≡ Some p → Performs V b pid p act (Outcome.Reply reply) after → IsIdle after
   performs_idle pid p (Order order) reply after e f = let made = f.0 in absurd (cc)
   performs_idle pid p (Relabel side (Ok label)) reply after e f = subst IsIdle (sym f.1) (has_idle pid _ (h.each pid p e) h)
   performs_idle pid p (Relabel side (Err long)) reply after e f = absurd f
@@ -86,18 +86,18 @@ module _ (V : Op → Type 0) {b : State} (h : IsIdle b) where
   performs_idle pid p (Emit bytes) reply after e f = subst IsIdle (sym f.1) h
   performs_idle pid p (Mail c) reply after e f = subst IsIdle (sym f.2) (has_idle pid (record p { mailbox = f.0 }) (h.each pid p e) h)
 
-  effect_idle : (job : Job) (reply : Reply) (after : State) → Effect V b job (Outcome.Reply reply) after → IsIdle after
+  effect_idle : (job : Job) (reply : Reply) (after : BenchState) → Effect V b job (Outcome.Reply reply) after → IsIdle after
   effect_idle Proc reply after f = subst IsIdle (sym f.3) (born_idle f.0 newborn refl h)
   effect_idle (By pid act) reply after f = performs_idle pid f.0 act reply after f.1 f.2
   effect_idle (Member root c) reply after f = subst IsIdle (sym f.1) h
   effect_idle (Arrive d) reply after f = subst IsIdle (sym f.3) (has_idle d.receiver (receiving f.0 d) refl h)
 
-pub replied_idle : {V : Op → Type 0} {b : State} {job : Job} {reply : Reply} {after : State} → IsIdle b → Does V b job (Ok (Outcome.Reply reply)) after → IsIdle after
+pub replied_idle : {V : Op → Type 0} {b : BenchState} {job : Job} {reply : Reply} {after : BenchState} → IsIdle b → Does V b job (Ok (Outcome.Reply reply)) after → IsIdle after
 replied_idle {V} {job} {reply} {after} h (passed s f) = effect_idle V h job reply after f
 
 -- ---- nor is one when its order is finished
 
-pub finished_idle : {V : Op → Type 0} {b : State} {job : Job} {body : Body} {pid : Pid} {after : State} → IsIdle b → Does V b job (Ok (Outcome.Order body pid)) after → (op : Op) → IsIdle (finished after pid op)
+pub finished_idle : {V : Op → Type 0} {b : BenchState} {job : Job} {body : Body} {pid : Pid} {after : BenchState} → IsIdle b → Does V b job (Ok (Outcome.Order body pid)) after → (op : Op) → IsIdle (finished after pid op)
 finished_idle {pid} h d op =
     let o = order_at d in
     subst IsIdle (sym (finished_at o op)) (has_idle pid (rested o.process (given op)) refl h)
@@ -156,7 +156,7 @@ arrival_not ch d s = with_not (map.get ch.endpoints d.to) (NoEndpoint d.to) _ (�
     enters_not opened (inl s) = entry_not d.to s.0 s.1
     enters_not opened (inr s) = refuse_other (nat_le 256 (length ch.inbox)) InboxFull (λ e. cc) s.1
 
-bench_not : (b : State) (act : Act) → bench_checks b act (Some Busy) → ⊥
+bench_not : (b : BenchState) (act : Act) → bench_checks b act (Some Busy) → ⊥
 bench_not b (Order order) s = absurd (cc)
 bench_not b (Relabel side label) s = absurd (cc)
 bench_not b (Ask c) s = absurd (cc)
@@ -187,21 +187,21 @@ module _ (V : Op → Type 0) where
   act_not p act idle (inl s) = refuse_idle (is_busy p) idle s
   act_not p act idle (inr s) = check_not p act s.1
 
-  found_not : {b : State} → IsIdle b → (pid : Pid) (act : Act) (o : Option Process) → map.get b.processes pid ≡ o → with o (NoProcess pid) (λ p. act_checks V p act then bench_checks b act) (Some Busy) → ⊥
+  found_not : {b : BenchState} → IsIdle b → (pid : Pid) (act : Act) (o : Option Process) → map.get b.processes pid ≡ o → with o (NoProcess pid) (λ p. act_checks V p act then bench_checks b act) (Some Busy) → ⊥
   found_not h pid act None e s = absurd (cc)
   found_not h pid act (Some p) e (inl s) = act_not p act (h.each pid p e) s
   found_not {b} h pid act (Some p) e (inr s) = bench_not b act s.1
 
-  comes_not : {b : State} → IsIdle b → (d : Data) (o : Option Process) → map.get b.processes d.receiver ≡ o → with o (NoProcess d.receiver) (λ q. refuse_if (is_busy q) Busy then arrival_checks q.mailbox d) (Some Busy) → ⊥
+  comes_not : {b : BenchState} → IsIdle b → (d : Data) (o : Option Process) → map.get b.processes d.receiver ≡ o → with o (NoProcess d.receiver) (λ q. refuse_if (is_busy q) Busy then arrival_checks q.mailbox d) (Some Busy) → ⊥
   comes_not h d None e s = absurd (cc)
   comes_not h d (Some q) e (inl s) = refuse_idle (is_busy q) (h.each d.receiver q e) s
   comes_not h d (Some q) e (inr s) = arrival_not q.mailbox d s.1
 
-  checks_not : (b : State) (job : Job) → IsIdle b → checks V b job (Some Busy) → ⊥
+  checks_not : (b : BenchState) (job : Job) → IsIdle b → checks V b job (Some Busy) → ⊥
   checks_not b Proc h s = refuse_other _ NamesSpent (λ e. cc) s
   checks_not b (By pid act) h s = found_not h pid act (map.get b.processes pid) refl s
   checks_not b (Member root c) h s = absurd (cc)
   checks_not b (Arrive d) h s = comes_not h d (map.get b.processes d.receiver) refl s
 
-pub never_busy : {V : Op → Type 0} {b : State} {job : Job} {after : State} → IsIdle b → Does V b job (Err Busy) after → ⊥
+pub never_busy : {V : Op → Type 0} {b : BenchState} {job : Job} {after : BenchState} → IsIdle b → Does V b job (Err Busy) after → ⊥
 never_busy {V} {b} {job} h (failed s) = checks_not V b job h s

@@ -40,7 +40,7 @@ use Rattle.fl_cluster.specs.NodeStep.{view_of, AnswersResult, replies, refuses, 
 use Rattle.fl_cluster_laws.specs.Owned.{Gives, made, born as born_to, entered, arrived}
 
 -- the bench is as it was, or one process of it changed, came or went
-pub data Leaves (V : Op → Type 0) (b : bench.State) (job : Job) (answer : Answer) (after : bench.State) : Type 0 where
+pub data Leaves (V : Op → Type 0) (b : bench.BenchState) (job : Job) (answer : Answer) (after : bench.BenchState) : Type 0 where
   stays : after ≡ b → Leaves V b job answer after
   turns : (pid : Pid) (old new : Process) → map.get b.processes pid ≡ Some old → ((c : Cap) → In (owns new) c → In (owns old) c ⊎ Gives job answer pid c) → after ≡ has_at b pid new → Leaves V b job answer after
   bears : (pid : Pid) (child : Process) → IsBirth V b job pid child → answer ≡ replied (Made pid) → after ≡ born b pid child → Leaves V b job answer after
@@ -85,14 +85,14 @@ from_all s ks c h = elim (any_or_old s ks c h) [ inl any ↦ inl (Contains-from_
 
 -- ---- a reply
 
-module _ (V : Op → Type 0) (b : bench.State) where
+module _ (V : Op → Type 0) (b : bench.BenchState) where
   same_reply : {x y : Reply} → Outcome.Reply x ≡ Outcome.Reply y → replied x ≡ replied y
   same_reply e = cc
 
   entered_or_old : (pid : Pid) (act : Act) (s : SetBy cap_cmp) (k : Cap) (answer : Answer) → ((c : Cap) → c ≡ k → Gives (By pid act) answer pid c) → (c : Cap) → In (set.insert s k) c → In s c ⊎ Gives (By pid act) answer pid c
   entered_or_old pid act s k answer gives c h = elim (from_insert s k c h) [ inl e ↦ inr (gives c e) | inr old ↦ inl old ]
 
-  act_leaves : (pid : Pid) (p : Process) (act : Act) (reply : Reply) (after : bench.State) → map.get b.processes pid ≡ Some p → (act_checks V p act then bench_checks b act) None → Performs V b pid p act (Outcome.Reply reply) after → Leaves V b (By pid act) (replied reply) after
+  act_leaves : (pid : Pid) (p : Process) (act : Act) (reply : Reply) (after : bench.BenchState) → map.get b.processes pid ≡ Some p → (act_checks V p act then bench_checks b act) None → Performs V b pid p act (Outcome.Reply reply) after → Leaves V b (By pid act) (replied reply) after
   act_leaves pid p (Order order) reply after e h f = let is = f.0 in absurd (cc)
   act_leaves pid p (Relabel side (Ok label)) reply after e h f = turns pid p _ e (λ c old. inl old) f.1
   act_leaves pid p (Relabel side (Result.Err long)) reply after e h f = absurd f
@@ -107,7 +107,7 @@ module _ (V : Op → Type 0) (b : bench.State) where
   act_leaves pid p (Emit bytes) reply after e h f = stays f.1
   act_leaves pid p (Mail c) reply after e h f = turns pid p (record p { mailbox = f.0 }) e (λ c old. inl old) f.2
 
-  job_leaves : (job : Job) (reply : Reply) (after : bench.State) → checks V b job None → Effect V b job (Outcome.Reply reply) after → Leaves V b job (replied reply) after
+  job_leaves : (job : Job) (reply : Reply) (after : bench.BenchState) → checks V b job None → Effect V b job (Outcome.Reply reply) after → Leaves V b job (replied reply) after
   job_leaves Proc reply after h f = bears f.0 newborn (record { next = f.1; child_is = alone refl }) (same_reply f.2) f.3
   job_leaves (By pid act) reply after h f = act_leaves pid f.0 act reply after f.1 (subst (λ o. with o (NoProcess pid) (λ p. act_checks V p act then bench_checks b act) None) f.1 h) f.2
   job_leaves (Member root c) reply after h f = stays f.1
@@ -116,13 +116,13 @@ module _ (V : Op → Type 0) (b : bench.State) where
       gains : (c : Cap) → In (owns (receiving f.0 d)) c → In (owns f.0) c ⊎ Gives (Arrive d) (replied reply) d.receiver c
       gains c h = elim (from_union (owns f.0) d.message.caps c h) [ inl old ↦ inl old | inr came ↦ inr (arrived refl (same_reply f.2) came) ]
 
-  does_leaves : {job : Job} {reply : Reply} {after : bench.State} → Does V b job (Ok (Outcome.Reply reply)) after → Leaves V b job (replied reply) after
+  does_leaves : {job : Job} {reply : Reply} {after : bench.BenchState} → Does V b job (Ok (Outcome.Reply reply)) after → Leaves V b job (replied reply) after
   does_leaves {job} {reply} {after} (passed h f) = job_leaves job reply after h f
 
 -- ---- an operation, and any answer
 
 module _ (node : NodeState) (job : Job) where
-  finished_leaves : {body : Body} {pid : Pid} {after : bench.State} → Does (view_of node) node.bench job (Ok (Outcome.Order body pid)) after → (name : Name) → Leaves (view_of node) node.bench job (named name) (finished after pid (record { name = name; body = body }))
+  finished_leaves : {body : Body} {pid : Pid} {after : bench.BenchState} → Does (view_of node) node.bench job (Ok (Outcome.Order body pid)) after → (name : Name) → Leaves (view_of node) node.bench job (named name) (finished after pid (record { name = name; body = body }))
   finished_leaves {body} {pid} d name =
       let o = order_at d in
       let op : Op = record { name = name; body = body } in
@@ -130,7 +130,7 @@ module _ (node : NodeState) (job : Job) where
       λ c h. elim (from_all (owns o.process) (given op) c h) [ inl there ↦ inr (made o.asked refl (subst (λ x. Contains (given_by x name) c) o.body_is there)) | inr old ↦ inl old ] in
       turns pid o.process (rested o.process (given op)) o.lived gains (finished_at o op)
 
-  answered_leaves : (r : Result Outcome Refusal) (after : bench.State) (a : Answer) (m : NodeState) → Does (view_of node) node.bench job r after → AnswersResult node r after a m → Leaves (view_of node) node.bench job a m.bench
+  answered_leaves : (r : Result Outcome Refusal) (after : bench.BenchState) (a : Answer) (m : NodeState) → Does (view_of node) node.bench job r after → AnswersResult node r after a m → Leaves (view_of node) node.bench job a m.bench
   answered_leaves r after a m d replies = does_leaves (view_of node) node.bench d
   answered_leaves r after a m d (refuses more) = stays refl
   answered_leaves r after a m d (makes {name} next) = finished_leaves d name
@@ -152,7 +152,7 @@ gives_arrival (entered asked is) = entered asked (ap on_arrival is)
 gives_arrival (arrived asked is there) = arrived asked (ap on_arrival is) there
 
 -- what is said of it leaves the same
-pub arrival_leaves : {V : Op → Type 0} {b : bench.State} {job : Job} {a : Answer} {after : bench.State} → Leaves V b job a after → Leaves V b job (on_arrival a) after
+pub arrival_leaves : {V : Op → Type 0} {b : bench.BenchState} {job : Job} {a : Answer} {after : bench.BenchState} → Leaves V b job a after → Leaves V b job (on_arrival a) after
 arrival_leaves (stays e) = stays e
 arrival_leaves {job} {a} (turns pid old new lived gains e) = turns pid old new lived (λ c h. elim (gains c h) [ inl there ↦ inl there | inr gives ↦ inr (gives_arrival gives) ]) e
 arrival_leaves (bears pid child birth is e) = bears pid child birth (ap on_arrival is) e
@@ -161,7 +161,7 @@ arrival_leaves (loses pid asked is e) = loses pid asked (ap on_arrival is) e
 -- ---- serials
 
 -- the next serial never falls
-pub leaves_next : {V : Op → Type 0} {b : bench.State} {job : Job} {answer : Answer} {after : bench.State} → Leaves V b job answer after → b.next ≤ after.next
+pub leaves_next : {V : Op → Type 0} {b : bench.BenchState} {job : Job} {answer : Answer} {after : bench.BenchState} → Leaves V b job answer after → b.next ≤ after.next
 leaves_next (stays e) = rw e (omega arith)
 leaves_next (turns pid old new lived gains e) = rw e (omega arith)
 leaves_next (bears pid child birth is e) = rw e (omega arith)

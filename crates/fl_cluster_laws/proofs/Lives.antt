@@ -20,11 +20,11 @@ use Rattle.fl_cluster_laws.proofs.Fates.{Fate, same, turned, came, went, fate_at
 use Rattle.fl_cluster_laws.proofs.Turns.{TurnAt, rests, works_at, turn_at}
 
 module _ (old : Session) (line : List ℕ) (a : Answer) (pid : Pid) where
-  abbrev Here : bench.State
+  abbrev Here : bench.BenchState
   Here = (node_at old.state pid.node).bench
 
   -- no message bears anybody
-  asked_birth : {V : Op → Type 0} {b : bench.State} {job : Job} {child : Process} → HasDo old line pid.node job → IsChild V b job child → Says old line (lines.Job pid.node job)
+  asked_birth : {V : Op → Type 0} {b : bench.BenchState} {job : Job} {child : Process} → HasDo old line pid.node job → IsChild V b job child → Says old line (lines.Job pid.node job)
   asked_birth (asks says) birth = says
   asked_birth (brings says found) (alone e) = absurd (cc)
   asked_birth (brings says found) (of e lived within) = absurd (cc)
@@ -42,8 +42,8 @@ module _ (old : Session) (line : List ℕ) (a : Answer) (pid : Pid) where
       record { job = job; says = asked_birth says birth.child_is; birth = subst (IsBirth (view_at old.state pid) Here job pid) e birth; answered = is }
   born_by job o child says none there (went e asked is) = absurd (cc)
 
-  born_at : (after : bench.State) (child : Process) → living old.state pid ≡ None → map.get after.processes pid ≡ Some child → TurnAt old line a pid.node after → IsBorn old line a pid child
-  born_at after child none there (rests e) = let was = ap (λ (x : bench.State). map.get x.processes pid) e in absurd (cc)
+  born_at : (after : bench.BenchState) (child : Process) → living old.state pid ≡ None → map.get after.processes pid ≡ Some child → TurnAt old line a pid.node after → IsBorn old line a pid child
+  born_at after child none there (rests e) = let was = ap (λ (x : bench.BenchState). map.get x.processes pid) e in absurd (cc)
   born_at after child none there (works_at job says l) = born_by job (map.get after.processes pid) child says none there (fate_at pid l)
 
   -- who is new was born
@@ -56,8 +56,8 @@ module _ (old : Session) (line : List ℕ) (a : Answer) (pid : Pid) where
   exits_by job o p says lived none (came x lives birth is) = absurd (cc)
   exits_by job o p says lived none (went e asked is) = record { says = asked_exit asked says; answered = is }
 
-  exits_at : (after : bench.State) (p : Process) → living old.state pid ≡ Some p → map.get after.processes pid ≡ None → TurnAt old line a pid.node after → Exits old line a pid
-  exits_at after p lived none (rests e) = let was = ap (λ (x : bench.State). map.get x.processes pid) e in absurd (cc)
+  exits_at : (after : bench.BenchState) (p : Process) → living old.state pid ≡ Some p → map.get after.processes pid ≡ None → TurnAt old line a pid.node after → Exits old line a pid
+  exits_at after p lived none (rests e) = let was = ap (λ (x : bench.BenchState). map.get x.processes pid) e in absurd (cc)
   exits_at after p lived none (works_at job says l) = exits_by job (map.get after.processes pid) p says lived none (fate_at pid l)
 
   -- who is not there any more asked to go

@@ -42,7 +42,7 @@ from_arrival (bad_line number) (inl e) = absurd (cc)
 from_arrival (bad_line number) (inr e) = absurd (cc)
 
 module _ (node : NodeState) (job : Job) (h : IsIdle node.bench) where
-  result_not : (r : Result Outcome Refusal) (after : bench.State) (a : Answer) (m : NodeState) → Does (view_of node) node.bench job r after → AnswersResult node r after a m → IsBusy a → ⊥
+  result_not : (r : Result Outcome Refusal) (after : bench.BenchState) (a : Answer) (m : NodeState) → Does (view_of node) node.bench job r after → AnswersResult node r after a m → IsBusy a → ⊥
   result_not r after a m d replies (inl e) = absurd (cc)
   result_not r after a m d replies (inr e) = absurd (cc)
   result_not r after a m d (refuses {refusal} more) (inl e) =

@@ -50,13 +50,13 @@ abbrev pub Same : {S : Type 0} → Answer → Answer → S → S → Type 0
 Same a b m n = (a ≡ b) × (m ≡ n)
 
 -- a result that is answered is not want of memory
-pub ample : {node : NodeState} {r : Result Outcome Refusal} {after : bench.State} {a : Answer} {m : NodeState} → AnswersResult node r after a m → r ≢ Err Memory
+pub ample : {node : NodeState} {r : Result Outcome Refusal} {after : bench.BenchState} {a : Answer} {m : NodeState} → AnswersResult node r after a m → r ≢ Err Memory
 ample replies = λ e. cc
 ample (refuses more) = λ e. more (cc)
 ample (makes next) = λ e. cc
 ample (spends last) = λ e. cc
 
-one_answer : {node : NodeState} {r : Result Outcome Refusal} {after : bench.State} {a b : Answer} {m n : NodeState} → AnswersResult node r after a m → AnswersResult node r after b n → Same a b m n
+one_answer : {node : NodeState} {r : Result Outcome Refusal} {after : bench.BenchState} {a b : Answer} {m n : NodeState} → AnswersResult node r after a m → AnswersResult node r after b n → Same a b m n
 one_answer replies replies = (refl, refl)
 one_answer (refuses some) (refuses more) = (refl, refl)
 one_answer {node} (makes {body} {pid} {after} {name = x} h) (makes {name = y} k) =
@@ -73,7 +73,7 @@ one_work node job a b m n h k =
 
 -- ---- a job that sends
 
-no_send : {node : NodeState} {r : Result Outcome Refusal} {after : bench.State} {a : Answer} {m : NodeState} {packet : Packet} → AnswersResult node r after a m → r ≢ Ok (Outcome.Out packet)
+no_send : {node : NodeState} {r : Result Outcome Refusal} {after : bench.BenchState} {a : Answer} {m : NodeState} {packet : Packet} → AnswersResult node r after a m → r ≢ Ok (Outcome.Out packet)
 no_send replies = λ e. cc
 no_send (refuses more) = λ e. cc
 no_send (makes next) = λ e. cc
@@ -101,7 +101,7 @@ one_send node job a b m n h k =
 
 -- ---- nor is what is answered to a job want of memory
 
-fed_answer : {node : NodeState} {r : Result Outcome Refusal} {after : bench.State} {a : Answer} {m : NodeState} → AnswersResult node r after a m → ¬ IsStarved a
+fed_answer : {node : NodeState} {r : Result Outcome Refusal} {after : bench.BenchState} {a : Answer} {m : NodeState} → AnswersResult node r after a m → ¬ IsStarved a
 fed_answer replies (inl e) = absurd (cc)
 fed_answer replies (inr e) = absurd (cc)
 fed_answer (refuses more) (inl e) = more (cc)

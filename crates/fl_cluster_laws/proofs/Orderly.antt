@@ -26,7 +26,7 @@ use Rattle.fl_cluster.specs.Output.{Run}
 use Rattle.fl_cluster_laws.proofs.Idle.{IsIdle, opened_idle, replied_idle, finished_idle}
 use Rattle.fl_cluster.proofs.NodePuts.{node_put}
 
-pub record IsOrdered (number : ℕ) (b : bench.State) : Type 0 where
+pub record IsOrdered (number : ℕ) (b : bench.BenchState) : Type 0 where
   pub orderly : IsOrderly number b
   pub idle : IsIdle b
 
@@ -34,7 +34,7 @@ opened_ordered : (number : ℕ) → IsOrdered number (new_node number).bench
 opened_ordered number = record { orderly = opened_orderly number 1 1 1 (omega arith); idle = opened_idle number 1 1 1 }
 
 module _ {number : ℕ} (node : NodeState) (job : Job) (h : IsOrdered number node.bench) where
-  result_ordered : (r : Result Outcome Refusal) (after : bench.State) (a : Answer) (m : NodeState) → Does (view_of node) node.bench job r after → AnswersResult node r after a m → IsOrdered number m.bench
+  result_ordered : (r : Result Outcome Refusal) (after : bench.BenchState) (a : Answer) (m : NodeState) → Does (view_of node) node.bench job r after → AnswersResult node r after a m → IsOrdered number m.bench
   result_ordered r after a m d replies = record { orderly = does_orderly h.orderly d; idle = replied_idle h.idle d }
   result_ordered r after a m d (refuses more) = h
   result_ordered r after a m d (makes {body} {pid} {name} next) = record {

@@ -40,11 +40,11 @@ module _ (pid : Pid) (c : Cap) where
   owns_the p e h = let f = h.lives in let same : h.process ≡ p = cc in subst (λ (x : Process). In (owns x) c) same h.owned
 
   -- a child was born with what it owns
-  child_given : {V : Op → Type 0} {b : bench.State} {job : Job} {child : Process} {a : Answer} → a ≡ replied (Made pid) → IsChild V b job child → In (owns child) c → Gives job a pid c
+  child_given : {V : Op → Type 0} {b : bench.BenchState} {job : Job} {child : Process} {a : Answer} → a ≡ replied (Made pid) → IsChild V b job child → In (owns child) c → Gives job a pid c
   child_given is (alone asked) h = absurd (false≢true (sym (contains-empty cap_cmp c) ∙ h))
   child_given is (of asked lived within) h = born asked is h
 
-  fate_owned : {V : Op → Type 0} {b : bench.State} {job : Job} {a : Answer} {o : Option Process} → Fate V b job a pid o → OwnedBy o → OwnedBy (map.get b.processes pid) ⊎ Gives job a pid c
+  fate_owned : {V : Op → Type 0} {b : bench.BenchState} {job : Job} {a : Answer} {o : Option Process} → Fate V b job a pid o → OwnedBy o → OwnedBy (map.get b.processes pid) ⊎ Gives job a pid c
   fate_owned (same e) h = inl (subst OwnedBy e h)
   fate_owned (turned p q lived lives gains) h = elim (gains c (owns_the q lives h)) [
     | inl old ↦ inl (record { process = p; lives = lived; owned = old })
@@ -59,8 +59,8 @@ module _ (pid : Pid) (c : Cap) where
     does : HasDo old line pid.node job
     gives : Gives job a pid c
 
-  at_owned : {old : Session} {line : List ℕ} {a : Answer} {after : bench.State} → TurnAt old line a pid.node after → OwnedBy (map.get after.processes pid) → OwnedBy (living old.state pid) ⊎ GivenAt old line a
-  at_owned (rests e) h = inl (subst (λ (x : bench.State). OwnedBy (map.get x.processes pid)) e h)
+  at_owned : {old : Session} {line : List ℕ} {a : Answer} {after : bench.BenchState} → TurnAt old line a pid.node after → OwnedBy (map.get after.processes pid) → OwnedBy (living old.state pid) ⊎ GivenAt old line a
+  at_owned (rests e) h = inl (subst (λ (x : bench.BenchState). OwnedBy (map.get x.processes pid)) e h)
   at_owned (works_at job says l) h = elim (fate_owned (fate_at pid l) h) [
     | inl old ↦ inl old
     | inr gives ↦ inr (record { job = job; does = says; gives = gives })

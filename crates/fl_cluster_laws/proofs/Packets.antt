@@ -179,7 +179,7 @@ record IsArrival (job : Job) (pid : Pid) : Type 0 where
   job_is : job ≡ Arrive arriving
   receiver_is : pid ≡ arriving.receiver
 
-module _ (V : Op → Type 0) (b : bench.State) (pid : Pid) where
+module _ (V : Op → Type 0) (b : bench.BenchState) (pid : Pid) where
   taken_not : (o : Option Letter) → Outcome.Reply (Arrived pid) ≡ Outcome.Reply (taken o) → ⊥
   taken_not None e = absurd (cc)
   taken_not (Some letter) e = absurd (cc)
@@ -195,7 +195,7 @@ module _ (V : Op → Type 0) (b : bench.State) (pid : Pid) where
   told_not P (inl e) = let is = e.0 in absurd (cc)
   told_not P (inr e) = let is = e.0 in absurd (cc)
 
-  act_not : (own : Pid) (p : Process) (act : Act) (after : bench.State) → Performs V b own p act (Outcome.Reply (Arrived pid)) after → ⊥
+  act_not : (own : Pid) (p : Process) (act : Act) (after : bench.BenchState) → Performs V b own p act (Outcome.Reply (Arrived pid)) after → ⊥
   act_not own p (Order order) after f = let is = f.0 in absurd (cc)
   act_not own p (Relabel side (Ok label)) after f = let is = f.0 in absurd (cc)
   act_not own p (Relabel side (Result.Err long)) after f = absurd f
@@ -207,7 +207,7 @@ module _ (V : Op → Type 0) (b : bench.State) (pid : Pid) where
   act_not own p (Emit bytes) after f = let is = f.0 in absurd (cc)
   act_not own p (Mail c) after f = mail_not own p.mailbox c f.0 f.1
 
-  effect_arrival : (job : Job) (after : bench.State) → Effect V b job (Outcome.Reply (Arrived pid)) after → IsArrival job pid
+  effect_arrival : (job : Job) (after : bench.BenchState) → Effect V b job (Outcome.Reply (Arrived pid)) after → IsArrival job pid
   effect_arrival Proc after f = let is = f.2 in absurd (cc)
   effect_arrival (By own act) after f = absurd (act_not own f.0 act after f.2)
   effect_arrival (Member root c) after f = absurd (told_not _ f.0)
@@ -216,12 +216,12 @@ module _ (V : Op → Type 0) (b : bench.State) (pid : Pid) where
       same_pid : {x y : Pid} → Outcome.Reply (Arrived x) ≡ Outcome.Reply (Arrived y) → x ≡ y
       same_pid e = cc
 
-  does_arrival : {job : Job} {after : bench.State} → Does V b job (Ok (Outcome.Reply (Arrived pid))) after → IsArrival job pid
+  does_arrival : {job : Job} {after : bench.BenchState} → Does V b job (Ok (Outcome.Reply (Arrived pid))) after → IsArrival job pid
   does_arrival {job} {after} (passed h f) = effect_arrival job after f
 
 -- the node does the job, which brings the process a message
 pub record TakesIn (node : NodeState) (job : Job) (pid : Pid) : Type 0 where
-  pub after : bench.State
+  pub after : bench.BenchState
   pub does : Does (view_of node) node.bench job (Ok (Outcome.Reply (Arrived pid))) after
 
 -- the line brings it the message of a packet that was sent, and its node takes it in
@@ -234,7 +234,7 @@ pub record Comes (old : Session) (line : List ℕ) (pid : Pid) : Type 0 where
   pub takes_in : TakesIn (node_at old.state number) (Arrive packet) pid
 
 module _ (pid : Pid) where
-  result_takes_in : (node : NodeState) (job : Job) (r : Result Outcome Refusal) (after : bench.State) (a : Answer) (m : NodeState) → Does (view_of node) node.bench job r after → AnswersResult node r after a m → a ≡ replied (Arrived pid) → TakesIn node job pid
+  result_takes_in : (node : NodeState) (job : Job) (r : Result Outcome Refusal) (after : bench.BenchState) (a : Answer) (m : NodeState) → Does (view_of node) node.bench job r after → AnswersResult node r after a m → a ≡ replied (Arrived pid) → TakesIn node job pid
   result_takes_in node job r after a m d (replies {reply}) e =
       let same : reply ≡ Arrived pid = cc in
       record { after = after; does = subst (λ x. Does (view_of node) node.bench job (Ok (Outcome.Reply x)) after) same d }

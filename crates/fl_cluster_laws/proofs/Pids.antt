@@ -26,7 +26,7 @@ pub given_there : (s : Cluster) (pid : Pid) (p : Process) → HasOrder s → liv
 given_there s pid p h e = record { below = ((h.bench_is pid.node).orderly.each pid p e).below }
 
 module _ (old : Session) (line : List ℕ) where
-  next_at : (n : ℕ) (a : Answer) (after : bench.State) → TurnAt old line a n after → (node_at old.state n).bench.next ≤ after.next
+  next_at : (n : ℕ) (a : Answer) (after : bench.BenchState) → TurnAt old line a n after → (node_at old.state n).bench.next ≤ after.next
   next_at n a after (rests e) = rw e (omega arith)
   next_at n a after (works_at job says l) = leaves_next l
 
@@ -35,14 +35,14 @@ module _ (old : Session) (line : List ℕ) where
       let more = next_at pid.node a (node_at new.state pid.node).bench (turn_at old line pid.node number a new turn) in
       record { below = omega (arith, more, given.below) }
 
-  fate_none : {V : Op → Type 0} {b : bench.State} {job : Job} {a : Answer} {o : Option Process} (pid : Pid) → pid.serial < b.next → map.get b.processes pid ≡ None → Fate V b job a pid o → o ≡ None
+  fate_none : {V : Op → Type 0} {b : bench.BenchState} {job : Job} {a : Answer} {o : Option Process} (pid : Pid) → pid.serial < b.next → map.get b.processes pid ≡ None → Fate V b job a pid o → o ≡ None
   fate_none pid given none (same e) = e ∙ none
   fate_none pid given none (turned p q lived lives gains) = absurd (cc)
   fate_none pid given none (came child lives birth is) = let e = birth.next.serial in absurd (omega (arith, e, given))
   fate_none pid given none (went e asked is) = e
 
-  none_at : (a : Answer) (after : bench.State) (pid : Pid) → IsGiven old.state pid → living old.state pid ≡ None → TurnAt old line a pid.node after → map.get after.processes pid ≡ None
-  none_at a after pid given none (rests e) = ap (λ (x : bench.State). map.get x.processes pid) e ∙ none
+  none_at : (a : Answer) (after : bench.BenchState) (pid : Pid) → IsGiven old.state pid → living old.state pid ≡ None → TurnAt old line a pid.node after → map.get after.processes pid ≡ None
+  none_at a after pid given none (rests e) = ap (λ (x : bench.BenchState). map.get x.processes pid) e ∙ none
   none_at a after pid given none (works_at job says l) = fate_none pid given.below none (fate_at pid l)
 
   -- who is not there any more stays away

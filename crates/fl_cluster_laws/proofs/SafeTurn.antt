@@ -39,7 +39,7 @@ module _ (node : NodeState) (q : Pid) where
   abbrev To : NodeState → Type 0
   To m = Follows (view_of node) (map.get node.bench.processes q) (map.get m.bench.processes q)
 
-  follows_result : (job : Job) (r : Result Outcome Refusal) (after : bench.State) (a : Answer) (m : NodeState) {number : ℕ} → IsOrderly number node.bench → Does (view_of node) node.bench job r after → AnswersResult node r after a m → To m
+  follows_result : (job : Job) (r : Result Outcome Refusal) (after : bench.BenchState) (a : Answer) (m : NodeState) {number : ℕ} → IsOrderly number node.bench → Does (view_of node) node.bench job r after → AnswersResult node r after a m → To m
   follows_result job r after a m h d replies = follows_does (view_of node) h d q
   follows_result job r after a m h d (refuses more) = follows_same _ _
   follows_result job r after a m h d (makes next) = follows_finished (view_of node) d _ q
@@ -49,7 +49,7 @@ module _ (node : NodeState) (q : Pid) where
   follows_work job a m h w = follows_result job w.result w.after a m h w.does w.answered
 
   follows_send : {job : Job} {packet : Packet} {m : NodeState} → Sends node job packet m → To m
-  follows_send s = subst To (sym s.left) (subst (λ (b : bench.State). Follows (view_of node) (map.get node.bench.processes q) (map.get b.processes q)) (sym (sending_leaves s.does)) (follows_same _ _))
+  follows_send s = subst To (sym s.left) (subst (λ (b : bench.BenchState). Follows (view_of node) (map.get node.bench.processes q) (map.get b.processes q)) (sym (sending_leaves s.does)) (follows_same _ _))
 
 -- what becomes of q
 abbrev From : Cluster → Pid → Cluster → Type 0
@@ -97,7 +97,7 @@ module _ (pid : Pid) (side : Side) (label : SetBy name_cmp) where
   abbrev Setting : Job
   Setting = By pid (Relabel side (Ok label))
 
-  result_set : (node : NodeState) (r : Result Outcome Refusal) (after : bench.State) (a : Answer) (m : NodeState) → Does (view_of node) node.bench Setting r after → AnswersResult node r after a m → a ≡ replied Done → Set (view_of node) node.bench pid side label m.bench
+  result_set : (node : NodeState) (r : Result Outcome Refusal) (after : bench.BenchState) (a : Answer) (m : NodeState) → Does (view_of node) node.bench Setting r after → AnswersResult node r after a m → a ≡ replied Done → Set (view_of node) node.bench pid side label m.bench
   result_set node r after a m d replies e = does_set d
   result_set node r after a m d (refuses more) e = absurd (cc)
   result_set node r after a m d (makes next) e = absurd (set_is_no_order d)

@@ -17,7 +17,7 @@ use Rattle.fl_cluster_laws.proofs.Leaves.{Leaves, work_leaves, send_leaves, arri
 use Rattle.fl_cluster.proofs.NodePuts.{node_put, node_open, node_open_both}
 
 -- the bench of the node of this number is as it was, or the line has it do a job, which leaves it so
-pub data TurnAt (old : Session) (bytes : List ℕ) (answer : Answer) (number : ℕ) (after : bench.State) : Type 0 where
+pub data TurnAt (old : Session) (bytes : List ℕ) (answer : Answer) (number : ℕ) (after : bench.BenchState) : Type 0 where
   rests : after ≡ (node_at old.state number).bench → TurnAt old bytes answer number after
   works_at : (job : Job) → HasDo old bytes number job → Leaves (view_of (node_at old.state number)) (node_at old.state number).bench job answer after → TurnAt old bytes answer number after
 
