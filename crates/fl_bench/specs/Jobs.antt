@@ -26,7 +26,7 @@ use Rattle.fl_jobs.specs.declared.job.Job.TheVariants.{Proc, By, Member, Arrive}
 use Rattle.fl_jobs.specs.declared.secret.Secret.{Secret}
 use Rattle.fl_jobs.specs.declared.answer.Refusal.{Refusal}
 use Rattle.fl_jobs.specs.declared.answer.Refusal.TheVariants.{NoProcess, MissingCap, Secrecy, NoLogin, WrongSecret, NamesSpent, LabelTooLong, Memory, NotOwned, Busy}
-use Rattle.fl_jobs.specs.declared.answer.Reply.TheVariants.{Made, Done, Yes, NotYet, Entered, Out, Arrived}
+use Rattle.fl_jobs.specs.declared.answer.Reply.TheVariants.{Made, Done, Yes, NotYet, Entered, Emitted, Arrived}
 use Rattle.fl_jobs.specs.declared.answer.Outcome.{Outcome}
 use Rattle.fl_rules.specs.Safety.{Takes}
 use Rattle.fl_labels.specs.Caps.{Caps, Dual}
@@ -124,7 +124,7 @@ Performs V b pid p (Drop c) outcome b' =
     (outcome ≡ Outcome.Reply Done) × (b' ≡ has_at b pid (owning p (set.remove (owns p) c)))
 Performs V b pid p (Enter login secret) outcome b' = (c : Cap) × IsFirstLogin V login c (digest_of secret)
     × (outcome ≡ Outcome.Reply (Entered c)) × (b' ≡ has_at b pid (owning p (set.insert (owns p) c)))
-Performs V b pid p (Emit bytes) outcome b' = (outcome ≡ Outcome.Reply (Out bytes)) × (b' ≡ b)
+Performs V b pid p (Emit bytes) outcome b' = (outcome ≡ Outcome.Reply (Emitted bytes)) × (b' ≡ b)
 Performs V b pid p (Mail c) outcome b' =
     (ch : Mailbox) × MailDoes pid p.mailbox c outcome ch × (b' ≡ has_at b pid (record p { mailbox = ch }))
 

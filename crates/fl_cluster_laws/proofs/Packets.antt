@@ -33,7 +33,7 @@ use Rattle.fl_bench.proofs.Orders.{sending_at}
 use Rattle.fl_bench.specs.Summary.{IsSending}
 use Rattle.fl_aliases.specs.Table.{Table}
 use Rattle.fl_script.specs.Grammar.{Spells}
-use Rattle.fl_script.specs.Reading.{IsReading, Says as IsSaid}
+use Rattle.fl_script.specs.Reading.{IsReading, WordsSay as IsSaid}
 use Rattle.fl_script.specs.declared.line.Line.{Line}
 use Rattle.fl_script.specs.declared.line.Line.TheVariants as lines
 use Rattle.fl_script.specs.declared.reading.Reading.{Reading}

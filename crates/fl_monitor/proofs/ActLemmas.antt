@@ -30,7 +30,7 @@ use Rattle.fl_jobs.specs.declared.job.TooLong.{TooLong}
 use Rattle.fl_jobs.specs.declared.answer.Refusal.{Refusal}
 use Rattle.fl_jobs.specs.declared.answer.Refusal.TheVariants.{NoProcess, MissingCap, LabelTooLong, NamesSpent, Memory, Busy}
 use Rattle.fl_jobs.specs.declared.answer.Reply.{Reply}
-use Rattle.fl_jobs.specs.declared.answer.Reply.TheVariants.{Done, Yes, NotYet, Out}
+use Rattle.fl_jobs.specs.declared.answer.Reply.TheVariants.{Done, Yes, NotYet, Emitted}
 use Rattle.fl_jobs.specs.declared.answer.Outcome.{Outcome}
 use Rattle.fl_rules.specs.declared.labels.Labels.{Labels}
 use Rattle.fl_mailbox.specs.Mailbox.{closed}
@@ -209,8 +209,8 @@ module _ (V : Registry) (pid : Pid) (l : Labels) (owned : SetBy cap_cmp) (ch : M
   order_done : (order : orders.Order) {Q : Type 0} (u : Unit {0}) {r : Result (Unit {0}) Refusal} → r ≡ Ok u → Checked (order_checks (InEffect V (In owned)) order) Q r → Acts V pid idle (Order order) (Ok (Answer (Outcome.Order (body_of order) pid))) (ordering idle)
   order_done order u e h = is_answered V pid idle (Order order) (Outcome.Order (body_of order) pid) (ordering idle) (refl, has_passed h u e) (λ b. refl) (λ b there. (refl, refl))
 
-  emitted : (bytes : List ℕ) {Q : Type 0} (u : Unit {0}) {r : Result (Unit {0}) Refusal} → r ≡ Ok u → Checked (emission_check (InEffect V (In owned)) l.secrecy) Q r → Acts V pid idle (Emit bytes) (Ok (Answer (Outcome.Reply (Out bytes)))) idle
-  emitted bytes u e h = is_answered V pid idle (Emit bytes) (Outcome.Reply (Out bytes)) idle (refl, has_passed h u e) (λ b. refl) (λ b there. (refl, stays b pid idle there))
+  emitted : (bytes : List ℕ) {Q : Type 0} (u : Unit {0}) {r : Result (Unit {0}) Refusal} → r ≡ Ok u → Checked (emission_check (InEffect V (In owned)) l.secrecy) Q r → Acts V pid idle (Emit bytes) (Ok (Answer (Outcome.Reply (Emitted bytes)))) idle
+  emitted bytes u e h = is_answered V pid idle (Emit bytes) (Outcome.Reply (Emitted bytes)) idle (refl, has_passed h u e) (λ b. refl) (λ b there. (refl, stays b pid idle there))
 
   relabelled : (side : Side) (given : Result (SetBy name_cmp) TooLong) {r : Result Outcome Refusal} {l' : Labels} → Relabels V owned ch.endpoints l side given r l' → Acts V pid idle (Relabel side given) (answered r) (record idle { labels = l' })
   relabelled side given (Relabels.safe {label} e h) =
@@ -292,7 +292,7 @@ module _ (V : Registry) (pid : Pid) (p : Process) (act : Act) (owned : SetBy cap
     pub act_kept_in : (f : Refusal) → r ≡ Err f → {q : Result Sequel Refusal} → IsErr q × IsErrAnd q (λ g. g ≡ f) → Acts V pid p act q as_idle
     act_kept_in = act_unmet (Emit bytes) emits (emission_check (InEffect V (In owned)) p.labels.secrecy) checked (λ v h. h) (λ q. q)
 
-    pub act_emit : (u : Unit {0}) → r ≡ Ok u → Acts V pid p act (Ok (Answer (Outcome.Reply (Out bytes)))) as_idle
+    pub act_emit : (u : Unit {0}) → r ≡ Ok u → Acts V pid p act (Ok (Answer (Outcome.Reply (Emitted bytes)))) as_idle
     act_emit u e = act_is (Emit bytes) emits (emitted V pid p.labels owned p.mailbox bytes u e checked)
 
   pub act_full : (order : orders.Order) → act ≡ Order order → (h : Holding) → h ≡ Idle owned → Acts V pid p act (Err Memory) (record p { owned = h })

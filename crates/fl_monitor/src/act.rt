@@ -171,7 +171,7 @@ pub(crate) fn act_alone<V: View>(
                 owned,
                 Demand::Emission(&process.labels.secrecy),
             )?;
-            Ok(Sequel::Answer(Outcome::Reply(Reply::Out(bytes))))
+            Ok(Sequel::Answer(Outcome::Reply(Reply::Emitted(bytes))))
         }
         Act::Mail(mail) => {
             let mailbox = &mut process.mailbox;
