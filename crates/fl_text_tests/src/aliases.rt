@@ -160,19 +160,34 @@ $ab$a=>p1.2.2p1.2.1
 \u{20ac} $a\u{e9}$gA=>\u{20ac} p1.2.1\u{e9}1.4A
 $abcdefghijklmnopqrstuvwxyz_01234 =>p1.2.3 ";
 
+/// Whether the line expands to this text, behind what the buffer holds.
+fn expands_to(alloc: Global, aliases: &Aliases, line: &str, text: &str) -> Result<bool, Fail> {
+    let mut buffer = format!(in alloc; "before ")?;
+    let whole = format!(in alloc; "before {text}")?;
+    Ok(
+        expand(aliases, line, &mut buffer)?
+            && buffer.as_str() == whole.as_str()
+            && has_dollar(line) == (line != text),
+    )
+}
+
+/// Of rows that are a line, `=>`, and what it expands to: those that do not hold.
+fn wrong_rows(alloc: Global, rows: &str) -> Result<String, Fail> {
+    let aliases = sample(alloc)?;
+    let mut wrong = String::new(alloc);
+    for row in rows.split('\n') {
+        let (line, text) = row.split_once("=>").unwrap_or((row, "no row"));
+        if !expands_to(alloc, &aliases, line, text)? {
+            wrong.push_str(row)?;
+            wrong.push('\n')?;
+        }
+    }
+    Ok(wrong)
+}
+
 #[test]
 fn lines_expand(rt: HostRuntime) -> Result<(), Fail> {
-    let aliases = sample(rt.alloc())?;
-    for row in EXPANDED.split('\n') {
-        let (line, text) = row.split_once("=>").expect(&rt, row);
-        let mut buffer = format!(in rt.alloc(); "before ")?;
-        assert!(rt; expand(&aliases, line, &mut buffer)?, "{line}");
-        assert_eq!(rt;
-            buffer.as_str(),
-            format!(in rt.alloc(); "before {text}")?.as_str()
-        );
-        assert_eq!(rt; has_dollar(line), line != text);
-    }
+    assert_eq!(rt; wrong_rows(rt.alloc(), EXPANDED)?.as_str(), "");
     law_one_expansion();
     law_plain();
     Ok(())

@@ -35,41 +35,46 @@ fn taken(alloc: Global, caps: &[Cap], bytes: &[u8]) -> Result<Reply, AllocError>
     })
 }
 
+/// The lines of these replies.
+fn replied(alloc: Global, replies: &[Reply]) -> Result<Vec<u8>, Fail> {
+    let mut sink = Sink::new(alloc);
+    let mut output = Vec::new(alloc);
+    for reply in replies {
+        write_reply(reply, &mut sink, &mut output)?;
+    }
+    sink.finish(&mut output)?;
+    Ok(output)
+}
+
 #[test]
 fn replies(rt: HostRuntime) -> Result<(), Fail> {
-    let mut sink = Sink::new(rt.alloc());
-    let mut output = Vec::new(rt.alloc());
-    write_reply(&Reply::Made(PID), &mut sink, &mut output)?;
-    write_reply(&Reply::Done, &mut sink, &mut output)?;
-    write_reply(&Reply::Yes, &mut sink, &mut output)?;
-    write_reply(&Reply::NotYet, &mut sink, &mut output)?;
-    write_reply(&Reply::Entered(Cap::Use(NAME)), &mut sink, &mut output)?;
-    write_reply(&Reply::Entered(Cap::Minus(NAME)), &mut sink, &mut output)?;
-    write_reply(&Reply::Opened(ENDPOINT), &mut sink, &mut output)?;
-    write_reply(&Reply::Empty, &mut sink, &mut output)?;
-    write_reply(&Reply::Arrived(PID), &mut sink, &mut output)?;
-    sink.finish(&mut output)?;
+    let replies = [
+        Reply::Made(PID),
+        Reply::Done,
+        Reply::Yes,
+        Reply::NotYet,
+        Reply::Entered(Cap::Use(NAME)),
+        Reply::Entered(Cap::Minus(NAME)),
+        Reply::Opened(ENDPOINT),
+        Reply::Empty,
+        Reply::Arrived(PID),
+    ];
     let text = b"p1.2.3\nok\nyes\nnot-yet\nok *1.4\nok -1.4\nok e64\nempty\narrived p1.2.3\n";
-    assert_eq!(rt; output.as_slice(), text.as_slice());
+    assert_eq!(rt; replied(rt.alloc(), &replies)?.as_slice(), text.as_slice());
     Ok(())
 }
 
 #[test]
 fn replies_with_bytes(rt: HostRuntime) -> Result<(), Fail> {
     let alloc = rt.alloc();
-    let none = Reply::Emitted(Payload::from_vec(Vec::new(alloc)));
-    let bytes = Reply::Emitted(Payload::from_vec(Vec::from_slice(alloc, &[0u8, 10, 255])?));
-    let empty = taken(alloc, &[], &[])?;
-    let letter = taken(alloc, &[Cap::Grow(NAME), Cap::Plus(NAME)], &[104, 105])?;
-    let mut sink = Sink::new(alloc);
-    let mut output = Vec::new(alloc);
-    write_reply(&none, &mut sink, &mut output)?;
-    write_reply(&bytes, &mut sink, &mut output)?;
-    write_reply(&empty, &mut sink, &mut output)?;
-    write_reply(&letter, &mut sink, &mut output)?;
-    sink.finish(&mut output)?;
+    let replies = [
+        Reply::Emitted(Payload::from_vec(Vec::new(alloc))),
+        Reply::Emitted(Payload::from_vec(Vec::from_slice(alloc, &[0u8, 10, 255])?)),
+        taken(alloc, &[], &[])?,
+        taken(alloc, &[Cap::Grow(NAME), Cap::Plus(NAME)], &[104, 105])?,
+    ];
     let text = b"out none\nout 000aff\nmessage p1.2.3 {} none\nmessage p1.2.3 {+1.4,^1.4} 6869\n";
-    assert_eq!(rt; output.as_slice(), text.as_slice());
+    assert_eq!(rt; replied(alloc, &replies)?.as_slice(), text.as_slice());
     Ok(())
 }
 
