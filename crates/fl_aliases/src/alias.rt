@@ -1,4 +1,4 @@
-// Aliases.
+//! Aliases.
 ghost use Rattle.std.specs.Prelude.{◌≡◌, ◌↔◌, IsTrue, true, IfSome, IfNone};
 ghost use Rattle.fl_labels.specs.Found.{Finds};
 ghost use Rattle.fl_aliases.specs.Alias.{is_letter, IsAlias, IsAliasWord};
@@ -8,7 +8,7 @@ use std::hash::{Hash, Hasher};
 use std::marker::Model;
 
 /// The most letters of an alias.
-pub const MOST_LETTERS: usize = 32;
+pub const MOST_ALIAS_LETTERS: usize = 32;
 
 /// Whether the byte is a letter of aliases: a-z, 0-9 or `_`.
 pub fn is_letter(byte: u8) -> bool
@@ -20,14 +20,16 @@ pub fn is_letter(byte: u8) -> bool
 fn is_alias(bytes: &[u8]) -> bool
     ensures { IsTrue result ↔ IsAlias bytes.now }
 {
-    !bytes.is_empty() && bytes.len() <= MOST_LETTERS && bytes.iter().all(|byte| is_letter(*byte))
+    !bytes.is_empty()
+        && bytes.len() <= MOST_ALIAS_LETTERS
+        && bytes.iter().all(|byte| is_letter(*byte))
 }
 
 /// What a line calls something by: 1 to 32 letters, written behind a `$`. Contracts see the letters.
 #[derive(Clone, Copy)]
 pub struct Alias {
     // Zeros from `len` on, so that equal aliases are equal values.
-    bytes: [u8; MOST_LETTERS],
+    bytes: [u8; MOST_ALIAS_LETTERS],
     len: usize,
 }
 
@@ -40,7 +42,8 @@ impl Model for Alias {
 
     ghost view = { λ a. take a.len a.bytes };
 
-    ghost invariant = { λ a. (a.bytes ≡ padded (take a.len a.bytes)) × (length (take a.len a.bytes) ≡ a.len) × IsAlias (take a.len a.bytes) };
+    ghost invariant = { λ a. let letters = take a.len a.bytes in
+        (a.bytes ≡ padded letters) × (length letters ≡ a.len) × IsAlias letters };
 
     ghost inverse = { λ letters. record { bytes = padded letters; len = length letters } };
 
@@ -56,7 +59,7 @@ impl Alias {
         if !is_alias(letters) {
             return None;
         }
-        let mut bytes = [0; MOST_LETTERS];
+        let mut bytes = [0; MOST_ALIAS_LETTERS];
         bytes[..letters.len()].copy_from_slice(letters);
         Some(Alias {
             bytes,

@@ -1,4 +1,4 @@
-// Aliases replaced in a line.
+//! Aliases replaced in a line.
 ghost use Rattle.std.specs.Prelude.{◌≡◌, ◌++◌, ℕ, List, IfOk, IfSome, IfNone, OnOk};
 ghost use Rattle.std.specs.Bool.{MatchBool};
 ghost use Rattle.std.specs.String.{string_bytes};
@@ -20,24 +20,26 @@ pub fn has_dollar(line: &str) -> bool
     line.contains('$')
 }
 
-/// How many letters stand at the front of the text.
+// How many letters stand at the front of the text.
 fn letters_in_front(text: &str) -> usize
     ensures { result ≡ prefix_len is_letter text.now }
 {
     text.bytes().take_while(|byte| is_letter(*byte)).count()
 }
 
-/// An alias that stood at the front of a text, and the text behind it.
+// An alias that stood at the front of a text, and the text behind it.
 #[derive(Clone, Copy)]
 struct Front<'a> {
     alias: Alias,
     behind: &'a str,
 }
 
-/// The alias that all the letters at the front of the text make. `None` where they make none.
+// The alias that all the letters at the front of the text make. `None` where they make none.
 fn split_alias(text: &str) -> Option<Front<'_>>
-    ensures some { IfSome result (λ front. (text.now ≡ front.alias ++ front.behind.now) × IsAlias front.alias × NoLetterFirst front.behind.now) }
-    ensures none { IfNone result ((letters rest : List ℕ) → IsAlias letters → NoLetterFirst rest → text.now ≡ letters ++ rest → ⊥) }
+    ensures some { IfSome result (λ front.
+        (text.now ≡ front.alias ++ front.behind.now) × IsAlias front.alias × NoLetterFirst front.behind.now) }
+    ensures none { IfNone result ((letters rest : List ℕ) →
+        IsAlias letters → NoLetterFirst rest → text.now ≡ letters ++ rest → ⊥) }
 {
     let (letters, behind) = text.split_at(letters_in_front(text));
     let alias = Alias::from_letters(letters.as_bytes())?;
@@ -56,7 +58,9 @@ fn push_target(buffer: &mut String, target: Target) -> Result<(), AllocError>
 ///
 /// An error is want of memory for the buffer. After an error or `false` the buffer holds any text.
 pub fn expand(aliases: &Aliases, line: &str, buffer: &mut String) -> Result<bool, AllocError>
-    ensures { IfOk result (λ done. MatchBool done (ExpandsBehind aliases.now line.now (string_bytes buffer.old) (string_bytes buffer.new)) ((out : List ℕ) → Expands aliases.now line.now out → ⊥)) }
+    ensures { IfOk result (λ done. MatchBool done
+        (ExpandsBehind aliases.now line.now (string_bytes buffer.old) (string_bytes buffer.new))
+        ((out : List ℕ) → Expands aliases.now line.now out → ⊥)) }
 {
     let mut rest = line;
     while let Some((plain, behind)) = rest.split_once('$') {

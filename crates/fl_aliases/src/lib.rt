@@ -6,6 +6,4 @@ pub mod expand;
 pub mod laws;
 pub mod table;
 pub mod target;
-#[cfg(test)]
-mod tests;
 mod text;

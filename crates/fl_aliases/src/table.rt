@@ -1,4 +1,4 @@
-// The aliases that are set.
+//! The aliases that are set.
 ghost use Rattle.std.specs.Prelude.{◌≡◌, ◌<◌, ◌++◌, [], ◌∷◌, IfOk, OnErr, IsTrue, IsSome, IsNone, ◌↔◌, None, length};
 ghost use Rattle.std.specs.Bool.{MatchBool};
 ghost use Rattle.fl_sink.specs.Sink.{Puts};
@@ -75,8 +75,10 @@ impl Aliases {
     /// An error leaves all.
     pub fn place(&mut self, alias: Alias, target: Target) -> Result<bool, AllocError>
         requires room { target_of self.old alias ≡ None → length self.old < 1024 }
-        ensures new { IfOk result (λ new. MatchBool new (IsNone (target_of self.old alias)) (IsSome (target_of self.old alias))) }
-        ensures ok { IfOk result (λ new. MatchBool new (self.new ≡ self.old ++ (alias, target) ∷ []) (self.new ≡ self.old)) }
+        ensures new { let found = target_of self.old alias in
+            IfOk result (λ new. MatchBool new (IsNone found) (IsSome found)) }
+        ensures ok { let placed = self.old ++ (alias, target) ∷ [] in
+            IfOk result (λ new. MatchBool new (self.new ≡ placed) (self.new ≡ self.old)) }
         ensures err { OnErr result (self.new ≡ self.old) }
         ensures absent { OnErr result (target_of self.old alias ≡ None) }
     {

@@ -1,4 +1,4 @@
-// What aliases stand for.
+//! What aliases stand for.
 use fl_labels::endpoint::Endpoint;
 use fl_labels::name::Name;
 use fl_labels::pid::Pid;

@@ -1,4 +1,4 @@
-// The text of aliases.
+//! The text of aliases.
 ghost use Rattle.fl_sink.specs.Sink.{Puts};
 ghost use Rattle.fl_aliases.specs.Table.{entry_line};
 
@@ -8,7 +8,7 @@ use fl_sink::sink::{Sink, WriteFault};
 use itoa::Buffer;
 use std::io::Write;
 
-/// Puts the line of an alias into the sink.
+// Puts the line of an alias into the sink.
 pub(crate) fn write_line<W: Write>(
     alias: &Alias,
     target: &Target,

@@ -7,7 +7,7 @@ use Rattle.fl_wire.specs.declared.packet.Letter.{Letter}
 use Rattle.fl_jobs.specs.declared.answer.Refusal.{Refusal}
 use Rattle.fl_jobs.specs.declared.answer.Refusal.TheVariants.{NoProcess, Busy, MissingCap, NoEndpoint, UnsafeEndpoint, EndpointsFull, NotWritable, NotReadable, Secrecy, Integrity, NoLogin, WrongSecret, NamesSpent, LabelTooLong, Memory, NotOwned, InboxFull}
 use Rattle.fl_jobs.specs.declared.answer.Reply.{Reply}
-use Rattle.fl_jobs.specs.declared.answer.Reply.TheVariants.{Made, Done, Yes, NotYet, Entered, Out, Opened, Taken, Empty, Arrived}
+use Rattle.fl_jobs.specs.declared.answer.Reply.TheVariants.{Made, Done, Yes, NotYet, Entered, Emitted, Opened, Taken, Empty, Arrived}
 
 -- two digits in lower case for each byte, and `none` for no bytes
 abbrev pub bytes_text : List ℕ → List ℕ
@@ -24,7 +24,7 @@ reply_text Done = codes "ok"
 reply_text Yes = codes "yes"
 reply_text NotYet = codes "not-yet"
 reply_text (Entered cap) = codes "ok " ++ cap_text cap
-reply_text (Out bytes) = codes "out " ++ bytes_text bytes
+reply_text (Emitted bytes) = codes "out " ++ bytes_text bytes
 reply_text (Opened endpoint) = codes "ok " ++ endpoint_text endpoint
 reply_text (Taken letter) = letter_text letter
 reply_text Empty = codes "empty"

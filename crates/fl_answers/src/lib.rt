@@ -1,6 +1,4 @@
 //! The text of what jobs are answered.
 #![tactic(auto)]
 
-#[cfg(test)]
-mod tests;
 pub mod text;

@@ -1,5 +1,5 @@
-// Replies and refusals, a line each. Writing takes no memory but the sink's, and does without. At a fault a front of what waited and of
-// the line was written, and the sink may not be used again.
+//! Replies and refusals, a line each. Writing takes no memory but the sink's, and does without.
+//! At a fault a front of what waited and of the line was written, and the sink may not be used again.
 ghost use Rattle.std.specs.Prelude.{◌≡◌, ◌++◌, ◌∷◌, [], codes};
 ghost use Rattle.std.specs.Fmt.{decimal};
 ghost use Rattle.std.specs.List.{flat_map};
@@ -96,7 +96,7 @@ fn put_reply<W: Write>(reply: &Reply, sink: &mut Sink, output: &mut W) -> Result
         Reply::Yes => sink.put_all(output, &[b"yes"]),
         Reply::NotYet => sink.put_all(output, &[b"not-yet"]),
         Reply::Entered(cap) => put_cap(b"ok ", *cap, sink, output),
-        Reply::Out(payload) => put_bytes(b"out ", payload.as_slice(), sink, output),
+        Reply::Emitted(payload) => put_bytes(b"out ", payload.as_slice(), sink, output),
         Reply::Opened(endpoint) => put_endpoint(b"ok ", *endpoint, sink, output),
         Reply::Taken(letter) => put_letter(letter, sink, output),
         Reply::Empty => sink.put_all(output, &[b"empty"]),

@@ -57,8 +57,8 @@ pub enum Reply {
     NotYet,
     /// The capability that the login gave.
     Entered(Cap),
-    /// What went to the outside.
-    Out(Payload),
+    /// These bytes went to the outside.
+    Emitted(Payload),
     /// The endpoint that was opened.
     Opened(Endpoint),
     /// The message that was taken.

@@ -4,5 +4,3 @@
 pub mod answer;
 pub mod job;
 pub mod secret;
-#[cfg(test)]
-mod tests;

@@ -1,6 +1,6 @@
 -- Words that are of two lists of forms at once.
 use Rattle.std.proofs.Common.{List, [], ◌∷◌}
-use Rattle.fl_script.specs.Cut.{Word}
+use Rattle.fl_aliases.specs.Words.{Word}
 use Rattle.fl_script.specs.Grammar.{Matches}
 
 -- one word is of both forms

@@ -3,7 +3,7 @@ use Rattle.std.proofs.Common.{◌≡◌, ◌<◌, ◌+◌, ◌++◌, ◌==◌, �
 use Rattle.std.proofs.lemmas.List.{take-append-drop, length-append}
 use Rattle.std.proofs.lemmas.List.Elements.{filter-append}
 use Rattle.std.proofs.lemmas.List.Filters.{length-filter_more}
-use Rattle.fl_script.specs.Cut.{full_pieces}
+use Rattle.fl_aliases.specs.Words.{full_pieces}
 
 -- where n full pieces were seen, and one more comes, there are more than n
 pub more_pieces : (all : List (List ℕ)) (i n : ℕ) (piece : List ℕ) (seen : List (List ℕ)) → i < length all → piece ≡ get_or all i piece → seen ≡ take i all → not (length piece == 0) ≡ true → length (full_pieces seen) ≡ n → n < length (full_pieces all)

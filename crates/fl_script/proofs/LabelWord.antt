@@ -5,7 +5,7 @@ use Rattle.fl_labels.specs.Name.{name_cmp}
 use Rattle.fl_labels.specs.SetBy.{SetBy}
 use Rattle.fl_labels.specs.Text.{name_text}
 use Rattle.fl_jobs.specs.declared.job.TooLong.{TooLong}
-use Rattle.fl_script.specs.Cut.{Word}
+use Rattle.fl_aliases.specs.Words.{Word}
 use Rattle.fl_labels.specs.Words.{IsListing}
 use Rattle.fl_script.specs.Words.{IsLabelWord}
 

@@ -4,7 +4,7 @@ use Rattle.fl_labels.specs.Cap.{cap_cmp}
 use Rattle.fl_labels.specs.Found.{Finds}
 use Rattle.fl_labels.specs.SetBy.{SetBy, len}
 use Rattle.fl_wire.specs.declared.packet.Message.{Message}
-use Rattle.fl_script.specs.Cut.{Word}
+use Rattle.fl_aliases.specs.Words.{Word}
 use Rattle.fl_script.specs.Words.{IsCapsWord, IsBytesWord, AreMessageWords}
 use Rattle.fl_script.proofs.OneWord.{same_caps, same_bytes}
 

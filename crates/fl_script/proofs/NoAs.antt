@@ -26,7 +26,7 @@ use Rattle.fl_jobs.specs.declared.job.Side.{Side}
 use Rattle.fl_jobs.specs.declared.job.Side.TheVariants.{Secrecy, Integrity as IntegritySide}
 use Rattle.fl_jobs.specs.declared.job.TooLong.{TooLong}
 use Rattle.fl_jobs.specs.declared.job.Job.{Job}
-use Rattle.fl_script.specs.Cut.{Word}
+use Rattle.fl_aliases.specs.Words.{Word}
 use Rattle.fl_script.specs.Grammar.{Is, Matches, job_forms, forms, Spells}
 use Rattle.fl_script.specs.Reading.{makes, job_makes}
 use Rattle.hex.specs.Hex.{decode_pairs}

@@ -2,7 +2,7 @@
 use Rattle.std.proofs.Common.{◌≡◌, ap, refl, ℕ, List, [], ◌∷◌, codes, rules}
 use Rattle.fl_labels.specs.Words.{IsNumber}
 use Rattle.fl_jobs.specs.declared.job.Job.{Job}
-use Rattle.fl_script.specs.Cut.{Word}
+use Rattle.fl_aliases.specs.Words.{Word}
 use Rattle.fl_script.specs.Grammar.{Is, job_forms, forms, Spells}
 use Rattle.fl_script.specs.declared.line.Line.{Line}
 use Rattle.fl_script.specs.declared.line.Line.TheVariants.{Job as OfJob, Text, Deliver, Union, Aliases}

@@ -4,9 +4,9 @@ use Rattle.std.proofs.lemmas.List.Elements.{All-nil, All-cons}
 use Rattle.fl_aliases.specs.Alias.{alias_text}
 use Rattle.fl_aliases.specs.Expansion.{NoDollar}
 use Rattle.fl_aliases.specs.Table.{Table}
-use Rattle.fl_script.specs.Cut.{Word, words_of}
+use Rattle.fl_aliases.specs.Words.{Word, words_of}
 use Rattle.fl_script.specs.Grammar.{Spells}
-use Rattle.fl_script.specs.Reading.{IsReading, SpellsReplaced, SpellsNamed, Says}
+use Rattle.fl_script.specs.Reading.{IsReading, SpellsReplaced, SpellsNamed, WordsSay}
 use Rattle.fl_script.specs.declared.line.Line.{Line}
 use Rattle.fl_script.specs.declared.reading.Reading.{Reading}
 use Rattle.fl_script.specs.declared.reading.Reading.TheVariants.{Quiet, Bad, Means}
@@ -32,7 +32,7 @@ module _ (table : Table) where
   pub not_both : (words : List Word) (a b : Line) (alias : List ℕ) → SpellsReplaced table a words → SpellsNamed table b alias words → ⊥
   not_both words a b alias s t = none_with_as a t.front (alias_text alias ∷ []) (subst (SpellsReplaced table a) t.split s)
 
-  same_meaning : (words : List Word) (a b : Line) (x y : Option (List ℕ)) → Says table a x words → Says table b y words → Means a x ≡ Means b y
+  same_meaning : (words : List Word) (a b : Line) (x y : Option (List ℕ)) → WordsSay table a x words → WordsSay table b y words → Means a x ≡ Means b y
   same_meaning words a b None None s t = ap (λ l. Means l None) (same_line words a b s t)
   same_meaning words a b None (Some y) s t = absurd (not_both words a b y s t)
   same_meaning words a b (Some x) None s t = absurd (not_both words b a x t s)

@@ -4,7 +4,7 @@ use Rattle.std.proofs.lemmas.Str.{IsUtf8-from_is_utf8, is_utf8-from_IsUtf8}
 use Rattle.std.proofs.lemmas.Bool.{cases_lt, cases_eq, ne_eqb, false≢true}
 use Rattle.std.specs.Str.{is_utf8}
 use Rattle.std.specs.List.{slice_split, onto_first}
-use Rattle.fl_script.specs.Cut.{words_of, full_pieces}
+use Rattle.fl_aliases.specs.Words.{words_of, full_pieces}
 use Rattle.fl_script.specs.Reading.{first_mark, IsQuiet, IsText, SaysNothing}
 
 -- bytes are a text or not

@@ -7,7 +7,7 @@ use Rattle.std.proofs.lemmas.List.Elements.{length_all_zip}
 use Rattle.fl_labels.specs.Found.{Finds}
 use Rattle.fl_aliases.specs.Expansion.{Expands, NoDollar}
 use Rattle.fl_aliases.specs.Table.{Table}
-use Rattle.fl_script.specs.Cut.{Word}
+use Rattle.fl_aliases.specs.Words.{Word}
 use Rattle.fl_script.specs.Grammar.{Spells}
 use Rattle.fl_script.specs.Reading.{SpellsReplaced}
 use Rattle.fl_script.specs.declared.line.Line.{Line}

@@ -6,10 +6,10 @@ use Rattle.std.proofs.lemmas.List.Elements.{All-nil, All-cons, All-head, All-tai
 use Rattle.fl_aliases.specs.Alias.{alias_text}
 use Rattle.fl_aliases.specs.Expansion.{Expands, NoDollar}
 use Rattle.fl_aliases.specs.Table.{Table}
-use Rattle.fl_script.specs.Cut.{Word, words_of}
+use Rattle.fl_aliases.specs.Words.{Word, words_of}
 use Rattle.fl_script.specs.Grammar.{Spells}
-use Rattle.fl_script.specs.Meaning.{IsWord, EndsInAlias, CanBeNamed, WantsMemory}
-use Rattle.fl_script.specs.Reading.{makes, IsAsking, MayWant, Says, SpellsReplaced, SpellsNamed}
+use Rattle.fl_script.specs.parts.Meaning.{IsWord, EndsInAlias, CanBeNamed, WantsMemory}
+use Rattle.fl_script.specs.Reading.{makes, IsAsking, MayWant, WordsSay, SpellsReplaced, SpellsNamed}
 use Rattle.fl_script.specs.declared.line.Line.{Line}
 use Rattle.fl_script.proofs.Ends.{same_ends}
 use Rattle.fl_script.proofs.OneReading.{none_with_as, same_line}
@@ -46,11 +46,11 @@ dollar_wants words dollar = record { is = inl dollar }
 
 module _ (table : Table) where
   -- words with no `$` say the line that they spell
-  pub clean_says : (words : List Word) → All NoDollar words → (line : Line) → Spells line words → Says table line None words
+  pub clean_says : (words : List Word) → All NoDollar words → (line : Line) → Spells line words → WordsSay table line None words
   clean_says words clean line s = record { replaced = words; each = clean_stay table words clean; spelled = s }
 
   -- and nothing where they spell none
-  pub clean_none : (words : List Word) → All NoDollar words → ((line : Line) → Spells line words → ⊥) → (line : Line) (alias : Option (List ℕ)) → Says table line alias words → ⊥
+  pub clean_none : (words : List Word) → All NoDollar words → ((line : Line) → Spells line words → ⊥) → (line : Line) (alias : Option (List ℕ)) → WordsSay table line alias words → ⊥
   clean_none words clean none line None s = none line (subst (Spells line) (same_replaced table words s.replaced words s.each (clean_stay table words clean)) s.spelled)
   clean_none words clean none line (Some alias) s = named_dollar words s.front alias s.split clean
 
@@ -62,12 +62,12 @@ module _ (table : Table) where
   none_named words none line s = none line s.spelled
 
   -- words that do not end in an alias, and spell no line
-  pub plain_none : (words : List Word) → ((front : List Word) (alias : List ℕ) → EndsInAlias front alias words → ⊥) → ((line : Line) → SpellsReplaced table line words → ⊥) → (line : Line) (alias : Option (List ℕ)) → Says table line alias words → ⊥
+  pub plain_none : (words : List Word) → ((front : List Word) (alias : List ℕ) → EndsInAlias front alias words → ⊥) → ((line : Line) → SpellsReplaced table line words → ⊥) → (line : Line) (alias : Option (List ℕ)) → WordsSay table line alias words → ⊥
   plain_none words no_end none line None s = none line s
   plain_none words no_end none line (Some alias) s = no_end s.front alias (record { split = s.split; is_alias = s.is_alias })
 
   -- words that end in an alias, and spell no line for which it can stand
-  pub named_none : (words front : List Word) (alias : List ℕ) → EndsInAlias front alias words → ((line : Line) → CanBeNamed table line front → ⊥) → (line : Line) (other : Option (List ℕ)) → Says table line other words → ⊥
+  pub named_none : (words front : List Word) (alias : List ℕ) → EndsInAlias front alias words → ((line : Line) → CanBeNamed table line front → ⊥) → (line : Line) (other : Option (List ℕ)) → WordsSay table line other words → ⊥
   named_none words front alias end none line None s = none_with_as table line front (alias_text alias ∷ []) (subst (SpellsReplaced table line) end.split s)
   named_none words front alias end none line (Some other) s =
       let same = same_ends s.front front (codes "as") (alias_text other) (codes "as") (alias_text alias) (sym s.split ∙ end.split) in
@@ -77,7 +77,7 @@ module _ (table : Table) where
   says_named words front alias line end s = record { front = front; split = end.split; is_alias = end.is_alias; made = s.made; room = s.room; spelled = s.spelled }
 
   -- too many words say nothing
-  pub many_say_none : (words : List Word) → 8 < length words → (line : Line) (alias : Option (List ℕ)) → Says table line alias words → ⊥
+  pub many_say_none : (words : List Word) → 8 < length words → (line : Line) (alias : Option (List ℕ)) → WordsSay table line alias words → ⊥
   many_say_none words many line None s = too_many table words many line s
   many_say_none words many line (Some alias) s =
       let count = ap length s.split ∙ length-append s.front (codes "as" ∷ alias_text alias ∷ []) in

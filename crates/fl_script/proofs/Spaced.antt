@@ -10,8 +10,8 @@ use Rattle.fl_aliases.specs.Table.{Table}
 use Rattle.fl_aliases.specs.TargetText.{target_text}
 use Rattle.fl_aliases.proofs.Expanding.{plain_itself, plain_alone, one_expansion}
 use Rattle.fl_aliases.proofs.WordByWord.{by_word}
-use Rattle.fl_script.specs.Cut.{Word, words_of}
-use Rattle.fl_script.specs.Meaning.{IsWord, spaced}
+use Rattle.fl_aliases.specs.Words.{Word, words_of}
+use Rattle.fl_script.specs.parts.Meaning.{IsWord, spaced}
 use Rattle.fl_script.proofs.WordShape.{spaced_words}
 
 -- a word with a `$` is among the words

@@ -5,7 +5,7 @@ use Rattle.fl_labels.specs.Found.{Finds}
 use Rattle.fl_labels.specs.SetBy.{SetBy}
 use Rattle.fl_labels.specs.Text.{pid_text}
 use Rattle.fl_jobs.specs.declared.job.Job.{Job}
-use Rattle.fl_script.specs.Cut.{Word}
+use Rattle.fl_aliases.specs.Words.{Word}
 use Rattle.fl_script.specs.Grammar.{Is, Matches, SpellsJob, job_forms}
 use Rattle.fl_script.specs.Words.{IsCapsWord}
 use Rattle.fl_script.proofs.JobKinds.{Kind, kind_of}

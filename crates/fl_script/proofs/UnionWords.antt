@@ -1,7 +1,7 @@
 -- Words of no union.
 use Rattle.std.proofs.Common.{ℕ, List, [], ◌∷◌, codes, refl, rules}
 use Rattle.fl_labels.specs.Words.{IsNode}
-use Rattle.fl_script.specs.Cut.{Word}
+use Rattle.fl_aliases.specs.Words.{Word}
 use Rattle.fl_script.specs.Grammar.{Matches, Spells}
 use Rattle.fl_script.specs.declared.line.Line.{Line}
 use Rattle.fl_script.specs.declared.line.Line.TheVariants.{Job as OfJob, Text, Deliver, Union, Aliases}

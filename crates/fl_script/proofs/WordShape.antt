@@ -5,8 +5,8 @@ use Rattle.std.proofs.lemmas.Bool.{eqb-false, ne_eqb}
 use Rattle.std.proofs.lemmas.List.Elements.{All-nil, All-cons, All-head, All-tail, All-weaker, All-filter, filter_passes}
 use Rattle.std.proofs.lemmas.List.Splits.{slice_split-cons_yes, slice_split-cons_no}
 use Rattle.fl_aliases.specs.Expansion.{NoDollar}
-use Rattle.fl_script.specs.Cut.{Word, words_of, full_pieces}
-use Rattle.fl_script.specs.Meaning.{IsWord, spaced}
+use Rattle.fl_aliases.specs.Words.{Word, words_of, full_pieces}
+use Rattle.fl_script.specs.parts.Meaning.{IsWord, spaced}
 
 abbrev is_space : ℕ → Bool
 is_space b = b == 32

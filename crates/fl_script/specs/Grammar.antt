@@ -7,7 +7,7 @@ use Rattle.fl_jobs.specs.declared.job.Act.TheVariants.{Order as Orders, Relabel,
 use Rattle.fl_jobs.specs.declared.job.Mail.TheVariants.{Open, Tune, Close, Send, Take}
 use Rattle.fl_jobs.specs.declared.job.Job.{Job}
 use Rattle.fl_jobs.specs.declared.job.Job.TheVariants.{Proc, By, Member, Arrive}
-use Rattle.fl_script.specs.Cut.{Word}
+use Rattle.fl_aliases.specs.Words.{Word}
 use Rattle.fl_ops.specs.PolicyText.{policy_text}
 use Rattle.fl_script.specs.Words.{side_text, mode_text, IsLabelWord, IsCapsWord, IsSecretWord, IsBytesWord}
 use Rattle.fl_script.specs.declared.line.Line.{Line}

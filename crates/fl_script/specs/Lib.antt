@@ -1,5 +1,4 @@
-pub mod Cut
 pub mod Words
 pub mod Grammar
 pub mod Reading
-pub mod Meaning
+pub mod parts

@@ -11,7 +11,7 @@ use Rattle.fl_jobs.specs.declared.job.Mail.{Mail}
 use Rattle.fl_jobs.specs.declared.job.Mail.TheVariants.{Open, Tune, Close, Send, Take}
 use Rattle.fl_jobs.specs.declared.job.Job.{Job}
 use Rattle.fl_jobs.specs.declared.job.Job.TheVariants.{Proc, By, Member, Arrive}
-use Rattle.fl_script.specs.Cut.{Word, words_of}
+use Rattle.fl_aliases.specs.Words.{Word, words_of}
 use Rattle.fl_script.specs.Grammar.{Spells, HoldsList}
 use Rattle.fl_script.specs.declared.line.Line.{Line}
 use Rattle.fl_script.specs.declared.line.Line.TheVariants.{Job as OfJob, Text, Deliver, Union, Aliases}
@@ -87,19 +87,19 @@ pub record SpellsNamed (table : Table) (line : Line) (alias : List ℕ) (words :
   pub spelled : SpellsReplaced table line front
 
 -- the words say this line, and which alias is to stand for what it makes, if one is
-abbrev pub Says : Table → Line → Option (List ℕ) → List Word → Type 0
-Says table line None words = SpellsReplaced table line words
-Says table line (Some alias) words = SpellsNamed table line alias words
+abbrev pub WordsSay : Table → Line → Option (List ℕ) → List Word → Type 0
+WordsSay table line None words = SpellsReplaced table line words
+WordsSay table line (Some alias) words = SpellsNamed table line alias words
 
 -- the line asks for an answer, and is no line of the script
 pub record IsBad (table : Table) (bytes : List ℕ) : Type 0 where
   pub loud : ¬ IsQuiet bytes
-  pub says_none : IsText bytes → (line : Line) (alias : Option (List ℕ)) → Says table line alias (words_of bytes) → ⊥
+  pub says_none : IsText bytes → (line : Line) (alias : Option (List ℕ)) → WordsSay table line alias (words_of bytes) → ⊥
 
 -- the words of the bytes say the line
 pub record IsMeaning (table : Table) (bytes : List ℕ) (line : Line) (alias : Option (List ℕ)) : Type 0 where
   pub asking : IsAsking bytes
-  pub said : Says table line alias (words_of bytes)
+  pub said : WordsSay table line alias (words_of bytes)
 
 -- the bytes say this where the aliases of the table are set
 abbrev pub IsReading : Table → List ℕ → Reading → Type 0

@@ -15,7 +15,7 @@ use Rattle.fl_jobs.specs.declared.secret.Secret.{Secret}
 use Rattle.fl_rules.specs.declared.endpoint.Mode.{Mode}
 use Rattle.fl_rules.specs.declared.endpoint.Mode.TheVariants.{Read, Write, Both}
 use Rattle.fl_wire.specs.declared.packet.Message.{Message}
-use Rattle.fl_script.specs.Cut.{Word}
+use Rattle.fl_aliases.specs.Words.{Word}
 use Rattle.fl_labels.specs.Words.{IsListing}
 
 -- `S`, `I`

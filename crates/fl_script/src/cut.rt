@@ -1,15 +1,16 @@
 //! Lines are cut into words at spaces.
 ghost use Rattle.std.specs.Prelude.{◌≡◌, ◌<◌, length, map, MatchOption};
-ghost use Rattle.fl_script.specs.Cut.{words_of};
+ghost use Rattle.fl_aliases.specs.Words.{words_of};
 
 use arrayvec::ArrayVec;
 
 /// The most words that a line of the script has.
-pub const MOST_WORDS: usize = 8;
+pub const MOST_LINE_WORDS: usize = 8;
 
-/// The words of a line, or none where there are more than [`MOST_WORDS`]. Looks at each byte once, and takes no memory.
-pub fn cut_words(line: &str) -> Option<ArrayVec<&str, MOST_WORDS>>
-    ensures { MatchOption result (8 < length (words_of line.now)) (λ words. map (λ w. w.now) words.items ≡ words_of line.now) }
+/// The words of a line, or none where there are more than [`MOST_LINE_WORDS`]. Looks at each byte once, and takes no memory.
+pub fn cut_words(line: &str) -> Option<ArrayVec<&str, MOST_LINE_WORDS>>
+    ensures { let cut = words_of line.now in
+        MatchOption result (8 < length cut) (λ words. map (λ w. w.now) words.items ≡ cut) }
 {
     let mut words = ArrayVec::new();
     for piece in line.split(' ') {

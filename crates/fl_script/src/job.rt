@@ -1,6 +1,7 @@
 //! Jobs by the words that spell them.
-ghost use Rattle.std.specs.Prelude.{◌≡◌, ◌∷◌, IfOk, OnErr, map, codes};
+ghost use Rattle.std.specs.Prelude.{◌≡◌, ◌∷◌, OnErr, map, codes};
 ghost use Rattle.fl_labels.specs.Found.{Finds};
+ghost use Rattle.fl_script.specs.parts.Reads.{Reads};
 ghost use Rattle.fl_labels.specs.Text.{endpoint_text, pid_text};
 ghost use Rattle.fl_script.specs.Grammar.{IsListVerb, SpellsJob};
 
@@ -61,7 +62,7 @@ fn make_login_job(rest: &[&str]) -> Option<Job>
 }
 
 fn label_job(alloc: Global, rest: &[&str]) -> Result<Option<Job>, AllocError>
-    ensures { IfOk result (λ r. Finds r (λ j. SpellsJob j (codes "label" ∷ map (λ w. w.now) rest.now))) }
+    ensures { Reads result (λ j. SpellsJob j (codes "label" ∷ map (λ w. w.now) rest.now)) }
 {
     let [pid, side, label] = rest else {
         return Ok(None);
@@ -88,7 +89,7 @@ fn ask_job(rest: &[&str]) -> Option<Job>
 }
 
 fn spawn_job(alloc: Global, rest: &[&str]) -> Result<Option<Job>, AllocError>
-    ensures { IfOk result (λ r. Finds r (λ j. SpellsJob j (codes "spawn" ∷ map (λ w. w.now) rest.now))) }
+    ensures { Reads result (λ j. SpellsJob j (codes "spawn" ∷ map (λ w. w.now) rest.now)) }
 {
     let [pid, caps] = rest else {
         return Ok(None);
@@ -132,7 +133,7 @@ fn enter_job(rest: &[&str]) -> Option<Job>
 }
 
 fn emit_job(alloc: Global, rest: &[&str]) -> Result<Option<Job>, AllocError>
-    ensures { IfOk result (λ r. Finds r (λ j. SpellsJob j (codes "emit" ∷ map (λ w. w.now) rest.now))) }
+    ensures { Reads result (λ j. SpellsJob j (codes "emit" ∷ map (λ w. w.now) rest.now)) }
 {
     let [pid, bytes] = rest else {
         return Ok(None);
@@ -147,7 +148,7 @@ fn emit_job(alloc: Global, rest: &[&str]) -> Result<Option<Job>, AllocError>
 }
 
 fn open_job(alloc: Global, rest: &[&str]) -> Result<Option<Job>, AllocError>
-    ensures { IfOk result (λ r. Finds r (λ j. SpellsJob j (codes "open" ∷ map (λ w. w.now) rest.now))) }
+    ensures { Reads result (λ j. SpellsJob j (codes "open" ∷ map (λ w. w.now) rest.now)) }
 {
     let [pid, mode, secrecy, integrity] = rest else {
         return Ok(None);
@@ -165,7 +166,7 @@ fn open_job(alloc: Global, rest: &[&str]) -> Result<Option<Job>, AllocError>
 }
 
 fn tune_job(alloc: Global, rest: &[&str]) -> Result<Option<Job>, AllocError>
-    ensures { IfOk result (λ r. Finds r (λ j. SpellsJob j (codes "tune" ∷ map (λ w. w.now) rest.now))) }
+    ensures { Reads result (λ j. SpellsJob j (codes "tune" ∷ map (λ w. w.now) rest.now)) }
 {
     let [pid, endpoint, secrecy, integrity] = rest else {
         return Ok(None);
@@ -191,7 +192,7 @@ fn close_job(rest: &[&str]) -> Option<Job>
     Some(Job::By(pid, Act::Mail(Mail::Close(endpoint))))
 }
 
-/// The endpoint from which a message goes, the process that it goes to, and the endpoint of that one.
+// The endpoint from which a message goes, the process that it goes to, and the endpoint of that one.
 #[derive(Clone, Copy)]
 struct Ends {
     from: Endpoint,
@@ -200,7 +201,9 @@ struct Ends {
 }
 
 fn ends_from_words(from: &str, receiver: &str, to: &str) -> Option<Ends>
-    ensures { Finds result (λ ends. (from.now ≡ endpoint_text ends.from) × (receiver.now ≡ pid_text ends.receiver) × (to.now ≡ endpoint_text ends.to)) }
+    ensures { Finds result (λ ends.
+        (from.now ≡ endpoint_text ends.from) × (receiver.now ≡ pid_text ends.receiver)
+        × (to.now ≡ endpoint_text ends.to)) }
 {
     let from = read_endpoint(from)?;
     let receiver = read_pid(receiver)?;
@@ -209,7 +212,7 @@ fn ends_from_words(from: &str, receiver: &str, to: &str) -> Option<Ends>
 }
 
 fn send_job(alloc: Global, rest: &[&str]) -> Result<Option<Job>, AllocError>
-    ensures { IfOk result (λ r. Finds r (λ j. SpellsJob j (codes "send" ∷ map (λ w. w.now) rest.now))) }
+    ensures { Reads result (λ j. SpellsJob j (codes "send" ∷ map (λ w. w.now) rest.now)) }
 {
     let [pid, from, receiver, to, caps, bytes] = rest else {
         return Ok(None);
@@ -252,7 +255,7 @@ fn member_job(rest: &[&str]) -> Option<Job>
 /// The job that a verb and the words after it spell, or none where they spell no job.
 /// Takes memory for a list alone: of tags, of capabilities or of bytes.
 pub fn job_from_words(alloc: Global, verb: &str, rest: &[&str]) -> Result<Option<Job>, AllocError>
-    ensures ok { IfOk result (λ r. Finds r (λ j. SpellsJob j (verb.now ∷ map (λ w. w.now) rest.now))) }
+    ensures ok { Reads result (λ j. SpellsJob j (verb.now ∷ map (λ w. w.now) rest.now)) }
     ensures err { OnErr result (IsListVerb verb.now) }
 {
     match verb {

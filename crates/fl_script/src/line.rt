@@ -1,6 +1,7 @@
 //! Lines of the script.
-ghost use Rattle.std.specs.Prelude.{◌≡◌, ◌≢◌, ◌∷◌, IfOk, OnErr, map, codes};
+ghost use Rattle.std.specs.Prelude.{◌≡◌, ◌≢◌, ◌∷◌, OnErr, map, codes};
 ghost use Rattle.fl_labels.specs.Found.{Finds};
+ghost use Rattle.fl_script.specs.parts.Reads.{Reads};
 ghost use Rattle.fl_script.specs.Grammar.{HoldsList, IsListVerb, Spells};
 
 use crate::job::job_from_words;
@@ -49,10 +50,10 @@ fn union_line(rest: &[&str]) -> Option<Line>
     Some(Line::Union { first, second })
 }
 
-/// The line that a node's number, a verb and the words after it spell, or none where they spell no line.
+// The line that a node's number, a verb and the words after it spell, or none where they spell no line.
 fn node_line(alloc: Global, n: &str, verb: &str, rest: &[&str]) -> Result<Option<Line>, AllocError>
     requires { n.now ≢ codes "union" }
-    ensures ok { IfOk result (λ r. Finds r (λ l. Spells l (n.now ∷ verb.now ∷ map (λ w. w.now) rest.now))) }
+    ensures ok { Reads result (λ l. Spells l (n.now ∷ verb.now ∷ map (λ w. w.now) rest.now)) }
     ensures err { OnErr result (IsListVerb verb.now) }
 {
     match verb {
@@ -73,7 +74,7 @@ fn node_line(alloc: Global, n: &str, verb: &str, rest: &[&str]) -> Result<Option
 /// The line that the words spell, or none where they spell no line. Takes memory for a list alone: of tags,
 /// of capabilities or of bytes.
 pub(crate) fn line_from_words(alloc: Global, words: &[&str]) -> Result<Option<Line>, AllocError>
-    ensures ok { IfOk result (λ r. Finds r (λ l. Spells l (map (λ w. w.now) words.now))) }
+    ensures ok { Reads result (λ l. Spells l (map (λ w. w.now) words.now)) }
     ensures err { OnErr result (HoldsList (map (λ w. w.now) words.now)) }
 {
     match words {

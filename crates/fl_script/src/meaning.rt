@@ -1,10 +1,10 @@
 //! What the words of a line say.
 ghost use Rattle.std.specs.Prelude.{◌≡◌, List, IfOk, OnErr, MatchOption, Option, ℕ, map};
 ghost use Rattle.std.specs.List.{All};
-ghost use Rattle.fl_labels.specs.Found.{Finds};
-ghost use Rattle.fl_script.specs.Cut.{Word};
-ghost use Rattle.fl_script.specs.Meaning.{IsWord, EndsInAlias, CanBeNamed, WantsMemory};
-ghost use Rattle.fl_script.specs.Reading.{act_makes, makes, SpellsReplaced, Says};
+ghost use Rattle.fl_script.specs.parts.Reads.{Reads};
+ghost use Rattle.fl_aliases.specs.Words.{Word};
+ghost use Rattle.fl_script.specs.parts.Meaning.{IsWord, EndsInAlias, CanBeNamed, WantsMemory};
+ghost use Rattle.fl_script.specs.Reading.{act_makes, makes, SpellsReplaced, WordsSay};
 ghost use Rattle.fl_script.specs.declared.line.Line.{Line};
 
 use crate::cut::cut_words;
@@ -15,21 +15,21 @@ use fl_aliases::table::Aliases;
 use fl_jobs::job::{Act, Job, Mail};
 use std::alloc::{AllocError, Global};
 
-/// A line, and the alias that is to stand for what it makes, if one is.
+// A line, and the alias that is to stand for what it makes, if one is.
 #[derive(Drop)]
 pub(crate) struct Meaning {
     pub line: Line,
     pub alias: Option<Alias>,
 }
 
-/// Words that end in `as $x`: those before, and the alias.
+// Words that end in `as $x`: those before, and the alias.
 #[derive(Clone, Copy)]
 struct Named<'a, 'b> {
     front: &'a [&'b str],
     alias: Alias,
 }
 
-/// Whether an alias can stand for what the act makes.
+// Whether an alias can stand for what the act makes.
 fn act_makes(act: &Act) -> bool
     ensures { result ≡ act_makes act.now }
 {
@@ -39,7 +39,7 @@ fn act_makes(act: &Act) -> bool
     )
 }
 
-/// Whether an alias can stand for what the line makes.
+// Whether an alias can stand for what the line makes.
 fn makes(line: &Line) -> bool
     ensures { result ≡ makes line.now }
 {
@@ -53,9 +53,12 @@ fn makes(line: &Line) -> bool
     }
 }
 
-/// The words before `as $x`, and the alias. `None` where words do not end so.
+// The words before `as $x`, and the alias. `None` where words do not end so.
 fn split_alias<'a, 'b>(words: &'a [&'b str]) -> Option<Named<'a, 'b>>
-    ensures { MatchOption result ((front : List Word) (alias : List ℕ) → EndsInAlias front alias (map (λ w. w.now) words.now) → ⊥) (λ named. EndsInAlias (map (λ w. w.now) named.front.now) named.alias (map (λ w. w.now) words.now)) }
+    ensures { let said = map (λ w. w.now) words.now in
+        MatchOption result
+        ((front : List Word) (alias : List ℕ) → EndsInAlias front alias said → ⊥)
+        (λ named. EndsInAlias (map (λ w. w.now) named.front.now) named.alias said) }
 {
     let [front @ .., word, last] = words else {
         return None;
@@ -67,15 +70,15 @@ fn split_alias<'a, 'b>(words: &'a [&'b str]) -> Option<Named<'a, 'b>>
     Some(Named { front, alias })
 }
 
-/// The line that the words spell with each alias in them replaced, or none. Takes memory for the replaced words, where an
-/// alias is in one, and for what a line of such words takes.
+// The line that the words spell with each alias in them replaced, or none. Takes memory for the replaced words, where an
+// alias is in one, and for what a line of such words takes.
 fn replaced_line(
     alloc: Global,
     aliases: &Aliases,
     words: &[&str],
 ) -> Result<Option<Line>, AllocError>
     requires { All IsWord (map (λ w. w.now) words.now) }
-    ensures ok { IfOk result (λ r. Finds r (λ line. SpellsReplaced aliases.now line (map (λ w. w.now) words.now))) }
+    ensures ok { Reads result (λ line. SpellsReplaced aliases.now line (map (λ w. w.now) words.now)) }
     ensures err { OnErr result (WantsMemory (map (λ w. w.now) words.now)) }
 {
     if !has_dollars(words) {
@@ -90,11 +93,11 @@ fn replaced_line(
     line_from_words(alloc, replaced.as_slice())
 }
 
-/// The line that the words before `as $x` spell, or none where they spell no line that makes something, or no more aliases can
-/// be set.
+// The line that the words before `as $x` spell, or none where they spell no line that makes something, or no more aliases can
+// be set.
 fn named_line(alloc: Global, aliases: &Aliases, front: &[&str]) -> Result<Option<Line>, AllocError>
     requires { All IsWord (map (λ w. w.now) front.now) }
-    ensures { IfOk result (λ r. Finds r (λ line. CanBeNamed aliases.now line (map (λ w. w.now) front.now))) }
+    ensures { Reads result (λ line. CanBeNamed aliases.now line (map (λ w. w.now) front.now)) }
 {
     if aliases.is_full() {
         return Ok(None);
@@ -115,7 +118,10 @@ pub(crate) fn meaning_of(
     words: &[&str],
 ) -> Result<Option<Meaning>, AllocError>
     requires { All IsWord (map (λ w. w.now) words.now) }
-    ensures ok { IfOk result (λ r. MatchOption r ((line : Line) (alias : Option (List ℕ)) → Says aliases.now line alias (map (λ w. w.now) words.now) → ⊥) (λ meaning. Says aliases.now meaning.line meaning.alias (map (λ w. w.now) words.now))) }
+    ensures ok { let said = map (λ w. w.now) words.now in
+        IfOk result (λ r. MatchOption r
+        ((line : Line) (alias : Option (List ℕ)) → WordsSay aliases.now line alias said → ⊥)
+        (λ meaning. WordsSay aliases.now meaning.line meaning.alias said)) }
     ensures err { OnErr result (WantsMemory (map (λ w. w.now) words.now)) }
 {
     let Some(named) = split_alias(words) else {

@@ -11,7 +11,7 @@ use fl_aliases::table::Aliases;
 use std::alloc::{AllocError, Global};
 
 /// The most bytes of a line that asks for an answer.
-pub const MOST_BYTES: usize = 20000;
+pub const MOST_LINE_BYTES: usize = 20000;
 
 /// What a line says.
 #[derive(Debug, Drop)]
@@ -24,14 +24,14 @@ pub enum Reading {
     Means { line: Line, alias: Option<Alias> },
 }
 
-/// The first byte that is no space.
+// The first byte that is no space.
 fn first_byte(bytes: &[u8]) -> Option<u8>
     ensures { result ≡ first_mark bytes.now }
 {
     bytes.iter().copied().find(|byte| *byte != b' ')
 }
 
-/// Whether the line is empty or a comment. Looks no further than the first byte that is no space.
+// Whether the line is empty or a comment. Looks no further than the first byte that is no space.
 fn is_quiet(bytes: &[u8]) -> bool
     ensures { IsTrue result ↔ IsQuiet bytes.now }
 {
@@ -43,7 +43,7 @@ fn is_quiet(bytes: &[u8]) -> bool
 
 /// What the bytes of a line, which have no line feed, say where these aliases are set.
 ///
-/// `Quiet` comes first, whatever else the bytes are. `Bad` is a line of more than [`MOST_BYTES`], one that is no UTF-8, and one
+/// `Quiet` comes first, whatever else the bytes are. `Bad` is a line of more than [`MOST_LINE_BYTES`], one that is no UTF-8, and one
 /// whose words, with the aliases in them replaced, are those of no form. A line that makes something may end in `as $x`, with an
 /// alias that is not replaced, where fewer than 1,024 are set; else such a line is `Bad`.
 ///
@@ -56,7 +56,7 @@ pub fn read_line(alloc: Global, aliases: &Aliases, bytes: &[u8]) -> Result<Readi
     if is_quiet(bytes) {
         return Ok(Reading::Quiet);
     }
-    if bytes.len() > MOST_BYTES {
+    if bytes.len() > MOST_LINE_BYTES {
         return Ok(Reading::Bad);
     }
     let Ok(text) = str::from_utf8(bytes) else {

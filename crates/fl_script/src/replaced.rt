@@ -4,8 +4,8 @@ ghost use Rattle.std.specs.Bool.{MatchBool};
 ghost use Rattle.std.specs.List.{All, AllZip};
 ghost use Rattle.std.specs.String.{string_bytes};
 ghost use Rattle.fl_aliases.specs.Expansion.{Expands, ExpandsBehind, NoDollar};
-ghost use Rattle.fl_script.specs.Cut.{Word};
-ghost use Rattle.fl_script.specs.Meaning.{spaced};
+ghost use Rattle.fl_aliases.specs.Words.{Word};
+ghost use Rattle.fl_script.specs.parts.Meaning.{spaced};
 
 use fl_aliases::expand::{expand, has_dollar};
 use fl_aliases::table::Aliases;
@@ -13,7 +13,8 @@ use std::alloc::{AllocError, Global};
 
 /// Whether a `$` stands in one of the words.
 pub(crate) fn has_dollars(words: &[&str]) -> bool
-    ensures { MatchBool result (¬ All NoDollar (map (λ w. w.now) words.now)) (All NoDollar (map (λ w. w.now) words.now)) }
+    ensures { let said = map (λ w. w.now) words.now in
+        MatchBool result (¬ All NoDollar said) (All NoDollar said) }
 {
     for word in words {
         if has_dollar(word) {
@@ -23,9 +24,11 @@ pub(crate) fn has_dollars(words: &[&str]) -> bool
     false
 }
 
-/// Writes a space and the replaced word behind what the buffer holds, and answers whether this could be done.
+// Writes a space and the replaced word behind what the buffer holds, and answers whether this could be done.
 fn push_replaced(aliases: &Aliases, word: &str, buffer: &mut String) -> Result<bool, AllocError>
-    ensures { IfOk result (λ done. MatchBool done (ExpandsBehind aliases.now (32 ∷ word.now) (string_bytes buffer.old) (string_bytes buffer.new)) ((out : List ℕ) → Expands aliases.now word.now out → ⊥)) }
+    ensures { IfOk result (λ done. MatchBool done
+        (ExpandsBehind aliases.now (32 ∷ word.now) (string_bytes buffer.old) (string_bytes buffer.new))
+        ((out : List ℕ) → Expands aliases.now word.now out → ⊥)) }
 {
     buffer.push(' ')?;
     let done = expand(aliases, word, buffer)?;
@@ -39,7 +42,10 @@ pub(crate) fn replaced_text(
     aliases: &Aliases,
     words: &[&str],
 ) -> Result<Option<String>, AllocError>
-    ensures { IfOk result (λ r. MatchOption r ((replaced : List Word) → AllZip (Expands aliases.now) (map (λ w. w.now) words.now) replaced → ⊥) (λ text. Expands aliases.now (spaced (map (λ w. w.now) words.now)) (string_bytes text))) }
+    ensures { let said = map (λ w. w.now) words.now in
+        IfOk result (λ r. MatchOption r
+        ((replaced : List Word) → AllZip (Expands aliases.now) said replaced → ⊥)
+        (λ text. Expands aliases.now (spaced said) (string_bytes text))) }
 {
     let mut text = String::new(alloc);
     for word in words {

@@ -1,6 +1,7 @@
 //! Words of a line: a reader for each form that only lines have.
-ghost use Rattle.std.specs.Prelude.{◌≡◌, IfOk};
+ghost use Rattle.std.specs.Prelude.{◌≡◌};
 ghost use Rattle.fl_labels.specs.Found.{Finds};
+ghost use Rattle.fl_script.specs.parts.Reads.{Reads};
 ghost use Rattle.fl_ops.specs.PolicyText.{policy_text};
 ghost use Rattle.fl_script.specs.Words.{AreGivenWords, AreMessageWords, IsBytesWord, IsCapsWord, IsLabelWord, IsSecretWord, mode_text, side_text};
 
@@ -56,7 +57,7 @@ pub fn label_from_word(
     alloc: Global,
     word: &str,
 ) -> Result<Option<Result<Label, TooLong>>, AllocError>
-    ensures { IfOk result (λ r. Finds r (λ label. IsLabelWord label word.now)) }
+    ensures { Reads result (λ label. IsLabelWord label word.now) }
 {
     match Label::from_text(alloc, word) {
         Ok(label) => Ok(Some(Ok(label))),
@@ -73,7 +74,7 @@ pub fn labels_from_words(
     secrecy: &str,
     integrity: &str,
 ) -> Result<Option<GivenLabels>, AllocError>
-    ensures { IfOk result (λ r. Finds r (λ given. AreGivenWords given secrecy.now integrity.now)) }
+    ensures { Reads result (λ given. AreGivenWords given secrecy.now integrity.now) }
 {
     let Some(secrecy) = label_from_word(alloc, secrecy)? else {
         return Ok(None);
@@ -87,7 +88,7 @@ pub fn labels_from_words(
 /// The capabilities that a word lists in braces, in any order, or none where it is no such list. An error says that there
 /// was not enough memory for them. Linear in a list that rises, and else with a sort.
 pub fn caps_from_word(alloc: Global, word: &str) -> Result<Option<CapSet>, AllocError>
-    ensures { IfOk result (λ r. Finds r (λ caps. IsCapsWord caps word.now)) }
+    ensures { Reads result (λ caps. IsCapsWord caps word.now) }
 {
     match CapSet::from_text(alloc, word) {
         Ok(caps) => Ok(Some(caps)),
@@ -111,7 +112,7 @@ pub fn secret_from_word(word: &str) -> Option<Secret>
 /// The bytes that a word spells: no bytes of `none`, and else those of its hexadecimal digits, two of each byte, in either
 /// case. None of a word that is neither. An error says that there was not enough memory for them. Linear.
 pub fn bytes_from_word(alloc: Global, word: &str) -> Result<Option<Payload>, AllocError>
-    ensures { IfOk result (λ r. Finds r (λ bytes. IsBytesWord bytes word.now)) }
+    ensures { Reads result (λ bytes. IsBytesWord bytes word.now) }
 {
     if word == "none" {
         return Ok(Some(Payload::from_vec(Vec::new(alloc))));
@@ -131,7 +132,7 @@ pub fn message_from_words(
     caps: &str,
     bytes: &str,
 ) -> Result<Option<Message>, AllocError>
-    ensures { IfOk result (λ r. Finds r (λ message. AreMessageWords message caps.now bytes.now)) }
+    ensures { Reads result (λ message. AreMessageWords message caps.now bytes.now) }
 {
     let Some(caps) = caps_from_word(alloc, caps)? else {
         return Ok(None);

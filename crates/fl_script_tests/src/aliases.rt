@@ -1,11 +1,12 @@
-// Lines in which aliases are replaced, and lines that name what they make.
+//! Lines in which aliases are replaced, and lines that name what they make.
+use crate::said::{others, said_with};
 use fl_aliases::alias::Alias;
 use fl_aliases::table::Aliases;
 use fl_aliases::target::Target;
 use fl_labels::endpoint::Endpoint;
 use fl_labels::name::Name;
 use fl_labels::pid::Pid;
-use fl_script::reading::{Reading, read_line};
+use std::alloc::{AllocError, Global};
 use std::test::Fail;
 
 const FIRST: Target = Target::Process(Pid {
@@ -21,7 +22,7 @@ const GROUP: Target = Target::Operation(Name { node: 25, seq: 36 });
 const ENDPOINT: Target = Target::Endpoint(Endpoint { number: 64 });
 
 /// Sets the alias that the word spells, if there is room for it.
-fn set(aliases: &mut Aliases, word: &str, target: Target) -> Result<(), Fail> {
+fn set(aliases: &mut Aliases, word: &str, target: Target) -> Result<(), AllocError> {
     let Some(alias) = Alias::from_word(word) else {
         return Ok(());
     };
@@ -33,8 +34,8 @@ fn set(aliases: &mut Aliases, word: &str, target: Target) -> Result<(), Fail> {
     Ok(())
 }
 
-fn sample(rt: &HostRuntime) -> Result<Aliases, Fail> {
-    let mut aliases = Aliases::new(rt.alloc());
+fn sample(alloc: Global) -> Result<Aliases, AllocError> {
+    let mut aliases = Aliases::new(alloc);
     set(&mut aliases, "$a", FIRST)?;
     set(&mut aliases, "$t", TAG)?;
     set(&mut aliases, "$g", GROUP)?;
@@ -42,179 +43,204 @@ fn sample(rt: &HostRuntime) -> Result<Aliases, Fail> {
     Ok(aliases)
 }
 
-/// Whether the line says the same as one with no alias in it, and names what it makes by this word, if by one.
-fn says(rt: &HostRuntime, line: &str, plain: &str, word: Option<&str>) -> Result<bool, Fail> {
-    let aliases = sample(rt)?;
-    let Reading::Means { line, alias } = read_line(rt.alloc(), &aliases, line.as_bytes())? else {
-        return Ok(false);
-    };
-    let Reading::Means { line: meant, .. } = read_line(rt.alloc(), &aliases, plain.as_bytes())?
-    else {
-        return Ok(false);
-    };
-    let read = format!(in rt.alloc(); "{line:?}")?;
-    let meant = format!(in rt.alloc(); "{meant:?}")?;
-    Ok(read.as_str() == meant.as_str() && alias == word.and_then(|word| Alias::from_word(word)))
+/// What the line says, where the sample is set and it is of a job.
+fn job_said(alloc: Global, line: &str) -> Result<Option<String>, AllocError> {
+    let text = said_with(alloc, &sample(alloc)?, line.as_bytes())?;
+    Ok(if text.starts_with("Job") {
+        Some(text)
+    } else {
+        None
+    })
 }
 
-fn is_bad(rt: &HostRuntime, aliases: &Aliases, line: &str) -> Result<bool, Fail> {
-    Ok(matches!(
-        read_line(rt.alloc(), aliases, line.as_bytes())?,
-        Reading::Bad
-    ))
+/// Whether both lines say the same job.
+fn agree(alloc: Global, line: &str, plain: &str) -> Result<bool, AllocError> {
+    match (job_said(alloc, line)?, job_said(alloc, plain)?) {
+        (Some(text), Some(meant)) => Ok(text.as_str() == meant.as_str()),
+        _ => Ok(false),
+    }
 }
+
+/// Of rows that are a line, ` => `, and one with no alias in it that says the same: those that do not hold.
+fn wrong_pairs(alloc: Global, rows: &str) -> Result<String, AllocError> {
+    let mut wrong = String::new(alloc);
+    for row in rows.split('\n') {
+        let (line, plain) = row.split_once(" => ").unwrap_or((row, ""));
+        if !agree(alloc, line, plain)? {
+            wrong.push_str(row)?;
+            wrong.push('\n')?;
+        }
+    }
+    Ok(wrong)
+}
+
+const REPLACED: &str = "\
+1 proc => 1 proc
+1 group $a => 1 group p1.2.3
+  1   tag  $a  read  => 1 tag p1.2.3 read
+1 put $a $g +$t => 1 put p1.2.3 25.36 +1.4
+1 ask $a ^$g => 1 ask p1.2.3 ^25.36
+1 label $a S {$t,$g,1.9} => 1 label p1.2.3 S {1.4,25.36,1.9}
+1 member *$g -$t => 1 member *25.36 -1.4
+1 put $a 1$t +$t => 1 put p1.2.3 11.4 +1.4
+1 open $a rw {$t} {$g} => 1 open p1.2.3 rw {1.4} {25.36}
+1 tune $a $e {$t} {$g} => 1 tune p1.2.3 e64 {1.4} {25.36}
+1 close $a $e => 1 close p1.2.3 e64
+1 send $a $e $a e1 {+$t,*$g} none => 1 send p1.2.3 e64 p1.2.3 e1 {+1.4,*25.36} none
+1 send $a e1 $a $e {+$t,*$g} 0$e => 1 send p1.2.3 e1 p1.2.3 e64 {+1.4,*25.36} 0e64
+1 take $a => 1 take p1.2.3";
 
 #[test]
 fn aliases_are_replaced(rt: HostRuntime) -> Result<(), Fail> {
-    for (line, plain) in [
-        ("1 proc", "1 proc"),
-        ("1 group $a", "1 group p1.2.3"),
-        ("  1   tag  $a  read ", "1 tag p1.2.3 read"),
-        ("1 put $a $g +$t", "1 put p1.2.3 25.36 +1.4"),
-        ("1 ask $a ^$g", "1 ask p1.2.3 ^25.36"),
-        (
-            "1 label $a S {$t,$g,1.9}",
-            "1 label p1.2.3 S {1.4,25.36,1.9}",
-        ),
-        ("1 member *$g -$t", "1 member *25.36 -1.4"),
-        ("1 put $a 1$t +$t", "1 put p1.2.3 11.4 +1.4"),
-        ("1 open $a rw {$t} {$g}", "1 open p1.2.3 rw {1.4} {25.36}"),
-        ("1 tune $a $e {$t} {$g}", "1 tune p1.2.3 e64 {1.4} {25.36}"),
-        ("1 close $a $e", "1 close p1.2.3 e64"),
-        (
-            "1 send $a $e $a e1 {+$t,*$g} none",
-            "1 send p1.2.3 e64 p1.2.3 e1 {+1.4,*25.36} none",
-        ),
-        (
-            "1 send $a e1 $a $e {+$t,*$g} 0$e",
-            "1 send p1.2.3 e1 p1.2.3 e64 {+1.4,*25.36} 0e64",
-        ),
-        ("1 take $a", "1 take p1.2.3"),
-    ] {
-        assert!(rt; says(&rt, line, plain, None)?, "{line}");
-    }
+    assert_eq!(rt; wrong_pairs(rt.alloc(), REPLACED)?.as_str(), "");
     Ok(())
+}
+
+/// Whether the line says the same as one with no alias in it, and names what it makes by this word.
+fn names(alloc: Global, line: &str, plain: &str, word: &str) -> Result<bool, AllocError> {
+    match (job_said(alloc, line)?, job_said(alloc, plain)?) {
+        (Some(text), Some(meant)) => {
+            let named = format!(in alloc; "{meant} as {word}")?;
+            Ok(text.as_str() == named.as_str())
+        }
+        _ => Ok(false),
+    }
 }
 
 #[test]
 fn lines_that_make_are_named(rt: HostRuntime) -> Result<(), Fail> {
-    assert!(rt; says(&rt, "1 proc as $x", "1 proc", Some("$x"))?);
+    let alloc = rt.alloc();
+    assert!(rt; names(alloc, "1 proc as $x", "1 proc", "$x")?);
+    assert!(rt; names(alloc, "1 tag $a export as $t", "1 tag p1.2.3 export", "$t")?);
     assert!(rt;
-        says(
-            &rt,
-            "1 tag $a export as $t",
-            "1 tag p1.2.3 export",
-            Some("$t")
-        )?
-    );
-    assert!(rt;
-        says(
-            &rt,
+        names(
+            alloc,
             "1 group p1.2.3  as   $new_1 ",
             "1 group p1.2.3",
-            Some("$new_1")
+            "$new_1"
         )?
     );
     assert!(rt;
-        says(
-            &rt,
+        names(
+            alloc,
             "1 put $a $g *$t as $a",
             "1 put p1.2.3 25.36 *1.4",
-            Some("$a")
+            "$a"
         )?
     );
     assert!(rt;
-        says(
-            &rt,
+        names(
+            alloc,
             "1 open $a w {} {$t} as $e",
             "1 open p1.2.3 w {} {1.4}",
-            Some("$e")
+            "$e"
         )?
     );
-    assert!(rt; !says(&rt, "1 proc as $x", "1 proc", None)?);
     Ok(())
 }
 
+const NO_LINES: &str = "\
+1 ask $a *$g as $x
+1 label $a S {$t} as $x
+1 member *$g -$t as $x
+1 text as $x
+1 tune $a $e {} {} as $x
+1 close $a $e as $x
+1 send $a $e $a $e {} none as $x
+1 take $a as $x
+1 deliver 1 as $x
+1 open $a $t {} {}
+1 tune $a $t {} {}
+1 close $a $a
+1 deliver $e
+union 1 2 as $x
+1 proc as x
+1 proc as $
+1 proc as $X
+1 proc as $abcdefghijklmnopqrstuvwxyz_012345
+1 proc as
+1 proc $x
+1 proc As $x
+1 proc as $x as $y
+1 proc as $x # note
+as $x
+$x
+1 group $x
+1 group $$a
+1 group $
+1 group $ab
+1 group $A
+1 group $abcdefghijklmnopqrstuvwxyz_012345
+1 group $a$a
+1 group $t
+1 ask $a $g
+1 label $a S {+$t,-$t}
+a b c d e f g as $x";
+
 #[test]
 fn other_lines_are_bad(rt: HostRuntime) -> Result<(), Fail> {
-    let aliases = sample(&rt)?;
-    for line in [
-        "1 ask $a *$g as $x",
-        "1 label $a S {$t} as $x",
-        "1 member *$g -$t as $x",
-        "1 text as $x",
-        "1 tune $a $e {} {} as $x",
-        "1 close $a $e as $x",
-        "1 send $a $e $a $e {} none as $x",
-        "1 take $a as $x",
-        "1 deliver 1 as $x",
-        "1 open $a $t {} {}",
-        "1 tune $a $t {} {}",
-        "1 close $a $a",
-        "1 deliver $e",
-        "union 1 2 as $x",
-        "1 proc as x",
-        "1 proc as $",
-        "1 proc as $X",
-        "1 proc as $abcdefghijklmnopqrstuvwxyz_012345",
-        "1 proc as",
-        "1 proc $x",
-        "1 proc As $x",
-        "1 proc as $x as $y",
-        "1 proc as $x # note",
-        "as $x",
-        "$x",
-        "1 group $x",
-        "1 group $$a",
-        "1 group $",
-        "1 group $ab",
-        "1 group $A",
-        "1 group $abcdefghijklmnopqrstuvwxyz_012345",
-        "1 group $a$a",
-        "1 group $t",
-        "1 ask $a $g",
-        "1 label $a S {+$t,-$t}",
-        "a b c d e f g as $x",
-    ] {
-        assert!(rt; is_bad(&rt, &aliases, line)?, "{line}");
-    }
+    assert_eq!(rt;
+        others(rt.alloc(), &sample(rt.alloc())?, "bad", NO_LINES)?.as_str(),
+        ""
+    );
     Ok(())
 }
 
 #[test]
 fn comments_with_aliases_are_quiet(rt: HostRuntime) -> Result<(), Fail> {
-    let aliases = sample(&rt)?;
-    for line in ["# $x", "  #$", "#1 proc as $x"] {
-        assert!(rt;
-            matches!(
-                read_line(rt.alloc(), &aliases, line.as_bytes())?,
-                Reading::Quiet
-            ),
-            "{line}"
-        );
-    }
+    let lines = "# $x\n  #$\n#1 proc as $x";
+    assert_eq!(rt;
+        others(rt.alloc(), &sample(rt.alloc())?, "quiet", lines)?.as_str(),
+        ""
+    );
     Ok(())
 }
 
 #[test]
 fn the_last_setting_holds(rt: HostRuntime) -> Result<(), Fail> {
-    let mut aliases = sample(&rt)?;
+    let mut aliases = sample(rt.alloc())?;
     set(&mut aliases, "$a", TAG)?;
-    assert!(rt; is_bad(&rt, &aliases, "1 group $a")?);
-    assert!(rt; !is_bad(&rt, &aliases, "1 member *$a +$a")?);
+    assert_eq!(rt;
+        others(rt.alloc(), &aliases, "bad", "1 group $a")?.as_str(),
+        ""
+    );
+    let meaning =
+        "Job { node: 1, job: Member(Use(Name { node: 1, seq: 4 }), Plus(Name { node: 1, seq: 4 })) }";
+    assert_eq!(rt;
+        others(rt.alloc(), &aliases, meaning, "1 member *$a +$a")?.as_str(),
+        ""
+    );
     Ok(())
+}
+
+/// Sets 1,024 aliases, and counts before how many of them a line could name what it makes.
+fn fill(alloc: Global, aliases: &mut Aliases) -> Result<u32, AllocError> {
+    let mut named = 0u32;
+    for serial in 1..=1024u32 {
+        if said_with(alloc, aliases, b"1 proc as $x")?.as_str()
+            == "Job { node: 1, job: Proc } as $x"
+        {
+            named = named.saturating_add(1);
+        }
+        let word = format!(in alloc; "$x_{serial}")?;
+        set(aliases, &word, TAG)?;
+    }
+    Ok(named)
 }
 
 #[test]
 fn a_full_table_takes_no_more(rt: HostRuntime) -> Result<(), Fail> {
     let mut aliases = Aliases::new(rt.alloc());
-    for serial in 1..=1024u32 {
-        let word = format!(in rt.alloc(); "$x_{serial}")?;
-        assert!(rt; !is_bad(&rt, &aliases, "1 proc as $x")?);
-        set(&mut aliases, &word, TAG)?;
-    }
-    assert!(rt; is_bad(&rt, &aliases, "1 proc as $x")?);
-    assert!(rt; is_bad(&rt, &aliases, "1 proc as $x_1")?);
-    assert!(rt; !is_bad(&rt, &aliases, "1 member *$x_1024 +$x_1")?);
+    assert_eq!(rt; fill(rt.alloc(), &mut aliases)?, 1024);
+    assert_eq!(rt;
+        others(rt.alloc(), &aliases, "bad", "1 proc as $x\n1 proc as $x_1")?.as_str(),
+        ""
+    );
+    let meaning =
+        "Job { node: 1, job: Member(Use(Name { node: 1, seq: 4 }), Plus(Name { node: 1, seq: 4 })) }";
+    assert_eq!(rt;
+        others(rt.alloc(), &aliases, meaning, "1 member *$x_1024 +$x_1")?.as_str(),
+        ""
+    );
     Ok(())
 }

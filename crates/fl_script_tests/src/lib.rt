@@ -7,3 +7,7 @@ mod aliases;
 mod lines;
 #[cfg(test)]
 mod mailbox;
+#[cfg(test)]
+mod said;
+#[cfg(test)]
+mod secrets;

@@ -2,5 +2,3 @@
 #![tactic(auto)]
 
 pub mod sink;
-#[cfg(test)]
-mod tests;

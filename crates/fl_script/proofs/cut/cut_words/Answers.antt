@@ -2,7 +2,7 @@ use Rattle.std.proofs.Common.{◌≡◌, ◌==◌, not, true, lit<, length, ap, 
 use Rattle.std.proofs.lemmas.List.{length-map}
 use Rattle.std.proofs.lemmas.Iterator.Splits.{YieldsList-from_str_split}
 use Rattle.std.proofs.lemmas.Iterator.Consumers.{YieldsList-turn, YieldsList-end, YieldsList-so_far}
-use Rattle.fl_script.specs.Cut.{full_pieces}
+use Rattle.fl_aliases.specs.Words.{full_pieces}
 use Rattle.fl_script.proofs.CutLemmas.{more_pieces}
 use Rattle.fl_script.proofs.cut.cut_words.Goals as goal
 

@@ -1,5 +1,5 @@
 use Rattle.std.proofs.Common.{◌≡◌, map}
-use Rattle.fl_script.specs.Cut.{full_pieces}
+use Rattle.fl_aliases.specs.Words.{full_pieces}
 use Rattle.fl_script.proofs.cut.cut_words.Given as goal
 
 abbrev pub invariant-loop-piece : goal.invariant-loop-piece

@@ -1,6 +1,6 @@
 use Rattle.std.proofs.Common.{◌≡◌, ◌<◌, length, rules, subst}
 use Rattle.fl_aliases.specs.Expansion.{NoDollar}
-use Rattle.fl_script.specs.Cut.{words_of}
+use Rattle.fl_aliases.specs.Words.{words_of}
 use Rattle.fl_script.specs.Reading.{IsAsking, IsQuiet}
 use Rattle.fl_script.proofs.ReplacedWords.{err_always}
 use Rattle.fl_script.proofs.Saying.{many_say_none, clean_says, clean_none, bytes_want}

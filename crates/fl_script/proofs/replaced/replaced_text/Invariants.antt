@@ -1,7 +1,7 @@
 use Rattle.std.proofs.Common.{map, take}
 use Rattle.std.specs.String.{string_bytes}
 use Rattle.fl_aliases.specs.Expansion.{Expands}
-use Rattle.fl_script.specs.Meaning.{spaced}
+use Rattle.fl_script.specs.parts.Meaning.{spaced}
 use Rattle.fl_script.proofs.replaced.replaced_text.Given as goal
 
 -- the words before this one are replaced

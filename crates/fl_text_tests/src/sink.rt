@@ -1,5 +1,5 @@
 //! Tests of the sink.
-use crate::sink::{Sink, WriteFault};
+use fl_sink::sink::{Sink, WriteFault};
 use std::io::{Result, Write};
 use std::test::Fail;
 

@@ -1,6 +1,6 @@
-// Tests of secrets.
-use crate::job::{Act, Order};
-use crate::secret::Secret;
+//! Tests of secrets.
+use fl_jobs::job::{Act, Order};
+use fl_jobs::secret::Secret;
 use fl_labels::cap::Cap;
 use fl_labels::name::Name;
 use std::test::Fail;
