@@ -24,7 +24,8 @@ pub(crate) fn drop_cap<V: View>(
     owned: &mut CapSet,
     cap: Cap,
 ) -> Result<Outcome, Refusal>
-    ensures drops { Drops (Listed (V.list view.old)) (sets_of labels.entry) endpoints.now owned.old cap result owned.new }
+    ensures drops { Drops (Listed (V.list view.old)) (sets_of labels.entry) endpoints.now owned.old cap
+        result owned.new }
     ensures same { V.list view.new ≡ V.list view.old }
 {
     if !owned.contains(cap) {

@@ -21,7 +21,8 @@ impl<'a, V: View> Has for Held<'a, V> {
     ghost effective = { λ h. AtHand (Listed (V.list h.view.now)) h.caps.now };
 
     // the same reference to a view of the same list, and the same holder
-    ghost keeps = { λ a b. (b.view.ghost_name ≡ a.view.ghost_name) × ((V.list b.view.now ≡ V.list a.view.now) × (b.caps.now ≡ a.caps.now)) };
+    ghost keeps = { λ a b. (b.view.ghost_name ≡ a.view.ghost_name)
+        × ((V.list b.view.now ≡ V.list a.view.now) × (b.caps.now ≡ a.caps.now)) };
 
     fn has(&mut self, cap: Cap) -> bool {
         self.caps.contains(cap) || self.view.global(cap)

@@ -34,7 +34,8 @@ fn open<V: View>(
     given: GivenLabels,
 ) -> Result<Outcome, Refusal>
     ensures mails { let registry = Listed (V.list view.old) in
-        (pid : Pid) → Mails registry owned.now pid (sets_of process.entry) mailbox.old (Open mode given) result mailbox.new }
+        (pid : Pid) → Mails registry owned.now pid (sets_of process.entry) mailbox.old
+        (Open mode given) result mailbox.new }
     ensures same { V.list view.new ≡ V.list view.old }
 {
     let Some(labels) = given.labels() else {
@@ -63,7 +64,8 @@ fn tune<V: View>(
     given: GivenLabels,
 ) -> Result<Outcome, Refusal>
     ensures mails { let registry = Listed (V.list view.old) in
-        (pid : Pid) → Mails registry owned.now pid (sets_of process.entry) mailbox.old (Tune endpoint given) result mailbox.new }
+        (pid : Pid) → Mails registry owned.now pid (sets_of process.entry) mailbox.old
+        (Tune endpoint given) result mailbox.new }
     ensures same { V.list view.new ≡ V.list view.old }
 {
     let Some(labels) = given.labels() else {
@@ -138,7 +140,8 @@ fn send<V: View>(
     message: Message,
 ) -> Result<Outcome, Refusal>
     ensures mails { let registry = Listed (V.list view.old) in
-        (process : Labels) → Mails registry owned.now route.sender process mailbox.now (Send route.from route.receiver route.to message) result mailbox.now }
+        (process : Labels) → Mails registry owned.now route.sender process mailbox.now
+        (Send route.from route.receiver route.to message) result mailbox.now }
     ensures same { V.list view.new ≡ V.list view.old }
 {
     let Some(opened) = mailbox.endpoints.get(route.from) else {

@@ -49,7 +49,8 @@ pub trait View {
 
     /// The least login of this name, as its capability and the digest of its secret, or none. Takes no memory.
     fn login(&mut self, name: Name) -> Option<(Cap, Digest)>
-        ensures answer { MatchOption result (HasNoLogin (Listed (list self.old)) name) (λ l. IsFirstLogin (Listed (list self.old)) name l.0 l.1) }
+        ensures answer { MatchOption result (HasNoLogin (Listed (list self.old)) name)
+            (λ l. IsFirstLogin (Listed (list self.old)) name l.0 l.1) }
         ensures same { list self.new ≡ list self.old };
 }
 
