@@ -14,8 +14,7 @@ use fl_rules::labels::LabelsRef;
 use std::alloc::Global;
 
 /// Takes the capability away, where it is owned, and each endpoint of its owner, who has these labels, stays safe.
-/// Takes no
-/// memory where no endpoint is open.
+/// Takes no memory where no endpoint is open.
 pub(crate) fn drop_cap<V: View>(
     alloc: Global,
     view: &mut V,
