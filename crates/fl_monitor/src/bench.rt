@@ -47,9 +47,8 @@ impl Model for Bench {
 }
 
 impl Bench {
-    /// A bench with no process, as one of `stride` benches at this boot of the node: its processes get the serials
-    /// `index`,
-    /// `index + stride` and so on, so that no two benches give the same. Takes no memory.
+    /// A bench with no process, as one of `stride` benches at this boot of the node: its processes get the
+    /// serials `index`, `index + stride` and so on, so that no two benches give the same. Takes no memory.
     pub fn new(alloc: Global, node: u16, boot: u32, index: u32, stride: u32) -> Self
         requires node_known { 0 < node }
         requires boot_known { 0 < boot }
@@ -113,9 +112,8 @@ impl Bench {
         }
     }
 
-    /// Does a job under the view's registry, or says why not and leaves the bench as it was. The reasons, in the
-    /// order in
-    /// which they are looked for:
+    /// Does a job under the view's registry, or says why not and leaves the bench as it was. The reasons, in
+    /// the order in which they are looked for:
     ///
     /// - `NoProcess`: who asks, or is to receive a message, does not stand here.
     /// - `Busy`: an operation of that process is under way: it was ordered, and neither finished nor cancelled.
@@ -123,33 +121,29 @@ impl Bench {
     /// - `EndpointsFull`: the process has 64 endpoints.
     /// - `NoEndpoint`: the endpoint is not open.
     /// - `NotWritable`, `NotReadable`: it is not for sending from, or not for receiving at.
-    /// - `MissingCap`: the least capability that the job takes and that is not in effect for who asks. The change of
-    ///   a label
-    ///   takes one for each tag that it gains or loses, a put the right to grow the group, and the capability itself,
-    ///   a new login
-    ///   its capability, a birth what the child is to own, and a message what it brings.
+    /// - `MissingCap`: the least capability that the job takes and that is not in effect for who asks. The
+    ///   change of a label takes one for each tag that it gains or loses, a put the right to grow the group,
+    ///   and the capability itself, a new login its capability, a birth what the child is to own, and a
+    ///   message what it brings.
     /// - `NotOwned`: the capability that is to be dropped is not owned.
-    /// - `UnsafeEndpoint`: the least endpoint that would not be safe, with its least tag that may not be both added
-    ///   and removed: the
-    ///   one that is opened or tuned, and of all of them where a label changes or a capability is dropped.
+    /// - `UnsafeEndpoint`: the least endpoint that would not be safe, with its least tag that may not be both
+    ///   added and removed: the one that is opened or tuned, and of all of them where a label changes or a
+    ///   capability is dropped.
     /// - `NoLogin` and `WrongSecret`: there is no login of the name, or the least one has another secret.
-    /// - `Secrecy`: the least tag of the secrecy that who lets bytes out may not both add and remove, or that a
-    ///   message has and the
-    ///   receiver's endpoint has not.
+    /// - `Secrecy`: the least tag of the secrecy that who lets bytes out may not both add and remove, or that
+    ///   a message has and the receiver's endpoint has not.
     /// - `Integrity`: the least tag of integrity that the receiver's endpoint has and a message has not.
     /// - `InboxFull`: 256 messages wait for the receiver.
     /// - `NamesSpent`: the next process would get a serial above 4,294,967,295.
-    /// - `Memory`: there was not enough for a new process, for an order, for the change of a label, for an entry, for
-    ///   a new endpoint, a
-    ///   packet or a message that comes, or to search for a capability that is neither owned nor everybody's.
+    /// - `Memory`: there was not enough for a new process, for an order, for the change of a label, for an
+    ///   entry, for a new endpoint, a packet or a message that comes, or to search for a capability that is
+    ///   neither owned nor everybody's.
     ///
-    /// An order becomes the body of an operation and its maker, whose operation is then under way, to be finished or
-    /// cancelled:
-    /// there is room for what it gives. The change of a label, a birth, an emission, an endpoint and a message look
-    /// at each tag or
-    /// capability that they take, and where what is at hand does not do ask the view once for all that is in effect,
-    /// and look again;
-    /// any other job asks the view two questions at most. A message that comes looks along the labels of both ends.
+    /// An order becomes the body of an operation and its maker, whose operation is then under way, to be
+    /// finished or cancelled: there is room for what it gives. The change of a label, a birth, an emission,
+    /// an endpoint and a message look at each tag or capability that they take, and where what is at hand
+    /// does not do ask the view once for all that is in effect, and look again; any other job asks the view
+    /// two questions at most. A message that comes looks along the labels of both ends.
     pub fn job<V: View>(
         &mut self,
         alloc: Global,
@@ -167,20 +161,17 @@ impl Bench {
         }
     }
 
-    /// Ends the operation of its maker that is under way, and gives what it gives: of a tag, to add and to remove it;
-    /// of a
-    /// group, to use and to grow it; of a put or a login, nothing. Where no operation of that process is under way,
-    /// or it does
-    /// not stand here, nothing changes. Takes no memory.
+    /// Ends the operation of its maker that is under way, and gives what it gives: of a tag, to add and to
+    /// remove it; of a group, to use and to grow it; of a put or a login, nothing. Where no operation of that
+    /// process is under way, or it does not stand here, nothing changes. Takes no memory.
     pub fn finish(&mut self, pid: Pid, op: &Op)
         ensures { self.new ≡ finished self.old pid op.now }
     {
         self.processes.finish(pid, op)
     }
 
-    /// Ends the operation of the process that is under way, and gives nothing: the bench is as before the order.
-    /// Where there is
-    /// none, nothing changes. Takes no memory.
+    /// Ends the operation of the process that is under way, and gives nothing: the bench is as before the
+    /// order. Where there is none, nothing changes. Takes no memory.
     pub fn cancel(&mut self, pid: Pid)
         ensures { self.new ≡ cancelled self.old pid }
     {

@@ -20,17 +20,15 @@ pub trait View {
     // the operations
     ghost list: { Self → List Op };
 
-    /// Whether the owner of these capabilities has this one in effect. An error says that there was not enough memory
-    /// for a
-    /// search: none for a capability that is owned, or everybody's.
+    /// Whether the owner of these capabilities has this one in effect. An error says that there was not
+    /// enough memory for a search: none for a capability that is owned, or everybody's.
     fn effective(&mut self, alloc: Global, owned: &CapSet, cap: Cap) -> Result<bool, AllocError>
         ensures answer { IfOk result (λ yes. Tells yes (InEffect (Listed (list self.old)) (In owned.now) cap)) }
         ensures err { OnErr result ((¬ In owned.now cap) × (¬ IsGlobal (Listed (list self.old)) cap)) }
         ensures same { list self.new ≡ list self.old };
 
-    /// Whether the capability is reached from the root. An error says that there was not enough memory for a search:
-    /// none for
-    /// the root itself.
+    /// Whether the capability is reached from the root. An error says that there was not enough memory for a
+    /// search: none for the root itself.
     fn reaches(&mut self, alloc: Global, root: Cap, cap: Cap) -> Result<bool, AllocError>
         ensures answer { IfOk result (λ yes. Tells yes (Reach (Listed (list self.old)) (From root) cap)) }
         ensures err { OnErr result (root ≢ cap) }
