@@ -1,17 +1,10 @@
--- Texts joined by commas, and cut at them again.
+-- Texts cut at their commas.
 use Rattle.std.proofs.Common.{◌≡◌, ◌≢◌, ℕ, ◌<◌, zero, suc, Option, Some, None, IfNone, IfSome, MatchOption, Bor, drop, List, [], ◌∷◌, ◌++◌, length, get_or, map, sym, ap, subst, refl, ◌∙◌, arith}
 use Rattle.std.specs.List.{join_with_byte, slice_split}
-use Rattle.std.proofs.lemmas.List.Splits.{slice_split_none, slice_split_at}
 use Rattle.fl_labels.specs.Words.{is_comma, NoComma}
+use Rattle.fl_labels.specs.laws.OneReading.{cut_joined}
 
 module _ {K : Type 0} (text : K → List ℕ) (plain : (x : K) → NoComma (text x)) where
-  -- what is joined by commas is cut into the same parts
-  pub cut_joined : (x : K) (xs : List K) → slice_split is_comma (join_with_byte 44 (map text (x ∷ xs))) ≡ map text (x ∷ xs)
-  cut_joined x [] = slice_split_none is_comma (text x) (plain x)
-  cut_joined x (y ∷ ys) =
-      slice_split_at is_comma (text x) 44 (join_with_byte 44 (map text (y ∷ ys))) (plain x) refl
-      ∙ ap (λ ps. text x ∷ ps) (cut_joined y ys)
-
   -- each part is an item's text
   part_at : (xs : List K) (k : ℕ) (part : List ℕ) → k < length (map text xs) → (x : K) × (get_or (map text xs) k part ≡ text x)
   part_at [] k part h = absurd (omega arith)
@@ -23,7 +16,7 @@ module _ {K : Type 0} (text : K → List ℕ) (plain : (x : K) → NoComma (text
   no_items bs [] k part o some e at none is = some (ap length e)
   no_items bs (x ∷ xs) k part (Some y) some e at none is = absurd (cc)
   no_items bs (x ∷ xs) k part None some e at none is =
-      let parts : slice_split is_comma bs ≡ map text (x ∷ xs) = ap (slice_split is_comma) e ∙ cut_joined x xs in
+      let parts : slice_split is_comma bs ≡ map text (x ∷ xs) = ap (slice_split is_comma) e ∙ cut_joined text plain x xs in
       let spelled = part_at (x ∷ xs) k part (subst (λ ps. k < length ps) parts at.0) in
       none spelled.0 (at.1 ∙ ap (λ ps. get_or ps k part) parts ∙ spelled.1)
 

@@ -1,10 +1,6 @@
 pub mod Unions
-pub mod Rising
-pub mod SortedVec
 pub mod Written
 pub mod Numbers
 pub mod Cut
-pub mod OneReading
-pub mod Searches
 pub mod Walk
 pub mod Arrange

@@ -11,7 +11,7 @@ use Rattle.std.proofs.lemmas.Map.Keys.{Less-from_sorted}
 use Rattle.std.proofs.lemmas.Map.Steps.{list_any_congr}
 use Rattle.fl_labels.specs.SetBy.{of_list, contains-of_list, In}
 use Rattle.fl_labels.specs.Found.{Found}
-use Rattle.fl_labels.proofs.Rising.{missed_by_search, turned, turned_back}
+use Rattle.fl_labels.specs.laws.Rising.{missed_by_search, turned, turned_back}
 
 -- the walk is at i in xs and at j in ys: what it passed of xs is in ys, and what it passed of ys is below the rest of xs
 pub record Passed {K : Type 0} (R : K → K → Ordering) (xs ys : List K) (i j : ℕ) : Type 0 where

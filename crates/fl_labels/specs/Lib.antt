@@ -15,3 +15,4 @@ pub mod ItemText
 pub mod Arranged
 pub mod Error
 pub mod parts
+pub mod laws

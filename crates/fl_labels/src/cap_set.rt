@@ -1,5 +1,5 @@
 //! Sets of capabilities.
-ghost use Rattle.std.specs.Prelude.{◌≡◌, IfOk, IfErr, OnOk, OnErr, IsErrOf, IsTrue, ◌↔◌, not};
+ghost use Rattle.std.specs.Prelude.{◌≡◌, IfOk, IfErr, OnOk, OnErr, IsErrOf, IsTrue, ◌↔◌, not, false};
 ghost use Rattle.fl_labels.specs.Cap.{cap_cmp};
 ghost use Rattle.fl_labels.specs.Found.{Found};
 ghost use Rattle.fl_labels.specs.Text.{cap_text};
@@ -126,12 +126,13 @@ impl CapSet {
         &self.caps
     }
 
-    /// Adds a capability, and answers whether it is new. Fails only where there is not enough memory, and then leaves the set.
-    /// Moves the capabilities above it.
+    /// Adds a capability, and answers whether it is new. Fails only of a new one for which there is not enough memory, and then
+    /// leaves the set. Moves the capabilities above it.
     pub fn insert(&mut self, cap: Cap) -> Result<bool, AllocError>
         ensures ok { OnOk result (self.new ≡ set.insert self.old cap) }
         ensures new { IfOk result (λ new. new ≡ not (set.contains self.old cap)) }
         ensures err { OnErr result (self.new ≡ self.old) }
+        ensures absent { OnErr result (set.contains self.old cap ≡ false) }
     {
         match self.caps.binary_search(&cap) {
             Ok(_) => Ok(false),

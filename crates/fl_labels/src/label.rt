@@ -137,14 +137,16 @@ impl Label {
         &self.tags
     }
 
-    /// Adds a tag, and answers whether it is new. `TooLong` of a new tag where there are 256, `Memory`; either leaves the label.
-    /// Moves the tags above it.
+    /// Adds a tag, and answers whether it is new. `TooLong` of a new tag where there are 256, `Memory` of a new one where there are
+    /// fewer; either leaves the label. Moves the tags above it.
     pub fn insert(&mut self, tag: Name) -> Result<bool, SetError>
         ensures ok { OnOk result (self.new ≡ set.insert self.old tag) }
         ensures new { IfOk result (λ new. new ≡ not (set.contains self.old tag)) }
         ensures short { OnOk result (set.len self.new ≤ 256) }
         ensures too_long { IsErrOf result SetError.TooLong
             → (set.contains self.old tag ≡ false) × (set.len self.old ≡ 256) }
+        ensures memory { IsErrOf result SetError.Memory
+            → (set.contains self.old tag ≡ false) × (set.len self.old < 256) }
         ensures never_bad { IsErrOf result SetError.BadText → ⊥ }
         ensures err { OnErr result (self.new ≡ self.old) }
     {

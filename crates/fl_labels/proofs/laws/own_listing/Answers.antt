@@ -1,7 +1,7 @@
 use Rattle.fl_labels.specs.NameOrder.{name_total, name_exact}
 use Rattle.fl_labels.specs.CapOrder.{cap_total, cap_exact}
 use Rattle.fl_labels.specs.Text.{name_text, cap_text}
-use Rattle.fl_labels.proofs.OneReading.{own_text}
+use Rattle.fl_labels.specs.laws.OneReading.{own_text}
 use Rattle.fl_labels.proofs.laws.own_listing.Goals as goal
 
 pub returns-clause-labels : goal.returns-clause-labels

@@ -1,6 +1,6 @@
 use Rattle.std.proofs.Common.{refl}
 use Rattle.fl_labels.specs.CapOrder.{cap_total, cap_exact}
-use Rattle.fl_labels.proofs.SortedVec.{inserted, kept_insert}
+use Rattle.fl_labels.specs.laws.SortedVec.{inserted, kept_insert}
 use Rattle.fl_labels.proofs.roomy.put.Goals as goal
 
 pub returns-in-Ok-clause-rises : goal.returns-in-Ok-clause-rises

@@ -1,7 +1,7 @@
 use Rattle.std.proofs.Common.{rules}
 use Rattle.std.specs.Ordering.{is_lt}
 use Rattle.std.proofs.lemmas.List.Sorted.{answers_always}
-use Rattle.fl_labels.proofs.Rising.{rises_answer}
+use Rattle.fl_labels.specs.laws.Rising.{rises_answer}
 use Rattle.fl_labels.proofs.sorted.rises.Goals as goal
 
 pub returns : goal.returns

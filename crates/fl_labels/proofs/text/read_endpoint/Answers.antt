@@ -1,6 +1,6 @@
 use Rattle.std.proofs.Common.{sym, ap, ◌∙◌, drop, None, Some, lit<, arith}
 use Rattle.std.proofs.lemmas.Str.Pattern.{strip_prefix_char}
-use Rattle.fl_labels.proofs.OneReading.{same_number}
+use Rattle.fl_labels.specs.laws.OneReading.{same_number}
 use Rattle.fl_labels.proofs.text.read_endpoint.Goals as goal
 
 pub returns-in_err-strip_prefix : goal.returns-in_err-strip_prefix

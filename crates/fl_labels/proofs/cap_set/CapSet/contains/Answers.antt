@@ -1,6 +1,6 @@
 use Rattle.std.proofs.Common.{sym, ◌∙◌}
 use Rattle.fl_labels.specs.CapOrder.{cap_total, cap_exact}
-use Rattle.fl_labels.proofs.SortedVec.{answers}
+use Rattle.fl_labels.specs.laws.SortedVec.{answers}
 use Rattle.fl_labels.proofs.cap_set.CapSet.contains.Goals as goal
 
 pub returns : goal.returns

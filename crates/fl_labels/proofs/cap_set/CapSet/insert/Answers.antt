@@ -1,6 +1,6 @@
-use Rattle.std.proofs.Common.{sym, ap, not, Ok, Err}
+use Rattle.std.proofs.Common.{sym, ap, not, Result, Ok, Err, OnErr}
 use Rattle.fl_labels.specs.CapOrder.{cap_total, cap_exact}
-use Rattle.fl_labels.proofs.SortedVec.{answers, inserted, kept_insert}
+use Rattle.fl_labels.specs.laws.SortedVec.{answers, inserted, kept_insert}
 use Rattle.fl_labels.proofs.cap_set.CapSet.insert.Goals as goal
 
 pub invariant_of-self-in-Err : goal.invariant_of-self-in-Err
@@ -23,3 +23,11 @@ returns-in_ok-insert-in-Err-clause-ok c =
 pub returns-in_ok-insert-in-Err-clause-new : goal.returns-in_ok-insert-in-Err-clause-new
 returns-in_ok-insert-in-Err-clause-new c =
     ap not (sym (answers cap_total cap_exact _ _ c.self.invariant c.self.view_is _ c.deref.ensures.value c.args.cap (Err c.in-Err.place) c.in-Err.ensures.bound c.in-Err.ensures.position))
+
+on_err : {A E P : Type 0} (r : Result A E) → P → OnErr r P
+on_err (Ok x) p = tt
+on_err (Err e) p = p
+
+pub returns-in_err-insert-in-Err-clause-absent : goal.returns-in_err-insert-in-Err-clause-absent
+returns-in_err-insert-in-Err-clause-absent c =
+    on_err _ (answers cap_total cap_exact _ _ c.self.invariant c.self.view_is _ c.deref.ensures.value c.args.cap (Err c.in-Err.place) c.in-Err.ensures.bound c.in-Err.ensures.position)

@@ -1,6 +1,6 @@
 use Rattle.std.proofs.Common.{sym, Ok, Err}
 use Rattle.fl_labels.specs.CapOrder.{cap_total, cap_exact}
-use Rattle.fl_labels.proofs.SortedVec.{answers, removed, kept_remove}
+use Rattle.fl_labels.specs.laws.SortedVec.{answers, removed, kept_remove}
 use Rattle.fl_labels.proofs.cap_set.CapSet.remove.Goals as goal
 
 pub invariant_of-self : goal.invariant_of-self

@@ -1,7 +1,7 @@
 use Rattle.std.proofs.Common.{refl, arith}
 use Rattle.fl_labels.specs.NameOrder.{name_total, name_exact}
 use Rattle.fl_labels.proofs.Arrange.{arranged_set}
-use Rattle.fl_labels.proofs.SortedVec.{len_listed, short_listed}
+use Rattle.fl_labels.specs.laws.SortedVec.{len_listed, short_listed}
 use Rattle.fl_labels.proofs.label.Label.from_vec.Goals as goal
 
 pub returns-then-len-gt-MOST_TAGS-clause-too_long : goal.returns-then-len-gt-MOST_TAGS-clause-too_long

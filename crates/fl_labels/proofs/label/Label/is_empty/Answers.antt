@@ -1,5 +1,5 @@
 use Rattle.fl_labels.specs.NameOrder.{name_total, name_exact}
-use Rattle.fl_labels.proofs.SortedVec.{len_listed, empty_test}
+use Rattle.fl_labels.specs.laws.SortedVec.{len_listed, empty_test}
 use Rattle.fl_labels.proofs.label.Label.is_empty.Goals as goal
 
 pub returns : goal.returns

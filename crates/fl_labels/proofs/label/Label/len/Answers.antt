@@ -1,6 +1,6 @@
 use Rattle.std.proofs.Common.{sym, ◌∙◌}
 use Rattle.fl_labels.specs.NameOrder.{name_total, name_exact}
-use Rattle.fl_labels.proofs.SortedVec.{len_listed}
+use Rattle.fl_labels.specs.laws.SortedVec.{len_listed}
 use Rattle.fl_labels.proofs.label.Label.len.Goals as goal
 
 pub returns-clause-count : goal.returns-clause-count

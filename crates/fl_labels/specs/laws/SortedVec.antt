@@ -11,7 +11,7 @@ use Rattle.std.specs.List.{insert, remove, All}
 use Rattle.std.specs.List.Sorted.{IsStrictlySortedBy, IsBinarySearchResult, IsSearchInRange}
 use Rattle.fl_labels.specs.SetBy.{SetBy, contains, of_list, members, len, members-of_list, len-members, contains-of_list}
 use Rattle.fl_labels.specs.SetBy as set
-use Rattle.fl_labels.proofs.Rising.{search_answers, searchable, rising_insert, rising_remove, of_list-insert, of_list-remove, insert_member, remove_other}
+use Rattle.fl_labels.specs.laws.Rising.{search_answers, searchable, rising_insert, rising_remove, of_list-insert, of_list-remove, insert_member, remove_other}
 
 -- a set after one change: its items still rise, and they are the set that is wanted
 pub record Lists {K : Type 0} (R : K → K → Ordering) (xs : List K) (s : SetBy R) : Type 0 where

@@ -26,7 +26,6 @@ use Rattle.std.specs.Ordering.{nat_cmp, ordering_then}
 use Rattle.fl_labels.specs.Text.{name_text, cap_sign, cap_text, pid_text, endpoint_text, braces}
 use Rattle.fl_labels.specs.Words.{is_comma, NoComma, IsListing}
 use Rattle.fl_labels.specs.ItemText.{own}
-use Rattle.fl_labels.proofs.Cut.{cut_joined}
 
 is_dot : ℕ → Bool
 is_dot b = eqb b 46
@@ -110,6 +109,14 @@ name_text_some n = omega (arith, length-append (decimal n.node) (46 ∷ decimal 
 
 pub cap_text_some : (c : Cap) → 0 < length (cap_text c)
 cap_text_some c = omega arith
+
+-- what is joined by commas is cut into the same parts
+pub cut_joined : {K : Type 0} (text : K → List ℕ) → ((x : K) → NoComma (text x)) → (x : K) (xs : List K)
+    → slice_split is_comma (join_with_byte 44 (map text (x ∷ xs))) ≡ map text (x ∷ xs)
+cut_joined text plain x [] = slice_split_none is_comma (text x) (plain x)
+cut_joined text plain x (y ∷ ys) =
+    slice_split_at is_comma (text x) 44 (join_with_byte 44 (map text (y ∷ ys))) (plain x) refl
+    ∙ ap (λ ps. text x ∷ ps) (cut_joined text plain y ys)
 
 init : List ℕ → List ℕ
 init [] = []
