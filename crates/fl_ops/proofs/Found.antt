@@ -1,9 +1,9 @@
 -- What the readers of names and operations owe where they find one.
-use Rattle.std.proofs.Common.{None, nat_le, slice_index, ◌≡◌, ◌≢◌, ℕ, ◌+◌, ◌-◌, ◌*◌, ◌<◌, ◌≤◌, true, Bool, ◌&&◌, List, [], ◌∷◌, ◌++◌, length, get_or, take, drop, sym, ap, subst, refl, ◌∙◌, arith, length-drop, length-append, get_or-drop}
+use Rattle.std.proofs.Common.{None, slice_index, ◌≡◌, ◌≢◌, ℕ, ◌+◌, ◌-◌, ◌*◌, ◌<◌, ◌≤◌, true, List, [], ◌∷◌, ◌++◌, length, get_or, take, drop, sym, ap, subst, refl, ◌∙◌, arith, length-drop, get_or-drop}
 use Rattle.std.proofs.lemmas.List.{drop-drop, take-append-drop}
 use Rattle.std.specs.Int.{w16, w32, to_be_bytes, from_be_bytes}
 use Rattle.std.proofs.lemmas.Nat.{be_bytes_2, be_bytes_4}
-use Rattle.std.proofs.lemmas.Bool.{le-leb, lt-ltb, and_parts, leb-true, false≢true}
+use Rattle.std.proofs.lemmas.Bool.{le-leb, lt-ltb}
 use Rattle.fl_labels.specs.declared.name.Name.{Name}
 use Rattle.fl_ops.specs.declared.op.Body.{Body}
 use Rattle.fl_ops.specs.Bytes.{name_bytes, kind_byte, body_bytes, op_bytes}

@@ -1,5 +1,3 @@
-pub mod Logins
-pub mod Reaching
 pub mod Found
 pub mod OneSpelling
 pub mod BytesOrder

@@ -5,3 +5,4 @@ pub mod OpLaws
 pub mod Registry
 pub mod Logins
 pub mod PolicyText
+pub mod laws

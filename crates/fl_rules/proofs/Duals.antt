@@ -1,21 +1,15 @@
 -- Searches for a tag that may not be both added and removed.
-use Rattle.std.proofs.Common.{◌≡◌, ◌↔◌, List, Option, Some, None, MatchOption}
+use Rattle.std.proofs.Common.{◌≡◌, List, Option, Some, None, MatchOption}
 use Rattle.std.specs.Prelude.{⊤}
 use Rattle.fl_labels.specs.declared.name.Name.{Name}
-use Rattle.fl_labels.specs.declared.cap.Cap.{Cap}
-use Rattle.fl_labels.specs.declared.cap.Cap.TheVariants.{Plus, Minus}
 use Rattle.fl_labels.specs.Name.{name_cmp}
 use Rattle.fl_labels.specs.NameOrder.{name_total, name_exact}
 use Rattle.fl_labels.specs.SetBy.{SetBy, In, members}
 use Rattle.fl_labels.specs.Found.{Found, FoundAs, Within, IsLeastOutside}
 use Rattle.fl_labels.specs.parts.First.{IsFirst}
-use Rattle.fl_labels.proofs.Searches.{found_as, searched_set}
+use Rattle.fl_labels.specs.laws.Searches.{found_as, searched_set}
 use Rattle.fl_rules.specs.Safety.{SafeEmission}
 use Rattle.fl_labels.specs.Caps.{Caps, Dual}
-
-pub dual_same : {E F : Caps} → ((cap : Cap) → E cap ↔ F cap) → (tag : Name) → Dual E tag ↔ Dual F tag
-dual_same same tag =
-    (λ d. ((same (Plus tag)).0 d.0, (same (Minus tag)).0 d.1), λ d. ((same (Plus tag)).1 d.0, (same (Minus tag)).1 d.1))
 
 -- what a search finds, said of each of its answers
 pub tag_match : (P Q : Name → Type 0) (r : Option Name) → FoundAs name_cmp P Q r

@@ -1,21 +1,20 @@
 -- What the searches of an endpoint find.
-use Rattle.std.proofs.Common.{◌≡◌, ◌↔◌, ◌⊎◌, inl, inr, List, sym, subst, ◌∙◌, Option, Some, None, MatchOption}
-use Rattle.std.proofs.lemmas.Bool.{false≢true}
+use Rattle.std.proofs.Common.{◌≡◌, ◌↔◌, ◌⊎◌, List, sym, subst, ◌∙◌, Option, Some, None, MatchOption}
 use Rattle.fl_labels.specs.declared.name.Name.{Name}
 use Rattle.fl_labels.specs.declared.cap.Cap.{Cap}
 use Rattle.fl_labels.specs.Name.{name_cmp}
 use Rattle.fl_labels.specs.NameOrder.{name_total, name_exact}
 use Rattle.fl_labels.specs.SetBy.{SetBy, IsMissing, members, contains-members}
-use Rattle.fl_labels.specs.Found.{Found, Within, IsLeastOutside}
+use Rattle.fl_labels.specs.Found.{Found, IsLeastOutside}
 use Rattle.fl_labels.specs.parts.First.{lesser_of}
-use Rattle.fl_labels.proofs.Searches.{found_as, both_found}
+use Rattle.fl_labels.specs.laws.Searches.{found_as, both_found}
 use Rattle.fl_rules.specs.declared.endpoint.Mode.{Mode}
-use Rattle.fl_rules.specs.declared.endpoint.Mode.TheVariants.{Read, Write, Both}
 use Rattle.fl_labels.specs.Caps.{Caps, Dual}
 use Rattle.fl_rules.specs.declared.labels.Labels.{Labels}
 use Rattle.fl_rules.specs.Endpoint.{Crosses, SafeEndpoint}
+use Rattle.fl_rules.specs.laws.Endpoints.{crosses_safe}
 use Rattle.fl_rules.specs.parts.Walk.{OnlyIn}
-use Rattle.fl_rules.proofs.Duals.{dual_same}
+use Rattle.fl_labels.specs.laws.Duals.{dual_same}
 
 -- what one list of members has alone, its label has alone
 pub missing_found : (D : Name → Type 0) (s t : SetBy name_cmp) (xs ys : List Name) (r : Option Name) → xs ≡ members s
@@ -35,14 +34,8 @@ either_found {E} {F} {P} {Q} a b c same e p q =
     let again : Found name_cmp Q (Dual E) b = found_as b (λ x h. h) (λ x h. h) (λ x d. (dual_same same x).0 d) (λ x d. (dual_same same x).1 d) q in
     subst (Found name_cmp (λ t. P t ⊎ Q t) (Dual E)) (sym e) (both_found name_total name_exact a b p again)
 
-safe_by : (E : Caps) (mode : Mode) (process endpoint : Labels) → Within (Crosses mode process endpoint) (Dual E)
-    → SafeEndpoint E mode process endpoint
-safe_by E Read process endpoint all = record { read = λ _. all; write = λ e. absurd (false≢true e) }
-safe_by E Write process endpoint all = record { read = λ e. absurd (false≢true e); write = λ _. all }
-safe_by E Both process endpoint all = record { read = λ _ t h. all t (inl h); write = λ _ t h. all t (inr h) }
-
 pub endpoint_found : (E : Caps) (mode : Mode) (process endpoint : Labels) (r : Option Name)
     → Found name_cmp (Crosses mode process endpoint) (Dual E) r
     → MatchOption r (SafeEndpoint E mode process endpoint) (IsLeastOutside name_cmp (Crosses mode process endpoint) (Dual E))
-endpoint_found E mode process endpoint None found = safe_by E mode process endpoint found.is
+endpoint_found E mode process endpoint None found = crosses_safe mode process endpoint found.is
 endpoint_found E mode process endpoint (Some tag) found = found.is

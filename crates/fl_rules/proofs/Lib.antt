@@ -1,5 +1,4 @@
 pub mod Duals
 pub mod Endpoints
 pub mod Losses
-pub mod Messages
 pub mod Walks

@@ -8,7 +8,7 @@ use Rattle.fl_labels.specs.declared.cap.Cap.TheVariants.{Minus}
 use Rattle.fl_labels.specs.Name.{name_cmp}
 use Rattle.fl_labels.specs.Cap.{cap_name}
 use Rattle.fl_labels.specs.Found.{Found, FoundAs}
-use Rattle.fl_labels.proofs.Searches.{found_as}
+use Rattle.fl_labels.specs.laws.Searches.{found_as}
 use Rattle.fl_rules.specs.parts.Walk.{OnlyIn, Turns, Heads, Leads}
 
 level : (o : Ordering) → is_gt (ordering_then o Equal) ≡ false → is_gt o ≡ false

@@ -4,4 +4,5 @@ pub mod Labels
 pub mod Message
 pub mod Pair
 pub mod Safety
+pub mod laws
 pub mod parts

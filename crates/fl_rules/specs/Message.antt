@@ -1,7 +1,6 @@
 -- When a message from process to process is safe, by their labels and what each has in effect.
-use Rattle.std.specs.Prelude.{◌≡◌, ◌⊎◌, Bool, true}
+use Rattle.std.specs.Prelude.{◌⊎◌}
 use Rattle.fl_labels.specs.declared.name.Name.{Name}
-use Rattle.fl_labels.specs.declared.cap.Cap.{Cap}
 use Rattle.fl_labels.specs.SetBy.{In}
 use Rattle.fl_labels.specs.Caps.{Caps, Dual}
 use Rattle.fl_rules.specs.declared.labels.Labels.{Labels}

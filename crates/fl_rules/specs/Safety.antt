@@ -1,5 +1,4 @@
 -- When a change of a label and an emission are safe, for who has the effective set E.
-use Rattle.fl_labels.specs.declared.cap.Cap.{Cap}
 use Rattle.fl_labels.specs.declared.cap.Cap.TheVariants.{Plus, Minus, Use, Grow}
 use Rattle.fl_labels.specs.Caps.{Caps, Dual}
 use Rattle.fl_labels.specs.Name.{name_cmp}

@@ -1,4 +1,4 @@
-use Rattle.fl_ops.proofs.Logins.{one_first}
+use Rattle.fl_ops.specs.laws.Logins.{one_first}
 use Rattle.fl_ops.specs.Registry.{Listed}
 use Rattle.fl_ops.proofs.laws.law_login.Goals as goal
 

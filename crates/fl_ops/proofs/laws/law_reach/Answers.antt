@@ -1,4 +1,4 @@
-use Rattle.fl_ops.proofs.Reaching.{root_reached, reach_closed, reach_least, reach_more, reach_again}
+use Rattle.fl_ops.specs.laws.Reaching.{root_reached, reach_closed, reach_least, reach_more, reach_again}
 use Rattle.fl_ops.proofs.laws.law_reach.Goals as goal
 
 pub returns-clause-roots : goal.returns-clause-roots

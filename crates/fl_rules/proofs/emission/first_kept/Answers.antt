@@ -1,7 +1,7 @@
 use Rattle.std.specs.Prelude.{⊤}
-use Rattle.fl_labels.proofs.Searches.{passed_by, stopped_at, at_end}
+use Rattle.fl_labels.specs.laws.Searches.{passed_by, stopped_at, at_end}
 use Rattle.fl_labels.specs.Caps.{Dual}
-use Rattle.fl_rules.proofs.Duals.{dual_same}
+use Rattle.fl_labels.specs.laws.Duals.{dual_same}
 use Rattle.fl_rules.proofs.emission.first_kept.Goals as goal
 
 pub returns-then-not-has_both-clause-first : goal.returns-then-not-has_both-clause-first

@@ -1,4 +1,4 @@
-use Rattle.fl_rules.proofs.Duals.{dual_same}
+use Rattle.fl_labels.specs.laws.Duals.{dual_same}
 use Rattle.fl_rules.proofs.Losses.{passed, skipped, stopped, at_end}
 use Rattle.fl_rules.proofs.Walks.{members_up}
 use Rattle.fl_rules.proofs.Endpoints.{missing_found}

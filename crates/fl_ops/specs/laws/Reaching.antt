@@ -5,7 +5,6 @@ use Rattle.fl_labels.specs.declared.cap.Cap.TheVariants.{Plus, Minus, Use, Grow}
 use Rattle.fl_labels.specs.Found.{Within}
 use Rattle.fl_ops.specs.declared.op.Op.{Op}
 use Rattle.fl_ops.specs.Registry.{Chain, here, into, Reach, From, IsClosed, IsGlobal, InEffect}
-use Rattle.fl_labels.specs.Caps.{Dual}
 
 -- one chain goes on where another ends
 pub chain_on : {U : Op → Type 0} {a b c : Cap} → Chain U a b → Chain U b c → Chain U a c
@@ -65,6 +64,3 @@ module _ {U V : Op → Type 0} (more : Within U V) where
     pub eff_more : Within (InEffect U O) (InEffect V P)
     eff_more c (inl h) = inl (reach_more c h)
     eff_more c (inr h) = inr (global_more c h)
-
-pub dual_more : {E F : Cap → Type 0} → Within E F → Within (Dual E) (Dual F)
-dual_more more tag h = (more _ h.0, more _ h.1)

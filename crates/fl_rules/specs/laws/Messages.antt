@@ -1,15 +1,13 @@
--- Messages between safe endpoints.
+-- A message between safe endpoints of a safe pair is safe between their processes.
 use Rattle.std.proofs.Common.{◌≡◌, ◌⊎◌, inl, inr, Bool, true, false, refl}
 use Rattle.fl_labels.specs.declared.name.Name.{Name}
-use Rattle.fl_labels.specs.declared.cap.Cap.{Cap}
-use Rattle.fl_labels.specs.declared.cap.Cap.TheVariants.{Plus, Minus}
 use Rattle.fl_labels.specs.Name.{name_cmp}
 use Rattle.fl_labels.specs.SetBy.{SetBy, In, IsMissing, contains}
 use Rattle.fl_labels.specs.Found.{Within}
-use Rattle.fl_rules.specs.declared.endpoint.Mode.{Mode}
 use Rattle.fl_labels.specs.Caps.{Caps, Dual}
 use Rattle.fl_rules.specs.declared.labels.Labels.{Labels}
 use Rattle.fl_rules.specs.Endpoint.{SafeEndpoint, SafeRead, SafeWrite}
+use Rattle.fl_rules.specs.laws.Endpoints.{endpoint_more}
 use Rattle.fl_rules.specs.Pair.{End, SafePair}
 use Rattle.fl_rules.specs.Message.{SafeMessage}
 
@@ -21,14 +19,6 @@ beside D s t all tag h = go (contains t tag) refl
     go : (b : Bool) → contains t tag ≡ b → In t tag ⊎ D tag
     go true e = inl e
     go false e = inr (all tag (record { here = h; not_there = e }))
-
--- what is safe stays safe for who has more in effect
-pub endpoint_more : {E F : Caps} {mode : Mode} {process endpoint : Labels} → Within E F
-    → SafeEndpoint E mode process endpoint → SafeEndpoint F mode process endpoint
-endpoint_more more safe = record {
-  read = λ e tag h. let d = safe.read e tag h in (more (Plus tag) d.0, more (Minus tag) d.1);
-  write = λ e tag h. let d = safe.write e tag h in (more (Plus tag) d.0, more (Minus tag) d.1);
-}
 
 -- a message between endpoints of a safe pair
 between : (E F : Caps) (p q : Labels) (e f : End) → SafeWrite E p e.labels → SafeRead F q f.labels → SafePair e f
