@@ -22,7 +22,7 @@ use Rattle.fl_ops.specs.declared.op.Body.TheVariants.{MakeTag, MakeGroup, Put, M
 use Rattle.fl_ops.specs.OpOrder.{op_cmp}
 use Rattle.fl_ops.specs.OpLaws.{op_total, op_exact}
 use Rattle.fl_ops.specs.Registry.{Registry, Listed, Puts, Chain, here, into, Reach, From, IsGlobal, InEffect}
-use Rattle.fl_ops.proofs.Reaching.{root_reached, owned_eff, reach_more, global_more}
+use Rattle.fl_ops.specs.laws.Reaching.{root_reached, owned_eff, reach_more, global_more}
 use Rattle.fl_closure.specs.parts.Met.{IsMet}
 use Rattle.fl_closure.specs.parts.Rows.{IsPut}
 use Rattle.fl_closure.specs.parts.Search.{IsSearched}

@@ -6,7 +6,7 @@ use Rattle.fl_labels.specs.declared.cap.Cap.{Cap}
 use Rattle.fl_labels.specs.declared.cap.Cap.TheVariants.{Plus, Minus, Use, Grow}
 use Rattle.fl_ops.specs.declared.op.Op.{Op}
 use Rattle.fl_ops.specs.Registry.{Listed, IsGlobal}
-use Rattle.fl_ops.proofs.Reaching.{global_more}
+use Rattle.fl_ops.specs.laws.Reaching.{global_more}
 use Rattle.std.specs.List.{Contains}
 use Rattle.std.proofs.lemmas.List.Elements.{Contains-append_left, Contains-append_right, Contains-append_cases}
 use Rattle.fl_closure.specs.parts.Globals.{Only, AddsGlobals}

@@ -15,7 +15,7 @@ use Rattle.fl_labels.specs.SetBy as set
 use Rattle.fl_labels.specs.SetBy.{SetBy, In, contains-empty, contains-insert, contains-remove, contains_tied, same_set}
 use Rattle.fl_labels.specs.declared.name.Name.{Name}
 use Rattle.fl_labels.specs.declared.cap.Cap.{Cap}
-use Rattle.fl_labels.proofs.Rising.{insert_member}
+use Rattle.fl_labels.specs.laws.Rising.{insert_member}
 use Rattle.fl_ops.specs.declared.op.Op.{Op}
 use Rattle.fl_ops.specs.declared.op.Body.{Body}
 use Rattle.fl_ops.specs.declared.op.Body.TheVariants.{MakeTag, MakeGroup, Put, MakeLogin}

@@ -13,7 +13,7 @@ use Rattle.fl_labels.specs.declared.cap.Cap.TheVariants.{Plus, Minus, Use, Grow}
 use Rattle.fl_ops.specs.declared.op.Op.{Op}
 use Rattle.fl_ops.specs.OpOrder.{op_cmp}
 use Rattle.fl_ops.specs.Registry.{Registry, Chain, here, into, Reach}
-use Rattle.fl_ops.proofs.Reaching.{chain_on}
+use Rattle.fl_ops.specs.laws.Reaching.{chain_on}
 use Rattle.fl_closure.specs.declared.rows.Rows.{Rows}
 use Rattle.fl_closure.specs.parts.Met.{IsMet}
 use Rattle.std.specs.List.{Contains}

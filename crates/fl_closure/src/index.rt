@@ -1,5 +1,5 @@
 //! The index of who reaches what.
-ghost use Rattle.std.specs.Prelude.{◌≡◌, ◌≢◌, ◌↔◌, Some, MatchOption, IfOk, OnOk, OnErr};
+ghost use Rattle.std.specs.Prelude.{◌≡◌, ◌≢◌, ◌↔◌, Some, MatchOption, IfOk, OnOk, OnErr, false};
 ghost use Rattle.fl_labels.specs.Found.{Tells};
 ghost use Rattle.fl_labels.specs.SetBy as set;
 ghost use Rattle.fl_labels.specs.SetBy.{In};
@@ -72,13 +72,14 @@ impl Index {
         self.ops.first_login(name)
     }
 
-    /// Adds an operation; one that is there already changes nothing. Fails only where there is not enough memory, and then leaves
-    /// the index.
+    /// Adds an operation; one that is there already changes nothing. Fails only of a new one for which there is not enough memory,
+    /// and then leaves the index.
     ///
     /// A search by order, and the operations above it move; of a put also the capabilities above it in its group.
     pub fn absorb(&mut self, op: &Op) -> Result<(), AllocError>
         ensures ok { OnOk result (self.new ≡ set.insert self.old op.now) }
         ensures err { OnErr result (self.new ≡ self.old) }
+        ensures absent { OnErr result (set.contains self.old op.now ≡ false) }
     {
         if !self.ops.add(*op)? {
             return Ok(());
@@ -94,16 +95,20 @@ impl Index {
     }
 
     /// Whether the owner of the one capability reaches the other: it is the same one, or was put into a group of which the owner
-    /// reaches the use. Fails only where there is not enough memory, and never where the two are the same.
+    /// reaches the use. Fails only where there is not enough memory, and only from the use of a group to another capability.
     ///
     /// Looks once at what was put into each group on the way, and ends where that has the capability.
     pub fn reaches(&self, alloc: Global, root: Cap, cap: Cap) -> Result<bool, AllocError>
         ensures ok { IfOk result (λ yes. Tells yes (Reach (In self.now) (From root) cap)) }
         ensures err { OnErr result (root ≢ cap) }
+        ensures uses { OnErr result ((group : Name) × (root ≡ Use group)) }
     {
         if root == cap {
             return Ok(true);
         }
+        let Cap::Use(_) = root else {
+            return Ok(false);
+        };
         let mut met = Met::new(alloc);
         met.meet(root)?;
         self.search(&mut met, Some(cap))
@@ -121,12 +126,13 @@ impl Index {
     }
 
     /// Whether the owner of these capabilities has this one in effect: reaches it, or everybody has it. Fails only where there is
-    /// not enough memory, and never where it is owned or everybody has it.
+    /// not enough memory, and only where the use of a group is owned, this one is not, and not everybody has it.
     ///
     /// Two binary searches; where the use of a group is owned, then as `reaches`, from all that is owned.
     pub fn effective(&self, alloc: Global, owned: &CapSet, cap: Cap) -> Result<bool, AllocError>
         ensures ok { IfOk result (λ yes. Tells yes (InEffect (In self.now) (In owned.now) cap)) }
         ensures err { OnErr result ((¬ In owned.now cap) × (¬ IsGlobal (In self.now) cap)) }
+        ensures uses { OnErr result ((group : Name) × In owned.now (Use group)) }
     {
         if owned.contains(cap) || self.global(cap) {
             return Ok(true);

@@ -1,4 +1,4 @@
-use Rattle.fl_ops.proofs.OneSpelling.{no_fault, op_front}
+use Rattle.fl_ops.specs.laws.OneSpelling.{no_fault, op_front}
 use Rattle.fl_ops.proofs.laws.law_one_spelling.Goals as goal
 
 pub returns-clause-read : goal.returns-clause-read

@@ -1,7 +1,8 @@
 use Rattle.std.proofs.Common.{sym, subst, ◌∙◌}
 use Rattle.fl_labels.specs.declared.cap.Cap.TheVariants.{Use}
 use Rattle.std.specs.List.{Contains}
-use Rattle.fl_closure.proofs.Uses.{told_alone}
+use Rattle.fl_closure.proofs.Putting.{on_err}
+use Rattle.fl_closure.proofs.Uses.{told_alone, use_owned}
 use Rattle.std.proofs.lemmas.Bool.{false≢true}
 use Rattle.fl_closure.proofs.Ending.{told_owned, told_global, told_eff, met_owned, if_ok}
 use Rattle.fl_closure.proofs.index.Index.effective.Goals.{then-contains-via-then-contains, then-contains-via-else-contains+then-global}
@@ -23,3 +24,11 @@ returns-then-not-uses_a_group-clause-ok c =
     told_alone c.args.owned.now c.args.cap
     (λ group h. c.uses_a_group.ensures.fails c.if-not-uses_a_group.true (group, subst (λ l. Contains l (Use group)) (sym c.as_slice-caps.ensures) h))
     (λ o. false≢true (sym c.if-contains.false ∙ c.contains.ensures ∙ o)) (c.global.ensures.fails c.if-global.false)
+
+pub returns-in_err-meet_all-clause-uses : goal.returns-in_err-meet_all-clause-uses
+returns-in_err-meet_all-clause-uses c =
+    on_err _ (use_owned c.args.owned.now _ c.as_slice-caps.ensures (c.uses_a_group.ensures.holds c.if-not-uses_a_group.false))
+
+pub returns-clause-uses : goal.returns-clause-uses
+returns-clause-uses c =
+    on_err _ (use_owned c.args.owned.now _ c.as_slice-caps.ensures (c.uses_a_group.ensures.holds c.if-not-uses_a_group.false))

@@ -1,7 +1,8 @@
 -- What an operation spells has no fault, and is spelled by no other.
 use Rattle.std.proofs.Common.{◌≡◌, ℕ, ◌+◌, ◌≤◌, Bool, true, ◌&&◌, List, [], ◌∷◌, ◌++◌, length, get_or, take, drop, slice_index, nat_lt, nat_le, sym, ap, refl, ◌∙◌, lit≤, append_assoc, arith, length-append, None}
 use Rattle.std.specs.List.{AllByRecursion}
-use Rattle.std.specs.Int.{w16, w32, from_be_bytes}
+use Rattle.std.specs.Int.{w16, w32, to_be_bytes, from_be_bytes}
+use Rattle.std.proofs.lemmas.Nat.{from_be_bytes-to_be_bytes_2, from_be_bytes-to_be_bytes_4}
 use Rattle.std.proofs.lemmas.Bool.{le-leb, lt-ltb}
 use Rattle.std.proofs.lemmas.List.{drop-drop}
 use Rattle.std.proofs.Math.Seq.{drop-append_seam, get_or-append_seam}
@@ -9,15 +10,21 @@ use Rattle.fl_labels.specs.declared.name.Name.{Name}
 use Rattle.fl_labels.specs.declared.cap.Cap.{Cap}
 use Rattle.fl_labels.specs.declared.cap.Cap.TheVariants.{Plus, Minus, Use, Grow}
 use Rattle.fl_labels.specs.Cap.{cap_name, cap_rank}
+use Rattle.fl_labels.specs.NameOrder.{same_name}
 use Rattle.fl_ops.specs.declared.op.Policy.{Policy}
 use Rattle.fl_ops.specs.declared.op.Policy.TheVariants.{Export, Read, Integrity}
 use Rattle.fl_ops.specs.declared.op.Body.{Body}
 use Rattle.fl_ops.specs.declared.op.Body.TheVariants.{MakeTag, MakeGroup, Put, MakeLogin}
 use Rattle.fl_ops.specs.declared.op.Op.{Op}
 use Rattle.fl_ops.specs.Bytes.{name_bytes, cap_bytes, policy_byte, kind_byte, body_bytes, op_bytes}
-use Rattle.fl_ops.specs.OpLaws.{same_digest}
-use Rattle.fl_ops.specs.laws.Spelling.{node_back, seq_back, name_front, cap_front}
+use Rattle.fl_ops.specs.OpLaws.{cap_same, same_digest}
 use Rattle.fl_ops.specs.Grammar.{op_fields, has_byte, has_name, first_fault, op_fault}
+
+node_back : (n : Name) → from_be_bytes w16 (to_be_bytes w16 n.node) ≡ n.node
+node_back n = from_be_bytes-to_be_bytes_2 n.node n.node_in_range.1
+
+seq_back : (n : Name) → from_be_bytes w32 (to_be_bytes w32 n.seq) ≡ n.seq
+seq_back n = from_be_bytes-to_be_bytes_4 n.seq n.seq_in_range.1
 
 -- ---- no fault
 
@@ -93,6 +100,21 @@ no_fault n (MakeLogin c d) rest =
     no_faults (op_fields bs 0) (h.0, (h.1, (h.2, (k.0, (k.1, (whole, tt))))))
 
 -- ---- one operation
+
+-- a name, before whatever follows it
+pub name_front : (n m : Name) (u v : List ℕ) → name_bytes n ++ u ≡ name_bytes m ++ v → (n ≡ m) × (u ≡ v)
+name_front n m u v e = (
+  same_name n m
+      (sym (node_back n) ∙ ap (λ l. from_be_bytes w16 (take 2 l)) e ∙ node_back m)
+      (sym (seq_back n) ∙ ap (λ l. from_be_bytes w32 (take 4 (drop 2 l))) e ∙ seq_back m),
+  ap (drop 6) e,
+)
+
+-- and a capability
+pub cap_front : (a b : Cap) (u v : List ℕ) → cap_bytes a ++ u ≡ cap_bytes b ++ v → (a ≡ b) × (u ≡ v)
+cap_front a b u v e =
+    let rest = name_front (cap_name a) (cap_name b) u v (ap (drop 1) e) in
+    (cap_same a b (ap (λ l. get_or l 0 0) e) rest.0, rest.1)
 
 policy_same : (p q : Policy) → policy_byte p ≡ policy_byte q → p ≡ q
 policy_same Export Export e = refl
