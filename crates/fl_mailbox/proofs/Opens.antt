@@ -12,7 +12,7 @@ use Rattle.fl_labels.specs.declared.endpoint.Endpoint.{Endpoint}
 use Rattle.fl_rules.specs.declared.labels.Labels.{Labels}
 use Rattle.fl_mailbox.specs.Endpoints.{Table, IsOpen, IsLeastFree}
 use Rattle.fl_mailbox.specs.declared.endpoints.OpenEndpoint.{OpenEndpoint}
-use Rattle.fl_mailbox.proofs.Table.{get_held, put_through}
+use Rattle.fl_mailbox.specs.laws.Tables.{get_held, put_through}
 
 pub same_some : {A : Type 0} (x y : A) → Some x ≡ Some y → x ≡ y
 same_some x y e = cc

@@ -13,13 +13,12 @@ use Rattle.fl_labels.specs.Name.{name_cmp}
 use Rattle.fl_labels.specs.declared.cap.Cap.{Cap}
 use Rattle.fl_labels.specs.declared.endpoint.Endpoint.{Endpoint}
 use Rattle.fl_labels.specs.declared.name.Name.{Name}
-use Rattle.fl_labels.proofs.Searches.{found_as}
-use Rattle.fl_rules.specs.declared.endpoint.Mode.{Mode}
-use Rattle.fl_rules.specs.declared.endpoint.Mode.TheVariants.{Read, Write, Both}
+use Rattle.fl_labels.specs.laws.Searches.{found_as}
 use Rattle.fl_rules.specs.declared.labels.Labels.{Labels}
 use Rattle.fl_rules.specs.Endpoint.{Crosses, SafeEndpoint}
+use Rattle.fl_rules.specs.laws.Endpoints.{safe_crosses}
 use Rattle.fl_labels.specs.Caps.{Caps, Dual}
-use Rattle.fl_rules.proofs.Duals.{dual_same}
+use Rattle.fl_labels.specs.laws.Duals.{dual_same}
 use Rattle.fl_mailbox.specs.Endpoints.{Table}
 use Rattle.fl_mailbox.specs.Offenders.{offender_cmp, CrossesAt, DualAt}
 use Rattle.fl_mailbox.specs.declared.endpoints.OpenEndpoint.{OpenEndpoint}
@@ -128,12 +127,6 @@ module _ (E : Caps) (process : Labels) where
       by_case None found = found.is
       by_case (Some x) found = found.is
 
-  crosses_none : {F : Caps} (mode : Mode) (labels : Labels) → SafeEndpoint F mode process labels
-      → Within (Crosses mode process labels) (Dual F)
-  crosses_none Read labels safe = safe.read refl
-  crosses_none Write labels safe = safe.write refl
-  crosses_none Both labels safe = λ tag h. elim h [ inl h ↦ safe.read refl tag h | inr h ↦ safe.write refl tag h ]
-
   pub at_end : (rest : List (Endpoint × OpenEndpoint)) → rest ≡ [] → FirstOf rest None
   at_end rest e = subst (λ l. FirstOf l None) (sym e) refl
 
@@ -142,7 +135,7 @@ module _ (E : Caps) (process : Labels) where
     pub passed_safe : SafeEndpoint F opened.mode process labels → (r : Option Offender) → FirstOf rest r
         → FirstOf entries r
     passed_safe safe r h =
-        let all = crosses_none opened.mode opened.labels (subst (SafeEndpoint F opened.mode process) lent safe) in
+        let all = safe_crosses opened.mode process opened.labels (subst (SafeEndpoint F opened.mode process) lent safe) in
         subst (λ l. FirstOf l r) (sym split) (inr (λ tag crosses. (dual_same same tag).0 (all tag crosses), h))
 
     pub stopped_unsafe : (tag : Name) → IsLeastOutside name_cmp (Crosses opened.mode process labels) (Dual F) tag

@@ -1,4 +1,5 @@
 pub mod Endpoints
 pub mod Mailbox
+pub mod laws
 pub mod Offenders
 pub mod TableLaws

@@ -3,5 +3,6 @@
 
 pub mod endpoints;
 pub mod inbox;
+pub mod laws;
 pub mod mailbox;
 pub mod offender;

@@ -1,5 +1,5 @@
 use Rattle.fl_labels.specs.Endpoint.{endpoint_total, endpoint_exact}
-use Rattle.fl_mailbox.proofs.Table.{one_put}
+use Rattle.fl_mailbox.specs.laws.Tables.{one_put}
 use Rattle.fl_mailbox.proofs.endpoints.Endpoints.insert.Goals as goal
 
 pub returns-clause-ok : goal.returns-clause-ok

@@ -1,7 +1,7 @@
 use Rattle.std.proofs.Common.{sym, ◌∙◌}
 use Rattle.std.proofs.lemmas.Bool.{false≢true}
 use Rattle.fl_labels.specs.Endpoint.{endpoint_total, endpoint_exact}
-use Rattle.fl_mailbox.proofs.Table.{nothing_held, something_held}
+use Rattle.fl_mailbox.specs.laws.Tables.{nothing_held, something_held}
 use Rattle.fl_mailbox.proofs.endpoints.Endpoints.is_empty.Goals as goal
 
 pub returns-clause-none : goal.returns-clause-none

@@ -1,6 +1,6 @@
 use Rattle.std.proofs.Common.{◌∙◌}
 use Rattle.fl_labels.specs.Endpoint.{endpoint_total, endpoint_exact}
-use Rattle.fl_mailbox.proofs.Table.{entries_held}
+use Rattle.fl_mailbox.specs.laws.Tables.{entries_held}
 use Rattle.fl_mailbox.proofs.endpoints.Endpoints.iter.Goals as goal
 
 pub returns : goal.returns

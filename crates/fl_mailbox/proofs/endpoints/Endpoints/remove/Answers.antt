@@ -1,6 +1,6 @@
 use Rattle.std.proofs.Common.{is_some, ap, ◌∙◌}
 use Rattle.fl_labels.specs.Endpoint.{endpoint_total, endpoint_exact}
-use Rattle.fl_mailbox.proofs.Table.{get_held, one_gone}
+use Rattle.fl_mailbox.specs.laws.Tables.{get_held, one_gone}
 use Rattle.fl_mailbox.proofs.endpoints.Endpoints.remove.Goals as goal
 
 pub returns-clause-after : goal.returns-clause-after
