@@ -2,7 +2,7 @@ use Rattle.std.proofs.Common.{sym, ◌∙◌, arith}
 use Rattle.fl_labels.specs.Text.{name_text, cap_text}
 use Rattle.fl_labels.specs.ItemText.{no_comma-name_text, no_comma-cap_text}
 use Rattle.fl_labels.specs.laws.OneReading.{same_number, name_text_injective, name_text_some, cap_text_injective, cap_text_some, pid_text_injective, endpoint_text_injective, same_listing}
-use Rattle.fl_labels.proofs.laws.one_reading.Goals as goal
+use Rattle.fl_labels.proofs.laws.law_one_reading.Goals as goal
 
 pub returns-clause-numbers : goal.returns-clause-numbers
 returns-clause-numbers c = λ m n word p q. same_number m n p.in_range q.in_range (sym p.written ∙ q.written)

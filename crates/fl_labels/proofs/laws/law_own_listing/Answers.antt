@@ -2,7 +2,7 @@ use Rattle.fl_labels.specs.NameOrder.{name_total, name_exact}
 use Rattle.fl_labels.specs.CapOrder.{cap_total, cap_exact}
 use Rattle.fl_labels.specs.Text.{name_text, cap_text}
 use Rattle.fl_labels.specs.laws.OneReading.{own_text}
-use Rattle.fl_labels.proofs.laws.own_listing.Goals as goal
+use Rattle.fl_labels.proofs.laws.law_own_listing.Goals as goal
 
 pub returns-clause-labels : goal.returns-clause-labels
 returns-clause-labels c = own_text name_total name_exact name_text
