@@ -69,6 +69,10 @@ IsLogin U login cap digest = U (login_op login cap digest)
 abbrev pub Listed : List Op → Registry
 Listed ops = λ op. Contains ops op
 
--- what a list of operations leads to from the capabilities that a test tells
-abbrev pub Reached : List Op → (Cap → Bool) → Caps
-Reached ops owned = Reach (Listed ops) (Among owned)
+-- what the operations that a test tells lead to from the capabilities that another tells
+abbrev pub Reached : (Op → Bool) → (Cap → Bool) → Caps
+Reached ops owned = Reach (Among ops) (Among owned)
+
+-- what is in effect for their owner then
+abbrev pub Effective : (Op → Bool) → (Cap → Bool) → Caps
+Effective ops owned = InEffect (Among ops) (Among owned)

@@ -1,8 +1,9 @@
 //! Laws of operations, their bytes and registries.
-ghost use Rattle.std.specs.Prelude.{◌≡◌, ◌++◌, List, ℕ, Bool, None};
+ghost use Rattle.std.specs.Prelude.{◌≡◌, ◌↔◌, ◌++◌, List, ℕ, Bool, IsTrue, Option, None};
 ghost use Rattle.std.specs.Ordering.{nat_cmp, ordering_then};
+ghost use Rattle.std.specs.declared.cmp.Ordering.TheVariants.{Equal};
 ghost use Rattle.std.specs.Cmp.Lexicographic.{slice_cmp};
-ghost use Rattle.fl_labels.specs.Caps.{Among};
+ghost use Rattle.fl_labels.specs.Caps.{Among, Dual};
 ghost use Rattle.fl_labels.specs.declared.cap.Cap.{Cap};
 ghost use Rattle.fl_labels.specs.declared.name.Name.{Name};
 ghost use Rattle.fl_labels.specs.Name.{name_cmp};
@@ -12,13 +13,17 @@ ghost use Rattle.fl_ops.specs.declared.op.Op.{Op};
 ghost use Rattle.fl_ops.specs.Bytes.{op_bytes};
 ghost use Rattle.fl_ops.specs.Grammar.{op_fault};
 ghost use Rattle.fl_ops.specs.OpOrder.{op_cmp};
-ghost use Rattle.fl_ops.specs.Logins.{IsFirstLogin};
-ghost use Rattle.fl_ops.specs.Registry.{Listed, IsClosed, Reach, Reached};
+ghost use Rattle.fl_ops.specs.Logins.{IsFirstLogin, FindsLogin};
+ghost use Rattle.fl_ops.specs.Registry.{Effective, IsClosed, IsGlobal, Reach, Reached};
 
-/// Operations are ordered by name, and then by their bytes.
+use crate::op::Op;
+
+/// Operations are ordered by name, and then by their bytes. Only equal ones tie, and `==` holds of those alone.
 pub fn law_order()
-    ensures { (a b : Op)
+    ensures bytes { (a b : Op)
         → op_cmp a b ≡ ordering_then (name_cmp a.name b.name) (slice_cmp nat_cmp (op_bytes a) (op_bytes b)) }
+    ensures ties { (a b : Op) → (⟦<Op as Ord>⟧.cmp a b ≡ Equal) ↔ (a ≡ b) }
+    ensures equality { (a b : Op) → IsTrue (⟦<Op as PartialEq>⟧.eq a b) ↔ (a ≡ b) }
 {}
 
 /// What an operation spells is read, whatever follows it, and no spelling begins another.
@@ -31,22 +36,38 @@ pub fn law_one_spelling()
 /// What is reached through a registry is the least set that holds what is owned and, with the use of a group, all that the
 /// registry puts into the group. So more operations and more that is owned reach no less, and what is reached reaches no more.
 pub fn law_reach()
-    ensures roots { (ops : List Op) (owned : Cap → Bool)
-        → Within (Among owned) (Reached ops owned) }
-    ensures closed { (ops : List Op) (owned : Cap → Bool)
-        → IsClosed (Listed ops) (Reached ops owned) }
-    ensures least { (ops : List Op) (owned kept : Cap → Bool)
-        → Within (Among owned) (Among kept) → IsClosed (Listed ops) (Among kept)
+    ensures roots { (ops : Op → Bool) (owned : Cap → Bool) → Within (Among owned) (Reached ops owned) }
+    ensures closed { (ops : Op → Bool) (owned : Cap → Bool) → IsClosed (Among ops) (Reached ops owned) }
+    ensures least { (ops : Op → Bool) (owned kept : Cap → Bool)
+        → Within (Among owned) (Among kept) → IsClosed (Among ops) (Among kept)
         → Within (Reached ops owned) (Among kept) }
-    ensures grows { (ops more : List Op) (owned held : Cap → Bool)
-        → Within (Listed ops) (Listed more) → Within (Among owned) (Among held)
+    ensures grows { (ops more : Op → Bool) (owned held : Cap → Bool)
+        → Within (Among ops) (Among more) → Within (Among owned) (Among held)
         → Within (Reached ops owned) (Reached more held) }
-    ensures composes { (ops : List Op) (owned : Cap → Bool)
-        → Within (Reach (Listed ops) (Reached ops owned)) (Reached ops owned) }
+    ensures composes { (ops : Op → Bool) (owned : Cap → Bool)
+        → Within (Reach (Among ops) (Reached ops owned)) (Reached ops owned) }
 {}
 
-/// A name has no more than one first login in a registry: one capability, and one digest.
+/// What everybody has, what is in effect for an owner, and the tags that the owner may both add and remove: more operations and
+/// more that is owned take none of it away.
+pub fn law_effective()
+    ensures global { (ops more : Op → Bool) → Within (Among ops) (Among more)
+        → Within (IsGlobal (Among ops)) (IsGlobal (Among more)) }
+    ensures effective { (ops more : Op → Bool) (owned held : Cap → Bool)
+        → Within (Among ops) (Among more) → Within (Among owned) (Among held)
+        → Within (Effective ops owned) (Effective more held) }
+    ensures dual { (ops more : Op → Bool) (owned held : Cap → Bool)
+        → Within (Among ops) (Among more) → Within (Among owned) (Among held)
+        → Within (Dual (Effective ops owned)) (Dual (Effective more held)) }
+{}
+
+/// A name has no more than one first login in a registry: one capability, and one digest. Registries with the same operations
+/// have the same.
 pub fn law_login()
-    ensures { (ops : List Op) (login : Name) (c d : Cap) (x y : Digest)
-        → IsFirstLogin (Listed ops) login c x → IsFirstLogin (Listed ops) login d y → (c ≡ d) × (x ≡ y) }
+    ensures one { (ops : Op → Bool) (login : Name) (c d : Cap) (x y : Digest)
+        → IsFirstLogin (Among ops) login c x → IsFirstLogin (Among ops) login d y
+        → (c ≡ d) × (x ≡ y) }
+    ensures same { (ops others : Op → Bool) (login : Name) (found : Option (Cap × Digest))
+        → Within (Among ops) (Among others) → Within (Among others) (Among ops)
+        → FindsLogin (Among ops) login found → FindsLogin (Among others) login found }
 {}
