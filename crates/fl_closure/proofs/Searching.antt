@@ -10,7 +10,6 @@ use Rattle.fl_labels.specs.SetBy as set
 use Rattle.fl_labels.specs.SetBy.{SetBy, In, members, contains-empty}
 use Rattle.fl_labels.specs.declared.cap.Cap.{Cap}
 use Rattle.fl_labels.specs.declared.cap.Cap.TheVariants.{Plus, Minus, Use, Grow}
-use Rattle.fl_ops.specs.declared.op.Op.{Op}
 use Rattle.fl_ops.specs.OpOrder.{op_cmp}
 use Rattle.fl_ops.specs.Registry.{Registry, Chain, here, into, Reach}
 use Rattle.fl_ops.specs.laws.Reaching.{chain_on}

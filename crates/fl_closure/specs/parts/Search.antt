@@ -1,7 +1,6 @@
 -- How a search ends.
 use Rattle.std.specs.Prelude.{◌≡◌, ◌↔◌, Bool, true, false, List, Option, Some}
 use Rattle.fl_labels.specs.declared.cap.Cap.{Cap}
-use Rattle.fl_ops.specs.declared.op.Op.{Op}
 use Rattle.fl_ops.specs.Registry.{Registry, Reach}
 use Rattle.std.specs.List.{Contains}
 use Rattle.fl_labels.specs.Caps.{Caps}

@@ -42,5 +42,5 @@ pub returns-in_err-insert-in-Err-clause-memory : goal.returns-in_err-insert-in-E
 returns-in_err-insert-in-Err-clause-memory c = λ _. (
   answers name_total name_exact _ _ c.self.invariant.rises c.self.view_is _ c.deref.ensures.value c.args.tag (Err c.in-Err.place) c.in-Err.ensures.bound c.in-Err.ensures.position,
   let count = len_listed name_total name_exact _ _ c.self.invariant.rises c.self.view_is in
-  omega (arith, count, c.self.invariant.fits, c.self.inside.tags.ok.0, c.len.ensures, c.if-len-eq-MOST_TAGS.false),
+      omega (arith, count, c.self.invariant.fits, c.self.inside.tags.ok.0, c.len.ensures, c.if-len-eq-MOST_TAGS.false),
 )
