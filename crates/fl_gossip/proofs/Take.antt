@@ -1,5 +1,5 @@
 -- What is taken of operations, one after another.
-use Rattle.std.proofs.Common.{◌≡◌, inl, inr, ℕ, ◌+◌, ◌<◌, ◌≤◌, Bool, true, false, not, cond, List, [], ◌∷◌, ◌++◌, length, get_or, take, sym, ap, subst, ◌∙◌, arith, append-nil, Less, Equal}
+use Rattle.std.proofs.Common.{◌≡◌, inl, inr, ℕ, ◌+◌, ◌<◌, ◌≤◌, Bool, true, false, not, cond, List, [], ◌∷◌, ◌++◌, length, get_or, take, refl, sym, ap, subst, ◌∙◌, arith, append-nil, Less, Equal}
 use Rattle.std.specs.Cmp.{tied_itself}
 use Rattle.std.specs.List.{Contains, filter}
 use Rattle.std.specs.List.Sorted.{IsStrictlySortedBy}
@@ -15,6 +15,15 @@ use Rattle.fl_wire.specs.NameOrder.{by_name, by_name_total}
 use Rattle.fl_gossip.specs.declared.fault.GossipFault.{GossipFault}
 use Rattle.fl_gossip.specs.declared.fault.GossipFault.TheVariants.{Impostor, Clash, Memory}
 use Rattle.fl_gossip.specs.Taking.{Offends, AreTaken, IsLeastOffence, Refuses}
+
+-- what `!` says of a test
+pub is_there : (b : Bool) → not b ≡ false → b ≡ true
+is_there true h = refl
+is_there false h = sym h
+
+pub is_lacking : (b : Bool) → not b ≡ true → b ≡ false
+is_lacking true h = sym h
+is_lacking false h = refl
 
 -- the first i operations were looked at
 pub record TakenTo (me : ℕ) (saved : SetBy op_cmp) (ops : List Op) (i : ℕ) (new : List Op) : Type 0 where
