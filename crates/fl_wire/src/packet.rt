@@ -97,9 +97,16 @@ impl Data {
     }
 }
 
-/// What nodes send to each other.
+/// What a process sends to another: the one kind of packet that a bench lets out.
 #[derive(Debug, Drop, PartialEq, Eq)]
 pub enum Packet {
+    /// A message of a process.
+    Data(Data),
+}
+
+/// What nodes send to each other, of any kind.
+#[derive(Debug, Drop, PartialEq, Eq)]
+pub enum AnyPacket {
     /// Operations that the sender has saved.
     Full(Batch),
     /// A window of what the sender has saved.

@@ -6,7 +6,7 @@ ghost use Rattle.fl_labels.specs.SetBy.{len};
 ghost use Rattle.fl_wire.specs.PacketBytes.{pid_bytes, label_bytes, caps_bytes, message_bytes, data_bytes, batch_bytes, span_bytes, intervals_bytes, packet_bytes};
 
 use crate::batch::Batch;
-use crate::packet::{Data, Message, Packet};
+use crate::packet::{AnyPacket, Data, Message};
 use fl_labels::cap_set::CapSet;
 use fl_labels::endpoint::Endpoint;
 use fl_labels::label::Label;
@@ -121,25 +121,25 @@ fn push_intervals(out: &mut Vec<u8>, window: &Intervals) -> Result<(), AllocErro
 }
 
 /// The spelling of a packet. Linear in it. An error says that there was no memory for it.
-pub fn encode(alloc: Global, packet: &Packet) -> Result<Vec<u8>, AllocError>
+pub fn encode(alloc: Global, packet: &AnyPacket) -> Result<Vec<u8>, AllocError>
     ensures { IfOk result (λ bytes. bytes.items ≡ packet_bytes packet.now) }
 {
     let mut bytes = Vec::new(alloc);
     bytes.push(0xf1)?;
     match packet {
-        Packet::Full(batch) => {
+        AnyPacket::Full(batch) => {
             bytes.push(1)?;
             push_batch(&mut bytes, batch)?;
         }
-        Packet::Have(window) => {
+        AnyPacket::Have(window) => {
             bytes.push(2)?;
             push_intervals(&mut bytes, window)?;
         }
-        Packet::Delta(batch) => {
+        AnyPacket::Delta(batch) => {
             bytes.push(3)?;
             push_batch(&mut bytes, batch)?;
         }
-        Packet::Data(sent) => {
+        AnyPacket::Data(sent) => {
             bytes.push(4)?;
             push_data(&mut bytes, sent)?;
         }
