@@ -5,7 +5,7 @@ use fl_labels::label::Label;
 use fl_labels::pid::Pid;
 use fl_wire::fault::ReadFault;
 use fl_wire::laws::law_one_packet;
-use fl_wire::packet::{Data, Message, Packet};
+use fl_wire::packet::{AnyPacket, Data, Message};
 use fl_wire::payload::Payload;
 use fl_wire::reading::decode;
 use fl_wire::writing::encode;
@@ -27,9 +27,9 @@ const CUT: [usize; 39] = [
 // One byte of the vector changed: its place, what it is then, and the place of the fault.
 const CHANGED: [(usize, u8, usize); 23] = [
     (0, 0xf2, 0),
-    (1, 1, 1),
-    (1, 2, 1),
-    (1, 3, 1),
+    (1, 0, 1),
+    (1, 1, 2),
+    (1, 3, 2),
     (1, 5, 1),
     (3, 0, 2),
     (7, 0, 4),
@@ -72,9 +72,17 @@ fn comes_back(alloc: Global, bytes: &[u8]) -> Result<bool, Fail> {
     Ok(written.as_slice() == bytes)
 }
 
+// The message that the bytes spell.
+fn data_of(alloc: Global, bytes: &[u8]) -> Result<Data, Fail> {
+    match decode(alloc, bytes)? {
+        AnyPacket::Data(sent) => Ok(sent),
+        _ => Err("no message")?,
+    }
+}
+
 // The ends, the labels, the capabilities and the number of bytes of a packet.
 fn shown(alloc: Global, bytes: &[u8]) -> Result<String, Fail> {
-    let Packet::Data(sent) = decode(alloc, bytes)?;
+    let sent = data_of(alloc, bytes)?;
     let mut line = format!(in alloc; "{} {}", sent.sender, sent.from)?;
     line.push_str(format!(in alloc; " {} {}", sent.receiver, sent.to)?.as_str())?;
     line.push_str(format!(in alloc; " {} {}", sent.secrecy, sent.integrity)?.as_str())?;
@@ -112,7 +120,7 @@ fn the_vector_is_written(rt: HostRuntime) -> Result<(), Fail> {
         integrity: Label::from_text(alloc, "{}")?,
         message,
     };
-    let bytes = encode(alloc, &Packet::Data(sent))?;
+    let bytes = encode(alloc, &AnyPacket::Data(sent))?;
     assert_eq!(rt; bytes.as_slice(), VECTOR.as_slice());
     Ok(())
 }
@@ -126,7 +134,7 @@ fn the_vector_is_read(rt: HostRuntime) -> Result<(), Fail> {
 
 #[test]
 fn the_vectors_payload_is_read(rt: HostRuntime) -> Result<(), Fail> {
-    let Packet::Data(sent) = decode(rt.alloc(), &VECTOR)?;
+    let sent = data_of(rt.alloc(), &VECTOR)?;
     assert_eq!(rt; sent.message.payload.as_slice(), b"hi".as_slice());
     Ok(())
 }
@@ -276,9 +284,8 @@ fn a_message_has_1024_bytes(rt: HostRuntime) -> Result<(), Fail> {
 
 #[test]
 fn a_message_is_copied(rt: HostRuntime) -> Result<(), Fail> {
-    let packet = decode(rt.alloc(), &VECTOR)?;
-    let Packet::Data(sent) = &packet;
-    let copied = Packet::Data(sent.copy(rt.alloc())?);
+    let sent = data_of(rt.alloc(), &VECTOR)?;
+    let copied = AnyPacket::Data(sent.copy(rt.alloc())?);
     let written = encode(rt.alloc(), &copied)?;
     assert_eq!(rt; written.as_slice(), VECTOR.as_slice());
     law_one_packet();

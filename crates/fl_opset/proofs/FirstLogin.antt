@@ -9,11 +9,8 @@ use Rattle.std.specs.List.Sorted.{IsStrictlySortedBy, IsPartitionPoint, IsPartit
 use Rattle.std.specs.Ordering.{is_gt, is_lt, nat_cmp, ordering_then}
 use Rattle.std.proofs.lemmas.Bool.{cases_lt, false≢true}
 use Rattle.std.proofs.lemmas.Map.Keys.{Less-from_sorted}
-use Rattle.std.proofs.lemmas.List.{get_or_default}
 use Rattle.fl_labels.specs.Name.{name_cmp}
 use Rattle.fl_labels.specs.NameOrder.{name_total, name_exact}
-use Rattle.fl_labels.specs.SetBy.{SetBy, In, of_list}
-use Rattle.fl_labels.proofs.SortedVec.{every_member, item_member}
 use Rattle.fl_labels.specs.declared.cap.Cap.{Cap}
 use Rattle.fl_labels.specs.declared.name.Name.{Name}
 use Rattle.fl_ops.specs.declared.digest.Digest.{Digest}
@@ -147,10 +144,3 @@ module _ (xs : List Op) (up : IsStrictlySortedBy op_cmp xs) (name : Name) where
                 ∙ ap (λ (op : Op). is_gt (op_cmp first op)) (sym h.2)
                 ∙ first_least h.0 (login_op name d other) (login_after d other h) h.1;
           }
-
--- the items of a list are the members of its set
-pub listed_in : (xs : List Op) (s : SetBy op_cmp) → of_list xs ≡ s → (op : Op) → Listed xs op ↔ In s op
-listed_in xs s view op = (
-  λ h. item_member op_total op_exact xs s view op h.0 h.1 h.2,
-  λ h. every_member op_total op_exact (Listed xs) xs s view (λ k d within. (k, within, get_or_default xs k (get_or xs k d) d within)) op h,
-)

@@ -2,5 +2,14 @@ pub mod Partition
 pub mod Names
 pub mod Written
 pub mod MergeLemmas
-pub mod Join
 pub mod FirstLogin
+pub mod Rising
+pub mod Lacks
+pub mod Cuts
+pub mod CutSteps
+pub mod Walk
+pub mod SpanSteps
+pub mod Whole
+pub mod OneCut
+pub mod CaughtUp
+pub mod Covers

@@ -1,5 +1,5 @@
 //! Sets of operations, in a sorted `Vec`.
-ghost use Rattle.std.specs.Prelude.{◌≡◌, ◌≢◌, ◌≤◌, ◌<◌, IfOk, IfSome, IfNone, OnOk, OnErr, not};
+ghost use Rattle.std.specs.Prelude.{◌≡◌, ◌≢◌, ◌≤◌, ◌<◌, IfOk, IfSome, IfNone, OnOk, OnErr, false, not};
 ghost use Rattle.fl_labels.specs.SetBy as set;
 ghost use Rattle.fl_labels.specs.SetBy.{In};
 ghost use Rattle.fl_ops.specs.declared.op.Op.{Op};
@@ -7,10 +7,15 @@ ghost use Rattle.fl_ops.specs.OpOrder.{op_cmp};
 ghost use Rattle.fl_ops.specs.Logins.{FindsLogin};
 ghost use Rattle.fl_sink.specs.Sink.{Puts, Writes};
 ghost use Rattle.fl_opset.specs.RegistryText.{registry_text};
+ghost use Rattle.fl_opset.specs.Windows.{AreWindows, lacking};
 
+use crate::intervals::Intervals;
+use crate::lacking::lacking_of;
 use crate::merging::{all_below, merged};
 use crate::search::{first_login, has_other, last_seq, place_of};
+use crate::spans::spans_of;
 use crate::text::write_lines;
+use crate::windows::windows_of;
 use fl_labels::cap::Cap;
 use fl_labels::name::Name;
 use fl_ops::digest::Digest;
@@ -49,6 +54,14 @@ impl OpSet {
         OpSet {
             ops: Vec::new(alloc),
         }
+    }
+
+    /// The same set again. Fails only where there is not enough memory.
+    pub fn copy(&self, alloc: Global) -> Result<Self, AllocError>
+        ensures { IfOk result (λ made. made ≡ self.now) }
+    {
+        let ops = Vec::from_slice(alloc, &self.ops)?;
+        Ok(OpSet { ops })
     }
 
     /// How many members there are.
@@ -98,13 +111,14 @@ impl OpSet {
         first_login(&self.ops, name)
     }
 
-    /// Adds an operation, and answers whether it is new. An error leaves the set.
+    /// Adds an operation, and answers whether it is new. Only a new one can fail; an error leaves the set.
     ///
     /// One above all members costs one comparison, and none of them moves; else a binary search, and those above it move.
     pub fn add(&mut self, op: Op) -> Result<bool, AllocError>
         ensures ok { OnOk result (self.new ≡ set.insert self.old op) }
         ensures new { IfOk result (λ new. new ≡ not (set.contains self.old op)) }
         ensures err { OnErr result (self.new ≡ self.old) }
+        ensures err_only_new { OnErr result (set.contains self.old op ≡ false) }
     {
         match place_of(&self.ops, &op) {
             Ok(_) => Ok(false),
@@ -142,6 +156,23 @@ impl OpSet {
         }
         self.ops = merged(*self.ops.allocator(), &self.ops, &other.ops)?;
         Ok(())
+    }
+
+    /// What names the members have, as windows that cover all names: each with at most 512 spans, all but the last with just so
+    /// many. One walk. An error says that there was no memory for them.
+    pub fn have(&self, alloc: Global) -> Result<Vec<Intervals>, AllocError>
+        ensures { IfOk result (λ windows. AreWindows (In self.now) windows.items) }
+    {
+        let spans = spans_of(alloc, &self.ops)?;
+        windows_of(alloc, &spans)
+    }
+
+    /// The members whose name is in the window and in none of its spans, rising. Two binary searches a span, and then linear in
+    /// what is lacking. An error says that there was no memory for it.
+    pub fn lacking(&self, alloc: Global, window: &Intervals) -> Result<Vec<Op>, AllocError>
+        ensures { IfOk result (λ ops. ops.items ≡ lacking self.now window.now) }
+    {
+        lacking_of(alloc, &self.ops, window)
     }
 
     /// Puts the text of the members into a sink, a line for each, rising: `1.1 tag export`, `1.2 group`. Takes no memory but the sink's.

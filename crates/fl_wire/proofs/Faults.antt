@@ -3,7 +3,7 @@ use Rattle.std.proofs.Common.{◌≡◌, ℕ, Bool, true, false, List, [], ◌�
 use Rattle.fl_ops.specs.Grammar.{first_fault}
 use Rattle.fl_wire.specs.declared.fault.ReadFault.{ReadFault}
 use Rattle.fl_wire.specs.declared.fault.ReadFault.TheVariants.{BadPacket, Memory}
-use Rattle.fl_wire.specs.Faults.{IsBad, IsBadOrMemory}
+use Rattle.fl_wire.specs.Faults.{IsBad, IsBadOrMemory, IsBadOrMemoryAfter}
 
 -- a fault of the first fields is one of all
 pub fault_front : (fs gs : List (ℕ × Bool)) (place : ℕ) → first_fault fs ≡ Some place → first_fault (fs ++ gs) ≡ Some place
@@ -36,3 +36,8 @@ bad_next at there fs Memory is h = tt
 
 pub bad_at : (fs : List (ℕ × Bool)) (place : ℕ) (f : ReadFault) → f ≡ BadPacket place → first_fault fs ≡ Some place → IsBadOrMemory fs f
 bad_at fs place f is h = rw is h
+
+-- after a head without a fault, memory may be wanted
+pub bad_after : (head fs : List (ℕ × Bool)) (f : ReadFault) → first_fault head ≡ None → IsBadOrMemory fs f → IsBadOrMemoryAfter head fs f
+bad_after head fs (BadPacket place) none h = h
+bad_after head fs Memory none h = none

@@ -1,9 +1,10 @@
 -- Bytes spell one packet at most.
-use Rattle.std.proofs.Common.{◌≡◌, ℕ, ◌≤◌, ◌<◌, ◌^◌, List, [], ◌∷◌, ◌++◌, length, get_or, take, drop, refl, sym, ap, ◌∙◌, append_assoc, arith}
+use Rattle.std.proofs.Common.{◌≡◌, ℕ, ◌+◌, ◌*◌, ◌≤◌, ◌<◌, ◌^◌, List, [], ◌∷◌, ◌++◌, length, get_or, take, drop, refl, sym, ap, ◌∙◌, append_assoc, arith}
 use mathlib.Core.HLevel.{Σ_prop_path}
 use Rattle.std.specs.Coded.{×_prop, le_prop}
 use Rattle.std.specs.Int.{w16, w32, to_be_bytes, from_be_bytes}
 use Rattle.std.specs.List.{flat_map}
+use Rattle.std.specs.List.Sorted.{IsStrictlySortedBy, IsStrictlySortedBy-prop}
 use Rattle.std.proofs.lemmas.Nat.{from_be_bytes-to_be_bytes_2, from_be_bytes-to_be_bytes_4}
 use Rattle.fl_labels.specs.declared.pid.Pid.{Pid}
 use Rattle.fl_labels.specs.Name.{name_cmp}
@@ -13,13 +14,21 @@ use Rattle.fl_labels.specs.CapOrder.{cap_total, cap_exact}
 use Rattle.fl_labels.specs.PidOrder.{same_pid}
 use Rattle.fl_labels.specs.Endpoint.{same_endpoint}
 use Rattle.fl_labels.specs.SetBy.{SetBy, of_list, members, len, len-members, of_list-members}
-use Rattle.fl_ops.specs.Bytes.{name_bytes, cap_bytes}
-use Rattle.fl_ops.proofs.OneSpelling.{name_front, cap_front}
+use Rattle.fl_ops.specs.declared.op.Op.{Op}
+use Rattle.fl_ops.specs.Bytes.{name_bytes, cap_bytes, op_bytes}
+use Rattle.fl_ops.proofs.OneSpelling.{name_front, cap_front, op_front}
+use Rattle.fl_opset.specs.declared.span.Span.{Span}
+use Rattle.fl_opset.specs.declared.intervals.Intervals.{Intervals}
+use Rattle.fl_opset.specs.Rank.{name_rank, last_rank}
+use Rattle.fl_opset.specs.laws.ByRank.{same_span, same_window}
+use Rattle.fl_wire.specs.NameOrder.{by_name}
+use Rattle.fl_wire.specs.laws.SameData.{same_data}
+use Rattle.fl_wire.specs.declared.batch.Batch.{Batch}
 use Rattle.fl_wire.specs.declared.packet.Message.{Message}
 use Rattle.fl_wire.specs.declared.packet.Data.{Data}
-use Rattle.fl_wire.specs.declared.packet.Packet.{Packet}
-use Rattle.fl_wire.specs.declared.packet.Packet.TheVariants as kinds
-use Rattle.fl_wire.specs.PacketBytes.{pid_bytes, label_bytes, caps_bytes, payload_bytes, message_bytes, data_bytes, packet_bytes}
+use Rattle.fl_wire.specs.declared.packet.AnyPacket.{AnyPacket}
+use Rattle.fl_wire.specs.declared.packet.AnyPacket.TheVariants as kinds
+use Rattle.fl_wire.specs.PacketBytes.{pid_bytes, label_bytes, caps_bytes, payload_bytes, message_bytes, data_bytes, batch_bytes, span_bytes, intervals_bytes, packet_bytes}
 
 two_back : (n : ℕ) → n < 2 ^ 16 → from_be_bytes w16 (to_be_bytes w16 n) ≡ n
 two_back n h = from_be_bytes-to_be_bytes_2 n h
@@ -80,25 +89,6 @@ message_same m n e =
     let first = set_front m.caps n.caps (payload_bytes m.payload) (payload_bytes n.payload) e in
     same_message m n first.0 (ap (drop 2) first.1)
 
--- data of equal parts are equal
-pub same_data : (a b : Data) → a.sender ≡ b.sender → a.from ≡ b.from → a.receiver ≡ b.receiver → a.to ≡ b.to
-    → a.secrecy ≡ b.secrecy → a.integrity ≡ b.integrity → a.message ≡ b.message → a ≡ b
-same_data a b p q r s t u m =
-    let labels : ◌≡◌ {A = (f : SetBy name_cmp × SetBy name_cmp) × (len f.0 ≤ 256 × len f.1 ≤ 256)}
-    ((a.secrecy, a.integrity), (a.secrecy_fits, a.integrity_fits)) ((b.secrecy, b.integrity), (b.secrecy_fits, b.integrity_fits))
-    = Σ_prop_path (λ f. ×_prop le_prop le_prop) (λ i. (t i, u i)) in
-    λ i. record {
-      sender = p i;
-      from = q i;
-      receiver = r i;
-      to = s i;
-      secrecy = (labels i).0.0;
-      integrity = (labels i).0.1;
-      message = m i;
-      secrecy_fits = (labels i).1.0;
-      integrity_fits = (labels i).1.1;
-    }
-
 -- what follows a process, an endpoint, a process and an endpoint
 after_ends : Data → List ℕ
 after_ends d = label_bytes d.secrecy ++ (label_bytes d.integrity ++ message_bytes d.message)
@@ -114,5 +104,35 @@ data_same a b e =
     let e6 = label_front a.integrity b.integrity (message_bytes a.message) (message_bytes b.message) a.integrity_fits b.integrity_fits e5.1 in
     same_data a b e1.0 (same_endpoint a.from b.from e2.0) e3.0 (same_endpoint a.to b.to e4.0) e5.0 e6.0 (message_same a.message b.message e6.1)
 
-pub one_packet : (a b : Packet) → packet_bytes a ≡ packet_bytes b → a ≡ b
+same_batch : (a b : Batch) → a.ops ≡ b.ops → a ≡ b
+same_batch a b p =
+    let parts : ◌≡◌ {A = (ops : List Op) × ((0 < length ops) × (length ops ≤ 64) × IsStrictlySortedBy by_name ops)}
+    (a.ops, (a.some, a.few, a.rising)) (b.ops, (b.some, b.few, b.rising))
+    = Σ_prop_path (λ ops. hlevel (le_prop, IsStrictlySortedBy-prop by_name ops)) p in
+    λ i. record { ops = (parts i).0; some = (parts i).1.0; few = (parts i).1.1; rising = (parts i).1.2 }
+
+batch_same : (a b : Batch) → batch_bytes a.ops ≡ batch_bytes b.ops → a ≡ b
+batch_same a b e =
+    let first = byte_front (length a.ops) (length b.ops) (flat_map op_bytes a.ops) (flat_map op_bytes b.ops) e in
+    same_batch a b (items_front op_bytes op_front a.ops b.ops [] [] first.0 (ap (λ l. l ++ []) first.1)).0
+
+span_front : (s t : Span) (u v : List ℕ) → span_bytes s ++ u ≡ span_bytes t ++ v → (s ≡ t) × (u ≡ v)
+span_front s t u v e =
+    let first = name_front s.first t.first (to_be_bytes w32 s.last ++ u) (to_be_bytes w32 t.last ++ v) e in
+    let second = four_front s.last t.last u v s.last_in_range t.last_in_range first.1 in
+    let rank : last_rank s ≡ last_rank t = λ i. (first.0 i).node * 4294967296 + second.0 i in
+    (same_span s t (ap name_rank first.0) rank, second.1)
+
+window_same : (a b : Intervals) → intervals_bytes a ≡ intervals_bytes b → a ≡ b
+window_same a b e =
+    let e1 = name_front a.from b.from (name_bytes a.to ++ (to_be_bytes w16 (length a.spans) ++ flat_map span_bytes a.spans)) (name_bytes b.to ++ (to_be_bytes w16 (length b.spans) ++ flat_map span_bytes b.spans)) e in
+    let e2 = name_front a.to b.to (to_be_bytes w16 (length a.spans) ++ flat_map span_bytes a.spans) (to_be_bytes w16 (length b.spans) ++ flat_map span_bytes b.spans) e1.1 in
+    let e3 = two_front (length a.spans) (length b.spans) (flat_map span_bytes a.spans) (flat_map span_bytes b.spans) (omega (arith, a.few)) (omega (arith, b.few)) e2.1 in
+    same_window a b e1.0 e2.0 (items_front span_bytes span_front a.spans b.spans [] [] e3.0 (ap (λ l. l ++ []) e3.1)).0
+
+pub one_packet : (a b : AnyPacket) → packet_bytes a ≡ packet_bytes b → a ≡ b
+one_packet (kinds.Full a) (kinds.Full b) e = ap kinds.Full (batch_same a b (ap (drop 2) e))
+one_packet (kinds.Have a) (kinds.Have b) e = ap kinds.Have (window_same a b (ap (drop 2) e))
+one_packet (kinds.Delta a) (kinds.Delta b) e = ap kinds.Delta (batch_same a b (ap (drop 2) e))
 one_packet (kinds.Data a) (kinds.Data b) e = ap kinds.Data (data_same a b (ap (drop 2) e))
+one_packet a b e = absurd (let kind = ap (λ l. get_or l 1 0) e in cc)

@@ -6,10 +6,10 @@ use Rattle.fl_labels.specs.Cap.{cap_cmp}
 use Rattle.fl_labels.specs.SetBy.{SetBy}
 use Rattle.fl_ops.specs.Grammar.{first_fault, has_byte}
 use Rattle.fl_wire.specs.declared.fault.ReadFault.{ReadFault}
-use Rattle.fl_wire.specs.Faults.{IsBadOrMemory}
+use Rattle.fl_wire.specs.Faults.{IsBadOrMemory, IsBadOrMemoryAfter}
 use Rattle.fl_wire.specs.PacketBytes.{pid_bytes, label_bytes, caps_bytes, payload_bytes}
-use Rattle.fl_wire.specs.PacketGrammar.{end_fields, label_fields, after_label, caps_fields, after_caps, payload_fields, message_fields, content_fields, data_fields, packet_fields}
-use Rattle.fl_wire.proofs.Faults.{fault_rest, bad_front, bad_rest, bad_next}
+use Rattle.fl_wire.specs.PacketGrammar.{end_fields, label_fields, after_label, caps_fields, after_caps, payload_fields, message_fields, content_fields, data_head, data_fields}
+use Rattle.fl_wire.proofs.Faults.{fault_rest, bad_front, bad_rest, bad_after}
 
 module _ (bs : List ℕ) (at place : ℕ) (next : place ≡ after_caps bs at) (whole : first_fault (caps_fields bs at) ≡ None) where
   abbrev at_place : message_fields bs at ≡ caps_fields bs at ++ payload_fields bs place
@@ -57,11 +57,10 @@ module _ (bs : List ℕ) (at middle : ℕ) (first : middle ≡ after_label bs at
     )
 
 module _ (bs : List ℕ) (whole : first_fault (end_fields bs 2) ≡ None) where
-  pub receiver_bad : (f : ReadFault) → IsBadOrMemory (end_fields bs 13) f → IsBadOrMemory (data_fields bs 2) f
-  receiver_bad f bad = bad_rest (end_fields bs 2) (end_fields bs 13 ++ content_fields bs 24) f whole (bad_front (end_fields bs 13) (content_fields bs 24) f bad)
-
-  pub content_bad : (f : ReadFault) → first_fault (end_fields bs 13) ≡ None → IsBadOrMemory (content_fields bs 24) f → IsBadOrMemory (data_fields bs 2) f
-  content_bad f none bad = bad_rest (end_fields bs 2) (end_fields bs 13 ++ content_fields bs 24) f whole (bad_rest (end_fields bs 13) (content_fields bs 24) f none bad)
+  pub content_bad : (f : ReadFault) → first_fault (end_fields bs 13) ≡ None → IsBadOrMemory (content_fields bs 24) f → IsBadOrMemoryAfter (data_head bs 2) (data_fields bs 2) f
+  content_bad f none bad =
+      bad_after (data_head bs 2) (data_fields bs 2) f (fault_rest (end_fields bs 2) (end_fields bs 13) whole ∙ none)
+      (bad_rest (end_fields bs 2) (end_fields bs 13 ++ content_fields bs 24) f whole (bad_rest (end_fields bs 13) (content_fields bs 24) f none bad))
 
   pub data_found : (p q : Pid) (n k : ℕ) (content : List ℕ) → drop 2 bs ≡ pid_bytes p ++ n ∷ drop 13 bs
       → (first_fault (end_fields bs 13) ≡ None) × (drop 13 bs ≡ pid_bytes q ++ k ∷ drop 24 bs)
@@ -71,13 +70,3 @@ module _ (bs : List ℕ) (whole : first_fault (end_fields bs 2) ≡ None) where
     fault_rest (end_fields bs 2) (end_fields bs 13 ++ content_fields bs 24) whole ∙ fault_rest (end_fields bs 13) (content_fields bs 24) receiver.0 ∙ rest.0,
     start ∙ ap (λ l. pid_bytes p ++ n ∷ l) (receiver.1 ∙ ap (λ l. pid_bytes q ++ k ∷ l) rest.1),
   )
-
-pub packet_found : (bs : List ℕ) (a b : ℕ) (x : List ℕ) → 241 ≤ a → a ≤ 241 → drop 0 bs ≡ a ∷ drop 1 bs → 4 ≤ b → b ≤ 4 → drop 1 bs ≡ b ∷ drop 2 bs
-    → drop 2 bs ≡ x → 241 ∷ 4 ∷ x ≡ bs
-packet_found bs a b x low high e low' high' e' is =
-    let first : a ≡ 241 = omega arith in
-    let second : b ≡ 4 = omega arith in
-    sym (e ∙ (λ i. first i ∷ drop 1 bs) ∙ ap (λ l. 241 ∷ l) (e' ∙ (λ i. second i ∷ is i)))
-
-pub packet_bad : (bs : List ℕ) (f : ReadFault) → has_byte bs 0 241 241 ≡ true → has_byte bs 1 4 4 ≡ true → IsBadOrMemory (data_fields bs 2) f → IsBadOrMemory (packet_fields bs) f
-packet_bad bs f format kind bad = bad_next 0 (has_byte bs 0 241 241) ((1, has_byte bs 1 4 4) ∷ data_fields bs 2) f format (bad_next 1 (has_byte bs 1 4 4) (data_fields bs 2) f kind bad)

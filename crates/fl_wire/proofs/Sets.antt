@@ -22,7 +22,7 @@ use Rattle.fl_wire.specs.Fields.{is_next, rising_fields, short_at, has_short}
 use Rattle.fl_wire.specs.PacketBytes.{label_bytes, caps_bytes}
 use Rattle.fl_wire.specs.PacketGrammar.{tag_fields, label_fields, after_label, each_cap, caps_fields, after_caps}
 
-less_of : (o : Ordering) → is_lt o ≡ true → o ≡ Less
+pub less_of : (o : Ordering) → is_lt o ≡ true → o ≡ Less
 less_of Less e = refl
 less_of Equal e = absurd (cc)
 less_of Greater e = absurd (cc)
@@ -33,7 +33,7 @@ module _ {K : Type 0} {R : K → K → Ordering} (o : IsTotalOrder R) where
   below_more z x y (w ∷ ws) h less = (h.0, below_more z x y ws h.1 less)
 
   -- what is above the last still rises
-  rises_more : (zs : List K) (x y : K) → IsStrictlySortedBy R (zs ++ x ∷ []) → R x y ≡ Less → IsStrictlySortedBy R ((zs ++ x ∷ []) ++ y ∷ [])
+  pub rises_more : (zs : List K) (x y : K) → IsStrictlySortedBy R (zs ++ x ∷ []) → R x y ≡ Less → IsStrictlySortedBy R ((zs ++ x ∷ []) ++ y ∷ [])
   unfolding IsStrictlySortedBy
   rises_more [] x y h less = ((less, tt), (tt, tt))
   rises_more (z ∷ zs) x y h less = (below_more z x y zs h.0 less, rises_more zs x y h.1 less)

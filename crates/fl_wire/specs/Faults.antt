@@ -1,5 +1,5 @@
 -- What a reader's fault says of the fields that it read.
-use Rattle.std.specs.Prelude.{◌≡◌, ℕ, Bool, List, Some}
+use Rattle.std.specs.Prelude.{◌≡◌, ℕ, Bool, List, Some, None}
 use Rattle.fl_ops.specs.Grammar.{first_fault}
 use Rattle.fl_wire.specs.declared.fault.ReadFault.{ReadFault}
 use Rattle.fl_wire.specs.declared.fault.ReadFault.TheVariants.{BadPacket, Memory}
@@ -13,3 +13,8 @@ IsBad fields Memory = ⊥
 abbrev pub IsBadOrMemory : List (ℕ × Bool) → ReadFault → Type 0
 IsBadOrMemory fields (BadPacket place) = first_fault fields ≡ Some place
 IsBadOrMemory fields Memory = Unit {0}
+
+-- that, or no memory, where the fields of the head are there
+abbrev pub IsBadOrMemoryAfter : List (ℕ × Bool) → List (ℕ × Bool) → ReadFault → Type 0
+IsBadOrMemoryAfter head fields (BadPacket place) = first_fault fields ≡ Some place
+IsBadOrMemoryAfter head fields Memory = first_fault head ≡ None

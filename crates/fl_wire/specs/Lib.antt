@@ -1,5 +1,7 @@
+pub mod NameOrder
 pub mod PacketBytes
 pub mod Fields
 pub mod Faults
 pub mod PacketGrammar
+pub mod laws
 pub mod parts

@@ -6,11 +6,14 @@ use Rattle.fl_labels.specs.declared.pid.Pid.{Pid}
 use Rattle.fl_labels.specs.Name.{name_cmp}
 use Rattle.fl_labels.specs.Cap.{cap_cmp}
 use Rattle.fl_labels.specs.SetBy.{SetBy, members, len}
-use Rattle.fl_ops.specs.Bytes.{name_bytes, cap_bytes}
+use Rattle.fl_ops.specs.declared.op.Op.{Op}
+use Rattle.fl_ops.specs.Bytes.{name_bytes, cap_bytes, op_bytes}
+use Rattle.fl_opset.specs.declared.span.Span.{Span}
+use Rattle.fl_opset.specs.declared.intervals.Intervals.{Intervals}
 use Rattle.fl_wire.specs.declared.packet.Message.{Message}
 use Rattle.fl_wire.specs.declared.packet.Data.{Data}
-use Rattle.fl_wire.specs.declared.packet.Packet.{Packet}
-use Rattle.fl_wire.specs.declared.packet.Packet.TheVariants as kinds
+use Rattle.fl_wire.specs.declared.packet.AnyPacket.{AnyPacket}
+use Rattle.fl_wire.specs.declared.packet.AnyPacket.TheVariants as kinds
 
 -- the node in two bytes, then the boot and the serial in four each
 abbrev pub pid_bytes : Pid → List ℕ
@@ -38,6 +41,23 @@ data_bytes d =
     ∷ (pid_bytes d.receiver ++ d.to.number
     ∷ (label_bytes d.secrecy ++ (label_bytes d.integrity ++ message_bytes d.message)))
 
+-- how many operations in one byte, then the operations
+abbrev pub batch_bytes : List Op → List ℕ
+batch_bytes ops = length ops ∷ flat_map op_bytes ops
+
+-- the first name, then the number of the last one in four bytes
+abbrev pub span_bytes : Span → List ℕ
+span_bytes s = name_bytes s.first ++ to_be_bytes w32 s.last
+
+-- the two ends, then how many spans in two bytes, then the spans
+abbrev pub intervals_bytes : Intervals → List ℕ
+intervals_bytes w =
+    name_bytes w.from
+    ++ (name_bytes w.to ++ (to_be_bytes w16 (length w.spans) ++ flat_map span_bytes w.spans))
+
 -- the format, the kind, and what the kind asks for
-abbrev pub packet_bytes : Packet → List ℕ
+abbrev pub packet_bytes : AnyPacket → List ℕ
+packet_bytes (kinds.Full b) = 241 ∷ 1 ∷ batch_bytes b.ops
+packet_bytes (kinds.Have w) = 241 ∷ 2 ∷ intervals_bytes w
+packet_bytes (kinds.Delta b) = 241 ∷ 3 ∷ batch_bytes b.ops
 packet_bytes (kinds.Data d) = 241 ∷ 4 ∷ data_bytes d

@@ -1,2 +1,4 @@
 -- Relations that join functions, and that no public clause needs.
 pub mod Items
+pub mod Ops
+pub mod SpansRead

@@ -36,7 +36,7 @@ pub(crate) fn short_at(bytes: &[u8], at: usize, low: u16, high: u16) -> Result<u
 }
 
 // The number that four bytes spell, where it is not 0.
-fn long_at(bytes: &[u8], at: usize) -> Result<u32, ReadFault>
+pub(crate) fn long_at(bytes: &[u8], at: usize) -> Result<u32, ReadFault>
     requires { at < 2 ^ 32 }
     ensures { MatchResult result
         (λ n. (has_long bytes.now at ≡ true) × (0 < n) × (n < 2 ^ 32)

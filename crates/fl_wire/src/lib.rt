@@ -1,11 +1,14 @@
 //! Packets between nodes, and their bytes.
 #![tactic(auto)]
 
+pub mod batch;
 pub mod fault;
 mod fields;
 mod items;
 pub mod laws;
+mod ops;
 pub mod packet;
 pub mod payload;
 pub mod reading;
+mod window;
 pub mod writing;

@@ -2,11 +2,13 @@
 ghost use Rattle.std.specs.Prelude.{◌≡◌, ◌≤◌, ◌<◌, ◌⊎◌, IfOk, MatchOption, length};
 ghost use Rattle.fl_labels.specs.SetBy.{len};
 
+use crate::batch::Batch;
 use crate::payload::Payload;
 use fl_labels::cap_set::CapSet;
 use fl_labels::endpoint::Endpoint;
 use fl_labels::label::Label;
 use fl_labels::pid::Pid;
+use fl_opset::intervals::Intervals;
 use std::alloc::{AllocError, Global};
 
 /// How many capabilities a message carries at most.
@@ -95,9 +97,22 @@ impl Data {
     }
 }
 
-/// What nodes send to each other.
+/// What a process sends to another: the one kind of packet that a bench lets out.
 #[derive(Debug, Drop, PartialEq, Eq)]
 pub enum Packet {
+    /// A message of a process.
+    Data(Data),
+}
+
+/// What nodes send to each other, of any kind.
+#[derive(Debug, Drop, PartialEq, Eq)]
+pub enum AnyPacket {
+    /// Operations that the sender has saved.
+    Full(Batch),
+    /// A window of what the sender has saved.
+    Have(Intervals),
+    /// Operations that the sender has saved and a window lacked.
+    Delta(Batch),
     /// A message of a process.
     Data(Data),
 }

@@ -1,15 +1,17 @@
 //! Packets from bytes.
 ghost use Rattle.std.specs.Prelude.{◌≡◌, ◌<◌, ◌≤◌, ◌+◌, ◌^◌, MatchResult, length, drop, None, ◌++◌};
 ghost use Rattle.fl_ops.specs.Grammar.{first_fault};
-ghost use Rattle.fl_wire.specs.Faults.{IsBadOrMemory};
+ghost use Rattle.fl_wire.specs.Faults.{IsBadOrMemory, IsBadOrMemoryAfter};
 ghost use Rattle.fl_wire.specs.PacketBytes.{payload_bytes, message_bytes, data_bytes, packet_bytes};
-ghost use Rattle.fl_wire.specs.PacketGrammar.{payload_fields, message_fields, data_fields, packet_fields};
+ghost use Rattle.fl_wire.specs.PacketGrammar.{payload_fields, message_fields, data_head, data_fields, packet_head, packet_fields};
 
 use crate::fault::ReadFault;
 use crate::fields::{end_at, short_at};
 use crate::items::{caps_at, label_at};
-use crate::packet::{Data, Message, Packet};
+use crate::ops::batch_at;
+use crate::packet::{AnyPacket, Data, Message};
 use crate::payload::Payload;
+use crate::window::window_at;
 use fl_ops::fields::{CAP_SIZE, NAME_SIZE, byte_at};
 use std::alloc::Global;
 
@@ -49,7 +51,7 @@ fn message_at(alloc: Global, bytes: &[u8], at: usize) -> Result<Message, ReadFau
 fn data_at(alloc: Global, bytes: &[u8]) -> Result<Data, ReadFault>
     ensures { MatchResult result
         (λ d. (first_fault (data_fields bytes.now 2) ≡ None) × (drop 2 bytes.now ≡ data_bytes d))
-        (IsBadOrMemory (data_fields bytes.now 2)) }
+        (IsBadOrMemoryAfter (data_head bytes.now 2) (data_fields bytes.now 2)) }
 {
     let (sender, from) = end_at(bytes, 2)?;
     let (receiver, to) = end_at(bytes, 13)?;
@@ -68,16 +70,21 @@ fn data_at(alloc: Global, bytes: &[u8]) -> Result<Data, ReadFault>
     })
 }
 
-/// The packet that the bytes spell, all of them. Linear, and takes memory for the sets and the payload alone.
+/// The packet that the bytes spell, all of them. Linear, and takes memory for the sets, the operations, the spans and the
+/// payload alone, none before the head is right: the format, the kind, and what stands before the first of these.
 ///
 /// `BadPacket` where no packet spells them, at the first byte of the first field that is cut off, out of its range or against a
 /// rule with what came before it, or at the first byte after the packet's end. `Memory` where there is not enough memory.
-pub fn decode(alloc: Global, bytes: &[u8]) -> Result<Packet, ReadFault>
+pub fn decode(alloc: Global, bytes: &[u8]) -> Result<AnyPacket, ReadFault>
     ensures { MatchResult result
         (λ packet. packet_bytes packet ≡ bytes.now)
-        (IsBadOrMemory (packet_fields bytes.now)) }
+        (IsBadOrMemoryAfter (packet_head bytes.now) (packet_fields bytes.now)) }
 {
     byte_at(bytes, 0, 0xf1, 0xf1)?;
-    byte_at(bytes, 1, 4, 4)?;
-    Ok(Packet::Data(data_at(alloc, bytes)?))
+    match byte_at(bytes, 1, 1, 4)? {
+        1 => Ok(AnyPacket::Full(batch_at(alloc, bytes, 2)?)),
+        2 => Ok(AnyPacket::Have(window_at(alloc, bytes, 2)?)),
+        3 => Ok(AnyPacket::Delta(batch_at(alloc, bytes, 2)?)),
+        _ => Ok(AnyPacket::Data(data_at(alloc, bytes)?)),
+    }
 }

@@ -1,14 +1,20 @@
 //! Packets to bytes.
-ghost use Rattle.std.specs.Prelude.{◌≡◌, ◌≤◌, ◌++◌, ◌∷◌, [], IfOk, OnOk};
+ghost use Rattle.std.specs.Prelude.{◌≡◌, ◌≤◌, ◌++◌, ◌∷◌, [], IfOk, OnOk, length};
+ghost use Rattle.std.specs.Int.{w16, to_be_bytes};
+ghost use Rattle.std.specs.List.{flat_map};
 ghost use Rattle.fl_labels.specs.SetBy.{len};
-ghost use Rattle.fl_wire.specs.PacketBytes.{pid_bytes, label_bytes, caps_bytes, message_bytes, data_bytes, packet_bytes};
+ghost use Rattle.fl_wire.specs.PacketBytes.{pid_bytes, label_bytes, caps_bytes, message_bytes, data_bytes, batch_bytes, span_bytes, intervals_bytes, packet_bytes};
 
-use crate::packet::{Data, Message, Packet};
+use crate::batch::Batch;
+use crate::packet::{AnyPacket, Data, Message};
 use fl_labels::cap_set::CapSet;
 use fl_labels::endpoint::Endpoint;
 use fl_labels::label::Label;
 use fl_labels::pid::Pid;
 use fl_ops::fields::{push_cap, push_name};
+use fl_ops::writing::push_op;
+use fl_opset::intervals::Intervals;
+use fl_opset::span::Span;
 use std::alloc::{AllocError, Global};
 
 // A process and one of its endpoints.
@@ -71,14 +77,72 @@ fn push_data(out: &mut Vec<u8>, sent: &Data) -> Result<(), AllocError>
     push_message(out, &sent.message)
 }
 
+// How many operations there are, and each.
+fn push_batch(out: &mut Vec<u8>, batch: &Batch) -> Result<(), AllocError>
+    ensures { OnOk result (out.new.items ≡ out.old.items ++ batch_bytes batch.now.ops) }
+{
+    let ops = batch.ops.as_slice();
+    out.push(ops.len() as u8)?;
+    for op in ops {
+        push_op(out, op)?;
+    }
+    Ok(())
+}
+
+// The first name of a span, and the number of its last one.
+fn push_span(out: &mut Vec<u8>, span: &Span) -> Result<(), AllocError>
+    ensures { OnOk result (out.new.items ≡ out.old.items ++ span_bytes span.now) }
+{
+    push_name(out, span.first)?;
+    out.extend_from_slice(&span.last.to_be_bytes())
+}
+
+// How many spans there are, and each.
+fn push_spans(out: &mut Vec<u8>, spans: &[Span]) -> Result<(), AllocError>
+    requires { length spans.now ≤ 512 }
+    ensures { let count = to_be_bytes w16 (length spans.now) in
+        OnOk result (out.new.items ≡ out.old.items ++ (count ++ flat_map span_bytes spans.now)) }
+{
+    let count = spans.len() as u16;
+    out.extend_from_slice(&count.to_be_bytes())?;
+    for span in spans {
+        push_span(out, span)?;
+    }
+    Ok(())
+}
+
+// The two ends of a window, and its spans.
+fn push_intervals(out: &mut Vec<u8>, window: &Intervals) -> Result<(), AllocError>
+    ensures { OnOk result (out.new.items ≡ out.old.items ++ intervals_bytes window.now) }
+{
+    push_name(out, window.from)?;
+    push_name(out, window.to)?;
+    push_spans(out, window.spans.as_slice())
+}
+
 /// The spelling of a packet. Linear in it. An error says that there was no memory for it.
-pub fn encode(alloc: Global, packet: &Packet) -> Result<Vec<u8>, AllocError>
+pub fn encode(alloc: Global, packet: &AnyPacket) -> Result<Vec<u8>, AllocError>
     ensures { IfOk result (λ bytes. bytes.items ≡ packet_bytes packet.now) }
 {
-    let Packet::Data(sent) = packet;
     let mut bytes = Vec::new(alloc);
     bytes.push(0xf1)?;
-    bytes.push(4)?;
-    push_data(&mut bytes, sent)?;
+    match packet {
+        AnyPacket::Full(batch) => {
+            bytes.push(1)?;
+            push_batch(&mut bytes, batch)?;
+        }
+        AnyPacket::Have(window) => {
+            bytes.push(2)?;
+            push_intervals(&mut bytes, window)?;
+        }
+        AnyPacket::Delta(batch) => {
+            bytes.push(3)?;
+            push_batch(&mut bytes, batch)?;
+        }
+        AnyPacket::Data(sent) => {
+            bytes.push(4)?;
+            push_data(&mut bytes, sent)?;
+        }
+    }
     Ok(bytes)
 }

@@ -1,7 +1,7 @@
 use Rattle.std.proofs.Common.{ap}
 use Rattle.fl_ops.specs.OpLaws.{op_total, op_exact}
 use Rattle.fl_opset.specs.RegistryText.{registry_text}
-use Rattle.fl_opset.proofs.Join.{same_members}
+use Rattle.fl_opset.specs.laws.Unions.{same_members}
 use Rattle.fl_opset.proofs.laws.law_equal_text.Goals as goal
 
 pub returns-clause-equal : goal.returns-clause-equal

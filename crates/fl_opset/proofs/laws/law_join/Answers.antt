@@ -1,5 +1,5 @@
 use Rattle.fl_ops.specs.OpLaws.{op_total, op_exact}
-use Rattle.fl_opset.proofs.Join.{union_assoc, union_comm, union_same, union_upper, union_least}
+use Rattle.fl_opset.specs.laws.Unions.{union_assoc, union_comm, union_same, union_upper, union_least}
 use Rattle.fl_opset.proofs.laws.law_join.Goals as goal
 
 pub returns-clause-associative : goal.returns-clause-associative

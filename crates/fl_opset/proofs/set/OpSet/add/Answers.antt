@@ -1,9 +1,13 @@
-use Rattle.std.proofs.Common.{sym, ap, subst, not, Ok, Err}
+use Rattle.std.proofs.Common.{Result, Ok, Err, OnErr, sym, ap, subst, not}
 use Rattle.std.specs.List.Sorted.{IsStrictlySortedBy}
 use Rattle.fl_ops.specs.OpOrder.{op_cmp}
 use Rattle.fl_ops.specs.OpLaws.{op_total, op_exact}
 use Rattle.fl_labels.proofs.SortedVec.{answers, inserted, kept_insert}
 use Rattle.fl_opset.proofs.set.OpSet.add.Goals as goal
+
+known : {T E P : Type 0} (r : Result T E) → P → OnErr r P
+known (Ok x) p = tt
+known (Err e) p = p
 
 pub invariant_of-self-in-Err : goal.invariant_of-self-in-Err
 invariant_of-self-in-Err c =
@@ -25,3 +29,7 @@ returns-in_ok-insert-in-Err-clause-ok c =
 pub returns-in_ok-insert-in-Err-clause-new : goal.returns-in_ok-insert-in-Err-clause-new
 returns-in_ok-insert-in-Err-clause-new c =
     ap not (sym (answers op_total op_exact _ _ c.self.invariant c.self.view_is _ c.deref.ensures.value c.args.op (Err c.in-Err.place) c.in-Err.ensures.bound (c.in-Err.ensures.position (subst (IsStrictlySortedBy op_cmp) (sym c.deref.ensures.value) c.self.invariant))))
+
+pub returns-in_err-insert-in-Err-clause-err_only_new : goal.returns-in_err-insert-in-Err-clause-err_only_new
+returns-in_err-insert-in-Err-clause-err_only_new c =
+    known c.from_residual.result (answers op_total op_exact _ _ c.self.invariant c.self.view_is _ c.deref.ensures.value c.args.op (Err c.in-Err.place) c.in-Err.ensures.bound (c.in-Err.ensures.position (subst (IsStrictlySortedBy op_cmp) (sym c.deref.ensures.value) c.self.invariant)))

@@ -1,0 +1,6 @@
+//! What a node takes of others' packets, and what it answers them.
+#![tactic(auto)]
+
+pub mod fault;
+pub mod replying;
+pub mod taking;

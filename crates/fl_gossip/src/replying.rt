@@ -1,0 +1,56 @@
+//! What is answered to a window.
+ghost use Rattle.std.specs.Prelude.{◌≡◌, ◌<◌, ◌≤◌, length, IfOk};
+ghost use Rattle.std.specs.List.Sorted.{IsStrictlySortedBy};
+ghost use Rattle.fl_labels.specs.SetBy.{In};
+ghost use Rattle.fl_opset.specs.Catching.{HaveNoClash};
+ghost use Rattle.fl_opset.specs.Windows.{lacking};
+ghost use Rattle.fl_wire.specs.NameOrder.{by_name};
+ghost use Rattle.fl_gossip.specs.Replying.{IsDelta, AreInDeltas};
+ghost use Rattle.fl_gossip.specs.Taking.{ops_of};
+
+use fl_ops::op::Op;
+use fl_opset::intervals::Intervals;
+use fl_opset::set::OpSet;
+use fl_wire::batch::{Batch, MOST_OPS, OpList};
+use fl_wire::packet::AnyPacket;
+use std::alloc::{AllocError, Global};
+
+// The delta of these operations, which are copied.
+fn delta_of(alloc: Global, ops: &[Op]) -> Result<AnyPacket, AllocError>
+    requires some { 0 < length ops.now }
+    requires few { length ops.now ≤ 64 }
+    requires rise { IsStrictlySortedBy by_name ops.now }
+    ensures { IfOk result (λ p. IsDelta p × (ops_of p ≡ ops.now)) }
+{
+    let ops = OpList::from_vec(Vec::from_slice(alloc, ops)?);
+    Ok(AnyPacket::Delta(Batch { ops }))
+}
+
+// The deltas of 64 of these operations each, the last one shorter.
+fn deltas_of(alloc: Global, ops: &[Op]) -> Result<Vec<AnyPacket>, AllocError>
+    requires { IsStrictlySortedBy by_name ops.now }
+    ensures { IfOk result (λ packets. AreInDeltas ops.now packets.items) }
+{
+    let mut packets = Vec::new(alloc);
+    let mut rest = ops;
+    while rest.len() > MOST_OPS {
+        let (front, back) = rest.split_at(MOST_OPS);
+        packets.push(delta_of(alloc, front)?)?;
+        rest = back;
+    }
+    if rest.is_empty() {
+        return Ok(packets);
+    }
+    packets.push(delta_of(alloc, rest)?)?;
+    Ok(packets)
+}
+
+/// What the window lacks of the set, which has each name once: deltas of 64 operations, the last one shorter, rising. Two
+/// binary searches a span, and then linear in what is lacking. An error says that there was no memory for it.
+pub fn reply(alloc: Global, saved: &OpSet, window: &Intervals) -> Result<Vec<AnyPacket>, AllocError>
+    requires { HaveNoClash (In saved.now) (In saved.now) }
+    ensures { IfOk result (λ packets. AreInDeltas (lacking saved.now window.now) packets.items) }
+{
+    let ops = saved.lacking(alloc, window)?;
+    deltas_of(alloc, &ops)
+}

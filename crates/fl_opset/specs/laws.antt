@@ -1,0 +1,5 @@
+-- Lemmas that the crates above cite.
+pub mod Unions
+pub mod Fits
+pub mod ByRank
+pub mod Members

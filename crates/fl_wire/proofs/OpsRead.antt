@@ -1,0 +1,81 @@
+-- Operations that are read one after another.
+use Rattle.std.proofs.Common.{◌≡◌, ℕ, suc, ◌+◌, ◌*◌, ◌<◌, ◌≤◌, true, false, if◌then◌else◌, List, [], ◌∷◌, ◌++◌, length, drop, Option, Some, None, refl, sym, ap, subst, ◌∙◌, arith, leb, append_assoc, append-nil, length-append}
+use Rattle.std.specs.List.{flat_map}
+use Rattle.std.specs.List.Sorted.{IsStrictlySortedBy}
+use Rattle.std.proofs.lemmas.Bool.{le-leb}
+use Rattle.std.proofs.lemmas.Bool.Decides.{nat_tests}
+use Rattle.std.proofs.lemmas.List.{flat_map_more, drop_all}
+use Rattle.fl_labels.specs.declared.name.Name.{Name}
+use Rattle.fl_labels.specs.Name.{name_cmp}
+use Rattle.fl_ops.specs.declared.op.Op.{Op}
+use Rattle.fl_ops.specs.Bytes.{op_bytes}
+use Rattle.fl_ops.specs.Grammar.{first_fault}
+use Rattle.fl_wire.specs.declared.fault.ReadFault.{ReadFault}
+use Rattle.fl_wire.specs.declared.fault.ReadFault.TheVariants.{BadPacket, Memory}
+use Rattle.fl_wire.specs.Faults.{IsBad, IsBadOrMemory}
+use Rattle.fl_wire.specs.parts.Items.{name_key, key_before, is_above}
+use Rattle.fl_wire.specs.NameOrder.{by_name, by_name_total}
+use Rattle.fl_wire.specs.parts.Ops.{IsNextOp, AreOps}
+use Rattle.fl_wire.specs.PacketGrammar.{next_op, ops_fields}
+use Rattle.fl_wire.proofs.Faults.{fault_rest, bad_front, bad_only}
+use Rattle.fl_wire.proofs.Sets.{less_of, rises_more}
+
+-- after the operations xs, of which before names the last, so many are left from a place on
+pub record OpsTo (bytes : List ℕ) (at count place left : ℕ) (xs : List Op) (before : Option Name) : Type 0 where
+  pub faults : first_fault (ops_fields bytes at [] count) ≡ first_fault (ops_fields bytes place (key_before name_key before) left)
+  pub spelled : drop at bytes ≡ flat_map op_bytes xs ++ drop place bytes
+  pub counted : length xs + left ≡ count
+  pub rises : IsStrictlySortedBy by_name xs
+  pub above : (x : Op) → is_above name_cmp before x.name ≡ true → IsStrictlySortedBy by_name (xs ++ x ∷ [])
+  pub near : place + 47 * left ≤ at + 47 * count
+
+module _ {bytes : List ℕ} {at count : ℕ} where
+  pub ops_none : (left : ℕ) (xs : List Op) → left ≡ count → xs ≡ [] → OpsTo bytes at count at left xs None
+  unfolding IsStrictlySortedBy
+  ops_none left xs q none = subst (λ l. OpsTo bytes at count at left l None) (sym none) (record {
+    faults = ap (λ n. first_fault (ops_fields bytes at [] n)) (sym q);
+    spelled = refl;
+    counted = omega (arith, q);
+    rises = tt;
+    above = λ x h. (tt, tt);
+    near = omega (arith, q);
+  })
+
+  pub ops_more : (place left : ℕ) (xs ys : List Op) (before : Option Name) (x : Op) (end less : ℕ) → OpsTo bytes at count place left xs before → IsNextOp bytes place before x end
+      → left ≡ suc less → ys ≡ xs ++ x ∷ [] → OpsTo bytes at count end less ys (Some x.name)
+  ops_more place left xs ys before x end less r n q new = subst (λ l. OpsTo bytes at count end less l (Some x.name)) (sym new) (record {
+    faults = r.faults ∙ ap (λ m. first_fault (ops_fields bytes place (key_before name_key before) m)) q
+        ∙ fault_rest (next_op bytes place (key_before name_key before)) _ n.whole
+        ∙ (λ i. first_fault (ops_fields bytes (n.ends i) (n.keyed i) less));
+    spelled = r.spelled ∙ ap (λ l. flat_map op_bytes xs ++ l) n.spelled
+        ∙ sym (append_assoc (flat_map op_bytes xs) (op_bytes x) (drop end bytes)) ∙ ap (λ l. l ++ drop end bytes) (flat_map_more op_bytes [] xs x);
+    counted = omega (arith, length-append xs (x ∷ []), r.counted, q);
+    rises = r.above x n.above;
+    above = λ y h. rises_more by_name_total xs x y (r.above x n.above) (less_of (by_name x y) h);
+    near = omega (arith, r.near, n.short, q);
+  })
+
+  pub ops_bad : (place left : ℕ) (xs : List Op) (before : Option Name) (less : ℕ) (f : ReadFault) → OpsTo bytes at count place left xs before → left ≡ suc less
+      → IsBad (next_op bytes place (key_before name_key before)) f → IsBadOrMemory (ops_fields bytes at [] count) f
+  ops_bad place left xs before less (BadPacket p) r q bad =
+      r.faults ∙ ap (λ m. first_fault (ops_fields bytes place (key_before name_key before) m)) q
+      ∙ bad_front (next_op bytes place (key_before name_key before)) _ (BadPacket p) (bad_only (next_op bytes place (key_before name_key before)) (BadPacket p) bad)
+  ops_bad place left xs before less Memory r q bad = tt
+
+  pub ops_all : (place left : ℕ) (xs : List Op) (before : Option Name) → OpsTo bytes at count place left xs before → left ≡ 0 → length bytes ≤ place → AreOps bytes at count xs
+  ops_all place left xs before r done end = record {
+    whole = r.faults ∙ ap (λ m. first_fault (ops_fields bytes place (key_before name_key before) m)) done
+        ∙ ap (λ b. if b then None else Some place) (le-leb (length bytes) place end);
+    rises = r.rises;
+    counted = omega (arith, r.counted, done);
+    spelled = r.spelled ∙ ap (λ l. flat_map op_bytes xs ++ l) (drop_all place bytes end) ∙ append-nil (flat_map op_bytes xs);
+  }
+
+  pub ops_after : (place left : ℕ) (xs : List Op) (before : Option Name) → OpsTo bytes at count place left xs before → left ≡ 0 → place < length bytes
+      → first_fault (ops_fields bytes at [] count) ≡ Some place
+  ops_after place left xs before r done more =
+      r.faults ∙ ap (λ m. first_fault (ops_fields bytes place (key_before name_key before) m)) done
+      ∙ ap (λ b. if b then None else Some place) (over place (length bytes) more)
+    where
+      over : (a b : ℕ) → a < b → leb b a ≡ false
+      over a b h = grind (arith, nat_tests)
