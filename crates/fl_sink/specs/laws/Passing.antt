@@ -1,5 +1,5 @@
 -- What passes through a buffer in steps passes in one, and what is cut after some passed is cut.
-use Rattle.std.specs.Prelude.{◌≡◌, ◌++◌, List, [], ℕ, Option, refl}
+use Rattle.std.specs.Prelude.{◌++◌, List, [], ℕ, Option, refl}
 use Rattle.std.proofs.Common.{◌∙◌, sym, ap, subst, Result, Ok, Err}
 use Rattle.std.proofs.lemmas.List.{append_assoc, append-nil}
 use Rattle.std.specs.Result.{IsErr, OnErr}
