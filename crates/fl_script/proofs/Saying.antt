@@ -11,12 +11,12 @@ use Rattle.fl_script.specs.Grammar.{Spells}
 use Rattle.fl_script.specs.parts.Meaning.{IsWord, EndsInAlias, CanBeNamed, WantsMemory}
 use Rattle.fl_script.specs.Reading.{makes, IsAsking, MayWant, WordsSay, SpellsReplaced, SpellsNamed}
 use Rattle.fl_script.specs.declared.line.Line.{Line}
-use Rattle.fl_script.proofs.Ends.{same_ends}
-use Rattle.fl_script.proofs.OneReading.{none_with_as, same_line}
-use Rattle.fl_script.proofs.NoAs.{few_spell_made}
+use Rattle.fl_script.specs.laws.Ends.{same_ends}
+use Rattle.fl_script.specs.laws.OneReading.{none_with_as, same_line}
+use Rattle.fl_script.specs.laws.NoAs.{few_spell_made}
 use Rattle.fl_script.proofs.ReplacedWords.{too_many}
-use Rattle.fl_script.proofs.Spaced.{clean_stay, same_replaced}
-use Rattle.fl_script.proofs.WordShape.{clean_words}
+use Rattle.fl_script.specs.laws.Spaced.{clean_stay, same_replaced}
+use Rattle.fl_script.specs.laws.WordShape.{clean_words}
 
 front_all : (P : Word → Type 0) (front back : List Word) → All P (front ++ back) → All P front
 front_all P [] back h = All-nil P
