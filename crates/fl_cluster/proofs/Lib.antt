@@ -2,5 +2,4 @@ pub mod Rest
 pub mod StreamRuns
 pub mod NodeLemmas
 pub mod Naming
-pub mod NodePuts
 pub mod NodesTable

@@ -8,4 +8,5 @@ pub mod NodeStep
 pub mod Turn
 pub mod Output
 pub mod Served
+pub mod laws
 pub mod parts
