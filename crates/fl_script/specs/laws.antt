@@ -8,3 +8,4 @@ pub mod NoAs
 pub mod WordShape
 pub mod Spaced
 pub mod OneReading
+pub mod NamedLines
