@@ -5,6 +5,7 @@ pub mod Naming
 pub mod AnswerText
 pub mod LastName
 pub mod NodeStep
+pub mod MayWant
 pub mod Turn
 pub mod Output
 pub mod Served
