@@ -2,17 +2,16 @@
 use Rattle.std.proofs.Common.{◌≡◌, ◌+◌, ◌++◌, ◌||◌, ◌∙◌, refl, ap, List, [], ◌∷◌, ℕ, cond, Option, None, Some, IfSome, Result, Ok, Err, IfOk, IfErr, OnErr}
 use Rattle.std.specs.List.{flat_map, list_any}
 use Rattle.fl_stream.specs.Turns.{AnswerCuts, LineOutput, texts, any_bad, Run as LoopRun}
-use Rattle.fl_stream.specs.Output.{Writes as LoopWrites, WritesOutput as LoopWritesOutput, WritesFirst}
+use Rattle.fl_stream.specs.Output.{Writes as LoopWrites, WritesOutput as LoopWritesOutput, WritesFirst as LoopWritesFirst}
 use Rattle.fl_stream.specs.Served.{Served as LoopServed}
 use Rattle.fl_cluster.specs.Session.{Session, begun}
 use Rattle.fl_cluster.specs.Answer.{Answer, is_bad}
 use Rattle.fl_cluster.specs.AnswerText.{text_of}
 use Rattle.fl_sink.specs.Sink.{Cuts}
 use Rattle.fl_cluster.specs.Turn.{Turn}
-use Rattle.fl_cluster.specs.Output.{Run, Writes, WritesOutput, WritesFront}
+use Rattle.fl_cluster.specs.Output.{Run, Writes, WritesOutput, WritesFirst}
 use Rattle.fl_cluster.specs.Served.{Served}
 use Rattle.fl_cluster.specs.parts.LineTurn.{TurnsOut}
-use Rattle.fl_cluster.proofs.Rest.{front_of_all}
 
 -- a run whose answers have these outputs
 record HasOutputs (number : ℕ) (old : Session) (lines : List (List ℕ)) (outputs : List LineOutput) (new : Session) : Type 0 where
@@ -50,9 +49,8 @@ writes lines text status w =
 pub writes_output : {a b : Option (List ℕ)} {script : List ℕ} {status : ℕ} → LoopWritesOutput TurnsOut begun a b script status → WritesOutput a b script status
 writes_output {a} {b} {script} {status} w = record { text = w.text; output = writes _ _ _ w.output; written = w.written }
 
--- a front of what is written for the first lines is one of what is written for the whole script
-pub writes_front : {a b : Option (List ℕ)} {script : List ℕ} → WritesFirst TurnsOut begun a b script → WritesFront a b script
-writes_front {a} {b} {script} w = front_of_all w.first w.later w.front w.rest w.status w.split (writes _ _ _ w.output) w.written
+pub writes_first : {a b : Option (List ℕ)} {script : List ℕ} → LoopWritesFirst TurnsOut begun a b script → WritesFirst a b script
+writes_first w = record { first = w.first; later = w.later; split = w.split; front = w.front; rest = w.rest; status = w.status; output = writes _ _ _ w.output; written = w.written }
 
 pub served : {remaining left a b : Option (List ℕ)} → LoopServed TurnsOut begun remaining left a b → Served remaining left a b
 served {remaining} {left} {a} {b} s = record {
@@ -88,7 +86,7 @@ pub served_clause : {T E : Type 0} (r : Result T E) (fault : E) (remaining left 
 served_clause (Ok status) fault remaining left a b start e h = tt
 served_clause (Err found) fault remaining left a b start e h = λ same. served (rw e at h same)
 
-pub err_clause : {T E : Type 0} (r : Result T E) (remaining a b : Option (List ℕ)) (start : Session) → start ≡ begun → OnErr r (IfSome remaining (λ script. WritesFirst TurnsOut start a b script)) → OnErr r (IfSome remaining (λ script. WritesFront a b script))
+pub err_clause : {T E : Type 0} (r : Result T E) (remaining a b : Option (List ℕ)) (start : Session) → start ≡ begun → OnErr r (IfSome remaining (λ script. LoopWritesFirst TurnsOut start a b script)) → OnErr r (IfSome remaining (λ script. WritesFirst a b script))
 err_clause (Ok status) remaining a b start e h = tt
 err_clause (Err fault) None a b start e h = tt
-err_clause (Err fault) (Some script) a b start e h = writes_front (rw e at h)
+err_clause (Err fault) (Some script) a b start e h = writes_first (rw e at h)

@@ -2,7 +2,7 @@
 ghost use Rattle.std.specs.Prelude.{◌≡◌, ◌≤◌, IfErr, IfOk, IfSome, OnErr, OnOk, length};
 ghost use Rattle.std.specs.Io.KnownBytes.{IsAtEnd};
 ghost use Rattle.fl_cluster.specs.Served.{Served};
-ghost use Rattle.fl_cluster.specs.Output.{WritesFront, WritesOutput};
+ghost use Rattle.fl_cluster.specs.Output.{WritesFirst, WritesOutput};
 
 use crate::fault::RunFault;
 use crate::session::Session;
@@ -31,7 +31,7 @@ pub fn run<RT: AllocGlobal, R: Read, W: Write>(
     ensures served { IfErr result (λ e. e ≡ RunFault.Read →
         Served (R.remaining input.old) (R.remaining input.new) (W.contents output.old) (W.contents output.new)) }
     ensures err { OnErr result (IfSome (R.remaining input.old) (λ script.
-        WritesFront (W.contents output.old) (W.contents output.new) script)) }
+        WritesFirst (W.contents output.old) (W.contents output.new) script)) }
 {
     fl_stream::run::run(rt, Session::new(rt.alloc()), input, output)
 }
