@@ -7,7 +7,7 @@ pub mod LastName
 pub mod NodeStep
 pub mod MayWant
 pub mod Turn
+pub mod LineTurn
 pub mod Output
-pub mod Served
 pub mod laws
 pub mod parts

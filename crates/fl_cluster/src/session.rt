@@ -150,7 +150,7 @@ impl Session {
 }
 
 impl Machine for Session {
-    ghost use Rattle.fl_cluster.specs.parts.LineTurn.{TurnsOut};
+    ghost use Rattle.fl_cluster.specs.LineTurn.{TurnsOut};
 
     ghost turns = { TurnsOut };
 
