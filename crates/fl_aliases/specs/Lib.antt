@@ -3,3 +3,4 @@ pub mod TargetText
 pub mod Table
 pub mod Expansion
 pub mod Words
+pub mod laws

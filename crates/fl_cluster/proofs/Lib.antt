@@ -1,6 +1,5 @@
-pub mod Rest
 pub mod StreamRuns
 pub mod NodeLemmas
 pub mod Naming
-pub mod NodePuts
 pub mod NodesTable
+pub mod Wanting

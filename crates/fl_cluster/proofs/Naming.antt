@@ -3,7 +3,7 @@ use Rattle.std.proofs.Common.{◌≡◌, ◌≢◌, ◌<◌, ◌∙◌, refl, sy
 use Rattle.std.specs.Bool.{MatchBool}
 use Rattle.fl_aliases.specs.Table.{Entry, Table, target_of, retargeted}
 use Rattle.fl_aliases.specs.declared.target.Target.{Target}
-use Rattle.fl_aliases.proofs.Placing.{placed_found, placed_set, taken_back}
+use Rattle.fl_aliases.specs.laws.Placing.{placed_found, placed_set, taken_back}
 use Rattle.fl_jobs.specs.declared.answer.Outcome.{Outcome}
 use Rattle.fl_jobs.specs.declared.answer.Refusal.{Refusal}
 use Rattle.fl_bench.specs.Bench as bench
@@ -17,10 +17,6 @@ use Rattle.fl_cluster.specs.Naming.{with_alias, IsPlaced, as_last, in_place}
 use Rattle.fl_cluster.specs.Turn.{AnswersLine, works, sends, brings, no_room, never_sent, shows, unites, lists}
 use Rattle.fl_cluster.specs.declared.response.Response.{Response}
 use Rattle.fl_cluster.specs.declared.response.Response.TheVariants as response
-
--- sessions with the same nodes and aliases are equal
-pub same_session : (m n : Session) → m.state ≡ n.state → m.aliases ≡ n.aliases → m ≡ n
-same_session m n e f = ap (λ (s : Cluster). record { state = s; aliases = m.aliases }) e ∙ ap (λ (t : Table). record { state = n.state; aliases = t }) f
 
 is_none : {X : Type 0} (o : Option X) → IsNone o → o ≡ None
 is_none None h = refl

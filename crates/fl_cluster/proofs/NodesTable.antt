@@ -23,7 +23,7 @@ use Rattle.fl_mailbox.proofs.Table.{get_held, one_gone, one_put, put_same, put_t
 use Rattle.fl_bench.proofs.Orders.{sending_at}
 use Rattle.fl_bench.proofs.Puts.{none_some}
 use Rattle.fl_script.specs.declared.line.Line.TheVariants as line
-use Rattle.fl_cluster.proofs.NodePuts.{node_here}
+use Rattle.fl_cluster.specs.laws.NodePuts.{node_here}
 use Rattle.fl_cluster.specs.Cluster.{Cluster, NodeState, new_node, is_open, node_at, node_or_new, packet_at, with_node, with_open, with_packet}
 use Rattle.fl_cluster.specs.Session.{Session}
 use Rattle.fl_cluster.specs.Answer.{Answer, sent, shown, text, on_arrival}

@@ -1,18 +1,16 @@
 -- What the reading loop says of any machine, said of a session.
-use Rattle.std.proofs.Common.{◌≡◌, ◌+◌, ◌++◌, ◌||◌, ◌∙◌, refl, ap, List, [], ◌∷◌, ℕ, cond, Option, None, Some, IfSome, Result, Ok, Err, IfOk, IfErr, OnErr}
+use Rattle.std.proofs.Common.{◌≡◌, ◌+◌, ◌++◌, ◌||◌, ◌∙◌, refl, ap, subst, List, [], ◌∷◌, ℕ, cond, Option, None, Some, IfSome, Result, Ok, Err, IfOk, IfErr, OnErr}
 use Rattle.std.specs.List.{flat_map, list_any}
 use Rattle.fl_stream.specs.Turns.{AnswerCuts, LineOutput, texts, any_bad, Run as LoopRun}
-use Rattle.fl_stream.specs.Output.{Writes as LoopWrites, WritesOutput as LoopWritesOutput, WritesFirst}
-use Rattle.fl_stream.specs.Served.{Served as LoopServed}
+use Rattle.fl_stream.specs.Output.{Writes as LoopWrites, WritesOutput as LoopWritesOutput, WritesFirst as LoopWritesFirst}
+use Rattle.fl_stream.specs.Served.{Answered, Served}
 use Rattle.fl_cluster.specs.Session.{Session, begun}
 use Rattle.fl_cluster.specs.Answer.{Answer, is_bad}
 use Rattle.fl_cluster.specs.AnswerText.{text_of}
 use Rattle.fl_sink.specs.Sink.{Cuts}
 use Rattle.fl_cluster.specs.Turn.{Turn}
-use Rattle.fl_cluster.specs.Output.{Run, Writes, WritesOutput, WritesFront}
-use Rattle.fl_cluster.specs.Served.{Served}
-use Rattle.fl_cluster.specs.parts.LineTurn.{TurnsOut}
-use Rattle.fl_cluster.proofs.Rest.{front_of_all}
+use Rattle.fl_cluster.specs.Output.{Run, Writes, WritesOutput, WritesFirst}
+use Rattle.fl_cluster.specs.LineTurn.{TurnsOut}
 
 -- a run whose answers have these outputs
 record HasOutputs (number : ℕ) (old : Session) (lines : List (List ℕ)) (outputs : List LineOutput) (new : Session) : Type 0 where
@@ -50,25 +48,8 @@ writes lines text status w =
 pub writes_output : {a b : Option (List ℕ)} {script : List ℕ} {status : ℕ} → LoopWritesOutput TurnsOut begun a b script status → WritesOutput a b script status
 writes_output {a} {b} {script} {status} w = record { text = w.text; output = writes _ _ _ w.output; written = w.written }
 
--- a front of what is written for the first lines is one of what is written for the whole script
-pub writes_front : {a b : Option (List ℕ)} {script : List ℕ} → WritesFirst TurnsOut begun a b script → WritesFront a b script
-writes_front {a} {b} {script} w = front_of_all w.first w.later w.front w.rest w.status w.split (writes _ _ _ w.output) w.written
-
-pub served : {remaining left a b : Option (List ℕ)} → LoopServed TurnsOut begun remaining left a b → Served remaining left a b
-served {remaining} {left} {a} {b} s = record {
-  taken = s.taken;
-  beyond = s.beyond;
-  consumed = s.consumed;
-  bounded = s.bounded;
-  done = s.done;
-  held = s.held;
-  cut = s.cut;
-  no_feed = s.no_feed;
-  text = s.text;
-  status = s.status;
-  output = writes _ _ _ s.output;
-  written = s.written;
-}
+pub writes_first : {a b : Option (List ℕ)} {script : List ℕ} → LoopWritesFirst TurnsOut begun a b script → WritesFirst a b script
+writes_first w = record { first = w.first; later = w.later; split = w.split; front = w.front; rest = w.rest; status = w.status; output = writes _ _ _ w.output; written = w.written }
 
 -- a front of an answer's text was written
 pub cuts_answer : {a b : Option (List ℕ)} {number : ℕ} {old new : Session} {line pending : List ℕ} (answer : Answer) → Turn number old line answer new → Cuts a b pending (text_of answer) → AnswerCuts TurnsOut number old line new a b pending
@@ -84,11 +65,13 @@ ok_clause (Ok status) None a b start e h = tt
 ok_clause (Ok status) (Some script) a b start e h = writes_output (rw e at h)
 ok_clause (Err fault) remaining a b start e h = tt
 
-pub served_clause : {T E : Type 0} (r : Result T E) (fault : E) (remaining left a b : Option (List ℕ)) (start : Session) → start ≡ begun → IfErr r (λ e. e ≡ fault → LoopServed TurnsOut start remaining left a b) → IfErr r (λ e. e ≡ fault → Served remaining left a b)
-served_clause (Ok status) fault remaining left a b start e h = tt
-served_clause (Err found) fault remaining left a b start e h = λ same. served (rw e at h same)
+pub served_clause : {T E : Type 0} (r : Result T E) (fault : E) (remaining left a b : Option (List ℕ)) (start : Session) → start ≡ begun → IfErr r (λ e. e ≡ fault → Served TurnsOut start remaining left a b) → IfErr r (λ e. e ≡ fault → Served TurnsOut begun remaining left a b)
+served_clause r fault remaining left a b start e h = subst (λ s. IfErr r (λ x. x ≡ fault → Served TurnsOut s remaining left a b)) e h
 
-pub err_clause : {T E : Type 0} (r : Result T E) (remaining a b : Option (List ℕ)) (start : Session) → start ≡ begun → OnErr r (IfSome remaining (λ script. WritesFirst TurnsOut start a b script)) → OnErr r (IfSome remaining (λ script. WritesFront a b script))
+pub due_clause : (before : Option (List ℕ)) (start : Session) (due : List ℕ → Option (List ℕ) → Type 0) → start ≡ begun → ((heard : List ℕ) (said : Option (List ℕ)) → Answered TurnsOut begun heard before said → due heard said) → (heard : List ℕ) (said : Option (List ℕ)) → Answered TurnsOut start heard before said → due heard said
+due_clause before start due e allows heard said p = allows heard said (subst (λ s. Answered TurnsOut s heard before said) e p)
+
+pub err_clause : {T E : Type 0} (r : Result T E) (remaining a b : Option (List ℕ)) (start : Session) → start ≡ begun → OnErr r (IfSome remaining (λ script. LoopWritesFirst TurnsOut start a b script)) → OnErr r (IfSome remaining (λ script. WritesFirst a b script))
 err_clause (Ok status) remaining a b start e h = tt
 err_clause (Err fault) None a b start e h = tt
-err_clause (Err fault) (Some script) a b start e h = writes_front (rw e at h)
+err_clause (Err fault) (Some script) a b start e h = writes_first (rw e at h)

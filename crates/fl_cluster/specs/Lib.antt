@@ -5,7 +5,9 @@ pub mod Naming
 pub mod AnswerText
 pub mod LastName
 pub mod NodeStep
+pub mod MayWant
 pub mod Turn
+pub mod LineTurn
 pub mod Output
-pub mod Served
+pub mod laws
 pub mod parts

@@ -34,12 +34,15 @@ pub record WritesOutput (old new : Option (List ℕ)) (script : List ℕ) (statu
   pub output : Output script text status
   pub written : Appends old new text
 
--- known bytes grow by a front of an output of the script
-pub record WritesFront (old new : Option (List ℕ)) (script : List ℕ) : Type 0 where
+-- known bytes grow by a front of what is written for the first lines of the script
+pub record WritesFirst (old new : Option (List ℕ)) (script : List ℕ) : Type 0 where
+  pub first : List (List ℕ)
+  pub later : List (List ℕ)
+  pub split : lines script ≡ first ++ later
   pub front : List ℕ
   pub rest : List ℕ
   pub status : ℕ
-  pub output : Output script (front ++ rest) status
+  pub output : Writes first (front ++ rest) status
   pub written : Appends old new front
 
 -- no answer is for want of memory

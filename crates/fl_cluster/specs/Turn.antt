@@ -12,12 +12,13 @@ use Rattle.fl_script.specs.declared.line.Line.{Line}
 use Rattle.fl_script.specs.declared.line.Line.TheVariants as line
 use Rattle.fl_script.specs.declared.reading.Reading.{Reading}
 use Rattle.fl_script.specs.declared.reading.Reading.TheVariants as reading
-use Rattle.fl_script.specs.Reading.{IsReading, IsAsking}
+use Rattle.fl_script.specs.Reading.{IsReading}
 use Rattle.fl_cluster.specs.Cluster.{Cluster, NodeState, node_at, packet_at, with_node, with_open, with_packet}
 use Rattle.fl_cluster.specs.Session.{Session}
 use Rattle.fl_cluster.specs.Answer.{Answer, silence, sent, text, listed, refused, dropped, bad_line, on_arrival}
 use Rattle.fl_cluster.specs.Naming.{made_by, renamed}
 use Rattle.fl_cluster.specs.NodeStep.{NodeAnswers, Sends}
+use Rattle.fl_cluster.specs.MayWant.{MayWant}
 
 -- Where these aliases are set, the line in this place is answered so, and leaves the nodes and the packets so.
 -- A node that the line names is open from then on, unless the line is to bring it the message of a packet that
@@ -65,9 +66,9 @@ pub record Understood (number : ℕ) (old : Session) (bytes : List ℕ) (answer 
   pub says : IsReading old.aliases bytes reading
   pub answered : AnswersReading number old reading answer new
 
--- the line asks for an answer, memory was wanted, and nothing changed
+-- the line may want memory, and did, and nothing changed
 pub record Starved (old : Session) (bytes : List ℕ) (answer : Answer) (new : Session) : Type 0 where
-  pub asks : IsAsking bytes
+  pub may : MayWant old bytes
   pub answered : answer ≡ refused Memory
   pub unchanged : new ≡ old
 

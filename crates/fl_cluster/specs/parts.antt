@@ -1,4 +1,3 @@
 -- Relations that join the private functions.
 pub mod ComesOf
 pub mod Responds
-pub mod LineTurn

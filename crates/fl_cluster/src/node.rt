@@ -1,11 +1,12 @@
 //! A node, job by job.
 ghost use Rattle.std.specs.Prelude.{◌≡◌, ◌≢◌, ◌<◌, IfOk, MatchOption, OnErr, OnOk, Ok};
 ghost use Rattle.fl_jobs.specs.declared.answer.Outcome.TheVariants as outcome;
+ghost use Rattle.fl_bench.specs.Jobs.{TakesMemory};
 ghost use Rattle.fl_cluster.specs.Cluster.{new_node};
 ghost use Rattle.fl_cluster.specs.Session.{Session};
 ghost use Rattle.fl_cluster.specs.Answer.{shown};
 ghost use Rattle.fl_cluster.specs.LastName.{IsLast};
-ghost use Rattle.fl_cluster.specs.NodeStep.{AnswersResult, IsNextName, with_operation, without_order};
+ghost use Rattle.fl_cluster.specs.NodeStep.{AnswersResult, IsNextName, view_of, with_operation, without_order};
 ghost use Rattle.fl_cluster.specs.parts.ComesOf.{ComesOf};
 
 use crate::response::{JobResult, Response};
@@ -73,10 +74,11 @@ impl Node {
     }
 
     /// Does a job, and gives a new operation its name. A packet that it sends is for the caller to keep. Want of memory leaves
-    /// the node.
+    /// the node, and comes only of a job that takes memory.
     pub fn work(&mut self, alloc: Global, job: Job) -> Result<JobResult, AllocError>
         ensures ok { IfOk result (λ work. ComesOf self.old job work self.new) }
         ensures err { OnErr result (self.new ≡ self.old) }
+        ensures wants { OnErr result (TakesMemory (view_of self.old) self.old.bench job) }
     {
         match self.bench.job(alloc, &mut self.index, job) {
             Ok(Outcome::Reply(reply)) => Ok(JobResult::Answer(Response::Reply(reply))),

@@ -6,6 +6,7 @@ ghost use Rattle.fl_opset.specs.RegistryText.{registry_text};
 ghost use Rattle.fl_sink.specs.Sink.{Puts};
 ghost use Rattle.fl_script.specs.Grammar.{nodes_of};
 ghost use Rattle.fl_cluster.specs.Cluster.{is_open, node_at, start, with_open, with_packet};
+ghost use Rattle.fl_cluster.specs.MayWant.{LineTakesMemory};
 ghost use Rattle.fl_cluster.specs.parts.Responds.{Responds, RespondsAt};
 
 use crate::node::Node;
@@ -52,12 +53,14 @@ impl Nodes {
         }
     }
 
-    /// Answers the line in this place, whatever the aliases are. Want of memory leaves all as it was: a node that the line
-    /// would open is then not open. A message for which there is no memory is dropped, and leaves all as it was too.
+    /// Answers the line in this place, whatever the aliases are. Want of memory comes only of a line that takes memory, and
+    /// leaves all as it was: a node that the line would open is then not open. A message for which there is no memory is
+    /// dropped, and leaves all as it was too.
     pub fn answer(&mut self, alloc: Global, place: u64, line: Line) -> Result<Response, AllocError>
         requires { All (λ node. 0 < node) (nodes_of line) }
         ensures ok { IfOk result (λ response. RespondsAt place self.old line response self.new) }
         ensures err { OnErr result (self.new ≡ self.old) }
+        ensures wants { OnErr result (LineTakesMemory self.old line) }
     {
         match line {
             Line::Job { node, job } => self.work(alloc, node, job),
@@ -73,6 +76,7 @@ impl Nodes {
         requires { 0 < number }
         ensures ok { IfOk result (λ response. Responds self.old (Line.Job number job) response self.new) }
         ensures err { OnErr result (self.new ≡ self.old) }
+        ensures wants { OnErr result (LineTakesMemory self.old (Line.Job number job)) }
     {
         let Some(node) = self.all.get_mut(&number) else {
             return self.open_at_work(alloc, number, job);
@@ -132,6 +136,7 @@ impl Nodes {
         requires { 0 < number }
         ensures ok { IfOk result (λ response. Responds self.old (Line.Text number) response self.new) }
         ensures err { OnErr result (self.new ≡ self.old) }
+        ensures wants { OnErr result (is_open self.old number ≡ false) }
     {
         self.open(alloc, number)?;
         Ok(Response::Text(number))
@@ -193,6 +198,7 @@ impl Nodes {
         ensures ok { OnOk result (self.new ≡ with_open self.old number) }
         ensures new { IfOk result (λ new. new ≡ not (is_open self.old number)) }
         ensures err { OnErr result (self.new ≡ self.old) }
+        ensures wants { OnErr result (is_open self.old number ≡ false) }
     {
         if self.all.contains_key(&number) {
             return Ok(false);

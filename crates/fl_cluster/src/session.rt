@@ -2,10 +2,11 @@
 ghost use Rattle.std.specs.Prelude.{◌≡◌, ◌<◌, All, IfOk, IsSome, OnErr, Some, length, true};
 ghost use Rattle.fl_aliases.specs.Table.{Table, target_of};
 ghost use Rattle.fl_script.specs.Grammar.{nodes_of};
-ghost use Rattle.fl_script.specs.Reading.{IsAsking, makes};
+ghost use Rattle.fl_script.specs.Reading.{makes};
 ghost use Rattle.fl_cluster.specs.Session.{begun};
 ghost use Rattle.fl_cluster.specs.Answer.{shown};
 ghost use Rattle.fl_cluster.specs.Naming.{IsPlaced, renamed};
+ghost use Rattle.fl_cluster.specs.MayWant.{MayWant};
 ghost use Rattle.fl_cluster.specs.Turn.{AnswersNamed, Turn, Understood};
 
 use crate::answers::write_response;
@@ -105,7 +106,7 @@ impl Session {
     ) -> Result<Response, AllocError>
         ensures ok { IfOk result (λ response.
             Understood number self.old line.now (shown self.new response) self.new) }
-        ensures asks { OnErr result (IsAsking line.now) }
+        ensures wants { OnErr result (MayWant self.old line.now) }
         ensures err { OnErr result (self.new ≡ self.old) }
     {
         match read_line(alloc, &self.aliases, line)? {
@@ -149,7 +150,7 @@ impl Session {
 }
 
 impl Machine for Session {
-    ghost use Rattle.fl_cluster.specs.parts.LineTurn.{TurnsOut};
+    ghost use Rattle.fl_cluster.specs.LineTurn.{TurnsOut};
 
     ghost turns = { TurnsOut };
 

@@ -5,13 +5,14 @@ use Rattle.std.proofs.lemmas.List.{map-append}
 use Rattle.fl_aliases.specs.Table.{Table, target_of, retargeted}
 use Rattle.fl_aliases.specs.declared.target.Target.{Target}
 use Rattle.fl_aliases.proofs.Placing.{placed_found, placed_others, set_found, set_others, set_places}
+use Rattle.fl_jobs.specs.declared.answer.Refusal.TheVariants.{Memory}
 use Rattle.fl_script.specs.Reading.{IsReading}
 use Rattle.fl_script.specs.declared.line.Line.{Line}
 use Rattle.fl_script.specs.declared.reading.Reading.{Reading}
 use Rattle.fl_script.specs.declared.reading.Reading.TheVariants as reading
 use Rattle.fl_script.proofs.OneReading.{one_reading}
 use Rattle.fl_cluster.specs.Session.{Session}
-use Rattle.fl_cluster.specs.Answer.{Answer}
+use Rattle.fl_cluster.specs.Answer.{Answer, refused}
 use Rattle.fl_cluster.specs.Naming.{made_by, with_alias, renamed, SetsAlias}
 use Rattle.fl_cluster.specs.Turn.{AnswersReading, AnswersNamed, Turn}
 
@@ -73,12 +74,12 @@ turn_named number old bytes said alias a m reads (inr h) = turn_starved alias
     turn_starved : (alias : Option (List ℕ)) → m.aliases ≡ renamed old.aliases alias (made_by a)
     turn_starved alias = ap (λ (s : Session). s.aliases) h.unchanged ∙ sym (renamed_none old.aliases alias (made_by a) (ap made_by h.answered))
 
--- a line that means the same is answered so too
-pub turn_alike : (number : ℕ) (old : Session) (bytes other : List ℕ) (said : Line) (alias : Option (List ℕ)) (a : Answer) (m : Session) → IsReading old.aliases bytes (reading.Means said alias) → IsReading old.aliases other (reading.Means said alias) → Turn number old bytes a m → Turn number old other a m
-turn_alike number old bytes other said alias a m reads alike (inl h) =
+-- a line that means the same is answered so too, where memory was not wanted
+pub turn_alike : (number : ℕ) (old : Session) (bytes other : List ℕ) (said : Line) (alias : Option (List ℕ)) (a : Answer) (m : Session) → IsReading old.aliases bytes (reading.Means said alias) → IsReading old.aliases other (reading.Means said alias) → a ≢ refused Memory → Turn number old bytes a m → Turn number old other a m
+turn_alike number old bytes other said alias a m reads alike fed (inl h) =
     let e = one_reading old.aliases bytes h.reading (reading.Means said alias) h.says reads in
     inl (record { reading = reading.Means said alias; says = alike; answered = subst (λ r. AnswersReading number old r a m) e h.answered })
-turn_alike number old bytes other said alias a m reads alike (inr h) = inr (record { asks = alike.asking; answered = h.answered; unchanged = h.unchanged })
+turn_alike number old bytes other said alias a m reads alike fed (inr h) = absurd (fed h.answered)
 
 sets_alias : (old : Table) (alias : List ℕ) (target : Target) (made : Option Target) (new : Table) → new ≡ renamed old (Some alias) made → made ≡ Some target → SetsAlias old alias target new
 sets_alias old alias target None new e f = absurd (cc)

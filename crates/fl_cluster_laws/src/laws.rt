@@ -12,7 +12,7 @@ ghost use Rattle.fl_wire.specs.declared.packet.Data.{Data};
 ghost use Rattle.fl_wire.specs.declared.packet.Packet.TheVariants as packets;
 ghost use Rattle.fl_ops.specs.Logins.{IsFirstLogin};
 ghost use Rattle.fl_ops.specs.declared.digest.Digest.{Digest};
-ghost use Rattle.fl_jobs.specs.declared.answer.Refusal.TheVariants.{Busy};
+ghost use Rattle.fl_jobs.specs.declared.answer.Refusal.TheVariants.{Busy, Memory};
 ghost use Rattle.fl_jobs.specs.declared.answer.Reply.TheVariants.{Arrived, Done};
 ghost use Rattle.fl_jobs.specs.declared.job.Side.{Side};
 ghost use Rattle.fl_jobs.specs.declared.job.Act.TheVariants.{Ask};
@@ -175,7 +175,7 @@ pub fn law_kept_tags()
 
 /// An alias stands for what its line made: a line sets its own alias alone, and only where it made something,
 /// in the place that the alias had, if it was set. Else a line leaves all aliases. Lines that say the same
-/// where these aliases are set are answered alike.
+/// where these aliases are set are answered alike, unless memory is wanted.
 pub fn law_aliases()
     ensures kept { (number : ℕ) (old new : Session) (line : List ℕ) (answer : Answer) →
         Turn number old line answer new → made_by answer ≡ None → new.aliases ≡ old.aliases }
@@ -189,8 +189,8 @@ pub fn law_aliases()
     ensures alike { (number : ℕ) (old new : Session) (line other : List ℕ) (said : Line)
         (alias : Option (List ℕ)) (answer : Answer) →
         IsReading old.aliases line (Means said alias) →
-        IsReading old.aliases other (Means said alias) → Turn number old line answer new →
-        Turn number old other answer new }
+        IsReading old.aliases other (Means said alias) → answer ≢ refused Memory →
+        Turn number old line answer new → Turn number old other answer new }
 {}
 
 /// Nodes with the same operations have the same text, and tell the same: two processes that own the same have

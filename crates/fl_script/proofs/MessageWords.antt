@@ -6,7 +6,7 @@ use Rattle.fl_labels.specs.SetBy.{SetBy, len}
 use Rattle.fl_wire.specs.declared.packet.Message.{Message}
 use Rattle.fl_aliases.specs.Words.{Word}
 use Rattle.fl_script.specs.Words.{IsCapsWord, IsBytesWord, AreMessageWords}
-use Rattle.fl_script.proofs.OneWord.{same_caps, same_bytes}
+use Rattle.fl_script.specs.laws.OneWord.{same_caps, same_bytes}
 
 module _ (first second : Word) where
   -- a word that lists no capabilities is of no message

@@ -6,9 +6,9 @@ use Rattle.fl_aliases.specs.Words.{Word}
 use Rattle.fl_script.specs.Grammar.{Matches, Spells, job_forms}
 use Rattle.fl_script.specs.declared.line.Line.{Line}
 use Rattle.fl_script.specs.declared.line.Line.TheVariants.{Job as OfJob, Text, Deliver, Union, Aliases}
-use Rattle.fl_script.proofs.JobKinds.{Kind, kind_of}
-use Rattle.fl_script.proofs.JobKinds.Kind.{proc}
-use Rattle.fl_script.proofs.OneWord.{no_letter}
+use Rattle.fl_script.specs.laws.JobKinds.{Kind, kind_of}
+use Rattle.fl_script.specs.laws.JobKinds.Kind.{proc}
+use Rattle.fl_script.specs.laws.OneWord.{no_letter}
 
 -- `text` is the verb of no job
 no_text_job : {job : Job} → Kind job → (words : List Word) → Matches (job_forms job) (codes "text" ∷ words) → ⊥

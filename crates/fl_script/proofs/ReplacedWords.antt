@@ -11,8 +11,8 @@ use Rattle.fl_aliases.specs.Words.{Word}
 use Rattle.fl_script.specs.Grammar.{Spells}
 use Rattle.fl_script.specs.Reading.{SpellsReplaced}
 use Rattle.fl_script.specs.declared.line.Line.{Line}
-use Rattle.fl_script.proofs.NoAs.{few_spell}
-use Rattle.fl_script.proofs.Spaced.{same_replaced, clean_stay}
+use Rattle.fl_script.specs.laws.NoAs.{few_spell}
+use Rattle.fl_script.specs.laws.Spaced.{same_replaced, clean_stay}
 
 module _ (table : Table) where
   -- the line that the replaced words spell

@@ -9,33 +9,23 @@ use Rattle.fl_aliases.specs.Table.{Table}
 use Rattle.fl_aliases.specs.Words.{Word, words_of}
 use Rattle.fl_script.specs.Grammar.{Spells}
 use Rattle.fl_script.specs.parts.Meaning.{IsWord, EndsInAlias, CanBeNamed, WantsMemory}
-use Rattle.fl_script.specs.Reading.{makes, IsAsking, MayWant, WordsSay, SpellsReplaced, SpellsNamed}
+use Rattle.fl_script.specs.Reading.{makes, IsAsking, ReadingTakesMemory, WordsSay, SpellsReplaced, SpellsNamed}
 use Rattle.fl_script.specs.declared.line.Line.{Line}
-use Rattle.fl_script.proofs.Ends.{same_ends}
-use Rattle.fl_script.proofs.OneReading.{none_with_as, same_line}
-use Rattle.fl_script.proofs.NoAs.{few_spell_made}
+use Rattle.fl_script.specs.laws.Ends.{same_ends}
+use Rattle.fl_script.specs.laws.OneReading.{none_with_as, same_line}
+use Rattle.fl_script.specs.laws.NamedLines.{named_dollar}
+use Rattle.fl_script.specs.laws.NoAs.{few_spell_made}
 use Rattle.fl_script.proofs.ReplacedWords.{too_many}
-use Rattle.fl_script.proofs.Spaced.{clean_stay, same_replaced}
-use Rattle.fl_script.proofs.WordShape.{clean_words}
+use Rattle.fl_script.specs.laws.Spaced.{clean_stay, same_replaced}
+use Rattle.fl_script.specs.laws.WordShape.{clean_words}
 
 front_all : (P : Word → Type 0) (front back : List Word) → All P (front ++ back) → All P front
 front_all P [] back h = All-nil P
 front_all P (w ∷ front) back h = All-cons P w front (All-head P w (front ++ back) h) (front_all P front back (All-tail P w (front ++ back) h))
 
-back_all : (P : Word → Type 0) (front back : List Word) → All P (front ++ back) → All P back
-back_all P [] back h = h
-back_all P (w ∷ front) back h = back_all P front back (All-tail P w (front ++ back) h)
-
 -- the words before `as $x` are words
 pub front_words : (words front : List Word) (alias : List ℕ) → EndsInAlias front alias words → All IsWord words → All IsWord front
 front_words words front alias s are = front_all IsWord front _ (subst (All IsWord) s.split are)
-
--- an alias is among the words
-named_dollar : (words front : List Word) (alias : List ℕ) → words ≡ front ++ codes "as" ∷ alias_text alias ∷ [] → ¬ All NoDollar words
-named_dollar words front alias split clean =
-    let back = back_all NoDollar front (codes "as" ∷ alias_text alias ∷ []) (subst (All NoDollar) split clean) in
-    let last = All-head NoDollar (alias_text alias) [] (All-tail NoDollar (codes "as") (alias_text alias ∷ []) back) in
-    All-head (λ b. b ≢ 36) 36 alias last refl
 
 pub alias_wants : (words front : List Word) (alias : List ℕ) → EndsInAlias front alias words → WantsMemory words
 alias_wants words front alias s = record { is = inl (named_dollar words front alias s.split) }
@@ -87,5 +77,5 @@ module _ (table : Table) where
       too_many_front front many made s = absurd (omega (arith, many, few_spell_made line s.replaced made s.spelled, length_all_zip (Expands table) front s.replaced s.each))
 
 -- memory that the words may want the bytes may want
-pub bytes_want : (bytes : List ℕ) → IsAsking bytes → WantsMemory (words_of bytes) → MayWant bytes
-bytes_want bytes asking wants = record { asking = asking; wants = elim wants.is [ inl dollar ↦ inl (λ clean. dollar (clean_words bytes clean)) | inr label ↦ inr label ] }
+pub bytes_want : (bytes : List ℕ) → IsAsking bytes → WantsMemory (words_of bytes) → ReadingTakesMemory bytes
+bytes_want bytes asking wants = record { asking = asking; takes = elim wants.is [ inl dollar ↦ inl (λ clean. dollar (clean_words bytes clean)) | inr label ↦ inr label ] }

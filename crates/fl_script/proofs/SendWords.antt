@@ -8,8 +8,8 @@ use Rattle.fl_wire.specs.declared.packet.Message.{Message}
 use Rattle.fl_aliases.specs.Words.{Word}
 use Rattle.fl_script.specs.Grammar.{Is, Matches, SpellsJob}
 use Rattle.fl_script.specs.Words.{IsCapsWord, IsBytesWord, AreMessageWords}
-use Rattle.fl_script.proofs.JobKinds.{Kind, kind_of}
-use Rattle.fl_script.proofs.JobKinds.Kind.{send}
+use Rattle.fl_script.specs.laws.JobKinds.{Kind, kind_of}
+use Rattle.fl_script.specs.laws.JobKinds.Kind.{send}
 use Rattle.fl_script.proofs.WordAt.{word_at}
 
 -- the forms of the words after `send`

@@ -8,8 +8,8 @@ use Rattle.fl_jobs.specs.declared.job.Job.{Job}
 use Rattle.fl_aliases.specs.Words.{Word}
 use Rattle.fl_script.specs.Grammar.{Is, Matches, SpellsJob, job_forms}
 use Rattle.fl_script.specs.Words.{IsCapsWord}
-use Rattle.fl_script.proofs.JobKinds.{Kind, kind_of}
-use Rattle.fl_script.proofs.JobKinds.Kind.{spawn}
+use Rattle.fl_script.specs.laws.JobKinds.{Kind, kind_of}
+use Rattle.fl_script.specs.laws.JobKinds.Kind.{spawn}
 use Rattle.fl_script.proofs.WordAt.{word_at}
 
 -- only a spawn is spelled by `spawn`, and its last word lists capabilities

@@ -5,7 +5,7 @@ use Rattle.fl_aliases.specs.Words.{Word}
 use Rattle.fl_script.specs.Grammar.{Matches, Spells}
 use Rattle.fl_script.specs.declared.line.Line.{Line}
 use Rattle.fl_script.specs.declared.line.Line.TheVariants.{Job as OfJob, Text, Deliver, Union, Aliases}
-use Rattle.fl_script.proofs.OneWord.{no_node}
+use Rattle.fl_script.specs.laws.OneWord.{no_node}
 
 -- after `union`, words that are not two nodes spell no line
 pub no_union : (words : List Word) → ((n m : ℕ) → Matches (IsNode n ∷ IsNode m ∷ []) words → ⊥) → (line : Line) → Spells line (codes "union" ∷ words) → ⊥

@@ -1,4 +1,5 @@
 pub mod Words
 pub mod Grammar
 pub mod Reading
+pub mod laws
 pub mod parts

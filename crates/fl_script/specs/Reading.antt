@@ -107,10 +107,10 @@ IsReading table bytes Quiet = IsQuiet bytes
 IsReading table bytes Bad = IsBad table bytes
 IsReading table bytes (Means line alias) = IsMeaning table bytes line alias
 
--- reading the line may want memory: it asks for an answer, and has an alias or holds a list
-pub record MayWant (bytes : List ℕ) : Type 0 where
+-- reading the line takes memory: it asks for an answer, and has an alias or holds a list
+pub record ReadingTakesMemory (bytes : List ℕ) : Type 0 where
   pub asking : IsAsking bytes
-  pub wants : (¬ NoDollar bytes) ⊎ HoldsList (words_of bytes)
+  pub takes : (¬ NoDollar bytes) ⊎ HoldsList (words_of bytes)
 
 -- there are no words, or the first begins with `#`
 abbrev pub SaysNothing : List (List ℕ) → Type 0

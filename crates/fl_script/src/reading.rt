@@ -1,6 +1,6 @@
 //! What the bytes of a line say.
 ghost use Rattle.std.specs.Prelude.{◌≡◌, ◌↔◌, IsTrue, IfOk, OnErr};
-ghost use Rattle.fl_script.specs.Reading.{first_mark, IsQuiet, IsReading, MayWant};
+ghost use Rattle.fl_script.specs.Reading.{first_mark, IsQuiet, IsReading, ReadingTakesMemory};
 
 use crate::cut::cut_words;
 use crate::line::{Line, line_from_words};
@@ -51,7 +51,7 @@ fn is_quiet(bytes: &[u8]) -> bool
 /// the lists of a `label`, `spawn`, `emit`, `open`, `tune` or `send` line; where this is refused, the line is not read.
 pub fn read_line(alloc: Global, aliases: &Aliases, bytes: &[u8]) -> Result<Reading, AllocError>
     ensures ok { IfOk result (λ reading. IsReading aliases.now bytes.now reading) }
-    ensures err { OnErr result (MayWant bytes.now) }
+    ensures err { OnErr result (ReadingTakesMemory bytes.now) }
 {
     if is_quiet(bytes) {
         return Ok(Reading::Quiet);

@@ -1,53 +1,79 @@
 -- A script is read, some bytes at a time, and answered.
-use Rattle.std.proofs.Common.{◌<◌, ◌≤◌, ◌⊎◌, inl, inr, ◌≡◌, ◌+◌, ◌++◌, ◌∙◌, ◌||◌, refl, sym, ap, List, [], ℕ, Bool, cond, length, subst, Option, None, Some, IfSome, arith}
+use Rattle.std.proofs.Common.{◌<◌, ◌≤◌, ◌⊎◌, inl, inr, ◌≡◌, ◌+◌, ◌++◌, ◌∙◌, ◌||◌, refl, sym, ap, List, [], ℕ, Bool, cond, length, take, subst, Option, None, Some, IfSome, arith}
+use lib.Seq.{take-append_seam}
 use Rattle.std.proofs.lemmas.List.{append_assoc, append-nil, length-append}
 use Rattle.std.proofs.KnownBytes.{Appends-trans, Appends-nil, Consumes-nil, Consumes-trans, Consumes-kept, Consumes-whole}
-use Rattle.std.specs.Io.KnownBytes.{Appends, Keeps, Consumes, IsAtEnd}
+use Rattle.std.specs.Io.KnownBytes.{Appends, Keeps, Consumes, IsAtEnd, append_known}
 use Rattle.std.specs.Str.Lines.{lines}
 use Rattle.fl_stream.specs.Turns.{Turns, Run, texts, any_bad}
-use Rattle.fl_stream.specs.Output.{Writes, WritesOutput, WritesFirst}
-use Rattle.fl_stream.specs.Served.{Served, HasNoFeed}
+use Rattle.fl_stream.specs.Output.{WritesOutput, WritesFirst}
+use Rattle.fl_stream.specs.Served.{Answered, Served, Outgrows}
 use Rattle.fl_stream.specs.parts.Interpreter.{LinesCut, fresh}
 use Rattle.fl_stream.specs.parts.Stream.{StreamState, BytesPass, BytesCut, EndPasses, EndCuts, fresh_stream}
 use Rattle.fl_stream.specs.parts.Intake.{IsReady, ReadingPasses, ReadingCuts, Overruns}
 use Rattle.fl_stream.proofs.RunLemmas.{Run-append}
 use Rattle.fl_stream.proofs.InterpreterLemmas.{lines_cut_then, texts-append, any_bad-append}
-use Rattle.fl_stream.proofs.StreamLemmas.{bytes_pass_split, bytes_pass_none, bytes_pass_then, bytes_cut_then, bytes_cut_passed, no_feed_nil}
+use Rattle.fl_stream.proofs.StreamLemmas.{bytes_pass_split, bytes_pass_none, bytes_pass_then, bytes_cut_then, bytes_cut_passed, bytes_pass_kept}
 
 -- what holds of each value holds of one that may be there
 pub if_some_always : {T : Type 0} (o : Option T) (P : T → Type 0) → ((x : T) → P x) → IfSome o P
 if_some_always None P all = tt
 if_some_always (Some x) P all = all x
 
--- the same bytes are written where the writer is left as it is
-appends_same : {b c : Option (List ℕ)} (a : Option (List ℕ)) (text : List ℕ) → c ≡ b → Appends a b text → Appends a c text
-appends_same {b} {c} a text e w = subst (λ x. Appends a x text) (sym e) w
+-- what was read into the front of a chunk is that front
+pub read_again : (bytes rest : List ℕ) {n : ℕ} → n ≡ length bytes → take n (bytes ++ rest) ≡ bytes
+read_again bytes rest len = ap (λ n. take n (bytes ++ rest)) len ∙ take-append_seam bytes rest
+
+-- known bytes do not grow by none
+append_known-nil : (h : Option (List ℕ)) → h ≡ append_known h []
+append_known-nil None = refl
+append_known-nil (Some x) = ap Some (sym (append-nil x))
+
+-- known bytes grow twice
+append_known-append : (h : Option (List ℕ)) (a b : List ℕ) → append_known (append_known h a) b ≡ append_known h (a ++ b)
+append_known-append None a b = refl
+append_known-append (Some x) a b = ap Some (append_assoc x a b)
+
+-- what is said of the bytes heard, where none were known at first
+pub heard_due : (h k : Option (List ℕ)) (P : List ℕ → Type 0) (bytes : List ℕ) → IfSome h (λ x. x ≡ []) → k ≡ append_known h bytes → P bytes → IfSome k P
+heard_due None k P bytes none e p = subst (λ y. IfSome y P) (sym e) tt
+heard_due (Some x) k P bytes none e p = subst (λ y. IfSome y P) (sym e) (subst (λ y. P (y ++ bytes)) (sym none) p)
 
 module _ {M : Type 0} {turns : Turns M} where
   -- nothing was read
-  pub reading_none : (r a : Option (List ℕ)) (s : StreamState M) (room : ℕ) → ReadingPasses turns r r a a s s room room
-  reading_none r a s room = record { bytes = []; consumed = Consumes-nil r; advance = bytes_pass_none a s; fits = omega arith }
+  pub reading_none : (r h a : Option (List ℕ)) (s : StreamState M) (room : ℕ) → ReadingPasses turns r r h h a a s s room room
+  reading_none r h a s room = record { bytes = []; consumed = Consumes-nil r; grown_by = append_known-nil h; advance = bytes_pass_none a s; fits = omega arith }
 
   -- the end was read
-  pub reading_end : {r l a : Option (List ℕ)} (s : StreamState M) (room : ℕ) (bytes : List ℕ) → bytes ≡ [] → Consumes r l bytes → ReadingPasses turns r l a a s s room room
-  reading_end {r} {l} {a} s room bytes none q = record { bytes = []; consumed = rw none at q; advance = bytes_pass_none a s; fits = omega arith }
+  pub reading_end : {r l h k a : Option (List ℕ)} (s : StreamState M) (room : ℕ) (bytes : List ℕ) → bytes ≡ [] → Consumes r l bytes → k ≡ append_known h bytes → ReadingPasses turns r l h k a a s s room room
+  reading_end {r} {l} {h} {k} {a} s room bytes none q e = record { bytes = []; consumed = rw none at q; grown_by = rw none at e; advance = bytes_pass_none a s; fits = omega arith }
 
-  -- bytes were read, taken and sent
-  pub reading_sent : {r l a b : Option (List ℕ)} {s t u : StreamState M} {room less : ℕ} (c : Option (List ℕ)) (bytes : List ℕ) → Consumes r l bytes → BytesPass turns s t a b bytes → BytesPass turns t u b c [] → length bytes + less ≡ room → ReadingPasses turns r l a c s u room less
-  reading_sent {r} {l} {a} {b} {s} {t} {u} {room} {less} c bytes q taken sent fits = record {
+  -- bytes were read, taken, written and sent
+  pub reading_sent : {r l h k a b c : Option (List ℕ)} {s t u : StreamState M} {room less : ℕ} (d : Option (List ℕ)) (bytes : List ℕ) → Consumes r l bytes → k ≡ append_known h bytes → BytesPass turns s t a b bytes → BytesPass turns t u b c [] → Keeps c d → length bytes + less ≡ room → ReadingPasses turns r l h k a d s u room less
+  reading_sent {r} {l} {h} {k} {a} {b} {c} {s} {t} {u} {room} {less} d bytes q e taken sent keep fits = record {
     bytes = bytes;
     consumed = q;
-    advance = subst (λ x. BytesPass turns s u a c x) (append-nil bytes) (bytes_pass_then c taken sent);
+    grown_by = e;
+    advance = bytes_pass_kept d (subst (λ x. BytesPass turns s u a c x) (append-nil bytes) (bytes_pass_then c taken sent)) keep;
     fits = fits;
   }
 
   -- more was read
-  pub reading_then : {r l m a b c : Option (List ℕ)} {s t u : StreamState M} {room less least : ℕ} → ReadingPasses turns r l a b s t room less → ReadingPasses turns l m b c t u less least → ReadingPasses turns r m a c s u room least
-  reading_then {r} {l} {m} {a} {b} {c} {s} {t} {u} {room} {less} {least} p q = record {
+  pub reading_then : {r l m h k n a b c : Option (List ℕ)} {s t u : StreamState M} {room less least : ℕ} → ReadingPasses turns r l h k a b s t room less → ReadingPasses turns l m k n b c t u less least → ReadingPasses turns r m h n a c s u room least
+  reading_then {r} {l} {m} {h} {k} {n} {a} {b} {c} {s} {t} {u} {room} {less} {least} p q = record {
     bytes = p.bytes ++ q.bytes;
     consumed = Consumes-trans r l m p.bytes q.bytes p.consumed q.consumed;
+    grown_by = q.grown_by ∙ ap (λ x. append_known x q.bytes) p.grown_by ∙ append_known-append h p.bytes q.bytes;
     advance = bytes_pass_then c p.advance q.advance;
     fits = omega (arith, p.fits, q.fits, length-append p.bytes q.bytes);
+  }
+
+  -- more was heard than there was room for at first
+  pub reading_outgrows : {r l h k m a b : Option (List ℕ)} {s t : StreamState M} {room less : ℕ} → ReadingPasses turns r l h k a b s t room less → Outgrows less k m → Outgrows room h m
+  reading_outgrows {r} {l} {h} {k} {m} {a} {b} {s} {t} {room} {less} p q = record {
+    bytes = p.bytes ++ q.bytes;
+    grown = q.grown ∙ ap (λ x. append_known x q.bytes) p.grown_by ∙ append_known-append h p.bytes q.bytes;
+    many = omega (arith, p.fits, q.many, length-append p.bytes q.bytes);
   }
 
   -- more was read than was taken
@@ -61,6 +87,18 @@ module _ {M : Type 0} {turns : Turns M} where
     consumed = q;
     stops = subst (λ x. BytesCut turns s a c x) (append-nil bytes) (bytes_cut_then c [] p stop);
   }
+
+  -- what was read was taken and written, and not sent
+  pub reading_cuts_unsent : {r l a b c : Option (List ℕ)} {s t u : StreamState M} (d : Option (List ℕ)) (bytes : List ℕ) → Consumes r l bytes → BytesPass turns s t a b bytes → BytesPass turns t u b c [] → Keeps c d → ReadingCuts turns r l a d s
+  reading_cuts_unsent {r} {l} {a} {b} {c} {s} {t} {u} d bytes q taken sent keep = record {
+    bytes = bytes;
+    consumed = q;
+    stops = subst (λ x. BytesCut turns s a d x) (append-nil (bytes ++ []) ∙ append-nil bytes) (bytes_cut_passed [] (bytes_pass_kept d (bytes_pass_then c taken sent) keep));
+  }
+
+  -- hearing failed, or gave more than there was room for at first
+  pub reading_cause : {deaf : Type 0} {r l h k m a b : Option (List ℕ)} {s t : StreamState M} {room less : ℕ} → ReadingPasses turns r l h k a b s t room less → deaf ⊎ Outgrows less k m → deaf ⊎ Outgrows room h m
+  reading_cause p q = elim q [ inl d ↦ inl d | inr more ↦ inr (reading_outgrows p more) ]
 
   -- all that was read was the whole script, and it was answered
   output_end : {a b : Option (List ℕ)} {start : M} {s : StreamState M} {bad : Bool} (c : Option (List ℕ)) (taken : List ℕ) → BytesPass turns (fresh_stream start) s a b taken → EndPasses turns s b c bad → WritesOutput turns start a c taken (cond bad 1 0)
@@ -113,53 +151,60 @@ module _ {M : Type 0} {turns : Turns M} where
     written = Appends-nil a;
   }
 
-  -- what was read may stop, before the next read
-  pub reading_first : {r l a b : Option (List ℕ)} {start : M} {s : StreamState M} {room less : ℕ} → ReadingPasses turns r l a b (fresh_stream start) s room less → IfSome r (λ script. WritesFirst turns start a b script)
-  reading_first {r} {l} {a} {b} {start} {s} {room} {less} p =
-      first_stops r l a b p.bytes p.consumed (subst (λ x. BytesCut turns (fresh_stream start) a b x) (append-nil p.bytes) (bytes_cut_passed [] p.advance))
-
   -- more was read, and taking it stopped
-  pub reading_cuts : {r l m a b c : Option (List ℕ)} {start : M} {s : StreamState M} {room less : ℕ} → ReadingPasses turns r l a b (fresh_stream start) s room less → ReadingCuts turns l m b c s → IfSome r (λ script. WritesFirst turns start a c script)
-  reading_cuts {r} {l} {m} {a} {b} {c} {start} {s} {room} {less} p q =
+  pub reading_cuts : {r l h k m a b c : Option (List ℕ)} {start : M} {s : StreamState M} {room less : ℕ} → ReadingPasses turns r l h k a b (fresh_stream start) s room less → ReadingCuts turns l m b c s → IfSome r (λ script. WritesFirst turns start a c script)
+  reading_cuts {r} {l} {h} {k} {m} {a} {b} {c} {start} {s} {room} {less} p q =
       first_stops r m a c (p.bytes ++ q.bytes) (Consumes-trans r l m p.bytes q.bytes p.consumed q.consumed) (subst (λ x. BytesCut turns (fresh_stream start) a c (p.bytes ++ x)) (append-nil q.bytes) (bytes_cut_then c [] p.advance q.stops))
 
   -- there was no more to read, and all was answered
-  pub reading_answered : {r l a b : Option (List ℕ)} {start : M} {s : StreamState M} {room less : ℕ} {bad : Bool} (c : Option (List ℕ)) → ReadingPasses turns r l a b (fresh_stream start) s room less → IsAtEnd l → EndPasses turns s b c bad → IfSome r (λ script. WritesOutput turns start a c script (cond bad 1 0))
-  reading_answered {r} {l} {a} {b} {start} {s} {room} {less} {bad} c p end e =
+  pub reading_answered : {r l h k a b : Option (List ℕ)} {start : M} {s : StreamState M} {room less : ℕ} {bad : Bool} (c : Option (List ℕ)) → ReadingPasses turns r l h k a b (fresh_stream start) s room less → IsAtEnd l → EndPasses turns s b c bad → IfSome r (λ script. WritesOutput turns start a c script (cond bad 1 0))
+  reading_answered {r} {l} {h} {k} {a} {b} {start} {s} {room} {less} {bad} c p end e =
       Consumes-whole r l p.bytes (λ script. WritesOutput turns start a c script (cond bad 1 0)) p.consumed end (output_end c p.bytes p.advance e)
 
   -- there was no more to read, and the answers stopped
-  pub reading_end_cuts : {r l a b : Option (List ℕ)} {start : M} {s : StreamState M} {room less : ℕ} (c : Option (List ℕ)) → ReadingPasses turns r l a b (fresh_stream start) s room less → IsAtEnd l → EndCuts turns s b c → IfSome r (λ script. WritesFirst turns start a c script)
-  reading_end_cuts {r} {l} {a} {b} {start} {s} {room} {less} c p end e =
+  pub reading_end_cuts : {r l h k a b : Option (List ℕ)} {start : M} {s : StreamState M} {room less : ℕ} (c : Option (List ℕ)) → ReadingPasses turns r l h k a b (fresh_stream start) s room less → IsAtEnd l → EndCuts turns s b c → IfSome r (λ script. WritesFirst turns start a c script)
+  reading_end_cuts {r} {l} {h} {k} {a} {b} {start} {s} {room} {less} c p end e =
       Consumes-whole r l p.bytes (λ script. WritesFirst turns start a c script) p.consumed end (first_ends c p.bytes p.advance e)
 
   -- the whole script was read, and there was room for it
-  pub reading_short : {r l a b : Option (List ℕ)} {old s : StreamState M} {room less : ℕ} → ReadingPasses turns r l a b old s room less → IsAtEnd l → IfSome r (λ script. length script ≤ room)
-  reading_short {r} {l} {a} {b} {old} {s} {room} {less} p end =
+  pub reading_short : {r l h k a b : Option (List ℕ)} {old s : StreamState M} {room less : ℕ} → ReadingPasses turns r l h k a b old s room less → IsAtEnd l → IfSome r (λ script. length script ≤ room)
+  reading_short {r} {l} {h} {k} {a} {b} {old} {s} {room} {less} p end =
       Consumes-whole r l p.bytes (λ script. length script ≤ room) p.consumed end (omega (arith, p.fits))
 
-  -- all answers were sent: exactly the lines that ended are answered
-  pub reading_served : {r l m a b c : Option (List ℕ)} {start : M} {s : StreamState M} {less : ℕ} → ReadingPasses turns r l a b (fresh_stream start) s 16777216 less → Overruns l m b c less → IsReady s less → Served turns start r m a c
-  reading_served {r} {l} {m} {a} {b} {c} {start} {s} {less} p q ready = record {
+  -- all answers were written: exactly the lines that ended are answered
+  pub reading_replied : {r l h k a b : Option (List ℕ)} {start : M} {s : StreamState M} {room less : ℕ} (p : ReadingPasses turns r l h k a b (fresh_stream start) s room less) → IsReady s less → Answered turns start p.bytes a b
+  reading_replied {r} {l} {h} {k} {a} {b} {start} {s} {room} {less} p ready =
+      let g = p.advance.proceeds in record {
+        done = p.advance.done;
+        held = s.held;
+        cut = p.advance.cut;
+        ended = p.advance.ended;
+        no_feed = ready.part;
+        text = texts g.outputs;
+        status = _;
+        output = record {
+          outputs = g.outputs;
+          end = s.interpreter.machine;
+          run = subst (λ x. Run turns 1 start x g.outputs s.interpreter.machine) (sym (ap lines (sym (append-nil p.advance.done)) ∙ p.advance.split [] ∙ append-nil p.advance.seen)) g.run;
+          text_is = refl;
+          status_is = refl;
+        };
+        written = subst (λ x. Appends a b x) (sym (g.passed.split ∙ ap (λ x. g.passed.front ++ x) ready.sent ∙ append-nil g.passed.front)) g.passed.written;
+      }
+
+  pub reading_served : {r l m h k a b c : Option (List ℕ)} {start : M} {s : StreamState M} {less : ℕ} → ReadingPasses turns r l h k a b (fresh_stream start) s 16777216 less → Overruns l m b c less → IsReady s less → Served turns start r m a c
+  reading_served {r} {l} {m} {h} {k} {a} {b} {c} {start} {s} {less} p q ready = record {
     taken = p.bytes;
     beyond = q.beyond;
     consumed = Consumes-trans r l m p.bytes q.beyond p.consumed q.consumed;
     bounded = elim q.bounded [ inl e ↦ inl e | inr more ↦ inr (omega (arith, more, p.fits, length-append p.bytes q.beyond)) ];
-    done = p.advance.done;
-    held = s.held;
-    cut = p.advance.cut;
-    no_feed = ready.part;
-    text = texts p.advance.proceeds.outputs;
-    status = _;
-    output = record {
-      outputs = p.advance.proceeds.outputs;
-      end = s.interpreter.machine;
-      run = subst (λ x. Run turns 1 start x p.advance.proceeds.outputs s.interpreter.machine) (sym (ap lines (sym (append-nil p.advance.done)) ∙ p.advance.split [] ∙ append-nil p.advance.seen)) p.advance.proceeds.run;
-      text_is = refl;
-      status_is = refl;
-    };
-    written = appends_same a _ q.same (subst (λ x. Appends a b x) (sym (p.advance.proceeds.passed.split ∙ ap (λ x. p.advance.proceeds.passed.front ++ x) ready.sent ∙ append-nil p.advance.proceeds.passed.front)) p.advance.proceeds.passed.written);
+    answered = subst (λ x. Answered turns start p.bytes a x) (sym q.same) (reading_replied p ready);
   }
+
+  -- more may be heard, since all that ended was answered
+  pub reading_due : {r l h k a b said : Option (List ℕ)} {start : M} {s : StreamState M} {room less : ℕ} (due : List ℕ → Option (List ℕ) → Type 0) → ReadingPasses turns r l h k a b (fresh_stream start) s room less → IsReady s less → IfSome h (λ x. x ≡ []) → said ≡ b → ((bytes : List ℕ) (spoken : Option (List ℕ)) → Answered turns start bytes a spoken → due bytes spoken) → IfSome k (λ bytes. due bytes said)
+  reading_due {r} {l} {h} {k} {a} {b} {said} {start} {s} {room} {less} due p ready none sent allows =
+      heard_due h k (λ bytes. due bytes said) p.bytes none p.grown_by (allows p.bytes said (subst (λ x. Answered turns start p.bytes a x) (sym sent) (reading_replied p ready)))
 
 -- a read that failed took nothing
 pub overruns_none : {l m b : Option (List ℕ)} (room : ℕ) → Keeps l m → Overruns l m b b room
@@ -168,7 +213,3 @@ overruns_none {l} {m} {b} room k = record { beyond = []; consumed = Consumes-kep
 -- a read gave more than there is room for
 pub overruns_more : {l m b : Option (List ℕ)} (room : ℕ) (bytes : List ℕ) → Consumes l m bytes → room < length bytes → Overruns l m b b room
 overruns_more {l} {m} {b} room bytes q more = record { beyond = bytes; consumed = q; bounded = inr more; same = refl }
-
--- no more reads are made
-pub no_more_reads : (l b : Option (List ℕ)) (less : ℕ) → Overruns l l b b less
-no_more_reads l b less = record { beyond = []; consumed = Consumes-nil l; bounded = inl refl; same = refl }

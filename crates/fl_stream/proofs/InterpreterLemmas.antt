@@ -1,12 +1,12 @@
 -- Lines are answered, one after another.
-use Rattle.std.proofs.Common.{◌≡◌, ◌+◌, ◌++◌, ◌∙◌, ◌||◌, refl, sym, ap, List, [], ◌∷◌, ℕ, Bool, true, false, subst, Option, arith}
+use Rattle.std.proofs.Common.{◌≡◌, ◌+◌, ◌++◌, ◌∙◌, ◌||◌, refl, sym, ap, List, [], ◌∷◌, ℕ, Bool, true, false, subst, Option, Result, Ok, Err, OnOk, OnErr, arith}
 use Rattle.std.proofs.lemmas.List.{append-nil, length-append}
 use Rattle.std.proofs.lemmas.List.Concat.{flat_map-append}
 use Rattle.std.proofs.lemmas.List.Folds.{list_any-append}
 use Rattle.std.proofs.KnownBytes.{Appends-kept}
 use Rattle.std.specs.Io.KnownBytes.{Appends, Keeps}
-use Rattle.fl_sink.specs.Sink.{Passes, Cuts}
-use Rattle.fl_sink.proofs.SinkLemmas.{passes_then, cuts_then, cuts_passed, passes_none}
+use Rattle.fl_sink.specs.Sink.{Passes, Cuts, Writes}
+use Rattle.fl_sink.specs.laws.Passing.{passes_then, cuts_then, cuts_passed, passes_none}
 use Rattle.fl_stream.specs.Turns.{Turns, LineOutput, AnswerPasses, AnswerCuts, texts, any_bad}
 use Rattle.fl_stream.specs.parts.Interpreter.{InterpreterState, LinesPass, LinesCut}
 use Rattle.fl_stream.proofs.RunLemmas.{Run-append}
@@ -85,13 +85,23 @@ module _ {M : Type 0} {turns : Turns M} where
   }
 
   -- all that was pending was written
-  pub lines_pass_sent : (a b c : Option (List ℕ)) (d : InterpreterState M) (left : List ℕ) → left ≡ [] → Appends a b d.pending → Keeps b c → LinesPass turns d (record d { pending = left }) a c []
-  lines_pass_sent a b c d left empty w k = record {
+  pub lines_pass_sent : (a b : Option (List ℕ)) (d : InterpreterState M) (left : List ℕ) → left ≡ [] → Appends a b d.pending → LinesPass turns d (record d { pending = left }) a b []
+  lines_pass_sent a b d left empty w = record {
     outputs = [];
     run = refl;
     count = omega arith;
     bad_is = sym (or_false d.bad);
-    passed = record { front = d.pending; split = ap (λ x. d.pending ++ x) (sym empty); written = Appends-kept a b c d.pending w k };
+    passed = record { front = d.pending; split = ap (λ x. d.pending ++ x) (sym empty); written = w };
+  }
+
+  -- what was written stays
+  pub lines_pass_kept : {a b : Option (List ℕ)} {d e : InterpreterState M} {ls : List (List ℕ)} (c : Option (List ℕ)) → LinesPass turns d e a b ls → Keeps b c → LinesPass turns d e a c ls
+  lines_pass_kept {a} {b} {d} {e} {ls} c p k = record {
+    outputs = p.outputs;
+    run = p.run;
+    count = p.count;
+    bad_is = p.bad_is;
+    passed = record { front = p.passed.front; split = p.passed.split; written = Appends-kept a b c p.passed.front p.passed.written k };
   }
 
   -- a front of what was pending was written
@@ -102,3 +112,12 @@ module _ {M : Type 0} {turns : Turns M} where
     run = refl;
     cut = record { front = w.front; rest = w.rest; split = append-nil d.pending ∙ w.split; written = w.written };
   }
+
+-- what was pending was written, or a front of it
+pub lines_pass_written : {M E T : Type 0} {a b : Option (List ℕ)} (turns : Turns M) (r : Result T E) (d : InterpreterState M) (left : List ℕ) → OnOk r (left ≡ []) → Writes a b d.pending r → OnOk r (LinesPass turns d (record d { pending = left }) a b [])
+lines_pass_written {M} {E} {T} {a} {b} turns (Ok x) d left empty w = lines_pass_sent a b d left empty w.is
+lines_pass_written turns (Err e) d left empty w = tt
+
+pub lines_cut_written : {M E T : Type 0} {a b : Option (List ℕ)} (turns : Turns M) (r : Result T E) (d : InterpreterState M) → Writes a b d.pending r → OnErr r (LinesCut turns d a b [])
+lines_cut_written turns (Ok x) d w = tt
+lines_cut_written turns (Err e) d w = lines_cut_sent d w.is

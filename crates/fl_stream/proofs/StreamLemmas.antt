@@ -1,20 +1,26 @@
 -- Bytes are taken, some at a time.
-use Rattle.std.proofs.Common.{◌≡◌, ◌++◌, ◌∙◌, ◌==◌, refl, sym, ap, List, [], ◌∷◌, ℕ, false, subst, Option}
+use Rattle.std.proofs.Common.{◌≡◌, ◌++◌, ◌∙◌, ◌==◌, refl, sym, ap, List, [], ◌∷◌, ℕ, Bool, false, subst, Option, inl, inr}
 use Rattle.std.proofs.lemmas.List.{append_assoc, append-nil}
 use Rattle.std.proofs.lemmas.List.Elements.{All-append, All-nil}
-use Rattle.std.specs.Io.KnownBytes.{Appends}
+use Rattle.std.proofs.KnownBytes.{Appends-kept}
+use Rattle.std.specs.Io.KnownBytes.{Appends, Keeps}
 use Rattle.std.specs.Str.Lines.{lines, strip_carriage_return}
-use Rattle.fl_stream.specs.Turns.{Turns, Run}
-use Rattle.fl_stream.specs.Served.{HasNoFeed}
+use Rattle.fl_stream.specs.Turns.{Turns, Run, texts}
+use Rattle.fl_stream.specs.Served.{HasNoFeed, IsEnded}
 use Rattle.fl_stream.specs.parts.Interpreter.{InterpreterState, LinesPass, LinesCut}
 use Rattle.fl_stream.specs.parts.Stream.{StreamState, BytesPass, BytesCut, EndPasses, EndCuts}
-use Rattle.fl_stream.proofs.InterpreterLemmas.{lines_pass_none, lines_pass_then, lines_cut_then, lines_cut_passed}
+use Rattle.fl_stream.proofs.InterpreterLemmas.{lines_pass_none, lines_pass_then, lines_cut_then, lines_cut_passed, lines_pass_kept}
 use Rattle.fl_stream.proofs.SplitLemmas.{lines-feed}
 
 -- the line that was held ends with these bytes and a line feed
 line_ends : (held line : List ℕ) → HasNoFeed held → HasNoFeed line → (later : List ℕ) → lines (held ++ ((line ++ 10 ∷ []) ++ later)) ≡ strip_carriage_return (held ++ line) ∷ lines later
 line_ends held line h l later =
     ap (λ x. lines (held ++ x)) (append_assoc line (10 ∷ []) later) ∙ ap lines (sym (append_assoc held line (10 ∷ later))) ∙ lines-feed (held ++ line) later (All-append (λ b. (b == 10) ≡ false) held line h l)
+
+-- lines that have ended, and more that have
+ended-append : (xs ys : List ℕ) → IsEnded xs → IsEnded ys → IsEnded (xs ++ ys)
+ended-append xs ys p (inl none) = subst IsEnded (sym (ap (λ x. xs ++ x) none ∙ append-nil xs)) p
+ended-append xs ys p (inr q) = inr (xs ++ q.0, ap (λ x. xs ++ x) q.1 ∙ sym (append_assoc xs q.0 (10 ∷ [])))
 
 pub no_feed_nil : (xs : List ℕ) → xs ≡ [] → HasNoFeed xs
 no_feed_nil xs e = rw e (All-nil (λ b. (b == 10) ≡ false))
@@ -32,15 +38,15 @@ module _ {M : Type 0} {turns : Turns M} where
       ap lines (sym (append_assoc s.held xs later) ∙ ap (λ x. x ++ later) p.cut ∙ append_assoc p.done t.held later) ∙ p.split (t.held ++ later)
 
   pub bytes_pass_none : (a : Option (List ℕ)) (s : StreamState M) → BytesPass turns s s a a []
-  bytes_pass_none a s = record { seen = []; done = []; cut = append-nil s.held; split = λ later. refl; proceeds = lines_pass_none a s.interpreter }
+  bytes_pass_none a s = record { seen = []; done = []; cut = append-nil s.held; ended = inl refl; split = λ later. refl; proceeds = lines_pass_none a s.interpreter }
 
   -- bytes with no line feed are held
   pub bytes_pass_held : (a : Option (List ℕ)) (s : StreamState M) (bytes : List ℕ) → BytesPass turns s (record s { held = s.held ++ bytes }) a a bytes
-  bytes_pass_held a s bytes = record { seen = []; done = []; cut = refl; split = λ later. refl; proceeds = lines_pass_none a s.interpreter }
+  bytes_pass_held a s bytes = record { seen = []; done = []; cut = refl; ended = inl refl; split = λ later. refl; proceeds = lines_pass_none a s.interpreter }
 
   -- an interpreter that wrote what was pending leaves the bytes as they are
   pub bytes_pass_sent : {a b : Option (List ℕ)} {s t : StreamState M} → t.held ≡ s.held → LinesPass turns s.interpreter t.interpreter a b [] → BytesPass turns s t a b []
-  bytes_pass_sent {a} {b} {s} {t} same g = record { seen = []; done = []; cut = append-nil s.held ∙ sym same; split = λ later. refl; proceeds = g }
+  bytes_pass_sent {a} {b} {s} {t} same g = record { seen = []; done = []; cut = append-nil s.held ∙ sym same; ended = inl refl; split = λ later. refl; proceeds = g }
 
   pub bytes_cut_sent : {a b : Option (List ℕ)} {s : StreamState M} → LinesCut turns s.interpreter a b [] → BytesCut turns s a b []
   bytes_cut_sent {a} {b} {s} h = record { seen = []; left = s.held; split = λ later. refl; halts = h }
@@ -51,6 +57,7 @@ module _ {M : Type 0} {turns : Turns M} where
     seen = p.seen ++ q.seen;
     done = p.done ++ q.done;
     cut = sym (append_assoc s.held xs ys) ∙ ap (λ x. x ++ ys) p.cut ∙ append_assoc p.done t.held ys ∙ ap (λ x. p.done ++ x) q.cut ∙ sym (append_assoc p.done q.done u.held);
+    ended = ended-append p.done q.done p.ended q.ended;
     split = λ later. ap lines (append_assoc p.done q.done later) ∙ p.split (q.done ++ later) ∙ ap (λ x. p.seen ++ x) (q.split later) ∙ sym (append_assoc p.seen q.seen (lines later));
     proceeds = lines_pass_then c p.proceeds q.proceeds;
   }
@@ -78,6 +85,7 @@ module _ {M : Type 0} {turns : Turns M} where
     seen = ended ∷ [];
     done = s.held ++ (line ++ 10 ∷ []);
     cut = sym (append-nil (s.held ++ (line ++ 10 ∷ []))) ∙ ap (λ x. (s.held ++ (line ++ 10 ∷ [])) ++ x) (sym none);
+    ended = inr (s.held ++ line, sym (append_assoc s.held line (10 ∷ [])));
     split = λ later. ap lines (append_assoc s.held (line ++ 10 ∷ []) later) ∙ line_ends s.held line h l later ∙ ap (λ x. x ∷ lines later) (sym e);
     proceeds = g;
   }
@@ -131,3 +139,28 @@ module _ {M : Type 0} {turns : Turns M} where
 
   pub end_cuts : {a b : Option (List ℕ)} {s : StreamState M} {e : InterpreterState M} (c : Option (List ℕ)) → LinesPass turns s.interpreter e a b (lines s.held) → LinesCut turns e b c [] → EndCuts turns s a c
   end_cuts {a} {b} {s} {e} c p q = record { halts = subst (λ x. LinesCut turns s.interpreter a c x) (append-nil (lines s.held)) (lines_cut_then c p q) }
+
+  -- what was written stays
+  pub bytes_pass_kept : {a b : Option (List ℕ)} {s t : StreamState M} {xs : List ℕ} (c : Option (List ℕ)) → BytesPass turns s t a b xs → Keeps b c → BytesPass turns s t a c xs
+  bytes_pass_kept c p k = record { seen = p.seen; done = p.done; cut = p.cut; ended = p.ended; split = p.split; proceeds = lines_pass_kept c p.proceeds k }
+
+  pub end_passes_kept : {a b : Option (List ℕ)} {s : StreamState M} {bad : Bool} (c : Option (List ℕ)) → EndPasses turns s a b bad → Keeps b c → EndPasses turns s a c bad
+  end_passes_kept {a} {b} {s} {bad} c p k = record {
+    outputs = p.outputs;
+    end = p.end;
+    run = p.run;
+    bad_is = p.bad_is;
+    written = Appends-kept a b c (s.interpreter.pending ++ texts p.outputs) p.written k;
+  }
+
+  -- all was written, and it stops there
+  pub end_cuts_passed : {a b : Option (List ℕ)} {s : StreamState M} {bad : Bool} → EndPasses turns s a b bad → EndCuts turns s a b
+  end_cuts_passed {a} {b} {s} {bad} p =
+      let all = s.interpreter.pending ++ texts p.outputs in record {
+        halts = record {
+          outputs = p.outputs;
+          end = p.end;
+          run = p.run;
+          cut = record { front = all; rest = []; split = sym (append-nil all); written = p.written };
+        };
+      }

@@ -1,7 +1,7 @@
--- What is written before the next read.
-use Rattle.std.specs.Prelude.{◌≡◌, ◌<◌, ◌⊎◌, ◌++◌, ◌==◌, [], ℕ, List, Option, false, length, All}
+-- What is said before more is heard.
+use Rattle.std.specs.Prelude.{◌≡◌, ◌<◌, ◌⊎◌, ◌++◌, ◌∷◌, ◌==◌, [], ℕ, List, Option, false, length, All}
 use Rattle.std.specs.Str.Lines.{lines}
-use Rattle.std.specs.Io.KnownBytes.{Appends, Consumes}
+use Rattle.std.specs.Io.KnownBytes.{Appends, Consumes, append_known}
 use Rattle.fl_stream.specs.Turns.{Turns}
 use Rattle.fl_stream.specs.Output.{Writes}
 
@@ -9,19 +9,34 @@ use Rattle.fl_stream.specs.Output.{Writes}
 abbrev pub HasNoFeed : List ℕ → Type 0
 HasNoFeed text = All (λ b. (b == 10) ≡ false) text
 
--- exactly the answers to the lines that ended in what was read are written; bytes beyond were read only where
--- the script is too long
+-- every line has ended
+abbrev pub IsEnded : List ℕ → Type 0
+IsEnded text = (text ≡ []) ⊎ ((front : List ℕ) × (text ≡ front ++ 10 ∷ []))
+
+-- exactly the answers, from this start on, to the lines that ended in what was heard were said
+pub record Answered {M : Type 0} (turns : Turns M) (start : M) (heard : List ℕ)
+    (before said : Option (List ℕ)) : Type 0 where
+  pub done : List ℕ
+  pub held : List ℕ
+  pub cut : heard ≡ done ++ held
+  pub ended : IsEnded done
+  pub no_feed : HasNoFeed held
+  pub text : List ℕ
+  pub status : ℕ
+  pub output : Writes turns start (lines done) text status
+  pub written : Appends before said text
+
+-- the lines that ended in what was read are answered; bytes beyond were read only where the script is too long
 pub record Served {M : Type 0} (turns : Turns M) (start : M) (remaining left before after : Option (List ℕ))
     : Type 0 where
   pub taken : List ℕ
   pub beyond : List ℕ
   pub consumed : Consumes remaining left (taken ++ beyond)
   pub bounded : (beyond ≡ []) ⊎ (16777216 < length (taken ++ beyond))
-  pub done : List ℕ
-  pub held : List ℕ
-  pub cut : taken ≡ done ++ held
-  pub no_feed : HasNoFeed held
-  pub text : List ℕ
-  pub status : ℕ
-  pub output : Writes turns start (lines done) text status
-  pub written : Appends before after text
+  pub answered : Answered turns start taken before after
+
+-- known bytes grew by more than so many
+pub record Outgrows (most : ℕ) (old new : Option (List ℕ)) : Type 0 where
+  pub bytes : List ℕ
+  pub grown : new ≡ append_known old bytes
+  pub many : most < length bytes

@@ -1,13 +1,16 @@
-//! A script is read, some bytes at a time.
-ghost use Rattle.std.specs.Prelude.{◌≡◌, IfErr, IfOk, OnErr, OnOk, false, vec_len};
+//! A script is heard, some bytes at a time.
+ghost use Rattle.std.specs.Prelude.{◌≡◌, ◌+◌, ◌<◌, ◌≤◌, ◌⊎◌, IfErr, IfOk, IfSome, OnErr, OnOk, false, true, vec_len};
 ghost use Rattle.std.specs.Io.KnownBytes.{IsAtEnd};
+ghost use Rattle.fl_stream.specs.Served.{Outgrows};
+ghost use Rattle.fl_stream.specs.parts.Stream.{EndCuts, EndPasses};
 ghost use Rattle.fl_stream.specs.parts.Intake.{IsReady, Overruns, ReadingPasses, ReadingCuts};
 
+use crate::conversation::Conversation;
 use crate::fault::RunFault;
 use crate::machine::Machine;
 use crate::stream::Stream;
 use std::alloc::Global;
-use std::io::{Read, Write};
+use std::io::Write;
 
 /// A stream, what it reads into, and how many more bytes it may take.
 #[derive(Drop)]
@@ -18,31 +21,39 @@ pub struct Intake<M> {
 }
 
 impl<M: Machine> Intake<M> {
-    /// Reads once, answers the lines that have ended, and sends the answers. Says whether there was anything to read.
+    /// Hears more once, answers the lines that have ended, and sends the answers. Says whether there was anything to hear.
     ///
-    /// `Read` where the read fails or gives more than there is room for; `Write` where a write fails or takes no bytes, or
-    /// the flush fails; `Memory` where there is no room for a line that has not ended.
-    pub fn turn<R: Read, W: Write>(
+    /// `Read` where hearing fails or gives more than there is room for; `Write` where a write fails or takes no bytes, or
+    /// sending fails; `Memory` where there is no room for a line that has not ended.
+    pub fn turn<C: Conversation<W>, W: Write>(
         &mut self,
         alloc: Global,
-        input: &mut R,
+        input: &mut C,
         output: &mut W,
     ) -> Result<bool, RunFault>
         requires ready { IsReady self.old.stream self.old.room }
         requires chunk { vec_len self.old.chunk ≡ 65536 }
-        ensures reads { OnOk result (ReadingPasses M.turns (R.remaining input.old) (R.remaining input.new)
-            (W.contents output.old) (W.contents output.new)
+        requires answered { IfSome (C.heard input.old) (λ bytes. C.may_hear bytes (C.said output.old)) }
+        requires patient { C.hearings input.old < 16777217 }
+        ensures reads { OnOk result (ReadingPasses M.turns (C.remaining input.old) (C.remaining input.new)
+            (C.heard input.old) (C.heard input.new) (W.contents output.old) (W.contents output.new)
             self.old.stream self.new.stream self.old.room self.new.room) }
-        ensures end { IfOk result (λ more. more ≡ false → IsAtEnd (R.remaining input.new)) }
+        ensures end { IfOk result (λ more. more ≡ false → IsAtEnd (C.remaining input.new)) }
         ensures ready { OnOk result (IsReady self.new.stream self.new.room) }
         ensures chunk { OnOk result (vec_len self.new.chunk ≡ 65536) }
+        ensures said { IfOk result (λ more. more ≡ true → C.said output.new ≡ W.contents output.new) }
+        ensures less { IfOk result (λ more. more ≡ true → self.new.room < self.old.room) }
+        ensures count { IfOk result (λ more. more ≡ true →
+            C.hearings input.new + self.new.room ≤ C.hearings input.old + self.old.room) }
         ensures served { IfErr result (λ e. e ≡ RunFault.Read →
-            Overruns (R.remaining input.old) (R.remaining input.new)
+            Overruns (C.remaining input.old) (C.remaining input.new)
             (W.contents output.old) (W.contents output.new) self.old.room) }
-        ensures err { OnErr result (ReadingCuts M.turns (R.remaining input.old) (R.remaining input.new)
+        ensures cause { IfErr result (λ e. e ≡ RunFault.Read →
+            C.is_deaf input.new ⊎ Outgrows self.old.room (C.heard input.old) (C.heard input.new)) }
+        ensures err { OnErr result (ReadingCuts M.turns (C.remaining input.old) (C.remaining input.new)
             (W.contents output.old) (W.contents output.new) self.old.stream) }
     {
-        let count = match input.read(&mut self.chunk) {
+        let count = match input.hear(output, &mut self.chunk) {
             Ok(count) => count,
             Err(_) => return Err(RunFault::Read),
         };
@@ -54,7 +65,34 @@ impl<M: Machine> Intake<M> {
         }
         self.room -= count;
         self.stream.take(alloc, &self.chunk[..count], output)?;
-        self.stream.send(output)?;
+        self.stream.write_answers(output)?;
+        if input.send(output).is_err() {
+            return Err(RunFault::Write);
+        }
         Ok(true)
+    }
+
+    /// Answers the last line, where it did not end, and sends all. Says whether some line was none of the script.
+    ///
+    /// `Write` where a write fails or takes no bytes, or sending fails.
+    pub fn close<C: Conversation<W>, W: Write>(
+        &mut self,
+        alloc: Global,
+        input: &C,
+        output: &mut W,
+    ) -> Result<bool, RunFault>
+        requires { IsReady self.old.stream self.old.room }
+        ensures ok { IfOk result (λ bad. EndPasses M.turns self.old.stream
+            (W.contents output.old) (W.contents output.new) bad) }
+        ensures said { OnOk result (C.said output.new ≡ W.contents output.new) }
+        ensures kind { IfErr result (λ e. e ≡ RunFault.Write) }
+        ensures err { OnErr result (EndCuts M.turns self.old.stream
+            (W.contents output.old) (W.contents output.new)) }
+    {
+        let any_bad = self.stream.finish(alloc, output)?;
+        if input.send(output).is_err() {
+            return Err(RunFault::Write);
+        }
+        Ok(any_bad)
     }
 }

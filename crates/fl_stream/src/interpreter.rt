@@ -77,20 +77,16 @@ impl<M: Machine> Interpreter<M> {
         Ok(())
     }
 
-    /// Writes the answers that wait, and flushes the writer.
+    /// Writes the answers that wait. The writer is not flushed.
     ///
     /// At a fault a front of what waited was written, and the interpreter may not be used again.
-    pub fn send<W: Write>(&mut self, output: &mut W) -> Result<(), WriteFault>
+    pub fn write_answers<W: Write>(&mut self, output: &mut W) -> Result<(), WriteFault>
         ensures ok { OnOk result (LinesPass M.turns self.old self.new
             (W.contents output.old) (W.contents output.new) []) }
         ensures empty { OnOk result (self.new.pending ≡ []) }
         ensures err { OnErr result (LinesCut M.turns self.old
             (W.contents output.old) (W.contents output.new) []) }
     {
-        self.sink.finish(output)?;
-        if output.flush().is_err() {
-            return Err(WriteFault);
-        }
-        Ok(())
+        self.sink.finish(output)
     }
 }

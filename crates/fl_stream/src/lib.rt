@@ -1,6 +1,7 @@
 //! Reads a script in pieces: each line is answered by a machine once it was read, before any more is read.
 #![tactic(auto)]
 
+pub mod conversation;
 pub mod fault;
 mod intake;
 mod interpreter;

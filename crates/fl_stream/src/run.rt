@@ -1,9 +1,10 @@
 //! A whole run.
-ghost use Rattle.std.specs.Prelude.{◌≡◌, ◌≤◌, IfErr, IfOk, IfSome, OnErr, OnOk, length, vec_len, if◌then◌else◌};
+ghost use Rattle.std.specs.Prelude.{◌≡◌, ◌≤◌, ◌⊎◌, ℕ, List, Option, IfErr, IfOk, IfSome, OnErr, OnOk, [], length, vec_len, if◌then◌else◌};
 ghost use Rattle.std.specs.Io.KnownBytes.{IsAtEnd};
-ghost use Rattle.fl_stream.specs.Served.{Served};
+ghost use Rattle.fl_stream.specs.Served.{Answered, Outgrows, Served};
 ghost use Rattle.fl_stream.specs.Output.{WritesFirst, WritesOutput};
 
+use crate::conversation::Conversation;
 use crate::fault::RunFault;
 use crate::intake::Intake;
 use crate::machine::Machine;
@@ -32,14 +33,59 @@ fn status_of(any_bad: bool) -> u8
     if any_bad { 1 } else { 0 }
 }
 
+/// Hears a script of at most 16,777,216 bytes, and says what the machine answers to its lines.
+///
+/// More is heard only where what was said is exactly the answers to all lines that have ended: [`Conversation::hear`]
+/// requires it. To hear no bytes is the end of the script. The status is 1 where some line was none of the script, and
+/// else 0.
+///
+/// At a fault a front of the answers to the first lines is written: `Read` only where hearing fails or the script is
+/// longer; `Write` where a write fails or takes no bytes, or sending fails; `Memory` where there is no room for the 64 KiB
+/// that are heard at once, or for a line that has not ended.
+pub fn converse<M: Machine + Drop, C: Conversation<W>, W: Write>(
+    alloc: Global,
+    machine: M,
+    input: &mut C,
+    output: &mut W,
+) -> Result<u8, RunFault>
+    requires unheard { IfSome (C.heard input.old) (λ bytes. bytes ≡ []) }
+    requires fresh { C.hearings input.old ≡ 0 }
+    requires said { C.said output.old ≡ W.contents output.old }
+    requires due { (heard : List ℕ) (said : Option (List ℕ)) →
+        Answered M.turns machine heard (W.contents output.old) said → C.may_hear heard said }
+    ensures ok { IfOk result (λ status. IfSome (C.remaining input.old) (λ script.
+        WritesOutput M.turns machine
+        (W.contents output.old) (W.contents output.new) script status)) }
+    ensures whole { OnOk result (IsAtEnd (C.remaining input.new)) }
+    ensures short { OnOk result (IfSome (C.remaining input.old) (λ script. length script ≤ 16777216)) }
+    ensures said { OnOk result (C.said output.new ≡ W.contents output.new) }
+    ensures served { IfErr result (λ e. e ≡ RunFault.Read → Served M.turns machine
+        (C.remaining input.old) (C.remaining input.new)
+        (W.contents output.old) (W.contents output.new)) }
+    ensures cause { IfErr result (λ e. e ≡ RunFault.Read →
+        C.is_deaf input.new ⊎ Outgrows 16777216 (C.heard input.old) (C.heard input.new)) }
+    ensures err { OnErr result (IfSome (C.remaining input.old) (λ script.
+        WritesFirst M.turns machine (W.contents output.old) (W.contents output.new) script)) }
+{
+    let mut intake = Intake {
+        stream: Stream::new(alloc, machine),
+        chunk: zeros(alloc, CHUNK)?,
+        room: MOST_BYTES,
+    };
+    'hearing: while intake.turn(alloc, input, output)? {}
+    let any_bad = intake.close(alloc, input, output)?;
+    Ok(status_of(any_bad))
+}
+
 /// Reads a script of at most 16,777,216 bytes, by at most 16,777,217 reads, and writes what the machine answers to its lines.
 ///
-/// Before each read but the first, all lines that have ended are answered, and the answers are written and flushed. A read
-/// of no bytes is the end of the script. The status is 1 where some line was none of the script, and else 0.
+/// It is [`converse`] with a reader and a writer: before each read but the first, all lines that have ended are answered,
+/// and the answers are written and flushed. A read of no bytes is the end of the script. The status is 1 where some line
+/// was none of the script, and else 0.
 ///
-/// At a fault a front of the answers to the first lines is written: `Read` where a read fails, the script is longer, or it
-/// would take more reads; `Write` where a write fails or takes no bytes, or a flush fails; `Memory` where there is no room
-/// for the 64 KiB that a read fills, or for a line that has not ended.
+/// At a fault a front of the answers to the first lines is written: `Read` where a read fails or the script is longer;
+/// `Write` where a write fails or takes no bytes, or a flush fails; `Memory` where there is no room for the 64 KiB that a
+/// read fills, or for a line that has not ended.
 pub fn run<RT: AllocGlobal, M: Machine + Drop, R: Read, W: Write>(
     rt: &RT,
     machine: M,
@@ -59,18 +105,5 @@ pub fn run<RT: AllocGlobal, M: Machine + Drop, R: Read, W: Write>(
     ensures err { OnErr result (IfSome (R.remaining input.old) (λ script.
         WritesFirst M.turns machine (W.contents output.old) (W.contents output.new) script)) }
 {
-    let alloc = rt.alloc();
-    let mut intake = Intake {
-        stream: Stream::new(alloc, machine),
-        chunk: zeros(alloc, CHUNK)?,
-        room: MOST_BYTES,
-    };
-    for _turn in 0..16_777_217u32 {
-        let more = intake.turn(alloc, input, output)?;
-        if !more {
-            let any_bad = intake.stream.finish(alloc, output)?;
-            return Ok(status_of(any_bad));
-        }
-    }
-    Err(RunFault::Read)
+    converse(rt.alloc(), machine, input, output)
 }

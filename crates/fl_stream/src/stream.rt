@@ -109,9 +109,9 @@ impl<M: Machine> Stream<M> {
         Ok(())
     }
 
-    /// Writes the answers that wait, and flushes the writer. At a fault a front of them was written, and the stream may not
-    /// be used again.
-    pub fn send<W: Write>(&mut self, output: &mut W) -> Result<(), WriteFault>
+    /// Writes the answers that wait. The writer is not flushed. At a fault a front of them was written, and the stream may
+    /// not be used again.
+    pub fn write_answers<W: Write>(&mut self, output: &mut W) -> Result<(), WriteFault>
         ensures ok { OnOk result (BytesPass M.turns self.old self.new
             (W.contents output.old) (W.contents output.new) []) }
         ensures same { OnOk result (self.new.interpreter.number ≡ self.old.interpreter.number) }
@@ -120,7 +120,7 @@ impl<M: Machine> Stream<M> {
         ensures err { OnErr result (BytesCut M.turns self.old
             (W.contents output.old) (W.contents output.new) []) }
     {
-        self.interpreter.send(output)
+        self.interpreter.write_answers(output)
     }
 
     // Answers the last line, where it did not end. A return at its end is its last byte.
@@ -138,8 +138,8 @@ impl<M: Machine> Stream<M> {
         self.interpreter.answer(alloc, &self.held, output)
     }
 
-    /// Answers the last line, where it did not end, and writes all. Says whether some line was none of the script. At a
-    /// fault a front of the answers was written.
+    /// Answers the last line, where it did not end, and writes all. Says whether some line was none of the script. The
+    /// writer is not flushed. At a fault a front of the answers was written.
     pub fn finish<W: Write>(&mut self, alloc: Global, output: &mut W) -> Result<bool, WriteFault>
         requires number { self.old.interpreter.number ≤ 16777217 }
         requires part { HasNoFeed self.old.held }
@@ -149,7 +149,7 @@ impl<M: Machine> Stream<M> {
             (W.contents output.old) (W.contents output.new)) }
     {
         self.answer_last(alloc, output)?;
-        self.interpreter.send(output)?;
+        self.interpreter.write_answers(output)?;
         Ok(self.interpreter.any_bad())
     }
 }

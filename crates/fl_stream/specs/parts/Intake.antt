@@ -1,6 +1,6 @@
 -- A script is read, some bytes at a time.
 use Rattle.std.specs.Prelude.{◌≡◌, ◌+◌, ◌<◌, ◌≤◌, ◌⊎◌, [], ℕ, List, Option, length}
-use Rattle.std.specs.Io.KnownBytes.{Consumes}
+use Rattle.std.specs.Io.KnownBytes.{Consumes, append_known}
 use Rattle.fl_stream.specs.Turns.{Turns}
 use Rattle.fl_stream.specs.Served.{HasNoFeed}
 use Rattle.fl_stream.specs.parts.Stream.{StreamState, BytesPass, BytesCut}
@@ -12,10 +12,11 @@ pub record IsReady {M : Type 0} (stream : StreamState M) (room : ℕ) : Type 0 w
   pub sent : stream.interpreter.pending ≡ []
 
 -- bytes were read, for which there was room, and were taken
-pub record ReadingPasses {M : Type 0} (turns : Turns M) (remaining left before after : Option (List ℕ))
+pub record ReadingPasses {M : Type 0} (turns : Turns M) (remaining left heard grown before after : Option (List ℕ))
     (old new : StreamState M) (room less : ℕ) : Type 0 where
   pub bytes : List ℕ
   pub consumed : Consumes remaining left bytes
+  pub grown_by : grown ≡ append_known heard bytes
   pub advance : BytesPass turns old new before after bytes
   pub fits : length bytes + less ≡ room
 

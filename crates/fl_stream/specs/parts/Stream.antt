@@ -4,6 +4,7 @@ use Rattle.std.specs.Coded.{Coded, code_by, coded×, coded_ℕ, coded_list}
 use Rattle.std.specs.Str.Lines.{lines}
 use Rattle.std.specs.Io.KnownBytes.{Appends}
 use Rattle.fl_stream.specs.Turns.{Turns, LineOutput, Run, texts, any_bad}
+use Rattle.fl_stream.specs.Served.{IsEnded}
 use Rattle.fl_stream.specs.parts.Interpreter.{InterpreterState, coded_interpreter, LinesPass, LinesCut, fresh}
 
 -- an interpreter, and the line that has not ended yet
@@ -21,6 +22,7 @@ pub record BytesPass {M : Type 0} (turns : Turns M) (old new : StreamState M)
   pub seen : List (List ℕ)
   pub done : List ℕ
   pub cut : old.held ++ bytes ≡ done ++ new.held
+  pub ended : IsEnded done
   pub split : (later : List ℕ) → lines (done ++ later) ≡ seen ++ lines later
   pub proceeds : LinesPass turns old.interpreter new.interpreter before after seen
 

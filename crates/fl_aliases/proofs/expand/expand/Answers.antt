@@ -2,8 +2,8 @@ use Rattle.std.proofs.Common.{◌++◌, ◌∷◌, None, Some, lit<, sym, ◌∙
 use Rattle.std.specs.String.{string_bytes}
 use Rattle.std.proofs.lemmas.Str.Pattern.{split_parts}
 use Rattle.fl_aliases.specs.TargetText.{target_text}
-use Rattle.fl_aliases.proofs.Dollars.{none_stands}
-use Rattle.fl_aliases.proofs.Expanding.{Continues, cut_at, no_alias, not_set, alias_more, begun_behind, behind_more, all_behind}
+use Rattle.fl_aliases.specs.laws.Dollars.{none_stands}
+use Rattle.fl_aliases.specs.laws.Expanding.{Continues, cut_at, no_alias, not_set, alias_more, begun_behind, behind_more, all_behind}
 use Rattle.fl_aliases.proofs.expand.expand.Goals as goal
 
 pub loop-plain-init : goal.loop-plain-init

@@ -2,7 +2,7 @@ use Rattle.std.proofs.Common.{length}
 use denote.Text.{Utf8}
 use denote.Shadow.{shadow}
 use Rattle.std.specs.String.{string_bytes}
-use Rattle.fl_aliases.proofs.Expanding.{Behind}
+use Rattle.fl_aliases.specs.laws.Expanding.{Behind}
 use Rattle.fl_aliases.proofs.expand.expand.Given as goal
 
 -- the line is expanded as far as the rest, behind what the buffer held

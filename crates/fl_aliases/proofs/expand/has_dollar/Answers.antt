@@ -1,6 +1,6 @@
 use Rattle.std.proofs.Common.{lit<}
 use Rattle.std.proofs.lemmas.Str.Pattern.{contains_char}
-use Rattle.fl_aliases.proofs.Dollars.{dollar_told}
+use Rattle.fl_aliases.specs.laws.Dollars.{dollar_told}
 use Rattle.fl_aliases.proofs.expand.has_dollar.Goals as goal
 
 pub returns : goal.returns

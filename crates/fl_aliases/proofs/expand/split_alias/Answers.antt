@@ -1,5 +1,5 @@
 use Rattle.std.proofs.Common.{◌∙◌}
-use Rattle.fl_aliases.proofs.Runs.{cut_behind, no_front, found_front}
+use Rattle.fl_aliases.specs.laws.Runs.{cut_behind, no_front, found_front}
 use Rattle.fl_aliases.proofs.expand.split_alias.Goals as goal
 
 pub split_at-requires : goal.split_at-requires

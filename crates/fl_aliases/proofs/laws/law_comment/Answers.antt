@@ -1,4 +1,4 @@
-use Rattle.fl_aliases.proofs.WordByWord.{same_comment}
+use Rattle.fl_aliases.specs.laws.WordByWord.{same_comment}
 use Rattle.fl_aliases.proofs.laws.law_comment.Goals as goal
 
 pub returns : goal.returns

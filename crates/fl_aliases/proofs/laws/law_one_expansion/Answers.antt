@@ -1,4 +1,4 @@
-use Rattle.fl_aliases.proofs.Expanding.{one_expansion}
+use Rattle.fl_aliases.specs.laws.Expanding.{one_expansion}
 use Rattle.fl_aliases.proofs.laws.law_one_expansion.Goals as goal
 
 pub returns : goal.returns

@@ -1,4 +1,4 @@
-use Rattle.fl_aliases.proofs.Placing.{placed_found, placed_others, placed_set, taken_back}
+use Rattle.fl_aliases.specs.laws.Placing.{placed_found, placed_others, placed_set, taken_back}
 use Rattle.fl_aliases.proofs.laws.law_place.Goals as goal
 
 pub returns-clause-found : goal.returns-clause-found

@@ -1,4 +1,4 @@
-use Rattle.fl_aliases.proofs.Expanding.{plain_itself, plain_alone}
+use Rattle.fl_aliases.specs.laws.Expanding.{plain_itself, plain_alone}
 use Rattle.fl_aliases.proofs.laws.law_plain.Goals as goal
 
 pub returns-clause-itself : goal.returns-clause-itself

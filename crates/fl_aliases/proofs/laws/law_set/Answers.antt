@@ -1,4 +1,4 @@
-use Rattle.fl_aliases.proofs.Placing.{set_found, set_others, set_places}
+use Rattle.fl_aliases.specs.laws.Placing.{set_found, set_others, set_places}
 use Rattle.fl_aliases.proofs.laws.law_set.Goals as goal
 
 pub returns-clause-found : goal.returns-clause-found

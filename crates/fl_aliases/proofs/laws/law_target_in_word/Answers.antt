@@ -1,4 +1,4 @@
-use Rattle.fl_aliases.proofs.TargetWords.{target_some, target_in_word}
+use Rattle.fl_aliases.specs.laws.TargetWords.{target_some, target_in_word}
 use Rattle.fl_aliases.proofs.laws.law_target_in_word.Goals as goal
 
 pub returns-clause-some : goal.returns-clause-some

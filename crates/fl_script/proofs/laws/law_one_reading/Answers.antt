@@ -1,4 +1,4 @@
-use Rattle.fl_script.proofs.OneReading.{one_reading}
+use Rattle.fl_script.specs.laws.OneReading.{one_reading}
 use Rattle.fl_script.proofs.laws.law_one_reading.Goals as goal
 
 pub returns : goal.returns

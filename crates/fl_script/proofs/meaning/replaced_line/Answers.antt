@@ -2,7 +2,7 @@ use Rattle.std.proofs.Common.{map}
 use Rattle.std.specs.String.{string_bytes}
 use Rattle.fl_script.proofs.ReplacedWords.{ok_clean, ok_found, err_always, too_many_replaced}
 use Rattle.fl_script.proofs.Saying.{dollar_wants}
-use Rattle.fl_script.proofs.Spaced.{text_words}
+use Rattle.fl_script.specs.laws.Spaced.{text_words}
 use Rattle.fl_script.proofs.meaning.replaced_line.Goals as goal
 
 pub returns-then-not-has_dollars-clause-ok : goal.returns-then-not-has_dollars-clause-ok

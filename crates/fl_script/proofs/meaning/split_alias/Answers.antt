@@ -1,4 +1,4 @@
-use Rattle.fl_script.proofs.Ends.{too_short, other_word, other_last, ends_so, is_as, is_not_as}
+use Rattle.fl_script.specs.laws.Ends.{too_short, other_word, other_last, ends_so, is_as, is_not_as}
 use Rattle.fl_script.proofs.meaning.split_alias.Goals as goal
 
 pub returns-in_default : goal.returns-in_default

@@ -4,7 +4,7 @@ use Rattle.fl_aliases.specs.Words.{words_of}
 use Rattle.fl_script.specs.Reading.{IsAsking, IsQuiet}
 use Rattle.fl_script.proofs.ReplacedWords.{err_always}
 use Rattle.fl_script.proofs.Saying.{many_say_none, clean_says, clean_none, bytes_want}
-use Rattle.fl_script.proofs.WordShape.{are_words, clean_words}
+use Rattle.fl_script.specs.laws.WordShape.{are_words, clean_words}
 use Rattle.fl_script.proofs.reading.read_line.Goals as goal
 
 pub returns-in_default-cut_words-clause-ok : goal.returns-in_default-cut_words-clause-ok

@@ -1,5 +1,5 @@
 use Rattle.std.proofs.Common.{map, arith}
-use Rattle.fl_script.proofs.Spaced.{dollar_at, clean_more, clean_none, clean_all}
+use Rattle.fl_script.specs.laws.Spaced.{dollar_at, clean_more, clean_none, clean_all}
 use Rattle.fl_script.proofs.replaced.has_dollars.Goals as goal
 
 pub loop-word-init : goal.loop-word-init

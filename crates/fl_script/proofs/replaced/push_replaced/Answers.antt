@@ -1,6 +1,6 @@
 use lib.Utf8.{encode}
 use Rattle.std.specs.String.{string_bytes}
-use Rattle.fl_script.proofs.Spaced.{pushed}
+use Rattle.fl_script.specs.laws.Spaced.{pushed}
 use Rattle.fl_script.proofs.replaced.push_replaced.Goals as goal
 
 pub returns : goal.returns

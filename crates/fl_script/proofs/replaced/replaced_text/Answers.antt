@@ -1,6 +1,6 @@
 use Rattle.std.proofs.Common.{map}
 use Rattle.std.specs.String.{string_bytes}
-use Rattle.fl_script.proofs.Spaced.{none_yet, none_replaced_at, one_more_at}
+use Rattle.fl_script.specs.laws.Spaced.{none_yet, none_replaced_at, one_more_at}
 use Rattle.fl_script.proofs.replaced.replaced_text.Goals as goal
 
 pub loop-word-init : goal.loop-word-init

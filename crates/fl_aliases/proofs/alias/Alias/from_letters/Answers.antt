@@ -1,5 +1,5 @@
 use Rattle.std.proofs.Common.{refl}
-use Rattle.fl_aliases.proofs.Letters.{held}
+use Rattle.fl_aliases.specs.laws.Letters.{held}
 use Rattle.fl_aliases.proofs.alias.Alias.from_letters.Goals as goal
 
 pub invariant_of-result : goal.invariant_of-result

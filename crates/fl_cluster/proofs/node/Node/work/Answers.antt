@@ -1,8 +1,9 @@
-use Rattle.std.proofs.Common.{◌≡◌, refl}
+use Rattle.std.proofs.Common.{◌≡◌, refl, ap, Err}
 use Rattle.fl_sink.proofs.SinkLemmas.{on_err_always}
 use Rattle.fl_bench.proofs.Orders.{cancel_back, refusal_leaves, sending_leaves}
 use Rattle.fl_cluster.specs.NodeStep.{replies, refuses}
 use Rattle.fl_cluster.proofs.NodeLemmas.{same_registry}
+use Rattle.fl_cluster.proofs.Wanting.{order_takes, refused_takes}
 use Rattle.fl_cluster.proofs.node.Node.work.Goals as goal
 
 pub returns-in-Ok-Reply-clause-ok : goal.returns-in-Ok-Reply-clause-ok
@@ -37,3 +38,11 @@ pub returns-in_err-refused-in-Err-clause-err : goal.returns-in_err-refused-in-Er
 returns-in_err-refused-in-Err-clause-err c =
     let registry : c.job.new.view ≡ c.self.inside.index = same_registry _ _ c.in-Err.ensures.same in
     rw (registry, refusal_leaves c.in-Err.ensures.does) (on_err_always _ c.self.view_is)
+
+pub returns-in_err-order-in-Ok-Order-clause-wants : goal.returns-in_err-order-in-Ok-Order-clause-wants
+returns-in_err-order-in-Ok-Order-clause-wants c =
+    rw (← c.self.view_is) (on_err_always _ (order_takes (rw c.in-Ok-Order.field-0-is at c.in-Ok-Order.ensures.does)))
+
+pub returns-in_err-refused-in-Err-clause-wants : goal.returns-in_err-refused-in-Err-clause-wants
+returns-in_err-refused-in-Err-clause-wants c =
+    rw (← c.self.view_is) (on_err_always _ (refused_takes (ap (λ f. Err f) c.in_err-refused-in-Err.ensures.err) c.in-Err.ensures.does))

@@ -1,4 +1,5 @@
 use Rattle.std.proofs.Common.{◌∙◌, sym, ap, not}
+use Rattle.fl_sink.proofs.SinkLemmas.{on_err_always}
 use Rattle.fl_cluster.proofs.NodesTable.{is_open-held, put_node, with_open-closed, with_open-open}
 use Rattle.fl_cluster.proofs.nodes.Nodes.open.Goals as goal
 
@@ -18,3 +19,7 @@ returns-clause-ok c =
 pub returns-clause-new : goal.returns-clause-new
 returns-clause-new c =
     ap not (c.if-contains_key.ensures ∙ is_open-held c.self.inside.all.entries c.self.inside.sent c.args.self.now c.args.number c.self.view_is)
+
+pub returns-in_err-insert-clause-wants : goal.returns-in_err-insert-clause-wants
+returns-in_err-insert-clause-wants c =
+    on_err_always _ (sym (c.if-contains_key.ensures ∙ is_open-held c.self.inside.all.entries c.self.inside.sent c.args.self.now c.args.number c.self.view_is))

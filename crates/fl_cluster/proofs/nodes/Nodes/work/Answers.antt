@@ -5,6 +5,7 @@ use Rattle.std.specs.FinMap as map
 use Rattle.fl_sink.proofs.SinkLemmas.{on_err_always}
 use Rattle.fl_cluster.specs.Cluster.{Cluster, NodeState, is_open}
 use Rattle.fl_cluster.proofs.NodesTable.{held, is_open-held, kept_so, node_at-Some, node_through, not_worked, worked_so}
+use Rattle.fl_cluster.proofs.Wanting.{opening_takes, packet_takes, work_takes}
 use Rattle.fl_cluster.proofs.nodes.Nodes.work.Goals as goal
 
 pub open_at_work-requires-clause-new : goal.open_at_work-requires-clause-new
@@ -44,3 +45,21 @@ returns-in-Packet-clause-err c =
     (sym (held c.self.inside.all.entries c.self.inside.sent c.args.self.now c.args.number c.self.view_is) ∙ sym c.in-Some.ensures.value)
     (node_through c.self.inside.all.entries _ c.self.inside.sent c.args.self.now c.args.number _ c.work.new.self c.self.view_is (sym c.in-Some.ensures.value) (c.get_mut.follows.holds c.work.new.self).0)
     sends.1) c.send.ensures.err
+
+pub returns-in_default-clause-wants : goal.returns-in_default-clause-wants
+returns-in_default-clause-wants c =
+    on_err_always _ (opening_takes c.args.self.now c.args.number c.args.job
+    (sym (is_open-held c.self.inside.all.entries c.self.inside.sent c.args.self.now c.args.number c.self.view_is) ∙ ap is_some (sym c.in_default.ensures.value)))
+
+pub returns-in_err-response-clause-wants : goal.returns-in_err-response-clause-wants
+returns-in_err-response-clause-wants c =
+    on_err_always _ (work_takes c.args.self.now c.args.number c.args.job c.in-Some.node.now
+    (node_at-Some c.args.self.now c.args.number c.in-Some.node.now (sym (held c.self.inside.all.entries c.self.inside.sent c.args.self.now c.args.number c.self.view_is) ∙ sym c.in-Some.ensures.value))
+    c.in_err-response.ensures.wants)
+
+pub returns-in-Packet-clause-wants : goal.returns-in-Packet-clause-wants
+returns-in-Packet-clause-wants c =
+    let sends = rw c.in-Packet.is at c.in_ok-response.ensures.ok in
+    on_err_always _ (packet_takes c.args.self.now c.args.number c.args.job c.in-Some.node.now c.work.new.self c.in-Packet.packet
+    (node_at-Some c.args.self.now c.args.number c.in-Some.node.now (sym (held c.self.inside.all.entries c.self.inside.sent c.args.self.now c.args.number c.self.view_is) ∙ sym c.in-Some.ensures.value))
+    sends.0)

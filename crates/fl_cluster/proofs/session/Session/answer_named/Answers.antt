@@ -1,6 +1,7 @@
 use Rattle.std.proofs.Common.{◌∙◌, ap, Some}
 use Rattle.fl_cluster.specs.Naming.{renamed}
-use Rattle.fl_cluster.proofs.Naming.{same_session, placed, placed_is_set, shown_apart}
+use Rattle.fl_cluster.specs.laws.Sessions.{same_session}
+use Rattle.fl_cluster.proofs.Naming.{placed, placed_is_set, shown_apart}
 use Rattle.fl_cluster.proofs.session.Session.answer_named.Goals as goal
 
 pub settle-requires : goal.settle-requires

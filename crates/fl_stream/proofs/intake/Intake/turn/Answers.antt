@@ -1,9 +1,8 @@
-use Rattle.std.proofs.Common.{◌≡◌, ◌<◌, ◌∙◌, [], length, take, drop, ap, ◌++◌, arith, rules}
+use Rattle.std.proofs.Common.{◌≡◌, ◌∙◌, [], length, arith, rules}
 use Rattle.std.proofs.lemmas.List.{nil_from_length}
-use lib.Seq.{take-append_seam}
 use Rattle.std.proofs.KnownBytes.{Consumes-nil, Consumes-kept}
-use Rattle.fl_sink.proofs.SinkLemmas.{on_err_always}
-use Rattle.fl_stream.proofs.IntakeLemmas.{reading_end, reading_sent, reading_cuts_beyond, reading_cuts_sending}
+use Rattle.fl_sink.specs.laws.Passing.{on_err_always}
+use Rattle.fl_stream.proofs.IntakeLemmas.{reading_end, reading_sent, reading_cuts_beyond, reading_cuts_sending, reading_cuts_unsent, read_again}
 use Rattle.fl_stream.proofs.intake.Intake.turn.Goals as goal
 
 pub returns-in-Err-clause-err : goal.returns-in-Err-clause-err
@@ -15,16 +14,22 @@ returns-then-count-self-clause-err g c = reading_cuts_beyond _ _ c.in-Ok.ensures
 pub returns-then-count-eq0-clause-reads : goal.returns-then-count-eq0-clause-reads
 returns-then-count-eq0-clause-reads g c =
     let zero : c.in-Ok.count ≡ 0 = search rules in
-    reading_end _ _ _ (nil_from_length _ (omega (arith, zero, c.in-Ok.ensures.bound.1))) c.in-Ok.ensures.bytes.0
+    reading_end _ _ _ (nil_from_length _ (omega (arith, zero, c.in-Ok.ensures.bound.1))) c.in-Ok.ensures.bytes.0 c.in-Ok.ensures.grows
 
-pub returns-in_err-send-clause-err : goal.returns-in_err-send-clause-err
-returns-in_err-send-clause-err g c =
-    let len : c.args.self.now.chunk.len ≡ length c.read.new.buf = search rules in
-    let same : c.deref.result.now ≡ c.read.new.buf = c.deref.ensures.value ∙ ap (λ n. take n (c.read.new.buf ++ drop (length c.read.new.buf) c.args.self.now.chunk.items)) len ∙ take-append_seam c.read.new.buf (drop (length c.read.new.buf) c.args.self.now.chunk.items) in
-    on_err_always _ (reading_cuts_sending _ _ c.in-Ok.ensures.bytes.0 (rw same at c.in_ok-take.ensures.ok) c.in_err-send.ensures.err)
+pub returns-in_err-write_answers-clause-err : goal.returns-in_err-write_answers-clause-err
+returns-in_err-write_answers-clause-err g c =
+    let len : c.args.self.now.chunk.len ≡ length c.hear.new.chunk = search rules in
+    let same : c.deref.result.now ≡ c.hear.new.chunk = c.deref.ensures.value ∙ read_again c.hear.new.chunk _ len in
+    on_err_always _ (reading_cuts_sending _ _ c.in-Ok.ensures.bytes.0 (rw same at c.in_ok-take.ensures.ok) c.in_err-write_answers.ensures.err)
+
+pub returns-then-is_err-clause-err : goal.returns-then-is_err-clause-err
+returns-then-is_err-clause-err g c =
+    let len : c.args.self.now.chunk.len ≡ length c.hear.new.chunk = search rules in
+    let same : c.deref.result.now ≡ c.hear.new.chunk = c.deref.ensures.value ∙ read_again c.hear.new.chunk _ len in
+    reading_cuts_unsent _ _ c.in-Ok.ensures.bytes.0 (rw same at c.in_ok-take.ensures.ok) c.in_ok-write_answers.ensures.ok c.send.ensures.bytes
 
 pub returns-clause-reads : goal.returns-clause-reads
 returns-clause-reads g c =
-    let len : c.args.self.now.chunk.len ≡ length c.read.new.buf = search rules in
-    let same : c.deref.result.now ≡ c.read.new.buf = c.deref.ensures.value ∙ ap (λ n. take n (c.read.new.buf ++ drop (length c.read.new.buf) c.args.self.now.chunk.items)) len ∙ take-append_seam c.read.new.buf (drop (length c.read.new.buf) c.args.self.now.chunk.items) in
-    reading_sent _ _ c.in-Ok.ensures.bytes.0 (rw same at c.in_ok-take.ensures.ok) c.in_ok-send.ensures.ok (omega (arith, c.in-Ok.ensures.bound.1))
+    let len : c.args.self.now.chunk.len ≡ length c.hear.new.chunk = search rules in
+    let same : c.deref.result.now ≡ c.hear.new.chunk = c.deref.ensures.value ∙ read_again c.hear.new.chunk _ len in
+    reading_sent _ _ c.in-Ok.ensures.bytes.0 c.in-Ok.ensures.grows (rw same at c.in_ok-take.ensures.ok) c.in_ok-write_answers.ensures.ok c.send.ensures.bytes (omega (arith, c.in-Ok.ensures.bound.1))

@@ -1,4 +1,4 @@
-use Rattle.fl_sink.proofs.SinkLemmas.{on_err_always}
+use Rattle.fl_sink.specs.laws.Passing.{on_err_always}
 use Rattle.fl_stream.proofs.InterpreterLemmas.{lines_pass_one, lines_cut_one}
 use Rattle.fl_stream.proofs.interpreter.Interpreter.answer.Goals as goal
 

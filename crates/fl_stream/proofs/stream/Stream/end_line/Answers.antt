@@ -1,7 +1,7 @@
 use Rattle.std.proofs.Common.{◌≡◌, ◌++◌, [], rules}
 use Rattle.std.proofs.lemmas.List.{nil_from_length}
 use Rattle.std.specs.Str.Lines.{strip_carriage_return}
-use Rattle.fl_sink.proofs.SinkLemmas.{on_err_always}
+use Rattle.fl_sink.specs.laws.Passing.{on_err_always}
 use Rattle.fl_stream.proofs.StreamLemmas.{bytes_pass_line, bytes_cut_line, bytes_cut_passed, bytes_pass_none}
 use Rattle.fl_stream.proofs.stream.Stream.end_line.Goals as goal
 

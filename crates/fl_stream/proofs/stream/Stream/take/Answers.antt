@@ -1,5 +1,5 @@
 use Rattle.std.proofs.Common.{◌≡◌, ◌++◌, arith, rules}
-use Rattle.fl_sink.proofs.SinkLemmas.{on_err_always}
+use Rattle.fl_sink.specs.laws.Passing.{on_err_always}
 use Rattle.fl_stream.proofs.StreamLemmas.{front_passes_none, front_passes_more, bytes_cut_more, bytes_cut_front, bytes_pass_front, no_feed_nil}
 use Rattle.fl_stream.proofs.stream.Stream.take.Goals as goal
 

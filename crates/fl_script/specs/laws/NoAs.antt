@@ -35,8 +35,8 @@ use Rattle.fl_jobs.specs.declared.secret.Secret.{Secret}
 use Rattle.fl_script.specs.Words.{side_text, mode_text, IsLabelWord, IsCapsWord, HasDigits, IsSecretWord, IsBytesWord}
 use Rattle.fl_script.specs.declared.line.Line.{Line}
 use Rattle.fl_script.specs.declared.line.Line.TheVariants.{Job as OfJob, Text, Deliver, Union, Aliases}
-use Rattle.fl_script.proofs.JobKinds.{Kind, kind_of}
-use Rattle.fl_script.proofs.JobKinds.Kind.{proc, tag, group, put, make_login, relabel, ask, spawn, exit, drop, enter, emit, opens, tune, close, send, take, member, arrive}
+use Rattle.fl_script.specs.laws.JobKinds.{Kind, kind_of}
+use Rattle.fl_script.specs.laws.JobKinds.Kind.{proc, tag, group, put, make_login, relabel, ask, spawn, exit, drop, enter, emit, opens, tune, close, send, take, member, arrive}
 
 -- the word `as` is not of this form
 abbrev pub Lacks : (Word → Type 0) → Type 0

@@ -6,10 +6,10 @@ use Rattle.fl_aliases.specs.Words.{Word}
 use Rattle.fl_script.specs.Grammar.{Is, job_forms, forms, Spells}
 use Rattle.fl_script.specs.declared.line.Line.{Line}
 use Rattle.fl_script.specs.declared.line.Line.TheVariants.{Job as OfJob, Text, Deliver, Union, Aliases}
-use Rattle.fl_script.proofs.Agreement.{Agree, agree, turned}
-use Rattle.fl_script.proofs.JobKinds.{Kind, kind_of}
-use Rattle.fl_script.proofs.JobKinds.Kind.{proc, tag, group, put, make_login, relabel, ask, spawn, exit, drop, enter, emit, opens, tune, close, send, take, member, arrive}
-use Rattle.fl_script.proofs.OneWord.{same_node, same_name, same_pid, same_cap, same_policy, same_side, same_label, same_caps, same_secret, same_bytes, same_endpoint, same_mode, same_packet, same_message, same_given, no_node}
+use Rattle.fl_script.specs.laws.Agreement.{Agree, agree, turned}
+use Rattle.fl_script.specs.laws.JobKinds.{Kind, kind_of}
+use Rattle.fl_script.specs.laws.JobKinds.Kind.{proc, tag, group, put, make_login, relabel, ask, spawn, exit, drop, enter, emit, opens, tune, close, send, take, member, arrive}
+use Rattle.fl_script.specs.laws.OneWord.{same_node, same_name, same_pid, same_cap, same_policy, same_side, same_label, same_caps, same_secret, same_bytes, same_endpoint, same_mode, same_packet, same_message, same_given, no_node}
 
 -- one job of each kind, and none of two kinds, for their verbs differ
 one_of : {a b : Job} → Kind a → Kind b → Agree (job_forms a) (job_forms b) → a ≡ b

@@ -8,11 +8,11 @@ use Rattle.std.proofs.lemmas.List.Elements.{All-nil, All-cons, All-append, All-h
 use Rattle.fl_aliases.specs.Expansion.{Expands, ExpandsBehind, ends, stays, becomes, NoLetterFirst, NoDollar}
 use Rattle.fl_aliases.specs.Table.{Table}
 use Rattle.fl_aliases.specs.TargetText.{target_text}
-use Rattle.fl_aliases.proofs.Expanding.{plain_itself, plain_alone, one_expansion}
-use Rattle.fl_aliases.proofs.WordByWord.{by_word}
+use Rattle.fl_aliases.specs.laws.Expanding.{plain_itself, plain_alone, one_expansion}
+use Rattle.fl_aliases.specs.laws.WordByWord.{by_word}
 use Rattle.fl_aliases.specs.Words.{Word, words_of}
 use Rattle.fl_script.specs.parts.Meaning.{IsWord, spaced}
-use Rattle.fl_script.proofs.WordShape.{spaced_words}
+use Rattle.fl_script.specs.laws.WordShape.{spaced_words}
 
 -- a word with a `$` is among the words
 pub dollar_at : (words : List (Bor Word)) (i : ℕ) (d : Bor Word) → i < length words → ¬ NoDollar (get_or words i d).now → ¬ All NoDollar (map (λ w. w.now) words)

@@ -13,7 +13,7 @@ use Rattle.fl_aliases.specs.Table.{Table, target_of}
 use Rattle.fl_aliases.specs.TargetText.{target_text}
 use Rattle.fl_aliases.specs.Words.{words_of}
 use Rattle.fl_aliases.specs.declared.target.Target.{Target}
-use Rattle.fl_aliases.proofs.TargetWords.{target_in_word, target_some, Begins, target_begins}
+use Rattle.fl_aliases.specs.laws.TargetWords.{target_in_word, target_some, Begins, target_begins}
 
 abbrev is_space : ℕ → Bool
 is_space b = b == 32

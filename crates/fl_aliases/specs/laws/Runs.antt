@@ -8,7 +8,7 @@ use Rattle.std.proofs.lemmas.List.Sums.{prefix_len-le-length}
 use Rattle.std.proofs.lemmas.Str.{IsCharBoundary-from_take}
 use Rattle.fl_aliases.specs.Alias.{is_letter, AllLetters, IsAlias}
 use Rattle.fl_aliases.specs.Expansion.{NoLetterFirst}
-use Rattle.fl_aliases.proofs.Letters.{letters_utf8}
+use Rattle.fl_aliases.specs.laws.Letters.{letters_utf8}
 
 abbrev IsLetter : ℕ → Type 0
 IsLetter b = is_letter b ≡ true

@@ -7,8 +7,8 @@ use Rattle.fl_aliases.specs.Expansion.{Expands, ExpandsBehind, ends, stays, beco
 use Rattle.fl_aliases.specs.Table.{Table, target_of}
 use Rattle.fl_aliases.specs.TargetText.{target_text}
 use Rattle.fl_aliases.specs.declared.target.Target.{Target}
-use Rattle.fl_aliases.proofs.Dollars.{none_stands}
-use Rattle.fl_aliases.proofs.Runs.{head_of, tail_of, same_front}
+use Rattle.fl_aliases.specs.laws.Dollars.{none_stands}
+use Rattle.fl_aliases.specs.laws.Runs.{head_of, tail_of, same_front}
 
 module _ (table : Table) where
   -- the first byte stays

@@ -1,0 +1,3 @@
+-- Lemmas that proofs of the crates above cite.
+pub mod NodePuts
+pub mod Sessions

@@ -1,0 +1,3 @@
+-- What follows from the definitions, for the proofs of the crates above.
+pub mod Passing
+pub mod Pieces
