@@ -1,5 +1,6 @@
 pub mod OneStep
 pub mod OneTurn
+pub mod Wants
 pub mod AliasLaws
 pub mod Beginnings
 pub mod Idle

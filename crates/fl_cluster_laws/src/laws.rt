@@ -1,5 +1,5 @@
 //! Laws of the runs of a script.
-ghost use Rattle.std.specs.Prelude.{◌≡◌, ◌≢◌, ◌↔◌, ◌+◌, ◌++◌, ◌∷◌, List, ℕ, Option, None, Some, false, length, take};
+ghost use Rattle.std.specs.Prelude.{◌≡◌, ◌≢◌, ◌↔◌, ◌+◌, ◌++◌, ◌∷◌, List, ℕ, Option, None, Some, false, length, take, true};
 ghost use Rattle.std.specs.Str.Lines.{lines};
 ghost use Rattle.fl_labels.specs.Name.{name_cmp};
 ghost use Rattle.fl_labels.specs.SetBy.{In, SetBy, SameMembers};
@@ -15,20 +15,22 @@ ghost use Rattle.fl_ops.specs.declared.digest.Digest.{Digest};
 ghost use Rattle.fl_jobs.specs.declared.answer.Refusal.TheVariants.{Busy, Memory};
 ghost use Rattle.fl_jobs.specs.declared.answer.Reply.TheVariants.{Arrived, Done};
 ghost use Rattle.fl_jobs.specs.declared.job.Side.{Side};
-ghost use Rattle.fl_jobs.specs.declared.job.Act.TheVariants.{Ask};
+ghost use Rattle.fl_jobs.specs.declared.job.Act.TheVariants.{Ask, Exit};
 ghost use Rattle.fl_jobs.specs.declared.job.Job.TheVariants.{By, Member};
 ghost use Rattle.fl_opset.specs.RegistryText.{registry_text};
 ghost use Rattle.fl_bench.specs.Following.{Follows};
 ghost use Rattle.fl_bench.specs.Guarded.{IsGuarded};
 ghost use Rattle.fl_bench.specs.Process.{effective, is_busy, owns, side_of};
 ghost use Rattle.fl_bench.specs.declared.process.Process.{Process};
-ghost use Rattle.fl_script.specs.Reading.{IsReading};
+ghost use Rattle.fl_script.specs.Reading.{IsBad, IsReading, ReadingTakesMemory};
 ghost use Rattle.fl_script.specs.declared.line.Line.{Line};
+ghost use Rattle.fl_script.specs.declared.line.Line.TheVariants as lines_said;
 ghost use Rattle.fl_script.specs.declared.reading.Reading.TheVariants.{Means};
-ghost use Rattle.fl_cluster.specs.Cluster.{NodeState, node_at, packet_at};
+ghost use Rattle.fl_cluster.specs.Cluster.{NodeState, is_open, node_at, packet_at};
 ghost use Rattle.fl_cluster.specs.Session.{Session, begun};
 ghost use Rattle.fl_cluster.specs.Answer.{Answer, dropped, refused, replied};
 ghost use Rattle.fl_cluster.specs.Naming.{SetsAlias, made_by};
+ghost use Rattle.fl_cluster.specs.MayWant.{LineTakesMemory, MayWant};
 ghost use Rattle.fl_cluster.specs.Turn.{Turn};
 ghost use Rattle.fl_cluster.specs.Output.{IsAmple, Run};
 ghost use Rattle.fl_cluster_laws.specs.Beginning.{Begins};
@@ -191,6 +193,30 @@ pub fn law_aliases()
         IsReading old.aliases line (Means said alias) →
         IsReading old.aliases other (Means said alias) → answer ≢ refused Memory →
         Turn number old line answer new → Turn number old other answer new }
+{}
+
+/// A line is answered F14 only where reading it takes memory, or what it asks for does, and then leaves all. So where
+/// reading takes none, as with no `$` and no list, a line is answered so only where what it says takes memory: never one
+/// that is none of the script, nor an `exit` at a node that is open. A message is dropped for want of memory only where
+/// its packet was sent.
+pub fn law_memory()
+    ensures only { (number : ℕ) (old new : Session) (line : List ℕ) →
+        Turn number old line (refused Memory) new → MayWant old line × (new ≡ old) }
+    ensures said { (number : ℕ) (old new : Session) (line : List ℕ) (said : Line)
+        (alias : Option (List ℕ)) → ¬ ReadingTakesMemory line →
+        IsReading old.aliases line (Means said alias) →
+        Turn number old line (refused Memory) new → LineTakesMemory old.state said }
+    ensures bad { (number : ℕ) (old new : Session) (line : List ℕ) → ¬ ReadingTakesMemory line →
+        IsBad old.aliases line → ¬ Turn number old line (refused Memory) new }
+    ensures exit { (number node : ℕ) (old new : Session) (line : List ℕ) (pid : Pid) →
+        ¬ ReadingTakesMemory line → is_open old.state node ≡ true →
+        IsReading old.aliases line (Means (lines_said.Job node (By pid Exit)) None) →
+        ¬ Turn number old line (refused Memory) new }
+    ensures dropped { (number node packet : ℕ) (old new : Session) (line : List ℕ)
+        (alias : Option (List ℕ)) →
+        IsReading old.aliases line (Means (lines_said.Deliver node packet) alias) →
+        Turn number old line (dropped Memory) new →
+        (d : Data) × (packet_at old.state.sent packet ≡ Some (packets.Data d)) }
 {}
 
 /// Nodes with the same operations have the same text, and tell the same: two processes that own the same have
