@@ -15,9 +15,9 @@ use Rattle.fl_bench.specs.Gifts.{settles}
 use Rattle.fl_bench.specs.Jobs.{Does}
 use Rattle.fl_bench.specs.Births.{IsBirth, GoesOn}
 use Rattle.fl_bench.specs.declared.process.Process.{Process}
-use Rattle.fl_bench.proofs.Puts.{get_put, get_gone, none_some, same_found}
+use Rattle.fl_bench.specs.laws.Puts.{get_put, get_gone, none_some, same_found}
 use Rattle.fl_bench.specs.Summary.{loses, bears, keeps, Changes, turns, stays, Keeps}
-use Rattle.fl_bench_laws.proofs.Changes.{does_changes, settles_keeps}
+use Rattle.fl_bench_laws.specs.laws.Changes.{does_changes, settles_keeps}
 
 module _ (V : Op → Type 0) (b : BenchState) where
   -- at a bench that has its processes still, nobody is new, and nobody gone

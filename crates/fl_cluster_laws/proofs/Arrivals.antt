@@ -15,7 +15,7 @@ use Rattle.fl_bench.specs.Guards.{sent_from}
 use Rattle.fl_bench.specs.Jobs.{Does, passed}
 use Rattle.fl_bench.specs.Process.{effective}
 use Rattle.fl_bench.specs.declared.process.Process.{Process}
-use Rattle.fl_bench_laws.proofs.Arrivals.{arrival_safe, open_safe}
+use Rattle.fl_bench_laws.specs.laws.Arrivals.{arrival_safe, open_safe}
 use Rattle.fl_cluster.specs.Cluster.{Cluster, node_at}
 use Rattle.fl_cluster.specs.Session.{Session, begun}
 use Rattle.fl_cluster.specs.Answer.{Answer}

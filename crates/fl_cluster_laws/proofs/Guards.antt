@@ -21,8 +21,8 @@ use Rattle.fl_bench.specs.Bench as bench
 use Rattle.fl_bench.specs.Gifts.{given}
 use Rattle.fl_bench.specs.Guarded.{IsGuarded}
 use Rattle.fl_bench.specs.Jobs.{Does}
-use Rattle.fl_bench_laws.proofs.Guarded.{does_guarded, opened_guarded, registry_guarded, settles_guarded}
-use Rattle.fl_bench.proofs.Orders.{sending_leaves}
+use Rattle.fl_bench_laws.specs.laws.Guarded.{does_guarded, opened_guarded, registry_guarded, settles_guarded}
+use Rattle.fl_bench.specs.laws.Orders.{sending_leaves}
 use Rattle.fl_script.specs.declared.line.Line.{Line}
 use Rattle.fl_script.specs.declared.reading.Reading.{Reading}
 use Rattle.fl_script.specs.declared.reading.Reading.TheVariants as reading

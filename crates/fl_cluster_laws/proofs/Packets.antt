@@ -29,7 +29,7 @@ use Rattle.fl_bench.specs.Mailbox.{taken, MailDoes}
 use Rattle.fl_bench.specs.Jobs.{Answers as Tells, Performs, Effect, Does, passed}
 use Rattle.fl_bench.specs.Process.{effective}
 use Rattle.fl_bench.specs.declared.process.Process.{Process}
-use Rattle.fl_bench.proofs.Orders.{sending_at}
+use Rattle.fl_bench.specs.laws.Orders.{sending_at}
 use Rattle.fl_bench.specs.Summary.{IsSending}
 use Rattle.fl_aliases.specs.Table.{Table}
 use Rattle.fl_script.specs.Grammar.{Spells}

@@ -17,8 +17,8 @@ use Rattle.fl_bench.specs.Bench as bench
 use Rattle.fl_bench.specs.Following.{Follows}
 use Rattle.fl_bench.specs.Jobs.{Does}
 use Rattle.fl_bench.specs.Orderly.{IsOrderly}
-use Rattle.fl_bench_laws.proofs.Following.{follows_same, follows_does, follows_finished, Set, does_set, set_is_no_order}
-use Rattle.fl_bench.proofs.Orders.{sending_leaves}
+use Rattle.fl_bench_laws.specs.laws.Following.{follows_same, follows_does, follows_finished, Set, does_set, set_is_no_order}
+use Rattle.fl_bench.specs.laws.Orders.{sending_leaves}
 use Rattle.fl_script.specs.declared.line.Line.{Line}
 use Rattle.fl_script.specs.declared.line.Line.TheVariants as line
 use Rattle.fl_script.specs.declared.reading.Reading.{Reading}

@@ -1,4 +1,4 @@
-use Rattle.fl_bench_laws.proofs.Arrivals.{arrival_safe, sent_safe}
+use Rattle.fl_bench_laws.specs.laws.Arrivals.{arrival_safe, sent_safe}
 use Rattle.fl_bench_laws.proofs.laws.law_arrivals.Goals as goal
 
 pub returns : goal.returns

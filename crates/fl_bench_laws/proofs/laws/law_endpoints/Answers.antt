@@ -1,7 +1,7 @@
 use Rattle.std.proofs.Common.{[]}
 use Rattle.fl_ops.specs.Registry.{Listed}
 use Rattle.fl_bench.specs.Gifts.{given}
-use Rattle.fl_bench_laws.proofs.Guarded.{opened_guarded, does_guarded, settles_guarded, registry_guarded}
+use Rattle.fl_bench_laws.specs.laws.Guarded.{opened_guarded, does_guarded, settles_guarded, registry_guarded}
 use Rattle.fl_bench_laws.proofs.laws.law_endpoints.Goals as goal
 
 pub returns-clause-opened : goal.returns-clause-opened

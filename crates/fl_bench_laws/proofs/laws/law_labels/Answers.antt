@@ -1,7 +1,7 @@
 use Rattle.std.proofs.Common.{[]}
 use Rattle.fl_ops.specs.Registry.{Listed}
 use Rattle.fl_bench.specs.Gifts.{given}
-use Rattle.fl_bench_laws.proofs.Following.{follows_does, follows_settles}
+use Rattle.fl_bench_laws.specs.laws.Following.{follows_does, follows_settles}
 use Rattle.fl_bench_laws.proofs.laws.law_labels.Goals as goal
 
 pub returns-clause-job : goal.returns-clause-job

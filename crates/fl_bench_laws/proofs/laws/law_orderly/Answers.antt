@@ -1,6 +1,6 @@
 use Rattle.std.proofs.Common.{[]}
 use Rattle.fl_bench.specs.Gifts.{given}
-use Rattle.fl_bench_laws.proofs.Orderly.{opened_orderly, does_orderly, settles_orderly}
+use Rattle.fl_bench_laws.specs.laws.Orderly.{opened_orderly, does_orderly, settles_orderly}
 use Rattle.fl_bench_laws.proofs.laws.law_orderly.Goals as goal
 
 pub returns-clause-opened : goal.returns-clause-opened

@@ -33,9 +33,9 @@ use Rattle.fl_bench.specs.Bench.{BenchState}
 use Rattle.fl_bench.specs.Guarded.{Guarded, IsGuarded}
 use Rattle.fl_bench.specs.Jobs.{Does, passed}
 use Rattle.fl_bench.specs.declared.process.Process.{Process}
-use Rattle.fl_bench.proofs.Puts.{same_found}
+use Rattle.fl_bench.specs.laws.Puts.{same_found}
 use Rattle.fl_bench.specs.Summary.{IsSending}
-use Rattle.fl_bench.proofs.Orders.{sending_at}
+use Rattle.fl_bench.specs.laws.Orders.{sending_at}
 
 -- ---- open endpoints
 

@@ -22,11 +22,11 @@ use Rattle.fl_bench.specs.Jobs.{Does, passed}
 use Rattle.fl_bench.specs.Orderly.{IsOrderly}
 use Rattle.fl_bench.specs.Following.{Follows}
 use Rattle.fl_bench.specs.declared.process.Process.{Process}
-use Rattle.fl_bench.proofs.Puts.{get_here, get_put, get_gone}
-use Rattle.fl_bench.proofs.Steps.{same_labels, passed_by}
+use Rattle.fl_bench.specs.laws.Puts.{get_here, get_put, get_gone}
+use Rattle.fl_bench.specs.laws.Steps.{same_labels, passed_by}
 use Rattle.fl_bench.specs.Summary.{loses, bears, keeps, Changes, turns, stays, Keeps}
-use Rattle.fl_bench.proofs.Orders.{order_at}
-use Rattle.fl_bench_laws.proofs.Changes.{does_changes, settles_keeps, finished_keeps}
+use Rattle.fl_bench.specs.laws.Orders.{order_at}
+use Rattle.fl_bench_laws.specs.laws.Changes.{does_changes, settles_keeps, finished_keeps}
 
 module _ (V : Op → Type 0) where
   pub follows_same : (o : Option Process) → Follows V o o

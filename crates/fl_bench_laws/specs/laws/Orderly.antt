@@ -14,9 +14,9 @@ use Rattle.fl_bench.specs.Gifts.{settles}
 use Rattle.fl_bench.specs.Jobs.{Does}
 use Rattle.fl_bench.specs.Orderly.{IsPlace, IsOrderly}
 use Rattle.fl_bench.specs.declared.process.Process.{Process}
-use Rattle.fl_bench.proofs.Puts.{get_put, left_there, none_some}
+use Rattle.fl_bench.specs.laws.Puts.{get_put, left_there, none_some}
 use Rattle.fl_bench.specs.Summary.{loses, bears, keeps, Changes, turns, stays, Keeps}
-use Rattle.fl_bench_laws.proofs.Changes.{does_changes, settles_keeps}
+use Rattle.fl_bench_laws.specs.laws.Changes.{does_changes, settles_keeps}
 
 pub opened_orderly : (number boot index stride : ℕ) → 0 < stride → IsOrderly number (new_bench number boot index stride)
 opened_orderly number boot index stride forward = record { node_is = refl; forward = forward; each = λ pid p e. absurd (none_some (map.get-empty pid_cmp pid) e) }
