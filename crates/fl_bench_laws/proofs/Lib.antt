@@ -1,2 +1,3 @@
 pub mod Births
 pub mod Gains
+pub mod Apart

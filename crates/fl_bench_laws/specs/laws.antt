@@ -1,7 +1,9 @@
 pub mod Changes
+pub mod Going
 pub mod Orderly
 pub mod Following
 pub mod OneCheck
+pub mod Memory
 pub mod OneMail
 pub mod OneResult
 pub mod Guarded

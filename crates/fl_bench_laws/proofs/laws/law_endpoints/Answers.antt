@@ -8,7 +8,7 @@ pub returns-clause-opened : goal.returns-clause-opened
 returns-clause-opened c = λ ops number boot index stride. opened_guarded (Listed ops) number boot index stride
 
 pub returns-clause-job : goal.returns-clause-job
-returns-clause-job c = λ ops b after job result h d. does_guarded (Listed ops) b h d
+returns-clause-job c = λ view ops b after job result within h d. does_guarded (Listed view) (Listed ops) within b h d
 
 pub returns-clause-finish : goal.returns-clause-finish
 returns-clause-finish c = λ ops b maker op h. settles_guarded (Listed ops) b h maker (given op)
