@@ -46,7 +46,12 @@ impl Model for Bench {
         record { node = b.node; boot = b.boot; next = b.next; stride = b.stride; processes = b.processes } };
 
     ghost invariant = { λ b. (0 < b.node) × ((0 < b.boot) × IsOrderly (record {
-        node = b.node; boot = b.boot; next = b.next; stride = b.stride; processes = b.processes })) };
+      node = b.node;
+      boot = b.boot;
+      next = b.next;
+      stride = b.stride;
+      processes = b.processes;
+    })) };
 }
 
 impl Bench {

@@ -176,7 +176,6 @@ module _ (V W : Op → Type 0) (more : Within V W) where
   all_seen owned h x c = let dual = h x c in (seen owned (Plus x.tag) dual.0, seen owned (Minus x.tag) dual.1)
 
   module _ (b : BenchState) (h : IsGuarded W b) where
-
     act_guarded : (pid : Pid) (p : Process) (act : Act) (x : Outcome) {after : BenchState} → map.get b.processes pid ≡ Some p → act_checks V p act None → Performs V b pid p act x after → IsGuarded W after
     act_guarded pid p (Order order) x e s f = put W b h pid (ordering p) (h.each pid p e) f.1
     act_guarded pid p (Relabel side (Ok label)) x e s f = put W b h pid _ (all_seen (owns p) s.1.1) f.1
