@@ -1,5 +1,5 @@
 -- Who is born at a bench.
-use Rattle.std.specs.Prelude.{◌≡◌, ◌≤◌}
+use Rattle.std.specs.Prelude.{◌≡◌, ◌≤◌, ◌%◌}
 use Rattle.std.specs.declared.option.Option.TheVariants.{Some}
 use Rattle.std.specs.FinMap as map
 use Rattle.fl_labels.specs.Cap.{cap_cmp}
@@ -26,9 +26,10 @@ pub record IsBirth (V : Registry) (b : BenchState) (job : Job) (pid : Pid) (chil
   pub next : IsNext b pid
   pub child_is : IsChild V b job child
 
--- the bench names who is born as before, and gives no serial again
+-- the bench gives serials of one residue, and none again
 pub record GoesOn (b after : BenchState) : Type 0 where
   pub node_is : after.node ≡ b.node
   pub boot_is : after.boot ≡ b.boot
   pub stride_is : after.stride ≡ b.stride
   pub forward : b.next ≤ after.next
+  pub residue_is : after.next % after.stride ≡ b.next % b.stride

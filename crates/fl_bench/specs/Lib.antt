@@ -13,3 +13,4 @@ pub mod Births
 pub mod Summary
 pub mod Gains
 pub mod Guarded
+pub mod laws

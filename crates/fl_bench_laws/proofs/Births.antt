@@ -1,5 +1,5 @@
 -- Who is born at a bench, and who goes.
-use Rattle.std.proofs.Common.{◌≡◌, ◌∙◌, inl, inr, refl, sym, subst, List, Some, None, Result, arith}
+use Rattle.std.proofs.Common.{◌≡◌, ◌∙◌, inl, inr, sym, subst, List, Some, None, Result}
 use Rattle.std.specs.FinMap as map
 use Rattle.fl_labels.specs.PidOrder.{pid_total, pid_exact}
 use Rattle.fl_labels.specs.declared.cap.Cap.{Cap}
@@ -13,11 +13,11 @@ use Rattle.fl_jobs.specs.declared.answer.Outcome.{Outcome}
 use Rattle.fl_bench.specs.Bench.{BenchState}
 use Rattle.fl_bench.specs.Gifts.{settles}
 use Rattle.fl_bench.specs.Jobs.{Does}
-use Rattle.fl_bench.specs.Births.{IsBirth, GoesOn}
+use Rattle.fl_bench.specs.Births.{IsBirth}
 use Rattle.fl_bench.specs.declared.process.Process.{Process}
-use Rattle.fl_bench.proofs.Puts.{get_put, get_gone, none_some, same_found}
+use Rattle.fl_bench.specs.laws.Puts.{get_put, get_gone, none_some, same_found}
 use Rattle.fl_bench.specs.Summary.{loses, bears, keeps, Changes, turns, stays, Keeps}
-use Rattle.fl_bench_laws.proofs.Changes.{does_changes, settles_keeps}
+use Rattle.fl_bench_laws.specs.laws.Changes.{does_changes, settles_keeps}
 
 module _ (V : Op → Type 0) (b : BenchState) where
   -- at a bench that has its processes still, nobody is new, and nobody gone
@@ -66,28 +66,12 @@ module _ (V : Op → Type 0) (b : BenchState) where
         | inr s ↦ absurd (none_some (sym s ∙ left) there)
       ]
 
-  goes_same : GoesOn b b
-  goes_same = record { node_is = refl; boot_is = refl; stride_is = refl; forward = omega arith }
-
-  -- the names that it gives
-  keeps_going : {after : BenchState} → Keeps V b after → GoesOn b after
-  keeps_going (stays e) = subst (GoesOn b) (sym e) goes_same
-  keeps_going (turns q old new there h is) = subst (GoesOn b) (sym is) (record { node_is = refl; boot_is = refl; stride_is = refl; forward = omega arith })
-
-  changes_going : {job : Job} {after : BenchState} → Changes V b job after → GoesOn b after
-  changes_going (keeps k) = keeps_going k
-  changes_going (bears q new birth is) = subst (GoesOn b) (sym is) (record { node_is = refl; boot_is = refl; stride_is = refl; forward = omega arith })
-  changes_going (loses q asked is) = subst (GoesOn b) (sym is) (record { node_is = refl; boot_is = refl; stride_is = refl; forward = omega arith })
-
   module _ {job : Job} {r : Result Outcome Refusal} {after : BenchState} (d : Does V b job r after) (pid : Pid) where
     pub does_born : (child : Process) → map.get b.processes pid ≡ None → map.get after.processes pid ≡ Some child → IsBirth V b job pid child
     does_born child none there = changes_born (does_changes V d) pid child none there
 
     pub does_gone : (p : Process) → map.get b.processes pid ≡ Some p → map.get after.processes pid ≡ None → job ≡ By pid Exit
     does_gone p there none = changes_gone (does_changes V d) pid p there none
-
-  pub does_going : {job : Job} {r : Result Outcome Refusal} {after : BenchState} → Does V b job r after → GoesOn b after
-  does_going d = changes_going (does_changes V d)
 
   -- a finish and a cancel
   module _ (maker : Pid) (caps : List Cap) (pid : Pid) where

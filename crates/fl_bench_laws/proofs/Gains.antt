@@ -31,8 +31,8 @@ use Rattle.fl_bench.specs.Gains.{OwnsAt, Gains, GainsAtEnd}
 use Rattle.fl_bench.specs.declared.process.Holding.{Holding}
 use Rattle.fl_bench.specs.declared.process.Holding.TheVariants.{Idle, Ordering}
 use Rattle.fl_bench.specs.declared.process.Process.{Process}
-use Rattle.fl_bench.proofs.Puts.{get_put, left_there, same_found}
-use Rattle.fl_bench.proofs.Steps.{passed_by}
+use Rattle.fl_bench.specs.laws.Puts.{get_put, left_there, same_found}
+use Rattle.fl_bench.specs.laws.Steps.{passed_by}
 
 -- ---- members of sets
 

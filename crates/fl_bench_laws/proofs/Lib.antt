@@ -1,10 +1,3 @@
-pub mod Changes
-pub mod Orderly
-pub mod Following
-pub mod OneCheck
-pub mod OneMail
-pub mod OneResult
 pub mod Births
 pub mod Gains
-pub mod Guarded
-pub mod Arrivals
+pub mod Apart

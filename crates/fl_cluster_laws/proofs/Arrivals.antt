@@ -15,7 +15,7 @@ use Rattle.fl_bench.specs.Guards.{sent_from}
 use Rattle.fl_bench.specs.Jobs.{Does, passed}
 use Rattle.fl_bench.specs.Process.{effective}
 use Rattle.fl_bench.specs.declared.process.Process.{Process}
-use Rattle.fl_bench_laws.proofs.Arrivals.{arrival_safe, open_safe}
+use Rattle.fl_bench_laws.specs.laws.Arrivals.{arrival_safe, open_safe}
 use Rattle.fl_cluster.specs.Cluster.{Cluster, node_at}
 use Rattle.fl_cluster.specs.Session.{Session, begun}
 use Rattle.fl_cluster.specs.Answer.{Answer}
@@ -24,7 +24,7 @@ use Rattle.fl_cluster_laws.specs.Living.{process_at, view_at}
 use Rattle.fl_cluster.specs.Output.{Run}
 use Rattle.fl_cluster_laws.specs.Sent.{MaySend, ComesSafely}
 use Rattle.fl_cluster_laws.proofs.Guards.{GuardedNode, script_guard}
-use Rattle.fl_cluster_laws.proofs.Orderly.{script_order}
+use Rattle.fl_cluster_laws.proofs.Orderly.{script_order, own_node}
 use Rattle.fl_cluster_laws.proofs.Packets.{Comes, comes_delivers, comes_to, was_sent}
 
 -- what its sender might send left a safe endpoint
@@ -49,7 +49,7 @@ module _ (before : List (List ℕ)) (answers : List Answer) (old : Session) (lin
       let w = was_sent c.k c.packet before answers old r c.was_sent in
       let to = comes_to pid old line c in
       let q = taken_by c.takes_in.does in
-      let own : pid.node ≡ c.number = ap (λ (x : Pid). x.node) to ∙ (((script_order before answers old r).bench_is c.number).orderly.each c.packet.receiver q.process q.lives).own in
+      let own : pid.node ≡ c.number = ap (λ (x : Pid). x.node) to ∙ own_node (script_order before answers old r) c.number c.packet.receiver q.process q.lives in
       let left = left_safely w.mid.state c.packet w.might ((script_guard w.first w.front w.mid w.run).node_is c.packet.sender.node) in
       record {
         delivers = comes_delivers pid old line c;

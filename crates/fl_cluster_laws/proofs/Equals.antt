@@ -24,7 +24,7 @@ use Rattle.fl_bench.specs.Process.{effective, is_busy, owns}
 use Rattle.fl_bench.specs.Bench as bench
 use Rattle.fl_bench.specs.Jobs.{Answers, act_checks, checks, Does, passed, failed, no_room}
 use Rattle.fl_bench.specs.declared.process.Process.{Process}
-use Rattle.fl_bench.proofs.Orders.{order_at}
+use Rattle.fl_bench.specs.laws.Orders.{order_at}
 use Rattle.fl_cluster.specs.Cluster.{NodeState}
 use Rattle.fl_cluster.specs.Answer.{Answer}
 use Rattle.fl_cluster.specs.NodeStep.{view_of, AnswersResult, NodeAnswers, replies, refuses, makes, spends}

@@ -14,7 +14,7 @@ use Rattle.fl_bench.specs.Births.{IsBirth}
 use Rattle.fl_bench.specs.Bench as bench
 use Rattle.fl_bench.specs.Process.{owns}
 use Rattle.fl_bench.specs.declared.process.Process.{Process}
-use Rattle.fl_bench.proofs.Puts.{get_put, get_gone}
+use Rattle.fl_bench.specs.laws.Puts.{get_put, get_gone}
 use Rattle.fl_cluster.specs.Answer.{Answer, replied}
 use Rattle.fl_cluster_laws.specs.Owned.{Gives}
 use Rattle.fl_cluster_laws.proofs.Leaves.{Leaves, stays, turns, bears, loses}

@@ -21,8 +21,8 @@ use Rattle.fl_bench.specs.Bench as bench
 use Rattle.fl_bench.specs.Gifts.{given}
 use Rattle.fl_bench.specs.Guarded.{IsGuarded}
 use Rattle.fl_bench.specs.Jobs.{Does}
-use Rattle.fl_bench_laws.proofs.Guarded.{does_guarded, opened_guarded, registry_guarded, settles_guarded}
-use Rattle.fl_bench.proofs.Orders.{sending_leaves}
+use Rattle.fl_bench_laws.specs.laws.Guarded.{does_guarded, opened_guarded, registry_guarded, settles_guarded}
+use Rattle.fl_bench.specs.laws.Orders.{sending_leaves}
 use Rattle.fl_script.specs.declared.line.Line.{Line}
 use Rattle.fl_script.specs.declared.reading.Reading.{Reading}
 use Rattle.fl_script.specs.declared.reading.Reading.TheVariants as reading
@@ -53,11 +53,11 @@ GuardedNode node = IsGuarded (view_of node) node.bench
 
 module _ (node : NodeState) (job : Job) (h : GuardedNode node) where
   result_guarded : (r : Result Outcome Refusal) (after : bench.BenchState) (a : Answer) (m : NodeState) → Does (view_of node) node.bench job r after → AnswersResult node r after a m → GuardedNode m
-  result_guarded r after a m d replies = does_guarded (view_of node) node.bench h d
+  result_guarded r after a m d replies = does_guarded (view_of node) (view_of node) (λ op u. u) node.bench h d
   result_guarded r after a m d (refuses more) = h
   result_guarded r after a m d (makes {body} {pid} {name} next) =
       let op : Op = record { name = name; body = body } in
-      registry_guarded (all_listed node.registry op) (settles_guarded (view_of node) after (does_guarded (view_of node) node.bench h d) pid (given op))
+      registry_guarded (all_listed node.registry op) (settles_guarded (view_of node) after (does_guarded (view_of node) (view_of node) (λ op u. u) node.bench h d) pid (given op))
   result_guarded r after a m d (spends last) = h
 
   work_guarded : (a : Answer) (m : NodeState) → NodeAnswers node job a m → GuardedNode m

@@ -38,8 +38,8 @@ use Rattle.fl_bench.specs.Bench.{BenchState, new_bench as opened, has_at, gone, 
 use Rattle.fl_bench.specs.Gifts.{given, finished}
 use Rattle.fl_bench.specs.Jobs.{order_checks, checks_of, act_checks, bench_checks, checks, Performs, Effect, Does, passed, failed}
 use Rattle.fl_bench.specs.declared.process.Process.{Process}
-use Rattle.fl_bench.proofs.Puts.{get_put, get_gone, none_some}
-use Rattle.fl_bench.proofs.Orders.{rested, order_at, finished_at}
+use Rattle.fl_bench.specs.laws.Puts.{get_put, get_gone, none_some}
+use Rattle.fl_bench.specs.laws.Orders.{rested, order_at, finished_at}
 
 pub record IsIdle (b : BenchState) : Type 0 where
   pub each : (pid : Pid) (p : Process) → map.get b.processes pid ≡ Some p → is_busy p ≡ false

@@ -33,7 +33,7 @@ use Rattle.fl_bench.specs.Gifts.{given_by, given, finished}
 use Rattle.fl_bench.specs.Jobs.{act_checks, bench_checks, checks, Performs, Effect, Does, passed}
 use Rattle.fl_bench.specs.Process.{newborn, owns, owning, child_of, receiving}
 use Rattle.fl_bench.specs.declared.process.Process.{Process}
-use Rattle.fl_bench.proofs.Orders.{rested, order_at, finished_at, sending_leaves}
+use Rattle.fl_bench.specs.laws.Orders.{rested, order_at, finished_at, sending_leaves}
 use Rattle.fl_cluster.specs.Cluster.{NodeState}
 use Rattle.fl_cluster.specs.Answer.{Answer, replied, named, on_arrival}
 use Rattle.fl_cluster.specs.NodeStep.{view_of, AnswersResult, replies, refuses, makes, spends, NodeAnswers, Sends}

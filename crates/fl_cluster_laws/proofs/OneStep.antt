@@ -12,7 +12,7 @@ use Rattle.fl_jobs.specs.declared.answer.Refusal.{Refusal}
 use Rattle.fl_jobs.specs.declared.answer.Refusal.TheVariants.{Memory}
 use Rattle.fl_wire.specs.declared.packet.Packet.{Packet}
 use Rattle.fl_bench.specs.Bench as bench
-use Rattle.fl_bench_laws.proofs.OneResult.{one_result}
+use Rattle.fl_bench_laws.specs.laws.OneResult.{one_result}
 use Rattle.fl_cluster.specs.Cluster.{NodeState}
 use Rattle.fl_cluster.specs.Answer.{Answer, silence, replied, named, sent, text, listed, refused, dropped, bad_line, IsStarved, on_arrival}
 use Rattle.fl_cluster.specs.LastName.{IsLast}

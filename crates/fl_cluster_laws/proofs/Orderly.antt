@@ -1,7 +1,8 @@
 -- What a script has made: the bench of each node is orderly, and none of its processes is busy.
-use Rattle.std.proofs.Common.{◌≡◌, ◌+◌, ◌⊎◌, inl, inr, sym, subst, List, [], ◌∷◌, ℕ, Result, arith}
+use Rattle.std.proofs.Common.{◌≡◌, ◌∙◌, ◌+◌, ◌⊎◌, inl, inr, refl, sym, subst, List, [], ◌∷◌, ℕ, Some, Result, arith}
 use Rattle.std.specs.FinMap as map
 use Rattle.std.specs.Ordering.{nat_cmp}
+use Rattle.fl_labels.specs.declared.pid.Pid.{Pid}
 use Rattle.fl_aliases.specs.Table.{Table}
 use Rattle.fl_wire.specs.declared.packet.Packet.{Packet}
 use Rattle.fl_jobs.specs.declared.job.Job.{Job}
@@ -12,8 +13,11 @@ use Rattle.fl_bench.specs.Bench as bench
 use Rattle.fl_bench.specs.Gifts.{given}
 use Rattle.fl_bench.specs.Jobs.{Does}
 use Rattle.fl_bench.specs.Orderly.{IsOrderly}
-use Rattle.fl_bench_laws.proofs.Orderly.{opened_orderly, does_orderly, settles_orderly}
-use Rattle.fl_bench.proofs.Orders.{sending_leaves}
+use Rattle.fl_bench.specs.declared.process.Process.{Process}
+use Rattle.fl_bench.specs.laws.Orderly.{opened_orderly, settles_orderly}
+use Rattle.fl_bench_laws.specs.laws.Orderly.{does_orderly}
+use Rattle.fl_bench_laws.specs.laws.Going.{does_going}
+use Rattle.fl_bench.specs.laws.Orders.{sending_leaves}
 use Rattle.fl_script.specs.declared.line.Line.{Line}
 use Rattle.fl_script.specs.declared.reading.Reading.{Reading}
 use Rattle.fl_script.specs.declared.reading.Reading.TheVariants as reading
@@ -27,17 +31,19 @@ use Rattle.fl_cluster_laws.proofs.Idle.{IsIdle, opened_idle, replied_idle, finis
 use Rattle.fl_cluster.proofs.NodePuts.{node_put}
 
 pub record IsOrdered (number : ℕ) (b : bench.BenchState) : Type 0 where
-  pub orderly : IsOrderly number b
+  pub node_is : b.node ≡ number
+  pub orderly : IsOrderly b
   pub idle : IsIdle b
 
 opened_ordered : (number : ℕ) → IsOrdered number (new_node number).bench
-opened_ordered number = record { orderly = opened_orderly number 1 1 1 (omega arith); idle = opened_idle number 1 1 1 }
+opened_ordered number = record { node_is = refl; orderly = opened_orderly number 1 1 1 (omega arith) (omega arith); idle = opened_idle number 1 1 1 }
 
 module _ {number : ℕ} (node : NodeState) (job : Job) (h : IsOrdered number node.bench) where
   result_ordered : (r : Result Outcome Refusal) (after : bench.BenchState) (a : Answer) (m : NodeState) → Does (view_of node) node.bench job r after → AnswersResult node r after a m → IsOrdered number m.bench
-  result_ordered r after a m d replies = record { orderly = does_orderly h.orderly d; idle = replied_idle h.idle d }
+  result_ordered r after a m d replies = record { node_is = (does_going (view_of node) node.bench d).node_is ∙ h.node_is; orderly = does_orderly h.orderly d; idle = replied_idle h.idle d }
   result_ordered r after a m d (refuses more) = h
   result_ordered r after a m d (makes {body} {pid} {name} next) = record {
+    node_is = (does_going (view_of node) node.bench d).node_is ∙ h.node_is;
     orderly = settles_orderly (does_orderly h.orderly d) pid (given (record { name = name; body = body }));
     idle = finished_idle h.idle d (record { name = name; body = body });
   }
@@ -52,6 +58,11 @@ module _ {number : ℕ} (node : NodeState) (job : Job) (h : IsOrdered number nod
 -- each node of the state has such a bench
 pub record HasOrder (s : Cluster) : Type 0 where
   pub bench_is : (number : ℕ) → IsOrdered number (node_at s number).bench
+
+-- whoever stands at a node is of that node
+pub own_node : {s : Cluster} (h : HasOrder s) (number : ℕ) (pid : Pid) (p : Process)
+    → map.get (node_at s number).bench.processes pid ≡ Some p → pid.node ≡ number
+own_node h number pid p e = let at = h.bench_is number in (at.orderly.each pid p e).own.node_is ∙ at.node_is
 
 pub start_order : HasOrder start
 start_order = record { bench_is = λ number. subst (λ o. IsOrdered number (node_or_new number o).bench) (sym (map.get-empty nat_cmp number)) (opened_ordered number) }

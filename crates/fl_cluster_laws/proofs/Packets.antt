@@ -29,7 +29,7 @@ use Rattle.fl_bench.specs.Mailbox.{taken, MailDoes}
 use Rattle.fl_bench.specs.Jobs.{Answers as Tells, Performs, Effect, Does, passed}
 use Rattle.fl_bench.specs.Process.{effective}
 use Rattle.fl_bench.specs.declared.process.Process.{Process}
-use Rattle.fl_bench.proofs.Orders.{sending_at}
+use Rattle.fl_bench.specs.laws.Orders.{sending_at}
 use Rattle.fl_bench.specs.Summary.{IsSending}
 use Rattle.fl_aliases.specs.Table.{Table}
 use Rattle.fl_script.specs.Grammar.{Spells}
@@ -47,7 +47,7 @@ use Rattle.fl_cluster_laws.specs.Lives.{Says}
 use Rattle.fl_cluster_laws.specs.Sent.{MaySend, WasSent, Delivers}
 use Rattle.fl_cluster.specs.Turn.{AnswersLine, works, sends, brings, no_room, never_sent, shows, unites, lists, AnswersReading, Turn}
 use Rattle.fl_cluster.specs.Output.{Run}
-use Rattle.fl_cluster_laws.proofs.Orderly.{HasOrder, start_order, turn_order}
+use Rattle.fl_cluster_laws.proofs.Orderly.{HasOrder, own_node, start_order, turn_order}
 
 -- ---- packets in their order
 
@@ -80,7 +80,7 @@ record SentAt (old : Session) (line : List ℕ) (a : Answer) (k : ℕ) (d : Data
 module _ (old : Session) (line : List ℕ) (h : HasOrder old.state) where
   sending_so : (number k : ℕ) (job : Job) (packet : Packet) (a : Answer) → Says old line (lines.Job number job) → (s : IsSending (view_of (node_at old.state number)) (node_at old.state number).bench job packet) → a ≡ sent k → SentAt old line a k s.sent
   sending_so number k job packet a says s is =
-      let own : number ≡ s.sent.sender.node = sym ((h.bench_is number).orderly.each s.sent.sender s.process s.lived).own in
+      let own : number ≡ s.sent.sender.node = sym (own_node h number s.sent.sender s.process s.lived) in
       record {
         is_said = is;
         says = subst (λ n. Says old line (lines.Job n (By s.sent.sender (Mail (Send s.sent.from s.sent.receiver s.sent.to s.sent.message))))) own (subst (λ j. Says old line (lines.Job number j)) s.asked says);

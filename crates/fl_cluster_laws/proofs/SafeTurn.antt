@@ -17,8 +17,8 @@ use Rattle.fl_bench.specs.Bench as bench
 use Rattle.fl_bench.specs.Following.{Follows}
 use Rattle.fl_bench.specs.Jobs.{Does}
 use Rattle.fl_bench.specs.Orderly.{IsOrderly}
-use Rattle.fl_bench_laws.proofs.Following.{follows_same, follows_does, follows_finished, Set, does_set, set_is_no_order}
-use Rattle.fl_bench.proofs.Orders.{sending_leaves}
+use Rattle.fl_bench_laws.specs.laws.Following.{follows_same, follows_does, follows_finished, Set, does_set, set_is_no_order}
+use Rattle.fl_bench.specs.laws.Orders.{sending_leaves}
 use Rattle.fl_script.specs.declared.line.Line.{Line}
 use Rattle.fl_script.specs.declared.line.Line.TheVariants as line
 use Rattle.fl_script.specs.declared.reading.Reading.{Reading}
@@ -31,7 +31,7 @@ use Rattle.fl_cluster.specs.NodeStep.{view_of, AnswersResult, replies, refuses, 
 use Rattle.fl_cluster.specs.Turn.{AnswersLine, works, sends, brings, no_room, never_sent, shows, unites, lists, AnswersReading, Turn}
 use Rattle.fl_cluster_laws.specs.LabelChange.{SetsSafely, AsksForLabel}
 use Rattle.fl_cluster_laws.specs.Living.{living, view_at}
-use Rattle.fl_cluster_laws.proofs.Orderly.{HasOrder}
+use Rattle.fl_cluster_laws.proofs.Orderly.{HasOrder, own_node}
 use Rattle.fl_cluster.proofs.NodePuts.{node_here, node_put, node_open, node_open_both}
 
 module _ (node : NodeState) (q : Pid) where
@@ -39,13 +39,13 @@ module _ (node : NodeState) (q : Pid) where
   abbrev To : NodeState → Type 0
   To m = Follows (view_of node) (map.get node.bench.processes q) (map.get m.bench.processes q)
 
-  follows_result : (job : Job) (r : Result Outcome Refusal) (after : bench.BenchState) (a : Answer) (m : NodeState) {number : ℕ} → IsOrderly number node.bench → Does (view_of node) node.bench job r after → AnswersResult node r after a m → To m
+  follows_result : (job : Job) (r : Result Outcome Refusal) (after : bench.BenchState) (a : Answer) (m : NodeState) → IsOrderly node.bench → Does (view_of node) node.bench job r after → AnswersResult node r after a m → To m
   follows_result job r after a m h d replies = follows_does (view_of node) h d q
   follows_result job r after a m h d (refuses more) = follows_same _ _
   follows_result job r after a m h d (makes next) = follows_finished (view_of node) d _ q
   follows_result job r after a m h d (spends last) = follows_same _ _
 
-  follows_work : (job : Job) (a : Answer) (m : NodeState) {number : ℕ} → IsOrderly number node.bench → NodeAnswers node job a m → To m
+  follows_work : (job : Job) (a : Answer) (m : NodeState) → IsOrderly node.bench → NodeAnswers node job a m → To m
   follows_work job a m h w = follows_result job w.result w.after a m h w.does w.answered
 
   follows_send : {job : Job} {packet : Packet} {m : NodeState} → Sends node job packet m → To m
@@ -135,5 +135,5 @@ module _ (pid : Pid) (side : Side) (label : SetBy name_cmp) where
   -- in what a script has made, only the process's own node can have set it
   pub own_set : (asked : ℕ) (old m : Cluster) → HasOrder old → SetsSafely (node_at old asked) pid side label (node_at m asked) → SetsSafely (node_at old pid.node) pid side label (node_at m pid.node)
   own_set asked old m h s =
-      let own : pid.node ≡ asked = ((h.bench_is asked).orderly.each pid s.process s.lived).own in
+      let own : pid.node ≡ asked = own_node h asked pid s.process s.lived in
       subst (λ n. SetsSafely (node_at old n) pid side label (node_at m n)) (sym own) s

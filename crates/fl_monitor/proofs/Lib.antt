@@ -8,3 +8,4 @@ pub mod CheckLemmas
 pub mod ChangeLemmas
 pub mod MailLemmas
 pub mod ArrivalLemmas
+pub mod Kept

@@ -6,6 +6,7 @@ ghost use Rattle.fl_ops.specs.Registry.{Reach, From, Listed};
 ghost use Rattle.fl_jobs.specs.declared.job.Job.TheVariants.{By};
 ghost use Rattle.fl_bench.specs.Bench.{new_bench};
 ghost use Rattle.fl_bench.specs.Jobs.{Does};
+ghost use Rattle.fl_bench.specs.Orderly.{IsOrderly};
 ghost use Rattle.fl_monitor.specs.parts.Acts.{Births, Replies};
 ghost use Rattle.fl_bench.specs.Gifts.{finished, cancelled};
 
@@ -35,6 +36,7 @@ pub struct Bench {
 impl Model for Bench {
     ghost use Rattle.std.specs.Prelude.{◌<◌};
     ghost use Rattle.fl_bench.specs.Bench.{BenchState, coded_state};
+    ghost use Rattle.fl_bench.specs.Orderly.{IsOrderly};
 
     ghost Value = { BenchState };
 
@@ -43,7 +45,13 @@ impl Model for Bench {
     ghost view = { λ b.
         record { node = b.node; boot = b.boot; next = b.next; stride = b.stride; processes = b.processes } };
 
-    ghost invariant = { λ b. (0 < b.node) × ((0 < b.boot) × (0 < b.next)) };
+    ghost invariant = { λ b. (0 < b.node) × ((0 < b.boot) × IsOrderly (record {
+      node = b.node;
+      boot = b.boot;
+      next = b.next;
+      stride = b.stride;
+      processes = b.processes;
+    })) };
 }
 
 impl Bench {
@@ -63,6 +71,14 @@ impl Bench {
             stride,
             processes: Processes::new(alloc),
         }
+    }
+
+    /// Each process stands under a pid that this bench gave: of its node and boot, with a serial below the next one and some
+    /// strides away from it.
+    pub fn law_orderly(&self)
+        ensures { IsOrderly self.now }
+    {
+        let _stride = self.stride;
     }
 
     /// The process, or none where it does not stand here.

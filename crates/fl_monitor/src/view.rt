@@ -9,7 +9,7 @@ use std::alloc::{AllocError, Global};
 /// A list of operations, which questions do not change. The answers to some questions are searched for, which takes
 /// memory.
 pub trait View {
-    ghost use Rattle.std.specs.Prelude.{◌≡◌, ◌≢◌, ◌↔◌, List, IfOk, OnErr, MatchOption};
+    ghost use Rattle.std.specs.Prelude.{◌≡◌, ◌≢◌, ◌↔◌, List, length, IfOk, OnErr, MatchOption};
     ghost use Rattle.fl_labels.specs.Found.{Tells};
     ghost use Rattle.fl_labels.specs.SetBy.{In};
     ghost use Rattle.fl_labels.specs.declared.cap.Cap.{Cap};
@@ -19,6 +19,10 @@ pub trait View {
 
     // the operations
     ghost list: { Self → List Op };
+
+    /// How many operations the list has. Takes no memory.
+    fn seen(&self) -> u64
+        ensures { result ≡ length (list self.now) };
 
     /// Whether the owner of these capabilities has this one in effect. An error says that there was not
     /// enough memory for a search: none for a capability that is owned, or everybody's.
@@ -57,6 +61,10 @@ impl View for Index {
     ghost use Rattle.fl_labels.specs.SetBy.{members};
 
     ghost list = { members };
+
+    fn seen(&self) -> u64 {
+        self.ops().len() as u64
+    }
 
     fn effective(&mut self, alloc: Global, owned: &CapSet, cap: Cap) -> Result<bool, AllocError> {
         Index::effective(self, alloc, owned, cap)

@@ -1,5 +1,5 @@
 use Rattle.fl_ops.specs.Registry.{Listed}
-use Rattle.fl_bench_laws.proofs.OneResult.{one_result}
+use Rattle.fl_bench_laws.specs.laws.OneResult.{one_result}
 use Rattle.fl_bench_laws.proofs.laws.law_one_step.Goals as goal
 
 pub returns : goal.returns

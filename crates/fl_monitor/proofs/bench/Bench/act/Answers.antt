@@ -1,5 +1,6 @@
 use Rattle.std.proofs.Common.{◌∙◌, refl, ap, Ok}
 use Rattle.fl_monitor.proofs.JobLemmas.{refused_does, settled_does, end_does}
+use Rattle.fl_monitor.proofs.Kept.{acts_kept, gone_kept}
 use Rattle.fl_monitor.proofs.bench.Bench.act.Goals as goal
 
 pub returns-in_err-outcome-clause-does : goal.returns-in_err-outcome-clause-does
@@ -13,3 +14,15 @@ returns-in-Birth-clause-does g c = settled_does _ _ c.args.self.now c.self.view_
 
 pub returns-in-End-clause-does : goal.returns-in-End-clause-does
 returns-in-End-clause-does g c = end_does _ _ c.args.self.now c.self.view_is c.args.pid c.args.act c.act.ensures.acts (c.in_ok-outcome.was ∙ ap Ok c.in-End.is) _ c.remove.ensures
+
+pub invariant_of-self : goal.invariant_of-self
+invariant_of-self g c = let i = c.self.invariant in (i.0, (i.1.0, acts_kept i.1.1 c.act.ensures.acts))
+
+pub invariant_of-self-in-Answer : goal.invariant_of-self-in-Answer
+invariant_of-self-in-Answer g c = let i = c.self.invariant in (i.0, (i.1.0, acts_kept i.1.1 c.act.ensures.acts))
+
+pub invariant_of-self-in-Birth : goal.invariant_of-self-in-Birth
+invariant_of-self-in-Birth g c = let i = c.self.invariant in (i.0, (i.1.0, acts_kept i.1.1 c.act.ensures.acts))
+
+pub invariant_of-self-in-End : goal.invariant_of-self-in-End
+invariant_of-self-in-End g c = let i = c.self.invariant in (i.0, (i.1.0, gone_kept (acts_kept i.1.1 c.act.ensures.acts) _ c.args.pid c.remove.ensures))

@@ -1,5 +1,6 @@
 use Rattle.std.proofs.Common.{refl}
 use Rattle.fl_monitor.proofs.JobLemmas.{full_births, made_births, spent_births}
+use Rattle.fl_monitor.proofs.Kept.{born_kept}
 use Rattle.fl_monitor.proofs.bench.Bench.bear.Goals as goal
 
 pub returns-in_default : goal.returns-in_default
@@ -10,3 +11,6 @@ returns-in_default-insert c = full_births _ c.args.self.now c.self.view_is c.arg
 
 pub returns : goal.returns
 returns c = made_births _ c.args.self.now c.self.view_is c.args.process _ _ _ c.in-Ok.ensures.0 (record { node = refl; boot = refl; serial = c.in-Ok.ensures.1 }) c.in-Ok-insert.ensures.ok c.from.ensures
+
+pub invariant_of-self-2 : goal.invariant_of-self-2
+invariant_of-self-2 c = let i = c.self.invariant in (i.0, (i.1.0, born_kept i.1.1 _ _ c.args.process _ (record { node = refl; boot = refl; serial = c.in-Ok.ensures.1 }) c.in-Ok-insert.ensures.ok c.from.ensures))

@@ -1,4 +1,5 @@
 use Rattle.fl_monitor.proofs.JobLemmas.{births_does, arrives_does, replies_does}
+use Rattle.fl_monitor.proofs.Kept.{arrives_kept}
 use Rattle.fl_monitor.proofs.bench.Bench.job.Goals as goal
 
 pub returns-in-Proc-clause-does : goal.returns-in-Proc-clause-does
@@ -12,3 +13,6 @@ returns-in-Member-clause-does g c = rw c.in-Member.is (replies_does _ c.args.sel
 
 pub returns-in-Arrive-clause-does : goal.returns-in-Arrive-clause-does
 returns-in-Arrive-clause-does g c = rw c.in-Arrive.is (arrives_does _ _ c.args.self.now c.self.view_is c.in-Arrive.data c.arrive.ensures)
+
+pub invariant_of-self : goal.invariant_of-self
+invariant_of-self g c = let i = c.self.invariant in (i.0, (i.1.0, arrives_kept i.1.1 c.arrive.ensures))

@@ -1,3 +1,4 @@
 pub mod Puts
 pub mod Steps
 pub mod Orders
+pub mod Orderly

@@ -36,9 +36,9 @@ use Rattle.fl_bench.specs.Process.{newborn, owns, owning, child_of, is_busy, eff
 use Rattle.fl_bench.specs.Bench.{BenchState, IsNext, has_at, born}
 use Rattle.fl_bench.specs.Jobs.{order_checks, enter_check, checks_of, act_checks, bench_checks, checks, Answers, Performs, Effect, Does, passed, failed, no_room}
 use Rattle.fl_bench.specs.declared.process.Process.{Process}
-use Rattle.fl_bench.proofs.Puts.{same_found}
-use Rattle.fl_bench_laws.proofs.OneCheck.{OneVerdict, one_said, one_then, one_demand, one_with}
-use Rattle.fl_bench_laws.proofs.OneMail.{one_mail_check, one_arrival_check, one_mail_does}
+use Rattle.fl_bench.specs.laws.Puts.{same_found}
+use Rattle.fl_bench_laws.specs.laws.OneCheck.{OneVerdict, one_said, one_then, one_demand, one_with}
+use Rattle.fl_bench_laws.specs.laws.OneMail.{one_mail_check, one_arrival_check, one_mail_does}
 
 -- ---- each job has one verdict
 

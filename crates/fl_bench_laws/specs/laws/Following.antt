@@ -1,5 +1,5 @@
 -- What becomes of the processes of a bench.
-use Rattle.std.proofs.Common.{◌≡◌, ◌<◌, ◌∙◌, ◌⊎◌, inl, inr, refl, sym, ap, subst, List, Option, Some, None, ℕ, Result, Ok, arith}
+use Rattle.std.proofs.Common.{◌≡◌, ◌<◌, ◌∙◌, ◌⊎◌, inl, inr, refl, sym, ap, subst, List, Option, Some, None, Result, Ok, arith}
 use Rattle.std.specs.FinMap as map
 use Rattle.fl_labels.specs.Name.{name_cmp}
 use Rattle.fl_labels.specs.SetBy.{SetBy}
@@ -22,11 +22,11 @@ use Rattle.fl_bench.specs.Jobs.{Does, passed}
 use Rattle.fl_bench.specs.Orderly.{IsOrderly}
 use Rattle.fl_bench.specs.Following.{Follows}
 use Rattle.fl_bench.specs.declared.process.Process.{Process}
-use Rattle.fl_bench.proofs.Puts.{get_here, get_put, get_gone}
-use Rattle.fl_bench.proofs.Steps.{same_labels, passed_by}
+use Rattle.fl_bench.specs.laws.Puts.{get_here, get_put, get_gone}
+use Rattle.fl_bench.specs.laws.Steps.{same_labels, passed_by}
 use Rattle.fl_bench.specs.Summary.{loses, bears, keeps, Changes, turns, stays, Keeps}
-use Rattle.fl_bench.proofs.Orders.{order_at}
-use Rattle.fl_bench_laws.proofs.Changes.{does_changes, settles_keeps, finished_keeps}
+use Rattle.fl_bench.specs.laws.Orders.{order_at}
+use Rattle.fl_bench_laws.specs.laws.Changes.{does_changes, settles_keeps, finished_keeps}
 
 module _ (V : Op → Type 0) where
   pub follows_same : (o : Option Process) → Follows V o o
@@ -53,7 +53,7 @@ module _ (V : Op → Type 0) where
   keeps_follow {b} (turns pid old new e h is) = subst (AllFollow b) (sym is) (follows_put b pid new (subst (λ o. Follows V o (Some new)) (sym e) h))
 
   -- who is new or gone follows nobody, and the next process takes no other's place
-  new_follows : {number : ℕ} (b : BenchState) (pid : Pid) (child : Process) → IsOrderly number b → IsNext b pid → (o : Option Process) → map.get b.processes pid ≡ o → Follows V o (Some child)
+  new_follows : (b : BenchState) (pid : Pid) (child : Process) → IsOrderly b → IsNext b pid → (o : Option Process) → map.get b.processes pid ≡ o → Follows V o (Some child)
   new_follows b pid child h next None e = tt
   new_follows b pid child h next (Some p) e = let below : pid.serial < b.next = (h.each pid p e).below in absurd (omega (arith, below, next.serial))
 
@@ -68,12 +68,12 @@ module _ (V : Op → Type 0) where
       by_place (inl s) = subst (Follows V (map.get b.processes q)) (sym s.1) (gone_follows _)
       by_place (inr s) = subst (Follows V (map.get b.processes q)) (sym s) (follows_same _)
 
-  changes_follow : {number : ℕ} {b after : BenchState} {job : Job} → IsOrderly number b → Changes V b job after → AllFollow b after
+  changes_follow : {b after : BenchState} {job : Job} → IsOrderly b → Changes V b job after → AllFollow b after
   changes_follow h (keeps k) = keeps_follow k
   changes_follow {b} h (bears pid child birth is) = subst (AllFollow b) (sym is) (follows_put b pid child (new_follows b pid child h birth.next _ refl))
   changes_follow {b} h (loses pid asked is) = subst (AllFollow b) (sym is) (follows_gone b pid)
 
-  pub follows_does : {number : ℕ} {b after : BenchState} {job : Job} {r : Result Outcome Refusal} → IsOrderly number b → Does V b job r after → AllFollow b after
+  pub follows_does : {b after : BenchState} {job : Job} {r : Result Outcome Refusal} → IsOrderly b → Does V b job r after → AllFollow b after
   follows_does h d = changes_follow h (does_changes V d)
 
   -- a finish and a cancel

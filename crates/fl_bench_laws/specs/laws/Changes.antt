@@ -16,9 +16,9 @@ use Rattle.fl_bench.specs.Jobs.{Does}
 use Rattle.fl_bench.specs.declared.process.Holding.{Holding}
 use Rattle.fl_bench.specs.declared.process.Holding.TheVariants.{Idle, Ordering}
 use Rattle.fl_bench.specs.declared.process.Process.{Process}
-use Rattle.fl_bench.proofs.Steps.{same_labels, does_step}
+use Rattle.fl_bench.specs.laws.Steps.{same_labels, does_step}
 use Rattle.fl_bench.specs.Summary.{Summary, sends, orders, replies, refuses, IsOrder, keeps, Changes, turns, stays, Keeps}
-use Rattle.fl_bench.proofs.Orders.{finished_at}
+use Rattle.fl_bench.specs.laws.Orders.{finished_at}
 
 module _ (V : Op → Type 0) where
   -- a process that has its labels still, and holds this

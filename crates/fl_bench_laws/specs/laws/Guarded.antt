@@ -14,8 +14,10 @@ use Rattle.fl_labels.specs.SetBy.{SetBy, In}
 use Rattle.fl_labels.specs.declared.cap.Cap.{Cap}
 use Rattle.fl_labels.specs.declared.cap.Cap.TheVariants.{Plus, Minus}
 use Rattle.fl_labels.specs.declared.endpoint.Endpoint.{Endpoint}
+use Rattle.fl_labels.specs.declared.name.Name.{Name}
 use Rattle.fl_labels.specs.declared.pid.Pid.{Pid}
 use Rattle.fl_ops.specs.declared.op.Op.{Op}
+use Rattle.fl_ops.specs.Registry.{InEffect}
 use Rattle.fl_ops.proofs.Reaching.{eff_more}
 use Rattle.fl_rules.specs.Endpoint.{Crosses}
 use Rattle.fl_labels.specs.Caps.{Dual}
@@ -25,6 +27,7 @@ use Rattle.fl_mailbox.specs.Endpoints.{Table, IsLeastFree}
 use Rattle.fl_mailbox.specs.TableLaws.{one_least_free}
 use Rattle.fl_mailbox.specs.Offenders.{CrossesAt, DualAt}
 use Rattle.fl_mailbox.specs.declared.mailbox.Mailbox.{Mailbox}
+use Rattle.fl_mailbox.specs.declared.offender.Offender.{Offender}
 use Rattle.fl_mailbox.specs.declared.endpoints.OpenEndpoint.{OpenEndpoint}
 use Rattle.fl_jobs.specs.Given.{labels_of}
 use Rattle.fl_jobs.specs.declared.job.GivenLabels.{GivenLabels}
@@ -48,8 +51,8 @@ use Rattle.fl_bench.specs.Jobs.{act_checks, checks, Performs, Effect, Does, pass
 use Rattle.fl_bench.specs.declared.process.Holding.{Holding}
 use Rattle.fl_bench.specs.declared.process.Holding.TheVariants.{Idle, Ordering}
 use Rattle.fl_bench.specs.declared.process.Process.{Process}
-use Rattle.fl_bench.proofs.Puts.{get_put, left_there, none_some, same_found}
-use Rattle.fl_bench.proofs.Steps.{passed_by}
+use Rattle.fl_bench.specs.laws.Puts.{get_put, left_there, none_some, same_found}
+use Rattle.fl_bench.specs.laws.Steps.{passed_by}
 
 -- ---- members of sets
 
@@ -97,12 +100,17 @@ module _ (E : Cap → Type 0) (process : Labels) (ch : Mailbox) where
       let found = subst (λ o. with o LabelTooLong (λ labels. with (map.get ch.endpoints e) (NoEndpoint e) (λ opened. endpoint_check E process e opened.mode labels)) None) is h in
       subst (λ o. with o (NoEndpoint e) (λ opened. endpoint_check E process e opened.mode labels) None) there found
 
-  mail_safe : (pid : Pid) (work : mailbox.Mail) (x : Outcome) (after : Mailbox) → mail_checks E process ch work None → MailDoes pid ch work x after → AllSafe E process ch.endpoints ch.endpoints → AllSafe E process ch.endpoints after.endpoints
-  mail_safe pid (Open mode given) x after h f all = subst (λ (c : Mailbox). AllSafe E process ch.endpoints c.endpoints) (sym f.5) (put_safe E process ch.endpoints f.2 (record { mode = mode; labels = f.0 }) (open_passed mode given f.0 f.2 f.1 f.3 h) all)
-  mail_safe pid (Tune e given) x after h f all = subst (λ (c : Mailbox). AllSafe E process ch.endpoints c.endpoints) (sym f.5) (put_safe E process ch.endpoints e (record f.2 { labels = f.0 }) (tune_passed e given f.0 f.2 f.1 f.3 h) all)
-  mail_safe pid (Close e) x after h f all = subst (λ (c : Mailbox). AllSafe E process ch.endpoints c.endpoints) (sym f.1) (closed_safe E process ch.endpoints e all)
-  mail_safe pid (Send from receiver to message) x after h f all = subst (λ (c : Mailbox). AllSafe E process ch.endpoints c.endpoints) (sym f.5) all
-  mail_safe pid Take x after h f all = subst (λ (c : Mailbox). AllSafe E process ch.endpoints c.endpoints) (sym f.1) all
+module _ (E F : Cap → Type 0) (more : Within E F) (process : Labels) (ch : Mailbox) where
+  -- what the checks let pass by E is safe by F, which has more
+  wider : {P : Name → Type 0} → Within P (Dual E) → Within P (Dual F)
+  wider h tag c = let dual = h tag c in (more (Plus tag) dual.0, more (Minus tag) dual.1)
+
+  mail_safe : (pid : Pid) (work : mailbox.Mail) (x : Outcome) (after : Mailbox) → mail_checks E process ch work None → MailDoes pid ch work x after → AllSafe F process ch.endpoints ch.endpoints → AllSafe F process ch.endpoints after.endpoints
+  mail_safe pid (Open mode given) x after h f all = subst (λ (c : Mailbox). AllSafe F process ch.endpoints c.endpoints) (sym f.5) (put_safe F process ch.endpoints f.2 (record { mode = mode; labels = f.0 }) (wider (open_passed E process ch mode given f.0 f.2 f.1 f.3 h)) all)
+  mail_safe pid (Tune e given) x after h f all = subst (λ (c : Mailbox). AllSafe F process ch.endpoints c.endpoints) (sym f.5) (put_safe F process ch.endpoints e (record f.2 { labels = f.0 }) (wider (tune_passed E process ch e given f.0 f.2 f.1 f.3 h)) all)
+  mail_safe pid (Close e) x after h f all = subst (λ (c : Mailbox). AllSafe F process ch.endpoints c.endpoints) (sym f.1) (closed_safe F process ch.endpoints e all)
+  mail_safe pid (Send from receiver to message) x after h f all = subst (λ (c : Mailbox). AllSafe F process ch.endpoints c.endpoints) (sym f.5) all
+  mail_safe pid Take x after h f all = subst (λ (c : Mailbox). AllSafe F process ch.endpoints c.endpoints) (sym f.1) all
 
 -- ---- one process
 
@@ -143,35 +151,6 @@ module _ (V : Op → Type 0) where
     gone_guarded : (pid : Pid) {after : BenchState} → after ≡ gone b pid → IsGuarded V after
     gone_guarded pid is = subst (IsGuarded V) (sym is) (record { each = λ k p e. h.each k p (left_there pid_total pid_exact b.processes pid k p e) })
 
-    -- ---- jobs
-
-    act_guarded : (pid : Pid) (p : Process) (act : Act) (x : Outcome) {after : BenchState} → map.get b.processes pid ≡ Some p → act_checks V p act None → Performs V b pid p act x after → IsGuarded V after
-    act_guarded pid p (Order order) x e s f = put pid (ordering p) (h.each pid p e) f.1
-    act_guarded pid p (Relabel side (Ok label)) x e s f = put pid _ s.1.1 f.1
-    act_guarded pid p (Relabel side (Err long)) x e s f = absurd f
-    act_guarded pid p (Ask c) x e s f = same_guarded f.1
-    act_guarded pid p (Spawn caps) x e s f = bears f.0 (child_of p caps) (closed_guarded V p.labels caps) f.3
-    act_guarded pid p Exit x e s f = gone_guarded pid f.1
-    act_guarded pid p (Drop c) x e s f = put pid (owning p (set.remove (owns p) c)) s.1.1 f.1
-    act_guarded pid p (Enter login secret) x e s f =
-        let caps = set.insert (owns p) f.0 in
-        put pid (owning p caps) (grown_guarded (λ op u. u) p (Idle caps) (inserted_still (owns p) f.0) (h.each pid p e)) f.3
-    act_guarded pid p (Emit bytes) x e s f = same_guarded f.1
-    act_guarded pid p (Mail work) x e s f = put pid (record p { mailbox = f.0 }) (mail_safe (effective V p) p.labels p.mailbox pid work x f.0 s.1 f.1 (h.each pid p e)) f.2
-
-    effect_guarded : (job : Job) (x : Outcome) {after : BenchState} → checks V b job None → Effect V b job x after → IsGuarded V after
-    effect_guarded Proc x s f = bears f.0 newborn (closed_guarded V newborn.labels set.empty) f.3
-    effect_guarded (By pid act) x s f = act_guarded pid f.0 act x f.1 (passed_by V b pid act f.0 f.1 s) f.2
-    effect_guarded (Member root c) x s f = same_guarded f.1
-    effect_guarded (Arrive d) x s f =
-        let caps = set.union (owns f.0) d.message.caps in
-        put d.receiver (receiving f.0 d) (grown_guarded (λ op u. u) f.0 (Idle caps) (joined_still (owns f.0) d.message.caps) (h.each d.receiver f.0 f.1)) f.3
-
-    pub does_guarded : {job : Job} {r : Result Outcome Refusal} {after : BenchState} → Does V b job r after → IsGuarded V after
-    does_guarded {job} (passed {outcome} s f) = effect_guarded job outcome s f
-    does_guarded (failed s) = h
-    does_guarded (no_room t) = h
-
     -- ---- the end of an operation
 
     settled_still : (owned : Holding) (caps : List Cap) → Within (In (held owned)) (In (held (settled owned caps)))
@@ -184,6 +163,45 @@ module _ (V : Op → Type 0) where
         by_found : (o : Option Process) → map.get b.processes pid ≡ o → IsGuarded V (record b { processes = receives b.processes pid caps o })
         by_found None e = h
         by_found (Some p) e = put pid (record p { owned = settled p.owned caps }) (grown_guarded (λ op u. u) p (settled p.owned caps) (settled_still p.owned caps) (h.each pid p e)) refl
+
+-- ---- jobs
+
+-- a bench that is guarded under W does jobs under a view V that W has all of
+module _ (V W : Op → Type 0) (more : Within V W) where
+  seen : (owned : SetBy cap_cmp) → Within (InEffect V (In owned)) (InEffect W (In owned))
+  seen owned c h = eff_more more (λ c m. m) c h
+
+  -- what the checks let pass
+  all_seen : (owned : SetBy cap_cmp) {P : Offender → Type 0} → Within P (DualAt (InEffect V (In owned))) → Within P (DualAt (InEffect W (In owned)))
+  all_seen owned h x c = let dual = h x c in (seen owned (Plus x.tag) dual.0, seen owned (Minus x.tag) dual.1)
+
+  module _ (b : BenchState) (h : IsGuarded W b) where
+    act_guarded : (pid : Pid) (p : Process) (act : Act) (x : Outcome) {after : BenchState} → map.get b.processes pid ≡ Some p → act_checks V p act None → Performs V b pid p act x after → IsGuarded W after
+    act_guarded pid p (Order order) x e s f = put W b h pid (ordering p) (h.each pid p e) f.1
+    act_guarded pid p (Relabel side (Ok label)) x e s f = put W b h pid _ (all_seen (owns p) s.1.1) f.1
+    act_guarded pid p (Relabel side (Err long)) x e s f = absurd f
+    act_guarded pid p (Ask c) x e s f = same_guarded W b h f.1
+    act_guarded pid p (Spawn caps) x e s f = bears W b h f.0 (child_of p caps) (closed_guarded W p.labels caps) f.3
+    act_guarded pid p Exit x e s f = gone_guarded W b h pid f.1
+    act_guarded pid p (Drop c) x e s f = put W b h pid (owning p (set.remove (owns p) c)) (all_seen (set.remove (owns p) c) s.1.1) f.1
+    act_guarded pid p (Enter login secret) x e s f =
+        let caps = set.insert (owns p) f.0 in
+        put W b h pid (owning p caps) (grown_guarded (λ op u. u) p (Idle caps) (inserted_still (owns p) f.0) (h.each pid p e)) f.3
+    act_guarded pid p (Emit bytes) x e s f = same_guarded W b h f.1
+    act_guarded pid p (Mail work) x e s f = put W b h pid (record p { mailbox = f.0 }) (mail_safe (effective V p) (effective W p) (seen (owns p)) p.labels p.mailbox pid work x f.0 s.1 f.1 (h.each pid p e)) f.2
+
+    effect_guarded : (job : Job) (x : Outcome) {after : BenchState} → checks V b job None → Effect V b job x after → IsGuarded W after
+    effect_guarded Proc x s f = bears W b h f.0 newborn (closed_guarded W newborn.labels set.empty) f.3
+    effect_guarded (By pid act) x s f = act_guarded pid f.0 act x f.1 (passed_by V b pid act f.0 f.1 s) f.2
+    effect_guarded (Member root c) x s f = same_guarded W b h f.1
+    effect_guarded (Arrive d) x s f =
+        let caps = set.union (owns f.0) d.message.caps in
+        put W b h d.receiver (receiving f.0 d) (grown_guarded (λ op u. u) f.0 (Idle caps) (joined_still (owns f.0) d.message.caps) (h.each d.receiver f.0 f.1)) f.3
+
+    pub does_guarded : {job : Job} {r : Result Outcome Refusal} {after : BenchState} → Does V b job r after → IsGuarded W after
+    does_guarded {job} (passed {outcome} s f) = effect_guarded job outcome s f
+    does_guarded (failed s) = h
+    does_guarded (no_room t) = h
 
 -- the registry grows
 pub registry_guarded : {V W : Op → Type 0} {b : BenchState} → Within V W → IsGuarded V b → IsGuarded W b

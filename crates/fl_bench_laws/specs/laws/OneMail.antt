@@ -33,8 +33,8 @@ use Rattle.fl_jobs.specs.declared.answer.Outcome.{Outcome}
 use Rattle.fl_bench.specs.Checks.{refuse_if}
 use Rattle.fl_bench.specs.Guards.{pair_check, entry_refusal}
 use Rattle.fl_bench.specs.Mailbox.{mail_checks, arrival_checks, MailDoes, IsSent}
-use Rattle.fl_bench.proofs.Puts.{same_found}
-use Rattle.fl_bench_laws.proofs.OneCheck.{OneVerdict, one_said, one_then, one_least, one_demand, one_with, one_with_found}
+use Rattle.fl_bench.specs.laws.Puts.{same_found}
+use Rattle.fl_bench_laws.specs.laws.OneCheck.{OneVerdict, one_said, one_then, one_least, one_demand, one_with, one_with_found}
 
 -- ---- checks
 

@@ -1,0 +1,10 @@
+pub mod Changes
+pub mod Going
+pub mod Orderly
+pub mod Following
+pub mod OneCheck
+pub mod Memory
+pub mod OneMail
+pub mod OneResult
+pub mod Guarded
+pub mod Arrivals
