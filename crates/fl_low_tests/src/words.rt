@@ -1,180 +1,172 @@
 //! Words of numbers, names, capabilities, processes and endpoints, both ways, and their orders.
-use fl_labels::cap::Cap;
-use fl_labels::endpoint::{Endpoint, LAST_ENDPOINT};
-use fl_labels::name::Name;
-use fl_labels::pid::Pid;
+use crate::rows::{check, compare, parts};
 use fl_labels::text::{read_cap, read_endpoint, read_name, read_node, read_number, read_pid};
-use std::test::Fail;
+use std::alloc::AllocError;
 
-const FIRST: Name = Name { node: 1, seq: 4 };
-
-const LAST: Name = Name {
-    node: 65535,
-    seq: 4294967295,
-};
-
-#[test]
-fn numbers(rt: HostRuntime) {
-    assert_eq!(rt; read_number("1"), Some(1));
-    assert_eq!(rt; read_number("4294967295"), Some(4294967295));
-    assert_eq!(rt; read_node("65535"), Some(65535));
-    assert_eq!(rt; read_node("65536"), None);
-}
-
-#[test]
-fn no_numbers(rt: HostRuntime) {
-    for text in [
-        "",
-        "0",
-        "01",
-        "+1",
-        "-1",
-        " 1",
-        "1 ",
-        "1x",
-        "4294967296",
-        "99999999999999999999",
-    ] {
-        assert!(rt; read_number(text).is_none(), "{text}");
-        assert!(rt; read_node(text).is_none(), "{text}");
+pub fn number(out: &mut String, word: &str) -> Result<(), AllocError> {
+    match read_number(word) {
+        Some(number) => write!(out, "{number}"),
+        None => out.push_str("none"),
     }
 }
 
+pub fn node(out: &mut String, word: &str) -> Result<(), AllocError> {
+    match read_node(word) {
+        Some(node) => write!(out, "{node}"),
+        None => out.push_str("none"),
+    }
+}
+
+/// Its word again, and its parts.
+pub fn name(out: &mut String, word: &str) -> Result<(), AllocError> {
+    match read_name(word) {
+        Some(name) => write!(out, "{name} {} {}", name.node, name.seq),
+        None => out.push_str("none"),
+    }
+}
+
+/// Its word again, its rank, its sign and its name.
+pub fn cap(out: &mut String, word: &str) -> Result<(), AllocError> {
+    let Some(cap) = read_cap(word) else {
+        return out.push_str("none");
+    };
+    write!(out, "{cap} {} ", cap.rank())?;
+    out.push_str(cap.sign())?;
+    write!(out, " {}", cap.name())
+}
+
+/// Its word again, and its parts.
+pub fn process(out: &mut String, word: &str) -> Result<(), AllocError> {
+    match read_pid(word) {
+        Some(pid) => write!(out, "{pid} {} {} {}", pid.node, pid.boot, pid.serial),
+        None => out.push_str("none"),
+    }
+}
+
+/// Its word again, and its number.
+pub fn endpoint(out: &mut String, word: &str) -> Result<(), AllocError> {
+    match read_endpoint(word) {
+        Some(endpoint) => write!(out, "{endpoint} {}", endpoint.number),
+        None => out.push_str("none"),
+    }
+}
+
+/// How two words of a kind stand to each other.
+pub fn order(out: &mut String, rest: &str) -> Result<(), AllocError> {
+    let (kind, words) = parts(rest);
+    let (first, second) = parts(words);
+    match kind {
+        "names" => compare(out, read_name(first), read_name(second)),
+        "caps" => compare(out, read_cap(first), read_cap(second)),
+        "processes" => compare(out, read_pid(first), read_pid(second)),
+        _ => compare(out, read_endpoint(first), read_endpoint(second)),
+    }
+}
+
+const NUMBERS: &str = "\
+number 1 => 1
+number 4294967295 => 4294967295
+node 65535 => 65535
+node 65536 => none
+number  => none
+number 0 => none
+number 01 => none
+number +1 => none
+number -1 => none
+number  1 => none
+number 1  => none
+number 1x => none
+number 4294967296 => none
+number 99999999999999999999 => none
+node  => none
+node 0 => none
+node 01 => none
+node +1 => none
+node -1 => none
+node  1 => none
+node 1  => none
+node 1x => none
+node 4294967296 => none
+node 99999999999999999999 => none";
+
+const NAMES: &str = "\
+name 1.4 => 1.4 1 4
+name 65535.4294967295 => 65535.4294967295 65535 4294967295
+name  => none
+name . => none
+name 1 => none
+name 1. => none
+name .1 => none
+name 0.1 => none
+name 1.0 => none
+name 1.01 => none
+name 01.1 => none
+name 1.1.1 => none
+name 65536.1 => none
+name 1.4294967296 => none
+name +1.1 => none
+name 1.1  => none
+order names 1.9 2.1 => less
+order names 1.9 1.10 => less
+order names 1.9 1.9 => equal";
+
+const CAPS: &str = "\
+cap +1.4 => +1.4 1 + 1.4
+cap -1.4 => -1.4 2 - 1.4
+cap *1.4 => *1.4 3 * 1.4
+cap ^1.4 => ^1.4 4 ^ 1.4
+cap  => none
+cap + => none
+cap 1.4 => none
+cap /1.4 => none
+cap ++1.4 => none
+cap + 1.4 => none
+cap +1 => none
+cap +0.4 => none
+order caps ^1.9 +2.1 => less
+order caps +1.9 -1.9 => less
+order caps -1.9 *1.9 => less
+order caps *1.9 ^1.9 => less
+order caps ^1.9 ^1.9 => equal";
+
+const PROCESSES: &str = "\
+process p65535.2.4294967295 => p65535.2.4294967295 65535 2 4294967295
+process  => none
+process p => none
+process 1.1.1 => none
+process P7.1.1 => none
+process p1 => none
+process p1.1 => none
+process p1.1. => none
+process p1.1.1.1 => none
+process p0.1.1 => none
+process p1.0.1 => none
+process p1.1.0 => none
+process p01.1.1 => none
+process p65536.1.1 => none
+process pp1.1.1 => none
+order processes p1.1.9 p1.2.1 => less";
+
+const ENDPOINTS: &str = "\
+endpoint e1 => e1 1
+endpoint e64 => e64 64
+endpoint  => none
+endpoint e => none
+endpoint 1 => none
+endpoint e0 => none
+endpoint e01 => none
+endpoint e65 => none
+endpoint e257 => none
+endpoint E1 => none
+endpoint e1  => none
+endpoint e-1 => none
+endpoint p1 => none
+order endpoints e1 e64 => less";
+
 #[test]
-fn names(rt: HostRuntime) -> Result<(), Fail> {
-    for (text, name) in [("1.4", FIRST), ("65535.4294967295", LAST)] {
-        assert_eq!(rt; format!(in rt.alloc(); "{name}")?.as_str(), text);
-        assert_eq!(rt; read_name(text), Some(name));
+fn words(rt: HostRuntime) -> Result<(), AllocError> {
+    for rows in [NUMBERS, NAMES, CAPS, PROCESSES, ENDPOINTS] {
+        check(&rt, rows)?;
     }
     Ok(())
-}
-
-#[test]
-fn no_names(rt: HostRuntime) {
-    for text in [
-        "",
-        ".",
-        "1",
-        "1.",
-        ".1",
-        "0.1",
-        "1.0",
-        "1.01",
-        "01.1",
-        "1.1.1",
-        "65536.1",
-        "1.4294967296",
-        "+1.1",
-        "1.1 ",
-    ] {
-        assert!(rt; read_name(text).is_none(), "{text}");
-    }
-}
-
-#[test]
-fn capabilities(rt: HostRuntime) -> Result<(), Fail> {
-    for (text, cap) in [
-        ("+1.4", Cap::Plus(FIRST)),
-        ("-1.4", Cap::Minus(FIRST)),
-        ("*1.4", Cap::Use(FIRST)),
-        ("^1.4", Cap::Grow(FIRST)),
-    ] {
-        assert_eq!(rt; format!(in rt.alloc(); "{cap}")?.as_str(), text);
-        assert_eq!(rt; read_cap(text), Some(cap));
-        assert_eq!(rt; cap.name(), FIRST);
-        assert!(rt; text.starts_with(cap.sign()));
-    }
-    Ok(())
-}
-
-#[test]
-fn no_capabilities(rt: HostRuntime) {
-    for text in ["", "+", "1.4", "/1.4", "++1.4", "+ 1.4", "+1", "+0.4"] {
-        assert!(rt; read_cap(text).is_none(), "{text}");
-    }
-}
-
-#[test]
-fn processes(rt: HostRuntime) -> Result<(), Fail> {
-    let pid = Pid {
-        node: 65535,
-        boot: 2,
-        serial: 4294967295,
-    };
-    assert_eq!(rt; read_pid("p65535.2.4294967295"), Some(pid));
-    let text = format!(in rt.alloc(); "{pid}")?;
-    assert_eq!(rt; text.as_str(), "p65535.2.4294967295");
-    Ok(())
-}
-
-#[test]
-fn no_processes(rt: HostRuntime) {
-    for text in [
-        "",
-        "p",
-        "1.1.1",
-        "P7.1.1",
-        "p1",
-        "p1.1",
-        "p1.1.",
-        "p1.1.1.1",
-        "p0.1.1",
-        "p1.0.1",
-        "p1.1.0",
-        "p01.1.1",
-        "p65536.1.1",
-        "pp1.1.1",
-    ] {
-        assert!(rt; read_pid(text).is_none(), "{text}");
-    }
-}
-
-#[test]
-fn endpoints(rt: HostRuntime) -> Result<(), Fail> {
-    let first = Endpoint { number: 1 };
-    let last = Endpoint {
-        number: LAST_ENDPOINT,
-    };
-    assert!(rt; first < last);
-    for (text, endpoint) in [("e1", first), ("e64", last)] {
-        assert_eq!(rt; format!(in rt.alloc(); "{endpoint}")?.as_str(), text);
-        assert_eq!(rt; read_endpoint(text), Some(endpoint));
-    }
-    Ok(())
-}
-
-#[test]
-fn no_endpoints(rt: HostRuntime) {
-    for text in [
-        "", "e", "1", "e0", "e01", "e65", "e257", "E1", "e1 ", "e-1", "p1",
-    ] {
-        assert!(rt; read_endpoint(text).is_none(), "{text}");
-    }
-}
-
-#[test]
-fn capabilities_are_ordered(rt: HostRuntime) {
-    let one = Name { node: 1, seq: 9 };
-    let two = Name { node: 2, seq: 1 };
-    assert!(rt; one < two);
-    assert!(rt; Cap::Grow(one) < Cap::Plus(two));
-    assert!(rt; Cap::Plus(one) < Cap::Minus(one));
-    assert!(rt; Cap::Minus(one) < Cap::Use(one));
-    assert!(rt; Cap::Use(one) < Cap::Grow(one));
-    assert_eq!(rt; Cap::Grow(one).rank(), 4);
-}
-
-#[test]
-fn processes_are_ordered(rt: HostRuntime) {
-    let early = Pid {
-        node: 1,
-        boot: 1,
-        serial: 9,
-    };
-    let later = Pid {
-        node: 1,
-        boot: 2,
-        serial: 1,
-    };
-    assert!(rt; early < later);
 }

@@ -1,13 +1,13 @@
 //! Lines in which aliases are replaced, and lines that name what they make.
-use crate::said::{others, said_with};
+use crate::said::{check, say};
 use fl_aliases::alias::Alias;
 use fl_aliases::table::Aliases;
 use fl_aliases::target::Target;
 use fl_labels::endpoint::Endpoint;
 use fl_labels::name::Name;
 use fl_labels::pid::Pid;
-use std::alloc::{AllocError, Global};
-use std::test::Fail;
+use std::alloc::{AllocError, AllocGlobal, Global};
+use std::process::Abort;
 
 const FIRST: Target = Target::Process(Pid {
     node: 1,
@@ -34,46 +34,22 @@ fn set(aliases: &mut Aliases, word: &str, target: Target) -> Result<(), AllocErr
     Ok(())
 }
 
-fn sample(alloc: Global) -> Result<Aliases, AllocError> {
+// Four aliases, of which the first stands for this.
+fn sample(alloc: Global, first: Target) -> Result<Aliases, AllocError> {
     let mut aliases = Aliases::new(alloc);
-    set(&mut aliases, "$a", FIRST)?;
-    set(&mut aliases, "$t", TAG)?;
-    set(&mut aliases, "$g", GROUP)?;
-    set(&mut aliases, "$e", ENDPOINT)?;
+    set_four(&mut aliases, first)?;
     Ok(aliases)
 }
 
-/// What the line says, where the sample is set and it is of a job.
-fn job_said(alloc: Global, line: &str) -> Result<Option<String>, AllocError> {
-    let text = said_with(alloc, &sample(alloc)?, line.as_bytes())?;
-    Ok(if text.starts_with("Job") {
-        Some(text)
-    } else {
-        None
-    })
+fn set_four(aliases: &mut Aliases, first: Target) -> Result<(), AllocError> {
+    set(aliases, "$a", FIRST)?;
+    set(aliases, "$t", TAG)?;
+    set(aliases, "$g", GROUP)?;
+    set(aliases, "$e", ENDPOINT)?;
+    set(aliases, "$a", first)
 }
 
-/// Whether both lines say the same job.
-fn agree(alloc: Global, line: &str, plain: &str) -> Result<bool, AllocError> {
-    match (job_said(alloc, line)?, job_said(alloc, plain)?) {
-        (Some(text), Some(meant)) => Ok(text.as_str() == meant.as_str()),
-        _ => Ok(false),
-    }
-}
-
-/// Of rows that are a line, ` => `, and one with no alias in it that says the same: those that do not hold.
-fn wrong_pairs(alloc: Global, rows: &str) -> Result<String, AllocError> {
-    let mut wrong = String::new(alloc);
-    for row in rows.split('\n') {
-        let (line, plain) = row.split_once(" => ").unwrap_or((row, ""));
-        if !agree(alloc, line, plain)? {
-            wrong.push_str(row)?;
-            wrong.push('\n')?;
-        }
-    }
-    Ok(wrong)
-}
-
+// A line, and one with no alias in it that says the same.
 const REPLACED: &str = "\
 1 proc => 1 proc
 1 group $a => 1 group p1.2.3
@@ -90,54 +66,49 @@ const REPLACED: &str = "\
 1 send $a e1 $a $e {+$t,*$g} 0$e => 1 send p1.2.3 e1 p1.2.3 e64 {+1.4,*25.36} 0e64
 1 take $a => 1 take p1.2.3";
 
-#[test]
-fn aliases_are_replaced(rt: HostRuntime) -> Result<(), Fail> {
-    assert_eq!(rt; wrong_pairs(rt.alloc(), REPLACED)?.as_str(), "");
-    Ok(())
-}
-
-/// Whether the line says the same as one with no alias in it, and names what it makes by this word.
-fn names(alloc: Global, line: &str, plain: &str, word: &str) -> Result<bool, AllocError> {
-    match (job_said(alloc, line)?, job_said(alloc, plain)?) {
-        (Some(text), Some(meant)) => {
-            let named = format!(in alloc; "{meant} as {word}")?;
-            Ok(text.as_str() == named.as_str())
-        }
-        _ => Ok(false),
+// Each line of these pairs says the same job as the other.
+fn check_pairs(
+    rt: &(impl Abort + AllocGlobal),
+    aliases: &Aliases,
+    rows: &str,
+) -> Result<(), AllocError> {
+    let mut said = String::new(rt.alloc());
+    let mut meant = String::new(rt.alloc());
+    for row in rows.split('\n') {
+        say_pair(rt.alloc(), &mut said, &mut meant, aliases, row)?;
+        assert!(rt; said.starts_with("Means { line: Job {"), "{row}");
+        assert_eq!(rt; said.as_str(), meant.as_str(), "{row}");
     }
+    Ok(())
+}
+
+fn say_pair(
+    alloc: Global,
+    said: &mut String,
+    meant: &mut String,
+    aliases: &Aliases,
+    row: &str,
+) -> Result<(), AllocError> {
+    let (line, plain) = row.split_once(" => ").unwrap_or((row, ""));
+    say(alloc, said, aliases, line)?;
+    say(alloc, meant, aliases, plain)
 }
 
 #[test]
-fn lines_that_make_are_named(rt: HostRuntime) -> Result<(), Fail> {
-    let alloc = rt.alloc();
-    assert!(rt; names(alloc, "1 proc as $x", "1 proc", "$x")?);
-    assert!(rt; names(alloc, "1 tag $a export as $t", "1 tag p1.2.3 export", "$t")?);
-    assert!(rt;
-        names(
-            alloc,
-            "1 group p1.2.3  as   $new_1 ",
-            "1 group p1.2.3",
-            "$new_1"
-        )?
-    );
-    assert!(rt;
-        names(
-            alloc,
-            "1 put $a $g *$t as $a",
-            "1 put p1.2.3 25.36 *1.4",
-            "$a"
-        )?
-    );
-    assert!(rt;
-        names(
-            alloc,
-            "1 open $a w {} {$t} as $e",
-            "1 open p1.2.3 w {} {1.4}",
-            "$e"
-        )?
-    );
-    Ok(())
+fn aliases_are_replaced(rt: HostRuntime) -> Result<(), AllocError> {
+    let aliases = sample(rt.alloc(), FIRST)?;
+    check_pairs(&rt, &aliases, REPLACED)
 }
+
+const NAMED: &str = "\
+1 proc as $x => Job { node: 1, job: Proc }, alias: Some($x) }
+1 tag $a export as $t => Job { node: 1, job: By(Pid { node: 1, boot: 2, serial: 3 }, Order(Tag(Export))) }, alias: Some($t) }
+1 group p1.2.3  as   $new_1  => Job { node: 1, job: By(Pid { node: 1, boot: 2, serial: 3 }, Order(Group)) }, alias: Some($new_1) }
+1 put $a $g *$t as $a => Job { node: 1, job: By(Pid { node: 1, boot: 2, serial: 3 }, Order(Put(Name { node: 25, seq: 36 }, Use(Name { node: 1, seq: 4 })))) }, alias: Some($a) }
+1 open $a w {} {$t} as $e => Job { node: 1, job: By(Pid { node: 1, boot: 2, serial: 3 }, Mail(Open(Write, GivenLabels { secrecy: Ok(Label { tags: [] }), integrity: Ok(Label { tags: [Name { node: 1, seq: 4 }] }) }))) }, alias: Some($e) }
+# $x => Quiet
+  #$ => Quiet
+#1 proc as $x => Quiet";
 
 const NO_LINES: &str = "\
 1 ask $a *$g as $x
@@ -178,69 +149,49 @@ $x
 a b c d e f g as $x";
 
 #[test]
-fn other_lines_are_bad(rt: HostRuntime) -> Result<(), Fail> {
-    assert_eq!(rt;
-        others(rt.alloc(), &sample(rt.alloc())?, "bad", NO_LINES)?.as_str(),
-        ""
-    );
-    Ok(())
+fn lines_that_make_are_named(rt: HostRuntime) -> Result<(), AllocError> {
+    let aliases = sample(rt.alloc(), FIRST)?;
+    check(&rt, &aliases, NAMED)
 }
 
 #[test]
-fn comments_with_aliases_are_quiet(rt: HostRuntime) -> Result<(), Fail> {
-    let lines = "# $x\n  #$\n#1 proc as $x";
-    assert_eq!(rt;
-        others(rt.alloc(), &sample(rt.alloc())?, "quiet", lines)?.as_str(),
-        ""
-    );
-    Ok(())
+fn other_lines_are_bad(rt: HostRuntime) -> Result<(), AllocError> {
+    let aliases = sample(rt.alloc(), FIRST)?;
+    check(&rt, &aliases, NO_LINES)
 }
+
+const LAST: &str = "\
+1 group $a
+1 member *$a +$a => Job { node: 1, job: Member(Use(Name { node: 1, seq: 4 }), Plus(Name { node: 1, seq: 4 })) }";
 
 #[test]
-fn the_last_setting_holds(rt: HostRuntime) -> Result<(), Fail> {
-    let mut aliases = sample(rt.alloc())?;
-    set(&mut aliases, "$a", TAG)?;
-    assert_eq!(rt;
-        others(rt.alloc(), &aliases, "bad", "1 group $a")?.as_str(),
-        ""
-    );
-    let meaning =
-        "Job { node: 1, job: Member(Use(Name { node: 1, seq: 4 }), Plus(Name { node: 1, seq: 4 })) }";
-    assert_eq!(rt;
-        others(rt.alloc(), &aliases, meaning, "1 member *$a +$a")?.as_str(),
-        ""
-    );
-    Ok(())
+fn the_last_setting_holds(rt: HostRuntime) -> Result<(), AllocError> {
+    let aliases = sample(rt.alloc(), TAG)?;
+    check(&rt, &aliases, LAST)
 }
 
-/// Sets 1,024 aliases, and counts before how many of them a line could name what it makes.
-fn fill(alloc: Global, aliases: &mut Aliases) -> Result<u32, AllocError> {
-    let mut named = 0u32;
+// Sets 1,024 aliases, and before each sees that a line could name what it makes.
+fn fill(rt: &(impl Abort + AllocGlobal), aliases: &mut Aliases) -> Result<(), AllocError> {
     for serial in 1..=1024u32 {
-        if said_with(alloc, aliases, b"1 proc as $x")?.as_str()
-            == "Job { node: 1, job: Proc } as $x"
-        {
-            named = named.saturating_add(1);
-        }
-        let word = format!(in alloc; "$x_{serial}")?;
+        check(
+            rt,
+            aliases,
+            "1 proc as $x => Job { node: 1, job: Proc }, alias: Some($x) }",
+        )?;
+        let word = format!(in rt.alloc(); "$x_{serial}")?;
         set(aliases, &word, TAG)?;
     }
-    Ok(named)
+    Ok(())
 }
 
+const FULL: &str = "\
+1 proc as $x
+1 proc as $x_1
+1 member *$x_1024 +$x_1 => Job { node: 1, job: Member(Use(Name { node: 1, seq: 4 }), Plus(Name { node: 1, seq: 4 })) }";
+
 #[test]
-fn a_full_table_takes_no_more(rt: HostRuntime) -> Result<(), Fail> {
+fn a_full_table_takes_no_more(rt: HostRuntime) -> Result<(), AllocError> {
     let mut aliases = Aliases::new(rt.alloc());
-    assert_eq!(rt; fill(rt.alloc(), &mut aliases)?, 1024);
-    assert_eq!(rt;
-        others(rt.alloc(), &aliases, "bad", "1 proc as $x\n1 proc as $x_1")?.as_str(),
-        ""
-    );
-    let meaning =
-        "Job { node: 1, job: Member(Use(Name { node: 1, seq: 4 }), Plus(Name { node: 1, seq: 4 })) }";
-    assert_eq!(rt;
-        others(rt.alloc(), &aliases, meaning, "1 member *$x_1024 +$x_1")?.as_str(),
-        ""
-    );
-    Ok(())
+    fill(&rt, &mut aliases)?;
+    check(&rt, &aliases, FULL)
 }

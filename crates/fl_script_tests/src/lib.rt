@@ -1,4 +1,4 @@
-//! Tests of what lines say.
+//! Tests of what lines say: rows of a line and its meaning.
 #![tactic(auto)]
 
 #[cfg(test)]

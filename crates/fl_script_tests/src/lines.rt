@@ -1,8 +1,8 @@
 //! Lines of each form, and lines of none.
-use crate::said::{list, not_bad, others, said, said_with, wrong_rows};
+use crate::said::{check_plain, say_bytes};
 use fl_aliases::table::Aliases;
-use fl_script::reading::MOST_LINE_BYTES;
-use std::test::Fail;
+use std::alloc::{AllocError, AllocGlobal};
+use std::process::Abort;
 
 const ORDERS: &str = "\
 1 proc => Job { node: 1, job: Proc }
@@ -31,30 +31,6 @@ const WRITINGS: &str = "\
 aliases => Aliases
 union 2 1 => Union { first: 2, second: 1 }
  union  65535 65535 => Union { first: 65535, second: 65535 }";
-
-#[test]
-fn orders(rt: HostRuntime) -> Result<(), Fail> {
-    assert_eq!(rt; wrong_rows(rt.alloc(), ORDERS)?.as_str(), "");
-    Ok(())
-}
-
-#[test]
-fn changes(rt: HostRuntime) -> Result<(), Fail> {
-    assert_eq!(rt; wrong_rows(rt.alloc(), CHANGES)?.as_str(), "");
-    Ok(())
-}
-
-#[test]
-fn births(rt: HostRuntime) -> Result<(), Fail> {
-    assert_eq!(rt; wrong_rows(rt.alloc(), BIRTHS)?.as_str(), "");
-    Ok(())
-}
-
-#[test]
-fn writings(rt: HostRuntime) -> Result<(), Fail> {
-    assert_eq!(rt; wrong_rows(rt.alloc(), WRITINGS)?.as_str(), "");
-    Ok(())
-}
 
 const NO_ORDERS: &str = "\
 1
@@ -128,58 +104,48 @@ union text
 Union 1 2
 a b c d e f g h i";
 
+// Lines that answer nothing, and lines of the greatest length, which comments may pass.
+const QUIET: &str = "\
+ => Quiet
+    => Quiet
+# => Quiet
+   # 1 proc => Quiet
+1 proc pad..20000 => Job { node: 1, job: Proc }
+1 proc pad..20001
+# proc pad..20001 => Quiet
+1 label p1.1.1 S {1.1..257} => Job { node: 1, job: By(Pid { node: 1, boot: 1, serial: 1 }, Relabel(Secrecy, Err(TooLong))) }";
+
 #[test]
-fn no_orders(rt: HostRuntime) -> Result<(), Fail> {
-    assert_eq!(rt; not_bad(rt.alloc(), NO_ORDERS)?.as_str(), "");
+fn lines(rt: HostRuntime) -> Result<(), AllocError> {
+    for rows in [ORDERS, CHANGES, BIRTHS, WRITINGS, QUIET] {
+        check_plain(&rt, rows)?;
+    }
     Ok(())
 }
 
 #[test]
-fn no_changes(rt: HostRuntime) -> Result<(), Fail> {
-    assert_eq!(rt; not_bad(rt.alloc(), NO_CHANGES)?.as_str(), "");
+fn bad_lines(rt: HostRuntime) -> Result<(), AllocError> {
+    for rows in [NO_ORDERS, NO_CHANGES, NO_WRITINGS] {
+        check_plain(&rt, rows)?;
+    }
     Ok(())
 }
 
 #[test]
-fn no_writings(rt: HostRuntime) -> Result<(), Fail> {
-    assert_eq!(rt; not_bad(rt.alloc(), NO_WRITINGS)?.as_str(), "");
-    Ok(())
+fn bytes_that_are_no_text(rt: HostRuntime) -> Result<(), AllocError> {
+    check_bytes(&rt, &Aliases::new(rt.alloc()))
 }
 
-#[test]
-fn quiet(rt: HostRuntime) -> Result<(), Fail> {
-    let alloc = rt.alloc();
-    let aliases = Aliases::new(alloc);
-    assert_eq!(rt;
-        others(rt.alloc(), &aliases, "quiet", "\n   \n#\n   # 1 proc")?.as_str(),
-        ""
-    );
-    assert_eq!(rt; said_with(alloc, &aliases, b"#\xff")?.as_str(), "quiet");
-    assert_eq!(rt; said_with(alloc, &aliases, b"1 proc \xff")?.as_str(), "bad");
-    Ok(())
-}
-
-#[test]
-fn longest(rt: HostRuntime) -> Result<(), Fail> {
-    let alloc = rt.alloc();
-    let aliases = Aliases::new(alloc);
-    let mut line = Vec::from_slice(alloc, b"1 proc")?;
-    line.resize(MOST_LINE_BYTES, b' ')?;
-    let meaning = "Job { node: 1, job: Proc }";
-    assert_eq!(rt; said_with(alloc, &aliases, &line)?.as_str(), meaning);
-    line.push(b' ')?;
-    assert_eq!(rt; said_with(alloc, &aliases, &line)?.as_str(), "bad");
-    line[0] = b'#';
-    assert_eq!(rt; said_with(alloc, &aliases, &line)?.as_str(), "quiet");
-    Ok(())
-}
-
-#[test]
-fn too_long_label(rt: HostRuntime) -> Result<(), Fail> {
-    let long = list(rt.alloc(), "", "", 257)?;
-    let line = format!(in rt.alloc(); "1 label p1.1.1 S {long}")?;
-    let meaning =
-        "Job { node: 1, job: By(Pid { node: 1, boot: 1, serial: 1 }, Relabel(Secrecy, Err(TooLong))) }";
-    assert_eq!(rt; said(rt.alloc(), &line)?.as_str(), meaning);
+fn check_bytes(rt: &(impl Abort + AllocGlobal), aliases: &Aliases) -> Result<(), AllocError> {
+    let mut out = String::new(rt.alloc());
+    say_bytes(rt.alloc(), &mut out, aliases, &[b'#', 255])?;
+    assert_eq!(rt; out.as_str(), "Quiet");
+    say_bytes(
+        rt.alloc(),
+        &mut out,
+        aliases,
+        &[b'1', b' ', b'p', b'r', b'o', b'c', b' ', 255],
+    )?;
+    assert_eq!(rt; out.as_str(), "Bad");
     Ok(())
 }

@@ -1,11 +1,8 @@
 //! Lines of endpoints, of messages and of deliveries.
-use crate::said::{list, not_bad, wrong_rows};
+use crate::said::{check_plain, say};
 use fl_aliases::table::Aliases;
-use fl_jobs::job::{Act, Job, Mail};
-use fl_script::line::Line;
-use fl_script::reading::{Reading, read_line};
-use std::alloc::{AllocError, Global};
-use std::test::Fail;
+use std::alloc::{AllocError, AllocGlobal};
+use std::process::Abort;
 
 const ENDPOINTS: &str = "\
 7 open p1.2.3 r {} {} => Job { node: 7, job: By(Pid { node: 1, boot: 2, serial: 3 }, Mail(Open(Read, GivenLabels { secrecy: Ok(Label { tags: [] }), integrity: Ok(Label { tags: [] }) }))) }
@@ -20,18 +17,6 @@ const MESSAGES: &str = "\
 7 take p1.2.3 => Job { node: 7, job: By(Pid { node: 1, boot: 2, serial: 3 }, Mail(Take)) }
 1 deliver 1 => Deliver { node: 1, packet: 1 }
  65535  deliver 4294967295  => Deliver { node: 65535, packet: 4294967295 }";
-
-#[test]
-fn endpoints(rt: HostRuntime) -> Result<(), Fail> {
-    assert_eq!(rt; wrong_rows(rt.alloc(), ENDPOINTS)?.as_str(), "");
-    Ok(())
-}
-
-#[test]
-fn messages(rt: HostRuntime) -> Result<(), Fail> {
-    assert_eq!(rt; wrong_rows(rt.alloc(), MESSAGES)?.as_str(), "");
-    Ok(())
-}
 
 const NO_ENDPOINTS: &str = "\
 1 open p1.1.1 rw {}
@@ -79,87 +64,56 @@ deliver 1
 1 arrive 1";
 
 #[test]
-fn no_endpoints(rt: HostRuntime) -> Result<(), Fail> {
-    assert_eq!(rt; not_bad(rt.alloc(), NO_ENDPOINTS)?.as_str(), "");
+fn mailboxes(rt: HostRuntime) -> Result<(), AllocError> {
+    for rows in [ENDPOINTS, MESSAGES, NO_ENDPOINTS, NO_MESSAGES] {
+        check_plain(&rt, rows)?;
+    }
     Ok(())
 }
+
+// Of a line how many names and bytes `a0` it has, and whether its labels of secrecy and of integrity are too long.
+const SIZES: &str = "\
+1 open p1.1.1 rw {1.1..257} {1.1..256} => 256 0 true false
+1 open p1.1.1 rw {1.1..256} {1.1..257} => 256 0 false true
+1 tune p1.1.1 e1 {1.1..257} {1.1..256} => 256 0 true false
+1 tune p1.1.1 e1 {1.1..256} {1.1..257} => 256 0 false true
+1 send p1.1.1 e1 p2.1.1 e1 {+1.1..64} none => 64 0 false false
+1 send p1.1.1 e1 p2.1.1 e1 {+1.64,+1.1..64} none => 64 0 false false
+1 send p1.1.1 e1 p2.1.1 e1 {+1.1..65} none => bad
+1 send p1.1.1 e1 p2.1.1 e1 {} a0..1024 => 0 1024 false false
+1 send p1.1.1 e1 p2.1.1 e1 {} a0..1025 => bad";
 
 #[test]
-fn no_messages(rt: HostRuntime) -> Result<(), Fail> {
-    assert_eq!(rt; not_bad(rt.alloc(), NO_MESSAGES)?.as_str(), "");
-    Ok(())
+fn sizes(rt: HostRuntime) -> Result<(), AllocError> {
+    check_sizes(&rt, &Aliases::new(rt.alloc()))
 }
 
-/// What a line without aliases has a process do with its endpoints and messages, if it does that.
-fn mail_of(alloc: Global, line: &str) -> Result<Option<Mail>, AllocError> {
-    match read_line(alloc, &Aliases::new(alloc), line.as_bytes())? {
-        Reading::Means {
-            line: Line::Job {
-                job: Job::By(_, Act::Mail(mail)),
-                ..
-            },
-            ..
-        } => Ok(Some(mail)),
-        _ => Ok(None),
-    }
-}
-
-/// Which of the two labels are too long.
-fn too_long(alloc: Global, line: &str) -> Result<Option<(bool, bool)>, AllocError> {
-    match mail_of(alloc, line)? {
-        Some(Mail::Open(_, given) | Mail::Tune(_, given)) => {
-            Ok(Some((given.secrecy.is_err(), given.integrity.is_err())))
-        }
-        _ => Ok(None),
-    }
-}
-
-#[test]
-fn too_long_labels(rt: HostRuntime) -> Result<(), Fail> {
-    let alloc = rt.alloc();
-    let long = list(rt.alloc(), "", "", 257)?;
-    let full = list(rt.alloc(), "", "", 256)?;
-    for front in ["1 open p1.1.1 rw", "1 tune p1.1.1 e1"] {
-        let secrecy = format!(in alloc; "{front} {long} {full}")?;
-        assert_eq!(rt; too_long(alloc, &secrecy)?, Some((true, false)));
-        let integrity = format!(in alloc; "{front} {full} {long}")?;
-        assert_eq!(rt; too_long(alloc, &integrity)?, Some((false, true)));
+fn check_sizes(rt: &(impl Abort + AllocGlobal), aliases: &Aliases) -> Result<(), AllocError> {
+    let mut out = String::new(rt.alloc());
+    for row in SIZES.split('\n') {
+        let (line, size) = row.split_once(" => ").unwrap_or((row, ""));
+        say(rt.alloc(), &mut out, aliases, line)?;
+        size_up(&mut out)?;
+        assert_eq!(rt; out.as_str(), size, "{line}");
     }
     Ok(())
 }
 
-/// How many capabilities and bytes the message of the line has, if it is one.
-fn sizes(alloc: Global, caps: &str, bytes: &str) -> Result<Option<(usize, usize)>, AllocError> {
-    let line = format!(in alloc; "1 send p1.1.1 e1 p2.1.1 e1 {caps} {bytes}")?;
-    match mail_of(alloc, &line)? {
-        Some(Mail::Send { message, .. }) => {
-            Ok(Some((message.caps.len(), message.payload.as_slice().len())))
-        }
-        _ => Ok(None),
+fn size_up(out: &mut String) -> Result<(), AllocError> {
+    if out.as_str() == "Bad" {
+        out.clear();
+        return out.push_str("bad");
     }
+    let names = count(out, "Name {");
+    let (_, bytes) = out.split_once("bytes: [").unwrap_or(("", ""));
+    let bytes = count(bytes, "160");
+    let secrecy = out.contains("secrecy: Err(TooLong)");
+    let integrity = out.contains("integrity: Err(TooLong)");
+    out.clear();
+    write!(out, "{names} {bytes} {secrecy} {integrity}")
 }
 
-#[test]
-fn capabilities_of_messages(rt: HostRuntime) -> Result<(), Fail> {
-    let alloc = rt.alloc();
-    let most = list(rt.alloc(), "", "+", 64)?;
-    assert_eq!(rt; sizes(alloc, &most, "none")?, Some((64, 0)));
-    let repeated = list(rt.alloc(), "+1.64,", "+", 64)?;
-    assert_eq!(rt; sizes(alloc, &repeated, "none")?, Some((64, 0)));
-    let more = list(rt.alloc(), "", "+", 65)?;
-    assert_eq!(rt; sizes(alloc, &more, "none")?, None);
-    Ok(())
-}
-
-#[test]
-fn bytes_of_messages(rt: HostRuntime) -> Result<(), Fail> {
-    let alloc = rt.alloc();
-    let mut digits = String::new(alloc);
-    for _ in 0..1024u32 {
-        digits.push_str("a0")?;
-    }
-    assert_eq!(rt; sizes(alloc, "{}", &digits)?, Some((0, 1024)));
-    digits.push_str("a0")?;
-    assert_eq!(rt; sizes(alloc, "{}", &digits)?, None);
-    Ok(())
+// How often the text has the part.
+fn count(text: &str, part: &str) -> usize {
+    text.split(part).skip(1).count()
 }

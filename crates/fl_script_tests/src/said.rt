@@ -1,72 +1,110 @@
-//! What lines say, as text, and tables of lines.
+//! What lines say, as text, and rows of lines.
 use fl_aliases::table::Aliases;
 use fl_script::reading::{Reading, read_line};
-use std::alloc::{AllocError, Global};
+use std::alloc::{AllocError, AllocGlobal, Global};
+use std::process::Abort;
 
-/// `quiet`, `bad`, or the line, with the alias that is to stand for what it makes, if one is.
-fn text_of(alloc: Global, reading: &Reading) -> Result<String, AllocError> {
-    match reading {
-        Reading::Quiet => format!(in alloc; "quiet"),
-        Reading::Bad => format!(in alloc; "bad"),
-        Reading::Means { line, alias: None } => format!(in alloc; "{line:?}"),
-        Reading::Means {
-            line,
-            alias: Some(alias),
-        } => format!(in alloc; "{line:?} as {alias}"),
-    }
-}
-
-/// What the bytes of a line say where these aliases are set.
-pub fn said_with(alloc: Global, aliases: &Aliases, line: &[u8]) -> Result<String, AllocError> {
-    text_of(alloc, &read_line(alloc, aliases, line)?)
-}
-
-/// What a line says where no aliases are set.
-pub fn said(alloc: Global, line: &str) -> Result<String, AllocError> {
-    said_with(alloc, &Aliases::new(alloc), line.as_bytes())
-}
-
-/// Of rows that are a line, ` => `, and what it says where no aliases are set: those that do not hold.
-pub fn wrong_rows(alloc: Global, rows: &str) -> Result<String, AllocError> {
-    let mut wrong = String::new(alloc);
-    for row in rows.split('\n') {
-        let (line, meaning) = row.split_once(" => ").unwrap_or((row, ""));
-        if said(alloc, line)?.as_str() != meaning {
-            wrong.push_str(row)?;
-            wrong.push('\n')?;
-        }
-    }
-    Ok(wrong)
-}
-
-/// Of these lines, those that say something else where these aliases are set, each before a line feed.
-pub fn others(
-    alloc: Global,
+/// Each row is a line, ` => `, and what it says where these aliases are set; a row with no ` => ` is a bad line.
+pub fn check(
+    rt: &(impl Abort + AllocGlobal),
     aliases: &Aliases,
-    meaning: &str,
-    lines: &str,
-) -> Result<String, AllocError> {
-    let mut others = String::new(alloc);
-    for line in lines.split('\n') {
-        if said_with(alloc, aliases, line.as_bytes())?.as_str() != meaning {
-            others.push_str(line)?;
-            others.push('\n')?;
-        }
+    rows: &str,
+) -> Result<(), AllocError> {
+    let mut out = String::new(rt.alloc());
+    for row in rows.split('\n') {
+        let (line, said) = row.split_once(" => ").unwrap_or((row, "Bad"));
+        say(rt.alloc(), &mut out, aliases, line)?;
+        assert_eq!(rt; meaning(&out), said, "{line}");
     }
-    Ok(others)
+    Ok(())
 }
 
-/// Of these lines, those that are of some form, where no aliases are set.
-pub fn not_bad(alloc: Global, lines: &str) -> Result<String, AllocError> {
-    others(alloc, &Aliases::new(alloc), "bad", lines)
+/// The same where no aliases are set.
+pub fn check_plain(rt: &(impl Abort + AllocGlobal), rows: &str) -> Result<(), AllocError> {
+    check(rt, &Aliases::new(rt.alloc()), rows)
 }
 
-/// A list in braces: what stands in front, and names 1 to `count` of node 1, with the sign before each.
-pub fn list(alloc: Global, front: &str, sign: &str, count: u32) -> Result<String, AllocError> {
-    let mut list = format!(in alloc; "{{{front}{sign}1.1")?;
+/// What stands in the text of a reading for the line, where it names nothing that it makes; else the text behind `line: `.
+fn meaning(text: &str) -> &str {
+    let text = text.strip_prefix("Means { line: ").unwrap_or(text);
+    text.strip_suffix(", alias: None }").unwrap_or(text)
+}
+
+/// What the line says, in the place of the text: `Quiet`, `Bad`, or the line, and what is to name what it makes.
+///
+/// In the line `a0..3` stands for `a0a0a0`, `{1.1..3}` for `{1.1,1.2,1.3}`, `{+1.1..3}` for the same with signs, and `pad..30` for as
+/// many spaces as make the line so long.
+pub fn say(
+    alloc: Global,
+    out: &mut String,
+    aliases: &Aliases,
+    line: &str,
+) -> Result<(), AllocError> {
+    let line = made(alloc, line)?;
+    say_bytes(alloc, out, aliases, line.as_bytes())
+}
+
+/// The same of bytes.
+pub fn say_bytes(
+    alloc: Global,
+    out: &mut String,
+    aliases: &Aliases,
+    line: &[u8],
+) -> Result<(), AllocError> {
+    let reading = read_line(alloc, aliases, line)?;
+    show(out, &reading)
+}
+
+fn show(out: &mut String, reading: &Reading) -> Result<(), AllocError> {
+    out.clear();
+    write!(out, "{reading:?}")
+}
+
+fn made(alloc: Global, line: &str) -> Result<String, AllocError> {
+    let mut made = String::new(alloc);
+    for word in line.split(' ') {
+        push_word(&mut made, word)?;
+        made.push(' ')?;
+    }
+    made.pop();
+    Ok(made)
+}
+
+fn push_word(made: &mut String, word: &str) -> Result<(), AllocError> {
+    let Some((front, back)) = word.split_once("..") else {
+        return made.push_str(word);
+    };
+    match back.strip_suffix('}') {
+        Some(count) => push_list(made, front, number(count)),
+        None if front == "pad" => pad(made, number(back)),
+        None => repeat(made, front, number(back)),
+    }
+}
+
+fn number(word: &str) -> usize {
+    word.parse().unwrap_or(0)
+}
+
+fn push_list(made: &mut String, front: &str, count: usize) -> Result<(), AllocError> {
+    made.push_str(front)?;
+    let sign = if front.ends_with("+1.1") { "+" } else { "" };
     for seq in 2..=count {
-        list.push_str(format!(in alloc; ",{sign}1.{seq}")?.as_str())?;
+        write!(made, ",{sign}1.{seq}")?;
     }
-    list.push('}')?;
-    Ok(list)
+    made.push('}')
+}
+
+// Spaces up to the length, with the one that goes behind the last word.
+fn pad(made: &mut String, length: usize) -> Result<(), AllocError> {
+    for _ in made.len()..length {
+        made.push(' ')?;
+    }
+    Ok(())
+}
+
+fn repeat(made: &mut String, digits: &str, count: usize) -> Result<(), AllocError> {
+    for _ in 0..count {
+        made.push_str(digits)?;
+    }
+    Ok(())
 }

@@ -1,64 +1,15 @@
 //! Lines with secrets.
-use crate::said::{not_bad, wrong_rows};
+use crate::said::check_plain;
 use fl_aliases::table::Aliases;
 use fl_jobs::job::{Act, Job, Order};
 use fl_jobs::secret::Secret;
 use fl_script::line::Line;
 use fl_script::reading::{Reading, read_line};
 use std::alloc::{AllocError, Global};
-use std::test::Fail;
-
-const MADE: &str =
-    "1 make-login p1.1.1 +1.4 000102030405060708090a0b0c0d0e0f101112131415161718191A1B1C1D1E1F";
-
-const ENTERED: &str =
-    "1 enter p1.1.1 1.4 000102030405060708090a0b0c0d0e0f101112131415161718191A1B1C1D1E1F";
-
-// The bytes that the digits spell.
-const NUMBERS: [u8; 32] = [
-    0, 1, 2, 3, 4, 5, 6, 7, 8, 9, 10, 11, 12, 13, 14, 15, 16, 17, 18, 19, 20, 21, 22, 23, 24, 25,
-    26, 27, 28, 29, 30, 31,
-];
 
 const LINES: &str = "\
 1 make-login p1.1.1 +1.4 000102030405060708090a0b0c0d0e0f101112131415161718191A1B1C1D1E1F => Job { node: 1, job: By(Pid { node: 1, boot: 1, serial: 1 }, Order(MakeLogin(Plus(Name { node: 1, seq: 4 }), Secret))) }
 1 enter p1.1.1 1.4 000102030405060708090a0b0c0d0e0f101112131415161718191A1B1C1D1E1F => Job { node: 1, job: By(Pid { node: 1, boot: 1, serial: 1 }, Enter(Name { node: 1, seq: 4 }, Secret)) }";
-
-fn secret_of_act(act: &Act) -> Option<Secret> {
-    match act {
-        Act::Order(Order::MakeLogin(_, secret)) => Some(*secret),
-        Act::Enter(_, secret) => Some(*secret),
-        _ => None,
-    }
-}
-
-/// The secret of a line, if it has one.
-fn secret_of(alloc: Global, line: &str) -> Result<Option<Secret>, AllocError> {
-    match read_line(alloc, &Aliases::new(alloc), line.as_bytes())? {
-        Reading::Means {
-            line: Line::Job {
-                job: Job::By(_, act),
-                ..
-            },
-            ..
-        } => Ok(secret_of_act(&act)),
-        _ => Ok(None),
-    }
-}
-
-#[test]
-fn lines_with_secrets(rt: HostRuntime) -> Result<(), Fail> {
-    assert_eq!(rt; wrong_rows(rt.alloc(), LINES)?.as_str(), "");
-    Ok(())
-}
-
-#[test]
-fn secrets(rt: HostRuntime) -> Result<(), Fail> {
-    let secret = Some(Secret { bytes: NUMBERS });
-    assert!(rt; secret_of(rt.alloc(), MADE)? == secret);
-    assert!(rt; secret_of(rt.alloc(), ENTERED)? == secret);
-    Ok(())
-}
 
 const NO_SECRETS: &str = "\
 1 enter p1.1.1 1.4 000102030405060708090a0b0c0d0e0f101112131415161718191a1b1c1d1e1f0
@@ -74,7 +25,56 @@ const NO_SECRETS: &str = "\
 1 make_login p1.1.1 +1.4 000102030405060708090a0b0c0d0e0f101112131415161718191a1b1c1d1e1f";
 
 #[test]
-fn no_secrets(rt: HostRuntime) -> Result<(), Fail> {
-    assert_eq!(rt; not_bad(rt.alloc(), NO_SECRETS)?.as_str(), "");
+fn lines_with_secrets(rt: HostRuntime) -> Result<(), AllocError> {
+    check_plain(&rt, LINES)?;
+    check_plain(&rt, NO_SECRETS)
+}
+
+const MADE: &str =
+    "1 make-login p1.1.1 +1.4 000102030405060708090a0b0c0d0e0f101112131415161718191A1B1C1D1E1F";
+
+const ENTERED: &str =
+    "1 enter p1.1.1 1.4 000102030405060708090a0b0c0d0e0f101112131415161718191A1B1C1D1E1F";
+
+// The bytes that the digits spell.
+const NUMBERS: [u8; 32] = [
+    0, 1, 2, 3, 4, 5, 6, 7, 8, 9, 10, 11, 12, 13, 14, 15, 16, 17, 18, 19, 20, 21, 22, 23, 24, 25,
+    26, 27, 28, 29, 30, 31,
+];
+
+fn secret_of_act(act: &Act) -> Option<Secret> {
+    match act {
+        Act::Order(Order::MakeLogin(_, secret)) => Some(*secret),
+        Act::Enter(_, secret) => Some(*secret),
+        _ => None,
+    }
+}
+
+fn secret_of_reading(reading: &Reading) -> Option<Secret> {
+    match reading {
+        Reading::Means {
+            line: Line::Job {
+                job: Job::By(_, act),
+                ..
+            },
+            ..
+        } => secret_of_act(act),
+        _ => None,
+    }
+}
+
+/// The secret of a line, if it has one.
+fn secret_of(alloc: Global, aliases: &Aliases, line: &str) -> Result<Option<Secret>, AllocError> {
+    let reading = read_line(alloc, aliases, line.as_bytes())?;
+    Ok(secret_of_reading(&reading))
+}
+
+#[test]
+fn secrets(rt: HostRuntime) -> Result<(), AllocError> {
+    let aliases = Aliases::new(rt.alloc());
+    let secret = Some(Secret { bytes: NUMBERS });
+    for line in [MADE, ENTERED] {
+        assert!(rt; secret_of(rt.alloc(), &aliases, line)? == secret);
+    }
     Ok(())
 }
