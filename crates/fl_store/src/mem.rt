@@ -1,0 +1,211 @@
+//! A keeper in memory.
+ghost use Rattle.std.specs.Prelude.{◌≡◌, ◌≢◌, ◌<◌, ◌≤◌, ◌-◌, ◌↔◌, IsTrue, IfOk, IfErr, OnOk, OnErr, refl};
+ghost use Rattle.std.proofs.Common.{ap};
+ghost use Rattle.fl_labels.specs.SetBy as set;
+ghost use Rattle.fl_ops.specs.OpOrder.{op_cmp};
+ghost use Rattle.fl_store.specs.Kept.{Kept, HasNamesOnce, AreNew, with_ops};
+ghost use Rattle.fl_store.specs.Keeping.{AfterSave, SaveFails};
+ghost use Rattle.fl_store.specs.MemKeeping.{MemKept, is_broken_at, failed_at, breaking, health_after, saved_after};
+
+use crate::health::Health;
+use crate::keeper::{Keeper, KeeperFault};
+use fl_ops::op::Op;
+use fl_opset::set::OpSet;
+use std::alloc::{AllocError, Global};
+use std::marker::Model;
+
+/// A keeper in memory. It breaks only where it is told to, and what it keeps ends with it.
+#[derive(Debug, Drop)]
+pub struct MemKeeper {
+    alloc: Global,
+    number: u16,
+    boot: u32,
+    saved: OpSet,
+    health: Health,
+}
+
+impl Model for MemKeeper {
+    ghost use Rattle.std.specs.Prelude.{◌<◌};
+    ghost use Rattle.fl_store.specs.Kept.{HasNamesOnce};
+    ghost use Rattle.fl_store.specs.MemKeeping.{MemKept, coded_mem};
+
+    ghost Value = { MemKept };
+
+    ghost coded = { coded_mem };
+
+    ghost view = { λ a. record {
+      kept = record { number = a.number; boot = a.boot; saved = a.saved };
+      health = a.health;
+    } };
+
+    ghost invariant = { λ a. HasNamesOnce a.saved };
+}
+
+// The operations of a list, as a set.
+fn collected(alloc: Global, ops: &[Op]) -> Result<OpSet, AllocError>
+    ensures { IfOk result (λ all. all ≡ set.of_list ops.now) }
+{
+    let mut all = OpSet::new(alloc);
+    for op in ops {
+        all.add(*op)?;
+    }
+    Ok(all)
+}
+
+// Adds the operations. An error leaves the set.
+fn add_all(alloc: Global, saved: &mut OpSet, ops: &[Op]) -> Result<(), AllocError>
+    ensures ok { OnOk result (saved.new ≡ with_ops saved.old ops.now) }
+    ensures err { OnErr result (saved.new ≡ saved.old) }
+{
+    let batch = collected(alloc, ops)?;
+    saved.merge(&batch)
+}
+
+// Adds the operations as a keeper of this health does, and answers its health then. An error leaves the set.
+fn serve(alloc: Global, health: Health, saved: &mut OpSet, ops: &[Op]) -> Result<Health, AllocError>
+    ensures health { IfOk result (λ after. after ≡ health_after health) }
+    ensures saved { OnOk result (saved.new ≡ saved_after health saved.old ops.now) }
+    ensures err { OnErr result (saved.new ≡ saved.old) }
+{
+    match health {
+        Health::Broken => return Ok(Health::Broken),
+        Health::BreaksAfter {
+            saves: 0,
+            keeps: false,
+        } => return Ok(Health::Broken),
+        _ => add_all(alloc, saved, ops)?,
+    }
+    Ok(match health {
+        Health::Sound => Health::Sound,
+        Health::BreaksAfter { saves: 0, .. } | Health::Broken => Health::Broken,
+        Health::BreaksAfter { saves, keeps } => Health::BreaksAfter {
+            saves: saves - 1,
+            keeps,
+        },
+    })
+}
+
+impl MemKeeper {
+    /// Nothing is kept yet. Takes no memory.
+    pub fn new(alloc: Global, number: u16) -> MemKeeper
+        ensures { result ≡ record {
+          kept = record { number = number; boot = 0; saved = set.empty };
+          health = Health.Sound;
+        } }
+    {
+        MemKeeper {
+            alloc,
+            number,
+            boot: 0,
+            saved: OpSet::new(alloc),
+            health: Health::Sound,
+        }
+    }
+
+    /// These operations are kept, whose names differ, of a node that was booted so many times. Refused for want of memory.
+    pub fn with(alloc: Global, number: u16, boot: u32, ops: &[Op]) -> Result<MemKeeper, AllocError>
+        requires { HasNamesOnce (set.of_list ops.now) }
+        ensures { IfOk result (λ keeper. keeper ≡ record {
+          kept = record { number = number; boot = boot; saved = set.of_list ops.now };
+          health = Health.Sound;
+        }) }
+    {
+        let saved = collected(alloc, ops)?;
+        Ok(MemKeeper {
+            alloc,
+            number,
+            boot,
+            saved,
+            health: Health::Sound,
+        })
+    }
+
+    /// From now on it breaks at the save of this count, whose batch it keeps or not: at the next one for 1. A save that is
+    /// refused for memory does not count. A broken keeper stays as it is.
+    pub fn break_at(&mut self, save: u64, keeps: bool)
+        requires { 0 < save }
+        ensures { self.new ≡ record self.old { health = breaking self.old.health (save - 1) keeps } }
+    {
+        if !self.health.is_broken() {
+            self.health = Health::BreaksAfter {
+                saves: save - 1,
+                keeps,
+            };
+        }
+    }
+
+    /// The keeper, opened again: what was kept is there, and it breaks at no save.
+    pub fn mend(self) -> MemKeeper
+        ensures { result ≡ record self { health = Health.Sound } }
+    {
+        let mut mended = self;
+        mended.health = Health::Sound;
+        mended
+    }
+}
+
+impl Keeper for MemKeeper {
+    ghost number = { λ k. k.kept.number };
+
+    ghost may_hold = { λ keeper k. k ≡ keeper.kept };
+
+    ghost failed = { λ k. failed_at k.health };
+
+    ghost is_broken = { λ k. is_broken_at k.health };
+
+    ghost has_bad_row = { λ k. ⊥ };
+
+    ghost is_honest = { λ k. Unit {0} };
+
+    ghost holds = { λ keeper _. ∣ (keeper.kept, refl) ∣₁ };
+
+    ghost numbered = { λ keeper k h. ap (λ (k : Kept). k.number) h };
+
+    fn number(&self) -> u16 {
+        self.number
+    }
+
+    fn failures(&self) -> u64 {
+        match self.health {
+            Health::Broken => 1,
+            _ => 0,
+        }
+    }
+
+    /// Copies them.
+    fn load(&mut self, alloc: Global) -> Result<OpSet, KeeperFault> {
+        if self.health.is_broken() {
+            return Err(KeeperFault::Broken);
+        }
+        let mut saved = OpSet::new(alloc);
+        let Ok(()) = saved.merge(&self.saved) else {
+            return Err(KeeperFault::Memory);
+        };
+        Ok(saved)
+    }
+
+    fn boot(&mut self) -> Result<u32, KeeperFault> {
+        if self.health.is_broken() {
+            return Err(KeeperFault::Broken);
+        }
+        let Some(boot) = self.boot.checked_add(1) else {
+            return Err(KeeperFault::NamesSpent);
+        };
+        self.boot = boot;
+        Ok(boot)
+    }
+
+    fn save(&mut self, ops: &[Op]) -> Result<(), KeeperFault> {
+        if self.health.is_broken() {
+            return Err(KeeperFault::Broken);
+        }
+        let Ok(health) = serve(self.alloc, self.health, &mut self.saved, ops) else {
+            return Err(KeeperFault::Memory);
+        };
+        self.health = health;
+        if health.is_broken() {
+            return Err(KeeperFault::Broken);
+        }
+        Ok(())
+    }
+}
