@@ -1,0 +1,55 @@
+-- What an opening finds, from what the keeper's calls leave.
+use Rattle.std.proofs.Common.{◌≡◌, ◌≢◌, ◌⊎◌, inl, inr, ◌∙◌, refl, sym, ap, ℕ, Bool, IsTrue, Ok, Err, Result}
+use Rattle.fl_labels.specs.SetBy.{SetBy}
+use Rattle.fl_ops.specs.OpOrder.{op_cmp}
+use Rattle.fl_jobs.specs.declared.answer.Refusal.TheVariants as refusal
+use Rattle.fl_store.specs.declared.keeper.KeeperFault.{KeeperFault}
+use Rattle.fl_store.specs.declared.keeper.KeeperFault.TheVariants.{Memory, Broken, WrongNode as IsOther, BadRow, NamesSpent}
+use Rattle.fl_store.specs.Kept.{Kept, raised}
+use Rattle.fl_store.specs.Keeping.{Held, Follows, Stays, AfterLoad, AfterBoot, LoadFails, BootFails}
+use Rattle.fl_system.specs.declared.answer.Fault.{Fault}
+use Rattle.fl_system.specs.declared.answer.Fault.TheVariants.{Refused, KeeperFailed, WrongNode}
+use Rattle.fl_node.specs.parts.Finding.{shown_as, FailsToFind, IsFound, IsNotFound, FailsToRaise, IsRaised, IsNotRaised}
+
+module _ (old new : Held) where
+  -- the node's operations are found
+  pub found : (number own : ℕ) (saved : SetBy op_cmp) → ((k : Kept) → old k → k.number ≡ own) → own ≡ number → AfterLoad old new (Ok saved) → Follows (IsFound number saved) old new
+  found number own saved numbered is_own h after is = let b = h after is in (b.0, b.1, record { same = b.2.0; saved_is = b.2.1; number_is = numbered b.0 b.1 ∙ is_own })
+
+  stays_as : (number : ℕ) (fault : Fault) → ((k : Kept) → FailsToFind number k fault) → Stays old new → Follows (IsNotFound number fault) old new
+  stays_as number fault fails h after is = let b = h after is in (b.0, b.1, record { same = b.2; fails = fails b.0 })
+
+  pub not_loaded : (number : ℕ) (f : KeeperFault) → AfterLoad old new (Err f) → Follows (IsNotFound number (shown_as f)) old new
+  not_loaded number Memory h = stays_as number (Refused refusal.Memory) (λ k. FailsToFind.no_room) h
+  not_loaded number Broken h = stays_as number KeeperFailed (λ k. FailsToFind.keeper_failed) h
+  not_loaded number BadRow h = stays_as number KeeperFailed (λ k. FailsToFind.keeper_failed) h
+  not_loaded number IsOther h = absurd h
+  not_loaded number NamesSpent h = absurd h
+
+  pub raises : (boot : ℕ) → AfterBoot old new (Ok boot) → Follows (IsRaised boot) old new
+  raises boot h after is = let b = h after is in (b.0, b.1, record { up = b.2.0; boot_is = b.2.1 })
+
+  pub not_raised : (f : KeeperFault) → AfterBoot old new (Err f) → Follows (IsNotRaised (shown_as f)) old new
+  not_raised Memory h = λ after is. let b = h after is in (b.0, b.1, record { left = inl b.2; fails = FailsToRaise.no_room })
+  not_raised Broken h = λ after is. let b = h after is in (b.0, b.1, record { left = b.2; fails = FailsToRaise.keeper_failed })
+  not_raised BadRow h = absurd h
+  not_raised IsOther h = absurd h
+  not_raised NamesSpent h = λ after is. let b = h after is in (b.0, b.1, record { left = inl b.2.0; fails = FailsToRaise.spent b.2.1 })
+
+-- another node's is not found
+pub other_node : {old : Held} {number own : ℕ} → ((k : Kept) → old k → k.number ≡ own) → own ≢ number → Follows (IsNotFound number WrongNode) old old
+other_node numbered differs after is = (after, is, record { same = refl; fails = FailsToFind.other (λ e. differs (sym (numbered after is) ∙ e)) })
+
+pub load_failed : (broken : Bool) (failed : ℕ) (bad : Type 0) (f : KeeperFault) → LoadFails broken failed bad f → shown_as f ≡ KeeperFailed → IsTrue broken ⊎ bad
+load_failed broken failed bad Memory h is = absurd (cc)
+load_failed broken failed bad Broken h is = inl h.0
+load_failed broken failed bad BadRow h is = inr h
+load_failed broken failed bad IsOther h is = absurd h
+load_failed broken failed bad NamesSpent h is = absurd h
+
+pub boot_failed : (broken : Bool) (failed : ℕ) (f : KeeperFault) → BootFails broken failed f → shown_as f ≡ KeeperFailed → IsTrue broken
+boot_failed broken failed Memory h is = absurd (cc)
+boot_failed broken failed Broken h is = h.0
+boot_failed broken failed BadRow h is = absurd h
+boot_failed broken failed IsOther h is = absurd h
+boot_failed broken failed NamesSpent h is = absurd (cc)

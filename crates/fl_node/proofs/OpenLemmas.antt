@@ -1,0 +1,85 @@
+-- What an opening leaves, from what it finds.
+use Rattle.std.proofs.Common.{◌≡◌, ◌⊎◌, inl, inr, ◌∙◌, ◌+◌, refl, sym, ap, subst, ℕ, List, Ok, Err}
+use Rattle.fl_labels.specs.SetBy.{SetBy, members}
+use Rattle.fl_ops.specs.declared.op.Op.{Op}
+use Rattle.fl_ops.specs.OpOrder.{op_cmp}
+use Rattle.fl_jobs.specs.declared.answer.Refusal.TheVariants.{Memory}
+use Rattle.fl_store.specs.Kept.{Kept, raised}
+use Rattle.fl_store.specs.Keeping.{Held, Follows}
+use Rattle.fl_system.specs.declared.answer.Fault.{Fault}
+use Rattle.fl_system.specs.declared.answer.Fault.TheVariants.{Refused}
+use Rattle.fl_system.specs.State.{NodeState}
+use Rattle.fl_node.specs.parts.Finding.{FailsToFind, IsFound, IsNotFound, FailsToRaise, IsRaised, IsNotRaised}
+use Rattle.fl_system.specs.Openings.{starting, opened, FailsToOpen, Opens}
+
+fresh_is : (number boot : ℕ) (saved : SetBy op_cmp) (published : List Op) (k : Kept) → k.number ≡ number → boot ≡ k.boot + 1 → saved ≡ k.saved → published ≡ members saved
+    → starting 1 number boot saved published ≡ opened 1 k
+fresh_is number boot saved published k number_is boot_is saved_is published_is =
+    λ i. starting 1 ((sym number_is) i) (boot_is i) (saved_is i) ((published_is ∙ ap members saved_is) i)
+
+module _ (own : Kept → Type 0) (number : ℕ) (its : (k : Kept) → own k → k.number ≡ number) where
+  fails_to_open : (k : Kept) (fault : Fault) → FailsToFind number k fault → FailsToOpen own k fault
+  fails_to_open k fault FailsToFind.no_room = FailsToOpen.no_room
+  fails_to_open k fault FailsToFind.keeper_failed = FailsToOpen.keeper_failed
+  fails_to_open k fault (FailsToFind.other differs) = FailsToOpen.other (λ is. differs (its k is))
+
+  pub not_found : (old new : Held) (fault : Fault) → Follows (IsNotFound number fault) old new → Follows (λ k k'. Opens 1 own k (Err fault) k') old new
+  not_found old new fault h after is = let b = h after is in (b.0, b.1, Opens.refused (fails_to_open b.0 fault b.2.fails) (inl b.2.same))
+
+fails_raised : (own : Kept → Type 0) (k : Kept) (fault : Fault) → FailsToRaise k fault → FailsToOpen own k fault
+fails_raised own k fault FailsToRaise.no_room = FailsToOpen.no_room
+fails_raised own k fault FailsToRaise.keeper_failed = FailsToOpen.keeper_failed
+fails_raised own k fault (FailsToRaise.spent all) = FailsToOpen.spent all
+
+module _ (own : Kept → Type 0) (number : ℕ) (saved : SetBy op_cmp) (old mid : Held) (found : Follows (IsFound number saved) old mid) where
+  -- what is found is not opened
+  pub found_refused : (fault : Fault) → ((k : Kept) → old k → saved ≡ k.saved → k.number ≡ number → FailsToOpen own k fault) → Follows (λ k k'. Opens 1 own k (Err fault) k') old mid
+  found_refused fault fails after is =
+      let b = found after is in
+      (b.0, b.1, Opens.refused (fails b.0 b.1 b.2.saved_is b.2.number_is) (inl b.2.same))
+
+  pub found_no_room : Follows (λ k k'. Opens 1 own k (Err (Refused Memory)) k') old mid
+  found_no_room = found_refused (Refused Memory) (λ k _ _ _. FailsToOpen.no_room)
+
+  module _ (new : Held) where
+    pub not_raised : (fault : Fault) → Follows (IsNotRaised fault) mid new → Follows (λ k k'. Opens 1 own k (Err fault) k') old new
+    not_raised fault h after is =
+        let r = h after is in
+        let b = found r.0 r.1 in (
+          b.0,
+          b.1,
+          Opens.refused
+              (subst (λ k. FailsToOpen own k fault) b.2.same (fails_raised own r.0 fault r.2.fails))
+              (subst (λ k. (after ≡ k) ⊎ (after ≡ raised k)) b.2.same r.2.left),
+        )
+
+    -- raised, and found to be another's by its boot
+    pub raised_refused : (boot : ℕ) (fault : Fault) → ((k : Kept) → boot ≡ k.boot + 1 → FailsToOpen own k fault) → Follows (IsRaised boot) mid new → Follows (λ k k'. Opens 1 own k (Err fault) k') old new
+    raised_refused boot fault fails h after is =
+        let r = h after is in
+        let b = found r.0 r.1 in (
+          b.0,
+          b.1,
+          Opens.refused (fails b.0 (subst (λ (k : Kept). boot ≡ k.boot + 1) b.2.same r.2.boot_is)) (inr (r.2.up ∙ ap raised b.2.same)),
+        )
+
+    pub opens : (boot : ℕ) (published : List Op) → published ≡ members saved → ((k : Kept) → k.number ≡ number → boot ≡ k.boot + 1 → saved ≡ k.saved → own k)
+        → Follows (IsRaised boot) mid new → Follows (λ k k'. Opens 1 own k (Ok (starting 1 number boot saved published)) k') old new
+    opens boot published published_is is_own h after is =
+        let r = h after is in
+        let b = found r.0 r.1 in
+        let boot_is = subst (λ (k : Kept). boot ≡ k.boot + 1) b.2.same r.2.boot_is in
+        let node_is = fresh_is number boot saved published b.0 b.2.number_is boot_is b.2.saved_is published_is in (
+          b.0,
+          b.1,
+          subst (λ n. Opens 1 own b.0 (Ok n) after) (sym node_is)
+              (subst (λ k. Opens 1 own b.0 (Ok (opened 1 b.0)) k) (sym (r.2.up ∙ ap raised b.2.same)) (Opens.opens (is_own b.0 b.2.number_is boot_is b.2.saved_is))),
+        )
+
+    -- an opening finds what the opened node has
+    pub kept_opened : (boot : ℕ) → Follows (IsRaised boot) mid new → (k : Kept) → new k → k ≡ record { number = number; boot = boot; saved = saved }
+    kept_opened boot h after is =
+        let r = h after is in
+        let b = found r.0 r.1 in
+        let boot_is = subst (λ (k : Kept). boot ≡ k.boot + 1) b.2.same r.2.boot_is in
+        r.2.up ∙ ap raised b.2.same ∙ (λ i. record { number = b.2.number_is i; boot = (sym boot_is) i; saved = (sym b.2.saved_is) i })

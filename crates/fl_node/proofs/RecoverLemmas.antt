@@ -1,0 +1,92 @@
+-- What a node gets back.
+use Rattle.std.proofs.Common.{◌≡◌, ◌⊎◌, inl, inr, ◌∙◌, refl, sym, ap, subst, ℕ, List, [], ◌∷◌, Bool, true, false, Ok, Err, Result, None, Some}
+use Rattle.std.specs.Cmp.{IsTotalOrder, tied_itself}
+use Rattle.std.specs.Cmp.Lexicographic.{slice_cmp, lists_total}
+use Rattle.std.specs.FinMap.{slice_cmp-IsAntisymmetric}
+use Rattle.std.specs.Prelude.{◌||◌}
+use Rattle.std.specs.Ordering.{is_eq}
+use Rattle.std.specs.declared.cmp.Ordering.{Ordering}
+use Rattle.std.specs.declared.cmp.Ordering.TheVariants.{Less, Equal, Greater}
+use Rattle.std.specs.declared.option.Option.{Option}
+use Rattle.std.proofs.lemmas.Bool.{false≢true}
+use Rattle.fl_labels.specs.Found.{Tells}
+use Rattle.fl_labels.specs.SetBy as set
+use Rattle.fl_labels.specs.SetBy.{SetBy, members, of_list, contains, same_set, contains-union, contains-empty}
+use Rattle.fl_ops.specs.declared.op.Op.{Op}
+use Rattle.fl_ops.specs.OpOrder.{op_cmp}
+use Rattle.fl_ops.specs.OpLaws.{op_total, op_exact}
+use Rattle.fl_store.specs.Kept.{Kept, with_ops}
+use Rattle.fl_store.specs.Keeping.{Held, Follows}
+use Rattle.fl_system.specs.declared.answer.Fault.{Fault}
+use Rattle.fl_system.specs.declared.state.Batch.{Batch}
+use Rattle.fl_system.specs.declared.state.Pending.TheVariants.{Nothing, Unsaved, Due}
+use Rattle.fl_system.specs.declared.state.State.{State}
+use Rattle.fl_system.specs.declared.state.State.TheVariants.{Running, Stopped}
+use Rattle.fl_system.specs.State.{NodeState, kept_of}
+use Rattle.fl_system.specs.Saves.{Saves}
+use Rattle.fl_system.specs.Waiting.{NoneUnsaved, NotRunning}
+use Rattle.fl_system.specs.Openings.{Opens, IsOwn, OpensAgain, Restarts, doubt_of}
+use Rattle.fl_node.proofs.NodeLemmas.{same_registry}
+
+is_equal : (o : Ordering) → is_eq o ≡ true → o ≡ Equal
+is_equal Less h = absurd (cc)
+is_equal Equal h = refl
+is_equal Greater h = absurd (cc)
+
+-- sets are equal where their members are, one by one
+pub tells_same : (s t : SetBy op_cmp) (xs ys : List Op) (o : Ordering) (b : Bool) → xs ≡ members s → ys ≡ members t → o ≡ slice_cmp op_cmp xs ys → b ≡ is_eq o → Tells b (s ≡ t)
+tells_same s t xs ys o b left right compared told = record {
+  holds = λ yes. same_registry s t (sym left ∙ slice_cmp-IsAntisymmetric op_exact xs ys (sym compared ∙ is_equal o (sym told ∙ yes)) ∙ right);
+  fails = λ no same.
+      let lists : xs ≡ ys = left ∙ ap members same ∙ sym right in
+      let level : o ≡ Equal = compared ∙ ap (slice_cmp op_cmp xs) (sym lists) ∙ tied_itself (lists_total op_total) xs in
+      false≢true (sym no ∙ told ∙ ap is_eq level);
+}
+
+or_none : (b : Bool) → (b || false) ≡ b
+or_none true = refl
+or_none false = refl
+
+-- with no operation in doubt
+with_none : (saved : SetBy op_cmp) → with_ops saved [] ≡ saved
+with_none saved = same_set op_total op_exact _ _ (λ q.
+    contains-union op_total saved (of_list []) q ∙ ap (λ b. contains saved q || b) (contains-empty op_cmp q) ∙ or_none (contains saved q))
+
+pub not_own : (found saved : SetBy op_cmp) → ¬ (found ≡ saved) → Tells false ((found ≡ saved) ⊎ (found ≡ with_ops saved []))
+not_own found saved differs = record {
+  holds = λ e. absurd (false≢true e);
+  fails = λ e h. elim h [ inl is ↦ differs is | inr is ↦ differs (is ∙ with_none saved) ];
+}
+
+pub own_by : (b : Bool) (found saved both : SetBy op_cmp) (ops : List Op) → ¬ (found ≡ saved) → both ≡ with_ops saved ops → Tells b (found ≡ both) → Tells b ((found ≡ saved) ⊎ (found ≡ with_ops saved ops))
+own_by b found saved both ops differs both_is t = record {
+  holds = λ yes. inr (t.holds yes ∙ both_is);
+  fails = λ no h. elim h [ inl is ↦ differs is | inr is ↦ t.fails no (is ∙ sym both_is) ];
+}
+
+module _ (n : NodeState) (keeps : Bool) (k : Kept) (result : Result ℕ Fault) (n' : NodeState) (k' : Kept) where
+  by_state : (s : State) → n.state ≡ s → keeps ≡ false → OpensAgain n (doubt_of s) k result n' k' → Restarts n k keeps result n' k'
+  by_state (Running Nothing) is lost h = Restarts.idle is h
+  by_state (Running (Unsaved batch)) is lost h = Restarts.lost lost is h
+  by_state (Running (Due batch)) is lost h = Restarts.due is h
+  by_state (Stopped doubt) is lost h = Restarts.stopped is h
+
+  pub restarts_lost : keeps ≡ false → OpensAgain n (doubt_of n.state) k result n' k' → Restarts n k keeps result n' k'
+  restarts_lost lost h = by_state n.state refl lost h
+
+  none_by_state : (s : State) (fault : Fault) → n.state ≡ s → NoneUnsaved s fault → OpensAgain n (doubt_of s) k result n' k' → Restarts n k keeps result n' k'
+  none_by_state (Running Nothing) fault is none h = Restarts.idle is h
+  none_by_state (Running (Unsaved batch)) fault is none h = absurd none
+  none_by_state (Running (Due batch)) fault is none h = Restarts.due is h
+  none_by_state (Stopped doubt) fault is none h = Restarts.stopped is h
+
+  pub restarts_none : (fault : Fault) → NoneUnsaved n.state fault → OpensAgain n (doubt_of n.state) k result n' k' → Restarts n k keeps result n' k'
+  restarts_none fault none h = none_by_state n.state fault refl none h
+
+pub saved_first : (n : NodeState) (keeps : Bool) (k : Kept) (n₁ : NodeState) (k₁ : Kept) (result : Result ℕ Fault) (n' : NodeState) (k' : Kept)
+    → keeps ≡ true → Saves n k (Ok tt) n₁ k₁ → OpensAgain n₁ (doubt_of n₁.state) k₁ result n' k' → Restarts n k keeps result n' k'
+saved_first n keeps k n₁ k₁ result n' k' kept (Saves.saved pending) h = Restarts.saved kept pending h
+
+pub is_stopped : (s : State) (fault : Fault) → NotRunning s fault → s ≡ Stopped (doubt_of s)
+is_stopped (Running pending) fault h = absurd h
+is_stopped (Stopped doubt) fault h = refl

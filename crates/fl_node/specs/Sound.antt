@@ -1,0 +1,34 @@
+-- What is true of every node.
+use Rattle.std.specs.Prelude.{◌≡◌, ◌<◌, ◌≤◌, ℕ, List, length}
+use Rattle.fl_labels.specs.SetBy as set
+use Rattle.fl_labels.specs.SetBy.{SetBy}
+use Rattle.fl_ops.specs.declared.op.Op.{Op}
+use Rattle.fl_ops.specs.OpOrder.{op_cmp}
+use Rattle.fl_store.specs.Kept.{Kept, AreNew, HasNamesOnce}
+use Rattle.fl_store.specs.Keeping.{Held}
+use Rattle.fl_system.specs.declared.state.State.{State}
+use Rattle.fl_system.specs.declared.state.State.TheVariants.{Running, Stopped}
+use Rattle.fl_system.specs.declared.state.Pending.TheVariants.{Nothing, Unsaved, Due}
+use Rattle.fl_system.specs.State.{ops_of}
+
+-- what is to be saved has new names
+abbrev pub IsFresh : State → SetBy op_cmp → Type 0
+IsFresh (Running Nothing) saved = Unit {0}
+IsFresh (Running (Unsaved batch)) saved = AreNew (ops_of batch) saved
+IsFresh (Running (Due batch)) saved = Unit {0}
+IsFresh (Stopped doubt) saved = Unit {0}
+
+-- an opening finds this alone, where the node runs
+abbrev pub IsKeptOwn : State → Kept → Held → Type 0
+IsKeptOwn (Running pending) own held = (k : Kept) → held k → k ≡ own
+IsKeptOwn (Stopped doubt) own held = Unit {0}
+
+pub record IsSound (honest : Type 0) (held : Held) (number boot : ℕ) (saved : SetBy op_cmp) (published : List Op)
+    (seen : ℕ) (state : State) (index : SetBy op_cmp) : Type 0 where
+  pub numbered : 0 < number
+  pub booted : 0 < boot
+  pub sees : seen ≤ length published
+  pub indexed : index ≡ set.of_list published
+  pub once : HasNamesOnce saved
+  pub fresh : IsFresh state saved
+  pub kept : honest → IsKeptOwn state (record { number = number; boot = boot; saved = saved }) held

@@ -1,0 +1,419 @@
+//! A node, call by call.
+ghost use Rattle.std.specs.Prelude.{◌≡◌, ◌⊎◌, ◌<◌, IsTrue, IfOk, IfErr, OnErr, Ok, Err, Some, None, length};
+ghost use Rattle.std.specs.Option.{option_copied};
+ghost use Rattle.fl_labels.specs.SetBy as set;
+ghost use Rattle.fl_opset.specs.RegistryText.{registry_text};
+ghost use Rattle.fl_sink.specs.Sink.{Writes};
+ghost use Rattle.fl_store.specs.Kept.{HasNamesOnce};
+ghost use Rattle.fl_store.specs.Keeping.{Follows};
+ghost use Rattle.fl_system.specs.Processes.{process_of};
+ghost use Rattle.fl_system.specs.Waiting.{IsRunning, NotRunning};
+ghost use Rattle.fl_system.specs.Begins.{Begins};
+ghost use Rattle.fl_system.specs.Jobs.{Jobs};
+ghost use Rattle.fl_system.specs.Saves.{Saves};
+ghost use Rattle.fl_system.specs.Publishes.{Publishes, Cancels};
+ghost use Rattle.fl_system.specs.Openings.{Opens, IsOf, OpensAgain, Reopens, Restarts, doubt_of};
+ghost use Rattle.fl_node.specs.parts.Ordering.{Orders};
+
+use crate::beginning::next_name;
+use crate::finding::{find, listed, raise};
+use crate::keeping::{Unkept, keep};
+use crate::publishing::{append, give, release, tell};
+use crate::recovering::recover;
+use crate::state::{doubt, doubted, due, halt, idle, running, saved, unsaved};
+use fl_bench::process::Process;
+use fl_closure::index::Index;
+use fl_jobs::answer::{Outcome, Refusal};
+use fl_jobs::job::Job;
+use fl_labels::name::Name;
+use fl_labels::pid::Pid;
+use fl_monitor::bench::Bench;
+use fl_ops::op::{Body, Op};
+use fl_opset::set::OpSet;
+use fl_sink::sink::WriteFault;
+use fl_store::keeper::Keeper;
+use fl_system::answer::{Answer, Fault};
+use fl_system::state::{Batch, Pending, State};
+use std::alloc::Global;
+use std::io::Write;
+use std::marker::Model;
+
+/// A node of one desk and one bench: its keeper, what is saved and published of it, how much of that the desk sees, what is on
+/// its way, and its processes.
+pub struct Node<K: Keeper> {
+    keeper: K,
+    number: u16,
+    boot: u32,
+    saved: OpSet,
+    published: Vec<Op>,
+    index: Index,
+    seen: u64,
+    state: State,
+    bench: Bench,
+}
+
+impl<K: Keeper> Model for Node<K> {
+    ghost use Rattle.std.specs.Prelude.{◌∷◌, []};
+    ghost use Rattle.fl_node.specs.Over.{NodeOver, coded_over};
+    ghost use Rattle.fl_node.specs.Sound.{IsSound};
+
+    ghost Value = { NodeOver K };
+
+    ghost coded = { coded_over K.code };
+
+    ghost view = { λ a. record {
+      node = record {
+        number = a.number;
+        boot = a.boot;
+        saved = a.saved;
+        published = a.published.items;
+        views = a.seen ∷ [];
+        state = a.state;
+        procs = 0;
+        benches = a.bench ∷ [];
+      };
+      keeper = a.keeper;
+    } };
+
+    ghost invariant = { λ a. IsSound (K.is_honest a.keeper) (K.may_hold a.keeper)
+        a.number a.boot a.saved a.published.items a.seen a.state a.index };
+}
+
+impl<K: Keeper + Drop> Drop for Node<K> {
+    fn drop(self) {
+        let Node {
+            keeper: _,
+            number: _,
+            boot: _,
+            saved: _,
+            published: _,
+            index: _,
+            seen: _,
+            state: _,
+            bench: _,
+        } = self;
+    }
+}
+
+impl<K: Keeper> Node<K> {
+    /// Opens the node of this number over its keeper, which is given back where that is refused. All that is saved is published,
+    /// in rising order, and there is no process.
+    ///
+    /// - `WrongNode`: the keeper is another node's.
+    /// - `KeeperFailed`: it is broken, or one of its rows is bad.
+    /// - `NamesSpent`: it was opened 4,294,967,295 times.
+    /// - `Memory`: there was not enough.
+    ///
+    /// A refused opening may have raised the boot. Loads what is saved once, copies it once, and indexes it: a search by order
+    /// for each operation.
+    pub fn open(alloc: Global, mut keeper: K, number: u16) -> Result<Node<K>, (Fault, K)>
+        requires { 0 < number }
+        ensures ok { IfOk result (λ node. K.is_honest node.keeper → K.is_honest keeper
+            × Follows (λ k k'. Opens 1 (IsOf number) k (Ok node.node) k')
+            (K.may_hold keeper) (K.may_hold node.keeper)) }
+        ensures cause { IfErr result (λ e. e.0 ≡ Fault.KeeperFailed
+            → IsTrue (K.is_broken e.1) ⊎ (K.is_honest e.1 → K.has_bad_row keeper)) }
+        ensures err { IfErr result (λ e. K.is_honest e.1 → K.is_honest keeper
+            × Follows (λ k k'. Opens 1 (IsOf number) k (Err e.0) k') (K.may_hold keeper) (K.may_hold e.1)) }
+    {
+        let saved = match find(alloc, &mut keeper, number) {
+            Ok(saved) => saved,
+            Err(fault) => return Err((fault, keeper)),
+        };
+        let Ok((published, index)) = listed(alloc, &saved) else {
+            return Err((Fault::Refused(Refusal::Memory), keeper));
+        };
+        let boot = match raise(&mut keeper) {
+            Ok(boot) => boot,
+            Err(fault) => return Err((fault, keeper)),
+        };
+        let seen = published.len() as u64;
+        Ok(Node {
+            keeper,
+            number,
+            boot,
+            saved,
+            published,
+            index,
+            seen,
+            state: State::Running(Pending::Nothing),
+            bench: Bench::new(alloc, number, boot, 1, 1),
+        })
+    }
+
+    /// The saved operations, whose names differ. A stopped node lends them too.
+    pub fn saved(&self) -> &OpSet
+        ensures saved { result.now ≡ self.now.node.saved }
+        ensures names { HasNamesOnce self.now.node.saved }
+    {
+        &self.saved
+    }
+
+    /// The published operations, in the order of publishing. A stopped node lends them too.
+    pub fn published(&self) -> &[Op]
+        ensures { result.now ≡ self.now.node.published }
+    {
+        &self.published
+    }
+
+    /// The process, or none where it does not stand here. A stopped node lends it too.
+    pub fn process(&self, pid: Pid) -> Option<&Process>
+        ensures { option_copied result ≡ process_of self.now.node pid }
+    {
+        self.bench.process(pid)
+    }
+
+    /// The published operations, rising. A stopped node answers `Stopped`. Takes no memory.
+    pub fn registry(&self) -> Result<&OpSet, Fault>
+        ensures running { IfOk result (λ ops. IsRunning self.now.node.state) }
+        ensures ok { IfOk result (λ ops. ops.now ≡ set.of_list self.now.node.published) }
+        ensures err { IfErr result (λ fault. NotRunning self.now.node.state fault) }
+    {
+        match running(&self.state) {
+            Ok(()) => Ok(self.index.ops()),
+            Err(fault) => Err(fault),
+        }
+    }
+
+    /// Writes the text of the published operations, a line for each, rising: `1.1 tag export`, `1.2 group`. A stopped node
+    /// answers `Stopped`, and writes nothing. At a fault of the writer a front of the text was written.
+    pub fn text<W: Write>(&self, output: &mut W) -> Result<Result<(), WriteFault>, Fault>
+        ensures running { IfOk result (λ written. IsRunning self.now.node.state) }
+        ensures ok { let text = registry_text (set.of_list self.now.node.published) in
+            IfOk result (λ written. Writes (W.contents output.old) (W.contents output.new) text written) }
+        ensures err { IfErr result (λ fault. NotRunning self.now.node.state fault) }
+        ensures nothing { OnErr result (W.contents output.new ≡ W.contents output.old) }
+    {
+        match self.registry() {
+            Ok(ops) => Ok(ops.text(output)),
+            Err(fault) => Err(fault),
+        }
+    }
+
+    /// Begins an operation of this body for its maker, where nothing is on its way, and gives its name: the next one after the
+    /// saved operations of this node. It is then to be saved, or cancelled. A binary search; takes no memory.
+    ///
+    /// - `Stopped`: the node is stopped.
+    /// - `Busy`: something is on its way.
+    /// - `NamesSpent`: no name is left.
+    pub fn begin(&mut self, body: Body, maker: Option<Pid>) -> Result<Name, Fault>
+        ensures begins { Begins self.old.node body maker None result self.new.node }
+        ensures keeper { self.new.keeper ≡ self.old.keeper }
+    {
+        self.begin_at(body, maker, None)
+    }
+
+    // The same, ordered at a desk, if it was at one.
+    fn begin_at(&mut self, body: Body, maker: Option<Pid>, desk: Option<u8>) -> Result<Name, Fault>
+        ensures begins { Begins self.old.node body maker desk result self.new.node }
+        ensures keeper { self.new.keeper ≡ self.old.keeper }
+    {
+        idle(&self.state)?;
+        let Some(name) = next_name(&self.saved, self.number) else {
+            return Err(Fault::Refused(Refusal::NamesSpent));
+        };
+        let op = Op { name, body };
+        self.state = State::Running(Pending::Unsaved(Batch::Ordered(op, maker, desk)));
+        Ok(name)
+    }
+
+    /// Does a job at desk 1 under all that is published, as `Bench::job` has it. An order begins its operation, as `begin` has it;
+    /// where that is refused, the bench is as before. A stopped node answers `Stopped`.
+    pub fn job(&mut self, alloc: Global, job: Job) -> Result<Answer, Fault>
+        ensures job { let count = length self.old.node.published in
+            Jobs self.old.node 1 count job result self.new.node }
+        ensures keeper { self.new.keeper ≡ self.old.keeper }
+    {
+        running(&self.state)?;
+        self.seen = self.published.len() as u64;
+        match self.bench.job(alloc, &mut self.index, job) {
+            Ok(Outcome::Reply(reply)) => Ok(Answer::Reply(reply)),
+            Ok(Outcome::Out(packet)) => Ok(Answer::Out(packet)),
+            Ok(Outcome::Order(body, pid)) => self.order(body, pid),
+            Err(refusal) => Err(Fault::Refused(refusal)),
+        }
+    }
+
+    // Begins the operation of an order, or has its maker go on without it.
+    fn order(&mut self, body: Body, pid: Pid) -> Result<Answer, Fault>
+        ensures orders { Orders self.old.node body pid result self.new.node }
+        ensures keeper { self.new.keeper ≡ self.old.keeper }
+    {
+        match self.begin_at(body, Some(pid), Some(1)) {
+            Ok(name) => Ok(Answer::Begun(name)),
+            Err(fault) => {
+                self.bench.cancel(pid);
+                Err(fault)
+            }
+        }
+    }
+
+    /// Gives up what is to be saved: its maker, if it has one, goes on with nothing. Takes no memory.
+    ///
+    /// - `Stopped`: the node is stopped.
+    /// - `Busy`: there is nothing to save.
+    pub fn cancel(&mut self) -> Result<(), Fault>
+        ensures cancels { Cancels self.old.node result self.new.node }
+        ensures keeper { self.new.keeper ≡ self.old.keeper }
+    {
+        let batch = unsaved(&self.state)?;
+        release(&mut self.bench, batch);
+        self.state = State::Running(Pending::Nothing);
+        Ok(())
+    }
+
+    /// Publishes what is saved and due, and gives the length of the list. The maker of a tag or a group has its two capabilities
+    /// from then on, and the desk of an order sees the whole list.
+    ///
+    /// - `Stopped`: the node is stopped.
+    /// - `Busy`: nothing is due.
+    /// - `Memory`: there was not enough; it stays due.
+    pub fn publish(&mut self, alloc: Global) -> Result<u64, Fault>
+        ensures publishes { Publishes self.old.node result self.new.node }
+        ensures keeper { self.new.keeper ≡ self.old.keeper }
+    {
+        let batch = due(&self.state)?;
+        let Ok(()) = append(alloc, &mut self.published, &mut self.index, batch) else {
+            return Err(Fault::Refused(Refusal::Memory));
+        };
+        let count = self.published.len() as u64;
+        give(&mut self.bench, batch);
+        tell(&mut self.seen, batch, count);
+        self.state = State::Running(Pending::Nothing);
+        Ok(count)
+    }
+
+    /// Saves what is to be saved, which is then to be published.
+    ///
+    /// - `Stopped`: the node is stopped.
+    /// - `Busy`: there is nothing to save.
+    /// - `Memory`: there was not enough; it is still to be saved.
+    /// - `KeeperFailed`: the keeper broke. The node is stopped, its saved operations are as before, and at the next opening the
+    ///   keeper has those, or those with what was to be saved.
+    pub fn save(&mut self) -> Result<(), Fault>
+        ensures cause { result ≡ Err Fault.KeeperFailed → IsTrue (K.is_broken self.new.keeper) }
+        ensures saves { K.is_honest self.new.keeper → K.is_honest self.old.keeper
+            × Follows (λ k k'. Saves self.old.node k result self.new.node k')
+            (K.may_hold self.old.keeper) (K.may_hold self.new.keeper) }
+    {
+        let batch = unsaved(&self.state)?;
+        match keep(&mut self.keeper, &mut self.saved, batch) {
+            Ok(()) => {
+                saved(&mut self.state);
+                Ok(())
+            }
+            Err(Unkept::Memory) => Err(Fault::Refused(Refusal::Memory)),
+            Err(Unkept::Broken) => {
+                doubted(&mut self.state);
+                Err(Fault::KeeperFailed)
+            }
+        }
+    }
+
+    // Opens the node again over its keeper, or leaves it stopped.
+    fn open_again(&mut self, alloc: Global) -> Result<u32, Fault>
+        ensures { K.is_honest self.new.keeper → K.is_honest self.old.keeper
+            × Follows (λ k k'. OpensAgain self.old.node (doubt_of self.old.node.state) k result self.new.node k')
+            (K.may_hold self.old.keeper) (K.may_hold self.new.keeper) }
+    {
+        let doubt = doubt(&self.state);
+        match recover(
+            alloc,
+            &mut self.keeper,
+            self.number,
+            self.boot,
+            &self.saved,
+            doubt,
+        ) {
+            Ok(recovered) => {
+                let boot = recovered.boot;
+                self.boot = boot;
+                self.saved = recovered.saved;
+                self.seen = recovered.published.len() as u64;
+                self.published = recovered.published;
+                self.index = recovered.index;
+                self.bench = Bench::new(alloc, self.number, boot, 1, 1);
+                self.state = State::Running(Pending::Nothing);
+                Ok(boot)
+            }
+            Err(fault) => {
+                halt(&mut self.state);
+                Err(fault)
+            }
+        }
+    }
+
+    // Saves what is to be saved where that is to be kept, and opens the node again.
+    fn come_back(&mut self, alloc: Global, keeps: bool) -> Result<u32, Fault>
+        ensures { K.is_honest self.new.keeper → K.is_honest self.old.keeper
+            × Follows (λ k k'. Restarts self.old.node k keeps result self.new.node k')
+            (K.may_hold self.old.keeper) (K.may_hold self.new.keeper) }
+    {
+        if !keeps {
+            return self.open_again(alloc);
+        }
+        let Ok(_) = unsaved(&self.state) else {
+            return self.open_again(alloc);
+        };
+        if let Err(fault) = self.save() {
+            return Err(fault);
+        }
+        self.open_again(alloc)
+    }
+
+    /// Restarts the node: processes and what is pending are forgotten, what is saved is loaded and published, and the boot raised
+    /// by one, which is the answer. Where it is to be kept, what is pending is saved first; refused for memory, that leaves the
+    /// node as it was. After any later refusal the node is stopped, with its saved operations.
+    ///
+    /// As `open`; a node that was stopped answers `WrongNode` too where what is kept is neither what it had saved nor that with
+    /// what was in doubt, or was not opened as often.
+    pub fn restart(self, alloc: Global, keeps: bool) -> (Node<K>, Result<u32, Fault>)
+        ensures { K.is_honest result.0.keeper → K.is_honest self.keeper
+            × Follows (λ k k'. Restarts self.node k keeps result.1 result.0.node k')
+            (K.may_hold self.keeper) (K.may_hold result.0.keeper) }
+    {
+        let mut node = self;
+        let result = node.come_back(alloc, keeps);
+        (node, result)
+    }
+
+    /// Gives the keeper of a stopped node away, and opens the node again over the one that comes back, as `restart` does. A node
+    /// that runs answers `Busy`, and is left as it is.
+    pub fn reopen<F: FnOnce(K) -> K>(self, alloc: Global, make: F) -> (Node<K>, Result<u32, Fault>)
+        requires { F.IsAlwaysCallable make }
+        ensures running { IsRunning self.node.state
+            → (result.0 ≡ self) × (result.1 ≡ Err (Fault.Refused Refusal.Busy)) }
+        ensures stopped { (IsRunning self.node.state → ⊥)
+            → (made : K) × F.post make self.keeper made × (K.is_honest result.0.keeper → K.is_honest made
+            × Follows (λ k k'. Reopens self.node k result.1 result.0.node k')
+            (K.may_hold made) (K.may_hold result.0.keeper)) }
+    {
+        let Err(_) = running(&self.state) else {
+            return (self, Err(Fault::Refused(Refusal::Busy)));
+        };
+        let Node {
+            keeper,
+            number,
+            boot,
+            saved,
+            published,
+            index,
+            seen,
+            state,
+            bench,
+        } = self;
+        let mut node = Node {
+            keeper: make(keeper),
+            number,
+            boot,
+            saved,
+            published,
+            index,
+            seen,
+            state,
+            bench,
+        };
+        let result = node.open_again(alloc);
+        (node, result)
+    }
+}

@@ -1,0 +1,96 @@
+// What is published, and what its maker and its desk have of it.
+ghost use Rattle.std.specs.Prelude.{◌≡◌, ◌++◌, ◌∷◌, [], OnOk, OnErr};
+ghost use Rattle.fl_labels.specs.SetBy as set;
+ghost use Rattle.fl_system.specs.State.{ops_of};
+ghost use Rattle.fl_system.specs.Publishes.{given_to, released, told};
+
+use crate::finding::index_of;
+use fl_closure::index::Index;
+use fl_monitor::bench::Bench;
+use fl_ops::op::Op;
+use fl_system::state::Batch;
+use std::alloc::{AllocError, Global};
+
+// Puts one operation at the end of the list, and into the index. An error leaves both.
+fn append_one(list: &mut Vec<Op>, index: &mut Index, op: &Op) -> Result<(), AllocError>
+    requires { index.old ≡ set.of_list list.old.items }
+    ensures list { OnOk result (list.new.items ≡ list.old.items ++ op.now ∷ []) }
+    ensures index { OnOk result (index.new ≡ set.of_list list.new.items) }
+    ensures same_list { OnErr result (list.new.items ≡ list.old.items) }
+    ensures same_index { OnErr result (index.new ≡ index.old) }
+{
+    list.push(*op)?;
+    let absorbed = index.absorb(op);
+    if absorbed.is_err() {
+        list.pop();
+    }
+    absorbed
+}
+
+// Puts operations at the end of the list, and makes the index anew, since nothing can be taken out of one. An error leaves
+// both. As many steps as an opening.
+fn append_all(
+    alloc: Global,
+    list: &mut Vec<Op>,
+    index: &mut Index,
+    ops: &[Op],
+) -> Result<(), AllocError>
+    ensures list { OnOk result (list.new.items ≡ list.old.items ++ ops.now) }
+    ensures index { OnOk result (index.new ≡ set.of_list list.new.items) }
+    ensures same_list { OnErr result (list.new.items ≡ list.old.items) }
+    ensures same_index { OnErr result (index.new ≡ index.old) }
+{
+    let mut longer = Vec::from_slice(alloc, list)?;
+    longer.extend_from_slice(ops)?;
+    let next = index_of(alloc, &longer)?;
+    *list = longer;
+    *index = next;
+    Ok(())
+}
+
+/// Puts a batch at the end of the list, and into the index. An error leaves both. An order's operation is put into the index
+/// as it is; for received ones the index is made anew.
+pub fn append(
+    alloc: Global,
+    list: &mut Vec<Op>,
+    index: &mut Index,
+    batch: &Batch,
+) -> Result<(), AllocError>
+    requires { index.old ≡ set.of_list list.old.items }
+    ensures list { OnOk result (list.new.items ≡ list.old.items ++ ops_of batch.now) }
+    ensures index { OnOk result (index.new ≡ set.of_list list.new.items) }
+    ensures same_list { OnErr result (list.new.items ≡ list.old.items) }
+    ensures same_index { OnErr result (index.new ≡ index.old) }
+{
+    match batch {
+        Batch::Ordered(op, _, _) => append_one(list, index, op),
+        Batch::Received(ops) => append_all(alloc, list, index, ops.as_slice()),
+    }
+}
+
+/// The maker of a batch, if there is one, goes on with what it gives. Takes no memory.
+pub fn give(bench: &mut Bench, batch: &Batch)
+    ensures { bench.new ∷ [] ≡ given_to batch.now (bench.old ∷ []) }
+{
+    if let Batch::Ordered(op, Some(pid), _) = batch {
+        bench.finish(*pid, op);
+    }
+}
+
+/// The maker of a batch, if there is one, goes on with nothing. Takes no memory.
+pub fn release(bench: &mut Bench, batch: &Batch)
+    ensures { bench.new ∷ [] ≡ released batch.now (bench.old ∷ []) }
+{
+    if let Batch::Ordered(_, Some(pid), _) = batch {
+        bench.cancel(*pid);
+    }
+}
+
+/// Desk 1, where a batch was ordered there, sees so many operations.
+pub fn tell(seen: &mut u64, batch: &Batch, count: u64)
+    ensures { seen.new ∷ [] ≡ told batch.now count (seen.old ∷ []) }
+{
+    if let Batch::Ordered(_, _, Some(1)) = batch {
+        *seen = count;
+    }
+}

@@ -1,0 +1,11 @@
+pub mod Numbered
+pub mod State
+pub mod Naming
+pub mod Waiting
+pub mod Begins
+pub mod Jobs
+pub mod Processes
+pub mod Receives
+pub mod Saves
+pub mod Publishes
+pub mod Openings
