@@ -36,8 +36,10 @@ pub fn law_one_spelling()
 /// What is reached through a registry is the least set that holds what is owned and, with the use of a group, all that the
 /// registry puts into the group. So more operations and more that is owned reach no less, and what is reached reaches no more.
 pub fn law_reach()
-    ensures roots { (ops : Op → Bool) (owned : Cap → Bool) → Within (Among owned) (Reached ops owned) }
-    ensures closed { (ops : Op → Bool) (owned : Cap → Bool) → IsClosed (Among ops) (Reached ops owned) }
+    ensures roots { (ops : Op → Bool) (owned : Cap → Bool)
+        → Within (Among owned) (Reached ops owned) }
+    ensures closed { (ops : Op → Bool) (owned : Cap → Bool)
+        → IsClosed (Among ops) (Reached ops owned) }
     ensures least { (ops : Op → Bool) (owned kept : Cap → Bool)
         → Within (Among owned) (Among kept) → IsClosed (Among ops) (Among kept)
         → Within (Reached ops owned) (Among kept) }

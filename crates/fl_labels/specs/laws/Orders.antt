@@ -23,7 +23,8 @@ module _ {K : Type 0} {R : K → K → Ordering} (o : IsTotalOrder R) (exact : I
   ties a b = (exact a b, λ e. ap (R a) (sym e) ∙ tied_itself o a)
 
   -- a test that holds of those that tie
-  pub equals : (E : K → K → Bool) → ((a b : K) → E a b ≡ eq_by_cmp R a b) → (a b : K) → IsTrue (E a b) ↔ (a ≡ b)
+  pub equals : (E : K → K → Bool) → ((a b : K) → E a b ≡ eq_by_cmp R a b) → (a b : K)
+      → IsTrue (E a b) ↔ (a ≡ b)
   equals E tied a b = (
     λ h. exact a b ((Equal-is (R a b)).0 (sym (tied a b) ∙ h)),
     λ e. tied a b ∙ ap is_eq (ap (R a) (sym e) ∙ tied_itself o a),

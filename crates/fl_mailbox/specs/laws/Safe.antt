@@ -8,9 +8,11 @@ use Rattle.fl_mailbox.specs.Offenders.{CrossesAt, DualAt, AllSafe}
 
 pub all_crosses : {E : Caps} (process : Labels) (table : Table) → AllSafe E process table
     → Within (CrossesAt process table) (DualAt E)
-all_crosses process table safe x at = safe_crosses at.0.mode process at.0.labels (safe x.endpoint at.0 at.1) x.tag at.2
+all_crosses process table safe x at =
+    safe_crosses at.0.mode process at.0.labels (safe x.endpoint at.0 at.1) x.tag at.2
 
-pub crosses_all : {E : Caps} (process : Labels) (table : Table) → Within (CrossesAt process table) (DualAt E)
+pub crosses_all : {E : Caps} (process : Labels) (table : Table)
+    → Within (CrossesAt process table) (DualAt E)
     → AllSafe E process table
 crosses_all process table all endpoint opened there =
     crosses_safe opened.mode process opened.labels

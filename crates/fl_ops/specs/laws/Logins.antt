@@ -33,15 +33,18 @@ digest_of x (MakeLogin c digest) = digest
 digest_of x other = x
 
 -- a name has one first login
-pub one_first : (U : Registry) (login : Name) (c d : Cap) (x y : Digest) → IsFirstLogin U login c x → IsFirstLogin U login d y → (c ≡ d) × (x ≡ y)
+pub one_first : (U : Registry) (login : Name) (c d : Cap) (x y : Digest) → IsFirstLogin U login c x
+    → IsFirstLogin U login d y → (c ≡ d) × (x ≡ y)
 unfolding cap_of digest_of
 one_first U login c d x y first second =
-    let same = level (login_op login c x) (login_op login d y) (first.least d y second.member) (second.least c x first.member) in
+    let same = level (login_op login c x) (login_op login d y) (first.least d y second.member)
+    (second.least c x first.member) in
     (ap (λ (op : Op). cap_of c op.body) same, ap (λ (op : Op). digest_of x op.body) same)
 
 -- registries with the same operations have the same first login of a name, or both have none
 module _ {U V : Registry} (same : (op : Op) → U op ↔ V op) (login : Name) where
-  pub first_kept : (c : Cap) (digest : Digest) → IsFirstLogin U login c digest → IsFirstLogin V login c digest
+  pub first_kept : (c : Cap) (digest : Digest) → IsFirstLogin U login c digest
+      → IsFirstLogin V login c digest
   first_kept c digest first = record {
     member = (same _).0 first.member;
     least = λ d other h. first.least d other ((same _).1 h);

@@ -12,7 +12,8 @@ chain_on here on = on
 chain_on (into h puts rest) on = into h puts (chain_on rest on)
 
 -- what is closed under puts has the end of a chain with its start
-pub chain_kept : {U : Op → Type 0} {P : Cap → Type 0} {a c : Cap} → IsClosed U P → Chain U a c → P a → P c
+pub chain_kept : {U : Op → Type 0} {P : Cap → Type 0} {a c : Cap} → IsClosed U P → Chain U a c → P a
+    → P c
 chain_kept closed here h = h
 chain_kept closed (into h puts rest) start = chain_kept closed rest (closed.step _ _ _ h puts start)
 

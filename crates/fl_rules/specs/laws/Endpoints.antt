@@ -9,7 +9,8 @@ use Rattle.fl_rules.specs.declared.endpoint.Mode.TheVariants.{Read, Write, Both}
 use Rattle.fl_rules.specs.declared.labels.Labels.{Labels}
 use Rattle.fl_rules.specs.Endpoint.{Crosses, SafeEndpoint}
 
-pub safe_crosses : {E : Caps} (mode : Mode) (process endpoint : Labels) → SafeEndpoint E mode process endpoint
+pub safe_crosses : {E : Caps} (mode : Mode) (process endpoint : Labels)
+    → SafeEndpoint E mode process endpoint
     → Within (Crosses mode process endpoint) (Dual E)
 safe_crosses Read process endpoint safe = safe.read refl
 safe_crosses Write process endpoint safe = safe.write refl
@@ -18,8 +19,10 @@ safe_crosses Both process endpoint safe =
 
 pub crosses_safe : {E : Caps} (mode : Mode) (process endpoint : Labels)
     → Within (Crosses mode process endpoint) (Dual E) → SafeEndpoint E mode process endpoint
-crosses_safe Read process endpoint all = record { read = λ _. all; write = λ e. absurd (false≢true e) }
-crosses_safe Write process endpoint all = record { read = λ e. absurd (false≢true e); write = λ _. all }
+crosses_safe Read process endpoint all =
+    record { read = λ _. all; write = λ e. absurd (false≢true e) }
+crosses_safe Write process endpoint all =
+    record { read = λ e. absurd (false≢true e); write = λ _. all }
 crosses_safe Both process endpoint all = record {
   read = λ _ t h. all t (inl h);
   write = λ _ t h. all t (inr h);
