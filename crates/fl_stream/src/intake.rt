@@ -66,7 +66,8 @@ impl<M: Machine> Intake<M> {
         self.room -= count;
         self.stream.take(alloc, &self.chunk[..count], output)?;
         self.stream.write_answers(output)?;
-        if input.send(output).is_err() {
+        let sent = input.send(output);
+        if sent.is_err() {
             return Err(RunFault::Write);
         }
         Ok(true)

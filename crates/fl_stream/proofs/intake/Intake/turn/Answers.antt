@@ -26,10 +26,10 @@ pub returns-then-is_err-clause-err : goal.returns-then-is_err-clause-err
 returns-then-is_err-clause-err g c =
     let len : c.args.self.now.chunk.len ≡ length c.hear.new.chunk = search rules in
     let same : c.deref.result.now ≡ c.hear.new.chunk = c.deref.ensures.value ∙ read_again c.hear.new.chunk _ len in
-    reading_cuts_unsent _ _ c.in-Ok.ensures.bytes.0 (rw same at c.in_ok-take.ensures.ok) c.in_ok-write_answers.ensures.ok c.send.ensures.bytes
+    reading_cuts_unsent _ _ c.in-Ok.ensures.bytes.0 (rw same at c.in_ok-take.ensures.ok) c.in_ok-write_answers.ensures.ok c.send-sent.ensures.bytes
 
 pub returns-clause-reads : goal.returns-clause-reads
 returns-clause-reads g c =
     let len : c.args.self.now.chunk.len ≡ length c.hear.new.chunk = search rules in
     let same : c.deref.result.now ≡ c.hear.new.chunk = c.deref.ensures.value ∙ read_again c.hear.new.chunk _ len in
-    reading_sent _ _ c.in-Ok.ensures.bytes.0 c.in-Ok.ensures.grows (rw same at c.in_ok-take.ensures.ok) c.in_ok-write_answers.ensures.ok c.send.ensures.bytes (omega (arith, c.in-Ok.ensures.bound.1))
+    reading_sent _ _ c.in-Ok.ensures.bytes.0 c.in-Ok.ensures.grows (rw same at c.in_ok-take.ensures.ok) c.in_ok-write_answers.ensures.ok c.send-sent.ensures.bytes (omega (arith, c.in-Ok.ensures.bound.1))
