@@ -43,7 +43,9 @@ born b pid p = record b { next = b.next + b.stride; processes = map.insert b.pro
 -- a state is stored as the tuple of its fields
 abbrev pub coded_state : Coded BenchState
 coded_state =
-    code_by (ℕ × (ℕ × (ℕ × (ℕ × map.FinMap pid_cmp Process)))) (coded× coded_ℕ (coded× coded_ℕ (coded× coded_ℕ (coded× coded_ℕ (map.code coded_pid (processes_row.the_row).coded)))))
+    code_by (ℕ × (ℕ × (ℕ × (ℕ × map.FinMap pid_cmp Process))))
+    (coded× coded_ℕ (coded× coded_ℕ (coded× coded_ℕ (coded× coded_ℕ
+    (map.code coded_pid (processes_row.the_row).coded)))))
     (λ b. (b.node, (b.boot, (b.next, (b.stride, b.processes)))))
     (λ t. record { node = t.0; boot = t.1.0; next = t.1.1.0; stride = t.1.1.1.0; processes = t.1.1.1.1 })
     (λ _. refl)

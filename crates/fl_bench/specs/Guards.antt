@@ -21,7 +21,9 @@ use Rattle.fl_mailbox.specs.Offenders.{offender_cmp, CrossesAt, DualAt}
 use Rattle.fl_mailbox.specs.declared.endpoints.OpenEndpoint.{OpenEndpoint}
 use Rattle.fl_mailbox.specs.declared.offender.Offender.{Offender}
 use Rattle.fl_jobs.specs.declared.answer.Refusal.{Refusal}
-use Rattle.fl_jobs.specs.declared.answer.Refusal.TheVariants.{MissingCap, UnsafeEndpoint, NotWritable, NotReadable, Secrecy, Integrity}
+use Rattle.fl_jobs.specs.declared.answer.Refusal.TheVariants.{MissingCap, UnsafeEndpoint}
+use Rattle.fl_jobs.specs.declared.answer.Refusal.TheVariants.{NotWritable, NotReadable, Secrecy}
+use Rattle.fl_jobs.specs.declared.answer.Refusal.TheVariants.{Integrity}
 use Rattle.fl_bench.specs.Checks.{Check, demand}
 
 -- of handing these on, by who has E in effect

@@ -25,7 +25,9 @@ use Rattle.fl_jobs.specs.declared.job.Job.{Job}
 use Rattle.fl_jobs.specs.declared.job.Job.TheVariants.{Proc, By, Member, Arrive}
 use Rattle.fl_jobs.specs.declared.secret.Secret.{Secret}
 use Rattle.fl_jobs.specs.declared.answer.Refusal.{Refusal}
-use Rattle.fl_jobs.specs.declared.answer.Refusal.TheVariants.{NoProcess, MissingCap, Secrecy, NoLogin, WrongSecret, NamesSpent, LabelTooLong, Memory, NotOwned, Busy}
+use Rattle.fl_jobs.specs.declared.answer.Refusal.TheVariants.{NoProcess, MissingCap, Secrecy}
+use Rattle.fl_jobs.specs.declared.answer.Refusal.TheVariants.{NoLogin, WrongSecret, NamesSpent}
+use Rattle.fl_jobs.specs.declared.answer.Refusal.TheVariants.{LabelTooLong, Memory, NotOwned, Busy}
 use Rattle.fl_jobs.specs.declared.answer.Reply.TheVariants.{Made, Done, Yes, NotYet, Entered, Emitted, Arrived}
 use Rattle.fl_jobs.specs.declared.answer.Outcome.{Outcome}
 use Rattle.fl_rules.specs.Safety.{Takes}
@@ -37,7 +39,8 @@ use Rattle.fl_bench.specs.Checks.{Check, no_check, fails, refuse_if, demand, wit
 use Rattle.fl_bench.specs.Secrets.{digest_of}
 use Rattle.fl_bench.specs.Guards.{grant_check, endpoints_check}
 use Rattle.fl_bench.specs.Mailbox.{mail_checks, arrival_checks, MailDoes, MailTakesMemory}
-use Rattle.fl_bench.specs.Process.{newborn, owns, is_busy, ordering, owning, child_of, effective, side_of, with_side, body_of, receiving, PutTakes}
+use Rattle.fl_bench.specs.Process.{newborn, owns, is_busy, ordering, owning, child_of, effective}
+use Rattle.fl_bench.specs.Process.{side_of, with_side, body_of, receiving, PutTakes}
 use Rattle.fl_bench.specs.Hand.{AtHand, Refuses}
 use Rattle.fl_bench.specs.Bench.{BenchState, has_at, gone, IsNext, born}
 use Rattle.fl_bench.specs.declared.process.Process.{Process}
@@ -101,7 +104,9 @@ checks V b Proc = serials_left b
 checks V b (By pid act) =
     with (map.get b.processes pid) (NoProcess pid) (λ p. act_checks V p act then bench_checks b act)
 checks V b (Member root c) = no_check
-checks V b (Arrive d) = with (map.get b.processes d.receiver) (NoProcess d.receiver) (λ q. refuse_if (is_busy q) Busy then arrival_checks q.mailbox d)
+checks V b (Arrive d) =
+    with (map.get b.processes d.receiver) (NoProcess d.receiver) (λ q.
+    refuse_if (is_busy q) Busy then arrival_checks q.mailbox d)
 
 -- ---- what a job leaves and answers
 

@@ -20,7 +20,8 @@ use Rattle.fl_mailbox.specs.declared.endpoints.OpenEndpoint.{OpenEndpoint}
 use Rattle.fl_jobs.specs.Given.{labels_of}
 use Rattle.fl_jobs.specs.declared.job.Mail.{Mail}
 use Rattle.fl_jobs.specs.declared.job.Mail.TheVariants.{Open, Tune, Close, Send, Take}
-use Rattle.fl_jobs.specs.declared.answer.Refusal.TheVariants.{NoEndpoint, EndpointsFull, NotWritable, LabelTooLong, InboxFull}
+use Rattle.fl_jobs.specs.declared.answer.Refusal.TheVariants.{NoEndpoint, EndpointsFull}
+use Rattle.fl_jobs.specs.declared.answer.Refusal.TheVariants.{NotWritable, LabelTooLong, InboxFull}
 use Rattle.fl_jobs.specs.declared.answer.Reply.{Reply}
 use Rattle.fl_jobs.specs.declared.answer.Reply.TheVariants.{Done, Opened as Answers_opened, Taken, Empty}
 use Rattle.fl_jobs.specs.declared.answer.Outcome.{Outcome}
@@ -32,10 +33,18 @@ use Rattle.fl_bench.specs.Hand.{Refuses}
 
 -- by a process of these labels and mailbox, which has E in effect
 abbrev pub mail_checks : Caps → Labels → Mailbox → Mail → Check
-mail_checks E process ch (Open mode given) = with (labels_of given) LabelTooLong (λ labels. with_found (IsLeastFree ch.endpoints) EndpointsFull (λ e. endpoint_check E process e mode labels))
-mail_checks E process ch (Tune e given) = with (labels_of given) LabelTooLong (λ labels. with (map.get ch.endpoints e) (NoEndpoint e) (λ opened. endpoint_check E process e opened.mode labels))
+mail_checks E process ch (Open mode given) =
+    with (labels_of given) LabelTooLong (λ labels.
+    with_found (IsLeastFree ch.endpoints) EndpointsFull (λ e.
+    endpoint_check E process e mode labels))
+mail_checks E process ch (Tune e given) =
+    with (labels_of given) LabelTooLong (λ labels.
+    with (map.get ch.endpoints e) (NoEndpoint e) (λ opened.
+    endpoint_check E process e opened.mode labels))
 mail_checks E process ch (Close e) = with (map.get ch.endpoints e) (NoEndpoint e) (λ _. no_check)
-mail_checks E process ch (Send from receiver to message) = with (map.get ch.endpoints from) (NoEndpoint from) (λ opened. refuse_if (not (writes opened.mode)) (NotWritable from) then grant_check E message.caps)
+mail_checks E process ch (Send from receiver to message) =
+    with (map.get ch.endpoints from) (NoEndpoint from) (λ opened.
+    refuse_if (not (writes opened.mode)) (NotWritable from) then grant_check E message.caps)
 mail_checks E process ch Take = no_check
 
 -- of a message that comes to these mailbox
@@ -46,7 +55,8 @@ arrival_checks ch d = with (map.get ch.endpoints d.to) (NoEndpoint d.to) (λ ope
 -- ---- effects
 
 -- the packet is of the message, from this endpoint of the process, with its labels
-pub record IsSent (sender : Pid) (from : Endpoint) (labels : Labels) (receiver : Pid) (to : Endpoint) (message : Message) (d : Data) : Type 0 where
+pub record IsSent (sender : Pid) (from : Endpoint) (labels : Labels) (receiver : Pid)
+    (to : Endpoint) (message : Message) (d : Data) : Type 0 where
   pub sender_is : d.sender ≡ sender
   pub from_is : d.from ≡ from
   pub receiver_is : d.receiver ≡ receiver

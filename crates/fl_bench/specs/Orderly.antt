@@ -6,7 +6,8 @@ use Rattle.fl_labels.specs.declared.pid.Pid.{Pid}
 use Rattle.fl_bench.specs.Bench.{BenchState}
 use Rattle.fl_bench.specs.declared.process.Process.{Process}
 
--- pid is one of those that the bench gives: of its node and boot, with a serial that some strides lead to or from the next
+-- pid is one of those that the bench gives: of its node and boot, with a serial that is some strides
+-- away from the next
 pub record IsOwn (b : BenchState) (pid : Pid) : Type 0 where
   pub node_is : pid.node ≡ b.node
   pub boot_is : pid.boot ≡ b.boot

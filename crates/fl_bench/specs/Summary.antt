@@ -43,7 +43,8 @@ pub data Changes (V : Registry) (b : BenchState) (job : Job) (after : BenchState
   loses : (pid : Pid) → job ≡ By pid Exit → after ≡ gone b pid → Changes V b job after
 
 -- the job is the order of an idle process that stands as pid, and may ask for it
-pub record IsOrder (V : Registry) (b : BenchState) (job : Job) (body : Body) (pid : Pid) (after : BenchState) : Type 0 where
+pub record IsOrder (V : Registry) (b : BenchState) (job : Job) (body : Body) (pid : Pid)
+    (after : BenchState) : Type 0 where
   pub process : Process
   pub lived : map.get b.processes pid ≡ Some process
   pub idle : is_busy process ≡ false

@@ -36,15 +36,16 @@ pub fn law_one_step()
         r ≢ Err Memory → s ≢ Err Memory → (r ≡ s) × (c ≡ d) }
 {}
 
-/// What comes of any job: it is refused and leaves the bench, orders an operation and marks its process, sends a packet and leaves the
-/// bench, or replies; and then it leaves all, changes one process whose labels follow, bears one, or loses the one that asked to go.
+/// What comes of any job: it is refused and leaves the bench, orders an operation and marks its
+/// process, sends a packet and leaves the bench, or replies; and then it leaves all, changes one
+/// process whose labels follow, bears one, or loses the one that asked to go.
 pub fn law_summary()
     ensures { (ops : List Op) (b after : BenchState) (job : Job) (result : Result Outcome Refusal) →
         Does (Listed ops) b job result after → Summary (Listed ops) b job result after }
 {}
 
-/// From its opening on, a bench has processes under pids that it gave alone: of its node and boot, with serials below the next
-/// one that are as far from it as some strides.
+/// From its opening on, a bench has processes under pids that it gave alone: of its node and boot,
+/// with serials below the next one that are as far from it as some strides.
 pub fn law_orderly()
     ensures opened { (node boot index stride : ℕ) →
         0 < index → 0 < stride → IsOrderly (new_bench node boot index stride) }
@@ -54,9 +55,9 @@ pub fn law_orderly()
     ensures cancel { (b : BenchState) (maker : Pid) → IsOrderly b → IsOrderly (cancelled b maker) }
 {}
 
-/// Two benches whose next serials have different residues by one stride give different pids, for good: no process of the one is
-/// called as one of the other, and no new one is. Benches that open under different indices are two such, and a job leaves the
-/// residue (`law_births`).
+/// Two benches whose next serials have different residues by one stride give different pids, for
+/// good: no process of the one is called as one of the other, and no new one is. Benches that open
+/// under different indices are two such, and a job leaves the residue (`law_births`).
 pub fn law_apart()
     ensures opened { (stride i j : ℕ) → 0 < i → i ≤ stride → 0 < j → j ≤ stride → i ≢ j → i % stride ≢ j % stride }
     ensures next { (a b : BenchState) (p q : Pid) → a.stride ≡ b.stride → a.next % a.stride ≢ b.next % b.stride →
@@ -66,8 +67,8 @@ pub fn law_apart()
         map.get a.processes p ≡ Some x → map.get b.processes q ≡ Some y → p ≢ q }
 {}
 
-/// No label of a process gains or loses what its process had not in effect: whatever a job is answered, and when an
-/// operation is finished or cancelled.
+/// No label of a process gains or loses what its process had not in effect: whatever a job is
+/// answered, and when an operation is finished or cancelled.
 pub fn law_labels()
     ensures job { (ops : List Op) (b after : BenchState) (job : Job) (result : Result Outcome Refusal)
         (pid : Pid) → IsOrderly b → Does (Listed ops) b job result after →
@@ -78,9 +79,10 @@ pub fn law_labels()
         Follows (Listed ops) (map.get b.processes pid) (map.get (cancelled b maker).processes pid) }
 {}
 
-/// A process that comes to a bench was born by the job, under the next serial: it has nothing, or it has the labels of
-/// its parent and owns a part of what its parent has in effect. The next serial never falls and keeps its residue, so no pid is
-/// given twice: not while its process stands there, and not later. The end of an operation brings no process.
+/// A process that comes to a bench was born by the job, under the next serial: it has nothing, or
+/// it has the labels of its parent and owns a part of what its parent has in effect. The next
+/// serial never falls and keeps its residue, so no pid is given twice: not while its process stands
+/// there, and not later. The end of an operation brings no process.
 pub fn law_births()
     ensures job { (ops : List Op) (b after : BenchState) (job : Job) (result : Result Outcome Refusal) (pid : Pid)
         (child : Process) → Does (Listed ops) b job result after → map.get b.processes pid ≡ None →
@@ -98,7 +100,8 @@ pub fn law_births()
         map.get (cancelled b maker).processes pid ≡ None) }
 {}
 
-/// A process leaves a bench only by its own exit. To finish or cancel an operation removes no process.
+/// A process leaves a bench only by its own exit. To finish or cancel an operation removes no
+/// process.
 pub fn law_exits()
     ensures job { (ops : List Op) (b after : BenchState) (job : Job) (result : Result Outcome Refusal) (pid : Pid)
         (old : Process) → Does (Listed ops) b job result after → map.get b.processes pid ≡ Some old →
@@ -109,9 +112,9 @@ pub fn law_exits()
         map.get b.processes pid ≡ Some old → map.get (cancelled b maker).processes pid ≡ None → ⊥ }
 {}
 
-/// What a process owns after a job it owned before, was born with as a part of what its parent has in effect, entered by
-/// a secret, or got in a message that came. After its operation it owns besides what that gives its maker, and nothing
-/// more where the operation is cancelled.
+/// What a process owns after a job it owned before, was born with as a part of what its parent has
+/// in effect, entered by a secret, or got in a message that came. After its operation it owns
+/// besides what that gives its maker, and nothing more where the operation is cancelled.
 pub fn law_owned()
     ensures job { (ops : List Op) (b after : BenchState) (job : Job) (result : Result Outcome Refusal) (pid : Pid)
         (cap : Cap) → Does (Listed ops) b job result after → OwnsAt after pid cap →
@@ -122,9 +125,9 @@ pub fn law_owned()
         OwnsAt (cancelled b maker) pid cap → OwnsAt b pid cap }
 {}
 
-/// From the opening of a bench on, each open endpoint of its processes is safe by what its process has in effect:
-/// whatever a job is answered, also under a view that lags, which has a part of the operations; when an operation is finished
-/// or cancelled; and when the registry grows.
+/// From the opening of a bench on, each open endpoint of its processes is safe by what its process
+/// has in effect: whatever a job is answered, also under a view that lags, which has a part of the
+/// operations; when an operation is finished or cancelled; and when the registry grows.
 pub fn law_endpoints()
     ensures opened { (ops : List Op) (number boot index stride : ℕ) →
         IsGuarded (Listed ops) (new_bench number boot index stride) }
@@ -139,9 +142,10 @@ pub fn law_endpoints()
         Within (Listed ops) (Listed more) → IsGuarded (Listed ops) b → IsGuarded (Listed more) b }
 {}
 
-/// A message that a job sent and another took in, at benches whose open endpoints are safe under some operations each, is safe
-/// from its sender to its receiver, by the labels that each had then and by what each had in effect under those: whatever
-/// view the one was sent under, and the other taken in.
+/// A message that a job sent and another took in, at benches whose open endpoints are safe under
+/// some operations each, is safe from its sender to its receiver, by the labels that each had then
+/// and by what each had in effect under those: whatever view the one was sent under, and the other
+/// taken in.
 pub fn law_arrivals()
     ensures { (sending earlier taking ops : List Op) (a sent b after : BenchState) (job : Job) (message : Data)
         (outcome : Outcome) (p q : Process) →
@@ -152,8 +156,8 @@ pub fn law_arrivals()
         SafeMessage (effective (Listed earlier) p) p.labels (effective (Listed ops) q) q.labels }
 {}
 
-/// What is taken back leaves no trace: a bench where an order was cancelled is as it was before the order, and so is one that
-/// sent a packet, or refused a job.
+/// What is taken back leaves no trace: a bench where an order was cancelled is as it was before the
+/// order, and so is one that sent a packet, or refused a job.
 pub fn law_taken_back()
     ensures order { (ops : List Op) (b after : BenchState) (job : Job) (body : Body) (pid : Pid) →
         Does (Listed ops) b job (Ok (Outcome.Order body pid)) after → cancelled after pid ≡ b }

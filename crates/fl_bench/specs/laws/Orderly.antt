@@ -1,6 +1,7 @@
--- What keeps a bench orderly: a process that is put in the place of another, one that is born or gone, and the end of an
--- operation.
-use Rattle.std.proofs.Common.{◌≡◌, ◌<◌, ◌≤◌, ◌+◌, ◌%◌, ◌∙◌, ◌⊎◌, inl, inr, refl, sym, ap, subst, List, ℕ, Option, Some, None, arith}
+-- What keeps a bench orderly: a process that is put in the place of another, one that is born or
+-- gone, and the end of an operation.
+use Rattle.std.proofs.Common.{◌≡◌, ◌<◌, ◌≤◌, ◌+◌, ◌%◌, ◌∙◌, ◌⊎◌, inl, inr, refl, sym, ap, subst}
+use Rattle.std.proofs.Common.{List, ℕ, Option, Some, None, arith}
 use native.Mathlib.Nat.{add-mod_right}
 use Rattle.std.specs.FinMap as map
 use Rattle.fl_labels.specs.Pid.{pid_cmp}
@@ -16,12 +17,22 @@ use Rattle.fl_bench.specs.laws.Puts.{get_put, left_there, none_some}
 pub opened_orderly : (node boot index stride : ℕ) → 0 < index → 0 < stride
     → IsOrderly (new_bench node boot index stride)
 opened_orderly node boot index stride begun forward =
-    record { begun = begun; forward = forward; each = λ pid p e. absurd (none_some (map.get-empty pid_cmp pid) e) }
+    record {
+      begun = begun;
+      forward = forward;
+      each = λ pid p e. absurd
+          (none_some (map.get-empty pid_cmp pid) e);
+    }
 
 -- the next pid is one that the bench gives
 pub next_own : {b : BenchState} {pid : Pid} → IsNext b pid → IsOwn b pid
 next_own {b} next =
-    record { node_is = next.node; boot_is = next.boot; residue_is = ap (λ n. n % b.stride) next.serial }
+    record {
+      node_is = next.node;
+      boot_is = next.boot;
+      residue_is = ap (λ n. n % b.stride)
+          next.serial;
+    }
 
 -- what holds of the keys of a table, and of the one where something is put
 put_each : {P : Pid → Type 0} (m : map.FinMap pid_cmp Process) (pid : Pid) (new : Process) → P pid
@@ -37,19 +48,27 @@ put_each {P} m pid new here each k x e = by_place (get_put pid_total pid_exact m
 module _ {b : BenchState} (h : IsOrderly b) where
   -- whoever is there was given by the bench
   pub with_processes : (m : map.FinMap pid_cmp Process)
-      → ((k : Pid) (x : Process) → map.get m k ≡ Some x → IsGiven b k) → IsOrderly (record b { processes = m })
-  with_processes m each = record { begun = h.begun; forward = h.forward; each = λ k x e. moved k (each k x e) }
+      → ((k : Pid) (x : Process) → map.get m k ≡ Some x → IsGiven b k) → IsOrderly
+      (record b { processes = m })
+  with_processes m each =
+      record { begun = h.begun; forward = h.forward; each = λ k x e. moved k (each k x e) }
     where
       moved : (k : Pid) → IsGiven b k → IsGiven (record b { processes = m }) k
       moved k g = record {
-        own = record { node_is = g.own.node_is; boot_is = g.own.boot_is; residue_is = g.own.residue_is };
+        own =
+            record {
+              node_is = g.own.node_is;
+              boot_is = g.own.boot_is;
+              residue_is = g.own.residue_is;
+            };
         below = g.below;
       }
 
   pub put_orderly : (pid : Pid) (old new : Process) → map.get b.processes pid ≡ Some old
       → IsOrderly (has_at b pid new)
   put_orderly pid old new e =
-      with_processes (map.insert b.processes pid new) (put_each b.processes pid new (h.each pid old e) h.each)
+      with_processes (map.insert b.processes pid new)
+      (put_each b.processes pid new (h.each pid old e) h.each)
 
   pub gone_orderly : (pid : Pid) → IsOrderly (gone b pid)
   gone_orderly pid = with_processes (map.remove b.processes pid)

@@ -1,4 +1,5 @@
--- A message that comes to a guarded bench is safe from its sender to its receiver, whatever views both benches worked under.
+-- A message that comes to a guarded bench is safe from its sender to its receiver, whatever views
+-- both benches worked under.
 use Rattle.std.proofs.Common.{◌≡◌, inl, inr, refl, sym, ap, subst, Option, Some, None, Ok}
 use Rattle.std.specs.Prelude.{nat_le, length}
 use Rattle.std.proofs.lemmas.Bool.{false≢true}
@@ -39,14 +40,20 @@ use Rattle.fl_bench.specs.laws.Orders.{sending_at}
 
 -- ---- open endpoints
 
-ways_safe : (E : Cap → Type 0) (mode : Mode) (process endpoint : Labels) → Within (Crosses mode process endpoint) (Dual E) → SafeEndpoint E mode process endpoint
+ways_safe : (E : Cap → Type 0) (mode : Mode) (process endpoint : Labels)
+    → Within (Crosses mode process endpoint) (Dual E) → SafeEndpoint E mode process endpoint
 ways_safe E Read process endpoint h = record { read = λ e. h; write = λ e. absurd (false≢true e) }
 ways_safe E Write process endpoint h = record { read = λ e. absurd (false≢true e); write = λ e. h }
-ways_safe E Both process endpoint h = record { read = λ e tag c. h tag (inl c); write = λ e tag c. h tag (inr c) }
+ways_safe E Both process endpoint h =
+    record { read = λ e tag c. h tag (inl c); write = λ e tag c. h tag (inr c) }
 
 -- one of a guarded process
-pub open_safe : (V : Op → Type 0) (p : Process) (e : Endpoint) (end : OpenEndpoint) → Guarded V p → map.get p.mailbox.endpoints e ≡ Some end → SafeEndpoint (effective V p) end.mode p.labels end.labels
-open_safe V p e end h is = ways_safe (effective V p) end.mode p.labels end.labels (λ tag c. h (record { endpoint = e; tag = tag }) (end, is, c))
+pub open_safe : (V : Op → Type 0) (p : Process) (e : Endpoint) (end : OpenEndpoint) → Guarded V p
+    → map.get p.mailbox.endpoints e ≡ Some end
+    → SafeEndpoint (effective V p) end.mode p.labels end.labels
+open_safe V p e end h is =
+    ways_safe (effective V p) end.mode p.labels end.labels
+    (λ tag c. h (record { endpoint = e; tag = tag }) (end, is, c))
 
 -- ---- the receiver
 
@@ -59,19 +66,28 @@ record Entered (ch : Mailbox) (d : Data) : Type 0 where
 entered_at : (ch : Mailbox) (d : Data) → arrival_checks ch d None → Entered ch d
 entered_at ch d h = by_found (map.get ch.endpoints d.to) refl h
   where
-    by_found : (o : Option OpenEndpoint) → map.get ch.endpoints d.to ≡ o → with o (NoEndpoint d.to) (λ end. pair_check d end then refuse_if (nat_le 256 (length ch.inbox)) InboxFull) None → Entered ch d
+    by_found : (o : Option OpenEndpoint) → map.get ch.endpoints d.to ≡ o
+        → with o (NoEndpoint d.to) (λ end. pair_check d end then refuse_if
+        (nat_le 256 (length ch.inbox)) InboxFull) None
+        → Entered ch d
     by_found None e h = absurd (cc)
     by_found (Some end) e h = record { end = end; is_open = e; pair = h.0 }
 
-module _ {V : Op → Type 0} {b after : BenchState} {d : Data} {x : Outcome} (q : Process) (lives : map.get b.processes d.receiver ≡ Some q) where
+module _ {V : Op → Type 0} {b after : BenchState} {d : Data} {x : Outcome} (q : Process)
+    (lives : map.get b.processes d.receiver ≡ Some q) where
   entered : Does V b (Arrive d) (Ok x) after → Entered q.mailbox d
-  entered (passed s f) = entered_at q.mailbox d (subst (λ o. with o (NoProcess d.receiver) (λ q. refuse_if (is_busy q) Busy then arrival_checks q.mailbox d) None) lives s).1
+  entered (passed s f) =
+      entered_at q.mailbox d (subst (λ o. with o (NoProcess d.receiver)
+      (λ q. refuse_if (is_busy q) Busy then arrival_checks q.mailbox d) None) lives s).1
 
   -- a message from a safe endpoint of a process of these labels, which has E in effect
-  pub arrival_safe : {W : Op → Type 0} {E : Cap → Type 0} {p : Labels} → IsGuarded W b → Does V b (Arrive d) (Ok x) after → SafeEndpoint E (sent_from d).mode p (sent_from d).labels → SafeMessage E p (effective W q) q.labels
+  pub arrival_safe : {W : Op → Type 0} {E : Cap → Type 0} {p : Labels} → IsGuarded W b
+      → Does V b (Arrive d) (Ok x) after → SafeEndpoint E (sent_from d).mode p (sent_from d).labels
+      → SafeMessage E p (effective W q) q.labels
   arrival_safe {W} {E} {p} h does left =
       let at = entered does in
-      message_safe {e = sent_from d} {f = end_of at.end} (λ c e. e) (λ c e. e) left (open_safe W q d.to at.end (h.each d.receiver q lives) at.is_open) at.pair
+      message_safe {e = sent_from d} {f = end_of at.end} (λ c e. e) (λ c e. e) left
+      (open_safe W q d.to at.end (h.each d.receiver q lives) at.is_open) at.pair
 
 -- ---- the sender
 
@@ -79,17 +95,26 @@ same_packet : {d e : Data} → packets.Data d ≡ packets.Data e → d ≡ e
 same_packet e = ap (λ (p : Packet). elim p [ packets.Data d ↦ d ]) e
 
 module _ {V W : Op → Type 0} {b : BenchState} {job : Job} where
-  left_safe : (o : Packet) (s : IsSending V b job o) → IsGuarded W b → SafeEndpoint (effective W s.process) Write s.process.labels (sent_from s.sent).labels
+  left_safe : (o : Packet) (s : IsSending V b job o) → IsGuarded W b
+      → SafeEndpoint (effective W s.process) Write s.process.labels (sent_from s.sent).labels
   left_safe o s h =
-      let safe = open_safe W s.process s.sent.from s.opened (h.each s.sent.sender s.process s.lived) s.is_open in
-      let same : s.opened.labels ≡ (sent_from s.sent).labels = λ i. record { secrecy = sym s.secrecy_is i; integrity = sym s.integrity_is i } in
-      subst (λ l. SafeEndpoint (effective W s.process) Write s.process.labels l) same (record { read = λ e. absurd (false≢true e); write = λ e. safe.write s.writable })
+      let safe = open_safe W s.process s.sent.from s.opened (h.each s.sent.sender s.process s.lived)
+      s.is_open in
+      let same : s.opened.labels ≡ (sent_from s.sent).labels = λ i. record
+      { secrecy = sym s.secrecy_is i; integrity = sym s.integrity_is i } in
+      subst (λ l. SafeEndpoint (effective W s.process) Write s.process.labels l) same
+      (record { read = λ e. absurd (false≢true e); write = λ e. safe.write s.writable })
 
   -- a message that is sent left a safe endpoint
-  pub sent_safe : {after : BenchState} (d : Data) (p : Process) → map.get b.processes d.sender ≡ Some p → IsGuarded W b → Does V b job (Ok (Outcome.Out (packets.Data d))) after → SafeEndpoint (effective W p) (sent_from d).mode p.labels (sent_from d).labels
+  pub sent_safe : {after : BenchState} (d : Data) (p : Process)
+      → map.get b.processes d.sender ≡ Some p → IsGuarded W b
+      → Does V b job (Ok (Outcome.Out (packets.Data d))) after
+      → SafeEndpoint (effective W p) (sent_from d).mode p.labels (sent_from d).labels
   sent_safe d p lived h does =
       let s = sending_at does in
       let e : s.sent ≡ d = same_packet (sym s.packet_is) in
-      let who : s.process ≡ p = same_found (subst (λ (k : Data). map.get b.processes k.sender ≡ Some s.process) e s.lived) lived in
+      let who : s.process ≡ p = same_found
+      (subst (λ (k : Data). map.get b.processes k.sender ≡ Some s.process) e s.lived) lived in
       subst (λ (k : Data). SafeEndpoint (effective W p) Write p.labels (sent_from k).labels) e
-      (subst (λ (r : Process). SafeEndpoint (effective W r) Write r.labels (sent_from s.sent).labels) who (left_safe (packets.Data d) s h))
+      (subst (λ (r : Process). SafeEndpoint (effective W r) Write r.labels
+      (sent_from s.sent).labels) who (left_safe (packets.Data d) s h))

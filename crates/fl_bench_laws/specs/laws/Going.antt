@@ -20,10 +20,26 @@ use Rattle.fl_bench_laws.specs.laws.Changes.{does_changes, settles_keeps}
 
 module _ (b : BenchState) where
   pub goes_same : GoesOn b b
-  goes_same = record { node_is = refl; boot_is = refl; stride_is = refl; forward = omega arith; residue_is = refl }
+  goes_same =
+      record {
+        node_is = refl;
+        boot_is = refl;
+        stride_is = refl;
+        forward = omega arith;
+        residue_is =
+            refl;
+      }
 
   goes_with : (m : map.FinMap pid_cmp Process) → GoesOn b (record b { processes = m })
-  goes_with m = record { node_is = refl; boot_is = refl; stride_is = refl; forward = omega arith; residue_is = refl }
+  goes_with m =
+      record {
+        node_is = refl;
+        boot_is = refl;
+        stride_is = refl;
+        forward = omega arith;
+        residue_is =
+            refl;
+      }
 
   goes_born : (pid : Pid) (child : Process) → GoesOn b (born b pid child)
   goes_born pid child = record {
@@ -45,7 +61,8 @@ goes_longer g h = record {
 }
 
 -- the pid of who stands at a bench is never the next one again
-pub never_next : {b later : BenchState} {pid next : Pid} {p : Process} → IsOrderly b → map.get b.processes pid ≡ Some p
+pub never_next : {b later : BenchState} {pid next : Pid} {p : Process} → IsOrderly b
+    → map.get b.processes pid ≡ Some p
     → GoesOn b later → IsNext later next → next ≢ pid
 never_next {pid} {p} h there on is same =
     let below = (h.each pid p there).below in
@@ -55,14 +72,17 @@ never_next {pid} {p} h there on is same =
 module _ (V : Op → Type 0) (b : BenchState) where
   keeps_going : {after : BenchState} → Keeps V b after → GoesOn b after
   keeps_going (stays e) = subst (GoesOn b) (sym e) (goes_same b)
-  keeps_going (turns q old new there h is) = subst (GoesOn b) (sym is) (goes_with b (map.insert b.processes q new))
+  keeps_going (turns q old new there h is) =
+      subst (GoesOn b) (sym is) (goes_with b (map.insert b.processes q new))
 
   changes_going : {job : Job} {after : BenchState} → Changes V b job after → GoesOn b after
   changes_going (keeps k) = keeps_going k
   changes_going (bears q new birth is) = subst (GoesOn b) (sym is) (goes_born b q new)
-  changes_going (loses q asked is) = subst (GoesOn b) (sym is) (goes_with b (map.remove b.processes q))
+  changes_going (loses q asked is) =
+      subst (GoesOn b) (sym is) (goes_with b (map.remove b.processes q))
 
-  pub does_going : {job : Job} {r : Result Outcome Refusal} {after : BenchState} → Does V b job r after → GoesOn b after
+  pub does_going : {job : Job} {r : Result Outcome Refusal} {after : BenchState}
+      → Does V b job r after → GoesOn b after
   does_going d = changes_going (does_changes V d)
 
   -- a finish and a cancel

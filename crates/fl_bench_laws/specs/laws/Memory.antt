@@ -23,7 +23,11 @@ use Rattle.fl_jobs.specs.declared.job.Order as orders
 use Rattle.fl_jobs.specs.declared.job.Order.TheVariants.{Tag, Group, Put, MakeLogin}
 use Rattle.fl_jobs.specs.declared.secret.Secret.{Secret}
 use Rattle.fl_jobs.specs.declared.answer.Refusal.{Refusal}
-use Rattle.fl_jobs.specs.declared.answer.Refusal.TheVariants.{NoProcess, Busy, NamesSpent, LabelTooLong, NotOwned, MissingCap, Secrecy, UnsafeEndpoint, EndpointsFull, NoEndpoint, NotWritable, InboxFull, Memory}
+use Rattle.fl_jobs.specs.declared.answer.Refusal.TheVariants.{NoProcess, Busy, NamesSpent}
+use Rattle.fl_jobs.specs.declared.answer.Refusal.TheVariants.{LabelTooLong, NotOwned, MissingCap}
+use Rattle.fl_jobs.specs.declared.answer.Refusal.TheVariants.{Secrecy, UnsafeEndpoint}
+use Rattle.fl_jobs.specs.declared.answer.Refusal.TheVariants.{EndpointsFull, NoEndpoint}
+use Rattle.fl_jobs.specs.declared.answer.Refusal.TheVariants.{NotWritable, InboxFull, Memory}
 use Rattle.fl_jobs.specs.declared.answer.Outcome.{Outcome}
 use Rattle.fl_rules.specs.declared.labels.Labels.{Labels}
 use Rattle.fl_rules.specs.declared.pair.PairFault.{PairFault}
@@ -38,7 +42,8 @@ use Rattle.fl_bench.specs.Guards.{entry_refusal, pair_check, endpoints_check, un
 use Rattle.fl_bench.specs.Mailbox.{mail_checks, arrival_checks}
 use Rattle.fl_bench.specs.Process.{owns, is_busy, effective, with_side}
 use Rattle.fl_bench.specs.Bench.{BenchState}
-use Rattle.fl_bench.specs.Jobs.{order_checks, enter_check, checks_of, act_checks, bench_checks, checks, Does, passed, failed, no_room, TakesMemory}
+use Rattle.fl_bench.specs.Jobs.{order_checks, enter_check, checks_of, act_checks, bench_checks}
+use Rattle.fl_bench.specs.Jobs.{checks, Does, passed, failed, no_room, TakesMemory}
 use Rattle.fl_bench.specs.declared.process.Process.{Process}
 
 -- the check does not find it
@@ -55,7 +60,8 @@ never_if : (test : Bool) (f : Refusal) → f ≢ Memory → NeverWants (refuse_i
 never_if true f other = never_fails f other
 never_if false f other = never_said
 
-never_then : (first second : Check) → NeverWants first → NeverWants second → NeverWants (first then second)
+never_then : (first second : Check) → NeverWants first → NeverWants second
+    → NeverWants (first then second)
 never_then first second one two None h e = cc
 never_then first second one two (Some f) (inl h) e = one (Some f) h e
 never_then first second one two (Some f) (inr h) e = two (Some f) h.1 e
@@ -79,11 +85,14 @@ never_found Finds f more other each v h e = never_with h.0 f more other each v h
 never_cap : (P E : Caps) → NeverWants (demand cap_cmp P E MissingCap)
 never_cap P E = never_demand cap_cmp P E MissingCap (λ x e. cc)
 
-never_endpoint : (e : Endpoint) (P Q : Name → Type 0) → NeverWants (demand name_cmp P Q (UnsafeEndpoint e))
+never_endpoint : (e : Endpoint) (P Q : Name → Type 0)
+    → NeverWants (demand name_cmp P Q (UnsafeEndpoint e))
 never_endpoint e P Q = never_demand name_cmp P Q (UnsafeEndpoint e) (λ x e. cc)
 
-never_endpoints : (E : Caps) (process : Labels) (table : Table) → NeverWants (endpoints_check E process table)
-never_endpoints E process table = never_demand offender_cmp (CrossesAt process table) (DualAt E) unsafe_by (λ x e. cc)
+never_endpoints : (E : Caps) (process : Labels) (table : Table)
+    → NeverWants (endpoints_check E process table)
+never_endpoints E process table =
+    never_demand offender_cmp (CrossesAt process table) (DualAt E) unsafe_by (λ x e. cc)
 
 never_order : (E : Caps) (order : orders.Order) → NeverWants (order_checks E order)
 never_order E (Tag policy) = never_said
@@ -91,7 +100,8 @@ never_order E Group = never_said
 never_order E (Put group c) = never_cap _ E
 never_order E (MakeLogin c secret) = never_cap _ E
 
-never_enter : (V : Op → Type 0) (login : Name) (secret : Secret) → NeverWants (enter_check V login secret)
+never_enter : (V : Op → Type 0) (login : Name) (secret : Secret)
+    → NeverWants (enter_check V login secret)
 never_enter V login secret None h e = cc
 never_enter V login secret (Some f) (inl h) e = let is = h.0 in cc
 never_enter V login secret (Some f) (inr h) e = let is = h.0 in cc
@@ -99,9 +109,11 @@ never_enter V login secret (Some f) (inr h) e = let is = h.0 in cc
 never_mail : (E : Caps) (process : Labels) (ch : Mailbox) (work : mailbox.Mail)
     → NeverWants (mail_checks E process ch work)
 never_mail E process ch (Open mode given) = never_with (labels_of given) LabelTooLong _ (λ e. cc)
-    (λ labels. never_found (IsLeastFree ch.endpoints) EndpointsFull _ (λ e. cc) (λ e. never_endpoint e _ _))
+    (λ labels. never_found (IsLeastFree ch.endpoints) EndpointsFull _ (λ e. cc)
+    (λ e. never_endpoint e _ _))
 never_mail E process ch (Tune e given) = never_with (labels_of given) LabelTooLong _ (λ e. cc)
-    (λ labels. never_with (map.get ch.endpoints e) (NoEndpoint e) _ (λ e. cc) (λ opened. never_endpoint e _ _))
+    (λ labels. never_with (map.get ch.endpoints e) (NoEndpoint e) _ (λ e. cc)
+    (λ opened. never_endpoint e _ _))
 never_mail E process ch (Close e) =
     never_with (map.get ch.endpoints e) (NoEndpoint e) _ (λ e. cc) (λ opened. never_said)
 never_mail E process ch (Send from receiver to message) =
@@ -126,13 +138,15 @@ never_arrival ch d = never_with (map.get ch.endpoints d.to) (NoEndpoint d.to) _ 
 never_act : (V : Op → Type 0) (p : Process) (act : Act) → NeverWants (checks_of V p act)
 never_act V p (Order order) = never_order (effective V p) order
 never_act V p (Relabel side (Ok label)) =
-    never_then _ _ (never_cap _ _) (never_endpoints (effective V p) (with_side side label p.labels) p.mailbox.endpoints)
+    never_then _ _ (never_cap _ _) (never_endpoints (effective V p) (with_side side label p.labels)
+    p.mailbox.endpoints)
 never_act V p (Relabel side (Err long)) = never_fails LabelTooLong (λ e. cc)
 never_act V p (Ask c) = never_said
 never_act V p (Spawn caps) = never_cap _ _
 never_act V p Exit = never_said
 never_act V p (Drop c) =
-    never_then _ _ (never_if _ (NotOwned c) (λ e. cc)) (never_endpoints (InEffect V (In (set.remove (owns p) c))) p.labels p.mailbox.endpoints)
+    never_then _ _ (never_if _ (NotOwned c) (λ e. cc))
+    (never_endpoints (InEffect V (In (set.remove (owns p) c))) p.labels p.mailbox.endpoints)
 never_act V p (Enter login secret) = never_enter V login secret
 never_act V p (Emit bytes) = never_demand name_cmp _ _ Secrecy (λ x e. cc)
 never_act V p (Mail work) = never_mail (effective V p) p.labels p.mailbox work
@@ -152,12 +166,15 @@ module _ (V : Op → Type 0) (b : BenchState) where
   never_job : (job : Job) → NeverWants (checks V b job)
   never_job Proc = never_if _ NamesSpent (λ e. cc)
   never_job (By pid act) = never_with (map.get b.processes pid) (NoProcess pid) _ (λ e. cc)
-      (λ p. never_then _ _ (never_then _ _ (never_if _ Busy (λ e. cc)) (never_act V p act)) (never_spent b act))
+      (λ p. never_then _ _ (never_then _ _ (never_if _ Busy (λ e. cc)) (never_act V p act))
+      (never_spent b act))
   never_job (Member root c) = never_said
-  never_job (Arrive d) = never_with (map.get b.processes d.receiver) (NoProcess d.receiver) _ (λ e. cc)
+  never_job (Arrive d) =
+      never_with (map.get b.processes d.receiver) (NoProcess d.receiver) _ (λ e. cc)
       (λ q. never_then _ _ (never_if _ Busy (λ e. cc)) (never_arrival q.mailbox d))
 
-  pub memory_wanted : {job : Job} {after : BenchState} → Does V b job (Err Memory) after → TakesMemory V b job
+  pub memory_wanted : {job : Job} {after : BenchState} → Does V b job (Err Memory) after
+      → TakesMemory V b job
   memory_wanted {job} d = by_cause d
     where
       by_cause : {after : BenchState} → Does V b job (Err Memory) after → TakesMemory V b job

@@ -34,7 +34,8 @@ use Rattle.fl_bench.specs.Mailbox.{arrival_checks}
 use Rattle.fl_bench.specs.Secrets.{digest_of}
 use Rattle.fl_bench.specs.Process.{newborn, owns, owning, child_of, is_busy, effective, receiving}
 use Rattle.fl_bench.specs.Bench.{BenchState, IsNext, has_at, born}
-use Rattle.fl_bench.specs.Jobs.{order_checks, enter_check, checks_of, act_checks, bench_checks, checks, Answers, Performs, Effect, Does, passed, failed, no_room}
+use Rattle.fl_bench.specs.Jobs.{order_checks, enter_check, checks_of, act_checks, bench_checks}
+use Rattle.fl_bench.specs.Jobs.{checks, Answers, Performs, Effect, Does, passed, failed, no_room}
 use Rattle.fl_bench.specs.declared.process.Process.{Process}
 use Rattle.fl_bench.specs.laws.Puts.{same_found}
 use Rattle.fl_bench_laws.specs.laws.OneCheck.{OneVerdict, one_said, one_then, one_demand, one_with}
@@ -50,35 +51,43 @@ one_order_check E (MakeLogin c secret) = one_demand cap_total cap_exact _ _ Miss
 
 -- an entry, since a name has one first login
 module _ (V : Op → Type 0) (login : Name) (secret : Secret) where
-  let_in_once : (c d : Cap) → IsFirstLogin V login c (digest_of secret) → IsFirstLogin V login d (digest_of secret) → c ≡ d
+  let_in_once : (c d : Cap) → IsFirstLogin V login c (digest_of secret)
+      → IsFirstLogin V login d (digest_of secret) → c ≡ d
   let_in_once c d h k = (one_first V login c d (digest_of secret) (digest_of secret) h k).0
 
-  same_digest : (c d : Cap) (x y : Digest) → IsFirstLogin V login c x → IsFirstLogin V login d y → x ≡ y
+  same_digest : (c d : Cap) (x y : Digest) → IsFirstLogin V login c x → IsFirstLogin V login d y
+      → x ≡ y
   same_digest c d x y h k = (one_first V login c d x y h k).1
 
   one_enter_check : OneVerdict (enter_check V login secret)
   one_enter_check None None h k = refl
   one_enter_check None (Some g) h (inl k) = absurd (k.1 h.0 (digest_of secret) h.1.member)
-  one_enter_check None (Some g) h (inr k) = absurd (k.4 (same_digest k.1 h.0 k.2 (digest_of secret) k.3 h.1))
+  one_enter_check None (Some g) h (inr k) =
+      absurd (k.4 (same_digest k.1 h.0 k.2 (digest_of secret) k.3 h.1))
   one_enter_check (Some f) None (inl h) k = absurd (h.1 k.0 (digest_of secret) k.1.member)
-  one_enter_check (Some f) None (inr h) k = absurd (h.4 (same_digest h.1 k.0 h.2 (digest_of secret) h.3 k.1))
+  one_enter_check (Some f) None (inr h) k =
+      absurd (h.4 (same_digest h.1 k.0 h.2 (digest_of secret) h.3 k.1))
   one_enter_check (Some f) (Some g) (inl h) (inl k) = ap Some (h.0 ∙ sym k.0)
   one_enter_check (Some f) (Some g) (inl h) (inr k) = absurd (h.1 k.1 k.2 k.3.member)
   one_enter_check (Some f) (Some g) (inr h) (inl k) = absurd (k.1 h.1 h.2 h.3.member)
   one_enter_check (Some f) (Some g) (inr h) (inr k) = ap Some (h.0 ∙ sym k.0)
 
-one_endpoints_check : (E : Cap → Type 0) (process : Labels) (table : Table) → OneVerdict (endpoints_check E process table)
+one_endpoints_check : (E : Cap → Type 0) (process : Labels) (table : Table)
+    → OneVerdict (endpoints_check E process table)
 one_endpoints_check E process table = one_demand offender_total offender_exact _ _ unsafe_by
 
 module _ (V : Op → Type 0) where
   one_check_of : (p : Process) (act : Act) → OneVerdict (checks_of V p act)
   one_check_of p (Order order) = one_order_check (effective V p) order
-  one_check_of p (Relabel side (Ok label)) = one_then _ _ (one_demand cap_total cap_exact _ _ MissingCap) (one_endpoints_check (effective V p) _ _)
+  one_check_of p (Relabel side (Ok label)) =
+      one_then _ _ (one_demand cap_total cap_exact _ _ MissingCap)
+      (one_endpoints_check (effective V p) _ _)
   one_check_of p (Relabel side (Err long)) = one_said
   one_check_of p (Ask c) = one_said
   one_check_of p (Spawn caps) = one_demand cap_total cap_exact _ _ MissingCap
   one_check_of p Exit = one_said
-  one_check_of p (Drop c) = one_then _ _ one_said (one_endpoints_check (InEffect V (In (set.remove (owns p) c))) _ _)
+  one_check_of p (Drop c) =
+      one_then _ _ one_said (one_endpoints_check (InEffect V (In (set.remove (owns p) c))) _ _)
   one_check_of p (Enter login secret) = one_enter_check V login secret
   one_check_of p (Emit bytes) = one_demand name_total name_exact _ _ Secrecy
   one_check_of p (Mail work) = one_mail_check (effective V p) p.labels p.mailbox work
@@ -94,14 +103,24 @@ module _ (V : Op → Type 0) where
   one_bench_check b (Emit bytes) = one_said
   one_bench_check b (Mail work) = one_said
 
-  one_act_check : (b : BenchState) (act : Act) (p : Process) → OneVerdict (act_checks V p act then bench_checks b act)
-  one_act_check b act p = one_then (act_checks V p act) (bench_checks b act) (one_then (refuse_if (is_busy p) Busy) (checks_of V p act) one_said (one_check_of p act)) (one_bench_check b act)
+  one_act_check : (b : BenchState) (act : Act) (p : Process)
+      → OneVerdict (act_checks V p act then bench_checks b act)
+  one_act_check b act p =
+      one_then (act_checks V p act) (bench_checks b act)
+      (one_then (refuse_if (is_busy p) Busy) (checks_of V p act) one_said (one_check_of p act))
+      (one_bench_check b act)
 
   one_check : (b : BenchState) (job : Job) → OneVerdict (checks V b job)
   one_check b Proc = one_said
-  one_check b (By pid act) = one_with (map.get b.processes pid) (NoProcess pid) (λ p. act_checks V p act then bench_checks b act) (one_act_check b act)
+  one_check b (By pid act) =
+      one_with (map.get b.processes pid) (NoProcess pid)
+      (λ p. act_checks V p act then bench_checks b act) (one_act_check b act)
   one_check b (Member root c) = one_said
-  one_check b (Arrive d) = one_with (map.get b.processes d.receiver) (NoProcess d.receiver) (λ q. refuse_if (is_busy q) Busy then arrival_checks q.mailbox d) (λ q. one_then (refuse_if (is_busy q) Busy) (arrival_checks q.mailbox d) one_said (one_arrival_check q.mailbox d))
+  one_check b (Arrive d) =
+      one_with (map.get b.processes d.receiver) (NoProcess d.receiver)
+      (λ q. refuse_if (is_busy q) Busy then arrival_checks q.mailbox d)
+      (λ q. one_then (refuse_if (is_busy q) Busy) (arrival_checks q.mailbox d) one_said
+      (one_arrival_check q.mailbox d))
 
 -- ---- each job that passes has one end
 
@@ -125,7 +144,8 @@ one_answer x y c d (inr h, e) (inr k, f) = (h.0 ∙ sym k.0, e ∙ sym f)
 
 module _ (V : Op → Type 0) (b : BenchState) where
   one_next : (p q : Pid) → IsNext b p → IsNext b q → p ≡ q
-  one_next p q h k = same_pid p q (h.node ∙ sym k.node) (h.boot ∙ sym k.boot) (h.serial ∙ sym k.serial)
+  one_next p q h k =
+      same_pid p q (h.node ∙ sym k.node) (h.boot ∙ sym k.boot) (h.serial ∙ sym k.serial)
 
   one_performs : (pid : Pid) (p : Process) (act : Act) → OneEnd (Performs V b pid p act)
   one_performs pid p (Order order) = one_end
@@ -133,13 +153,19 @@ module _ (V : Op → Type 0) (b : BenchState) where
   one_performs pid p (Relabel side (Err long)) = λ x y c d h k. absurd h
   one_performs pid p (Ask c) = one_answer
   one_performs pid p (Spawn caps) = λ x y c d h k.
-      let e : h.0 ≡ k.0 = one_next h.0 k.0 h.1 k.1 in
-      (h.2 ∙ ap (λ q. Outcome.Reply (Made q)) e ∙ sym k.2, h.3 ∙ ap (λ q. born b q (child_of p caps)) e ∙ sym k.3)
+      let e : h.0 ≡ k.0 = one_next h.0 k.0 h.1 k.1 in (
+        h.2 ∙ ap (λ q. Outcome.Reply (Made q)) e ∙ sym k.2,
+        h.3 ∙ ap
+            (λ q. born b q (child_of p caps)) e ∙ sym k.3,
+      )
   one_performs pid p Exit = one_end
   one_performs pid p (Drop c) = one_end
   one_performs pid p (Enter login secret) = λ x y c d h k.
-      let e : h.0 ≡ k.0 = let_in_once V login secret h.0 k.0 h.1 k.1 in
-      (h.2 ∙ ap (λ cap. Outcome.Reply (Entered cap)) e ∙ sym k.2, h.3 ∙ ap (λ cap. has_at b pid (owning p (set.insert (owns p) cap))) e ∙ sym k.3)
+      let e : h.0 ≡ k.0 = let_in_once V login secret h.0 k.0 h.1 k.1 in (
+        h.2 ∙ ap (λ cap. Outcome.Reply (Entered cap)) e ∙ sym k.2,
+        h.3 ∙ ap
+            (λ cap. has_at b pid (owning p (set.insert (owns p) cap))) e ∙ sym k.3,
+      )
   one_performs pid p (Emit bytes) = one_end
   one_performs pid p (Mail work) = λ x y c d h k.
       let e = one_mail_does pid p.mailbox work x y h.0 k.0 h.1 k.1 in
@@ -147,8 +173,11 @@ module _ (V : Op → Type 0) (b : BenchState) where
 
   one_effect : (job : Job) → OneEnd (Effect V b job)
   one_effect Proc x y c d h k =
-      let e : h.0 ≡ k.0 = one_next h.0 k.0 h.1 k.1 in
-      (h.2 ∙ ap (λ p. Outcome.Reply (Made p)) e ∙ sym k.2, h.3 ∙ ap (λ p. born b p newborn) e ∙ sym k.3)
+      let e : h.0 ≡ k.0 = one_next h.0 k.0 h.1 k.1 in (
+        h.2 ∙ ap (λ p. Outcome.Reply (Made p)) e ∙ sym k.2,
+        h.3 ∙ ap (λ p. born b p newborn) e ∙ sym
+            k.3,
+      )
   one_effect (By pid act) x y c d h k =
       let e : k.0 ≡ h.0 = same_found k.1 h.1 in
       one_performs pid h.0 act x y c d h.2 (subst (λ p. Performs V b pid p act y d) e k.2)
@@ -159,7 +188,8 @@ module _ (V : Op → Type 0) (b : BenchState) where
 
   -- ---- a job
 
-  pub one_result : (job : Job) (r s : Result Outcome Refusal) (c d : BenchState) → Does V b job r c → Does V b job s d → r ≢ Err Memory → s ≢ Err Memory → Same r s c d
+  pub one_result : (job : Job) (r s : Result Outcome Refusal) (c d : BenchState) → Does V b job r c
+      → Does V b job s d → r ≢ Err Memory → s ≢ Err Memory → Same r s c d
   one_result job r s c d (passed {outcome = x} h f) (passed {outcome = y} k g) p q =
       let e = one_effect job x y c d f g in
       (ap Ok e.0, e.1)

@@ -14,11 +14,14 @@ use Rattle.fl_bench_laws.specs.laws.Changes.{does_changes}
 module _ {b : BenchState} (h : IsOrderly b) where
   keeps_orderly : (V : Op → Type 0) {after : BenchState} → Keeps V b after → IsOrderly after
   keeps_orderly V (stays e) = subst IsOrderly (sym e) h
-  keeps_orderly V (turns pid old new e follows is) = subst IsOrderly (sym is) (put_orderly h pid old new e)
+  keeps_orderly V (turns pid old new e follows is) =
+      subst IsOrderly (sym is) (put_orderly h pid old new e)
 
-  changes_orderly : (V : Op → Type 0) {job : Job} {after : BenchState} → Changes V b job after → IsOrderly after
+  changes_orderly : (V : Op → Type 0) {job : Job} {after : BenchState} → Changes V b job after
+      → IsOrderly after
   changes_orderly V (keeps k) = keeps_orderly V k
-  changes_orderly V (bears pid child birth is) = subst IsOrderly (sym is) (born_orderly h pid child birth.next)
+  changes_orderly V (bears pid child birth is) =
+      subst IsOrderly (sym is) (born_orderly h pid child birth.next)
   changes_orderly V (loses pid asked is) = subst IsOrderly (sym is) (gone_orderly h pid)
 
   pub does_orderly : {V : Op → Type 0} {after : BenchState} {job : Job} {r : Result Outcome Refusal}
