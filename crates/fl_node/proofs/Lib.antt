@@ -1,3 +1,4 @@
+pub mod KeptLemmas
 pub mod NodeLemmas
 pub mod FindLemmas
 pub mod OpenLemmas

@@ -317,12 +317,13 @@ impl<K: Keeper> Node<K> {
             (K.may_hold self.old.keeper) (K.may_hold self.new.keeper) }
     {
         let doubt = doubt(&self.state);
+        let saved = &self.saved;
         match recover(
             alloc,
             &mut self.keeper,
             self.number,
             self.boot,
-            &self.saved,
+            saved,
             doubt,
         ) {
             Ok(recovered) => {
