@@ -25,7 +25,8 @@ fn operations(packet: &AnyPacket) -> &[Op]
 
 // Whether an operation that a node may take is new to it.
 fn is_new(saved: &OpSet, me: u16, op: &Op) -> Result<bool, GossipFault>
-    ensures { MatchResult result (λ new. MayTake me (In saved.now) op.now × (new ≡ not (contains saved.now op.now)))
+    ensures { MatchResult result
+        (λ new. MayTake me (In saved.now) op.now × (new ≡ not (contains saved.now op.now)))
         (Offends me (In saved.now) op.now) }
 {
     if let Some(name) = saved.clash(op) {
