@@ -23,8 +23,8 @@ abbrev pub IsKeptOwn : State → Kept → Held → Type 0
 IsKeptOwn (Running pending) own held = (k : Kept) → held k → k ≡ own
 IsKeptOwn (Stopped doubt) own held = Unit {0}
 
-pub record IsSound (honest : Type 0) (held : Held) (number boot : ℕ) (saved : SetBy op_cmp) (published : List Op)
-    (seen : ℕ) (state : State) (index : SetBy op_cmp) : Type 0 where
+pub record IsSound (honest : Type 0) (held : Held) (number boot : ℕ) (saved : SetBy op_cmp)
+    (published : List Op) (seen : ℕ) (state : State) (index : SetBy op_cmp) : Type 0 where
   pub numbered : 0 < number
   pub booted : 0 < boot
   pub sees : seen ≤ length published

@@ -8,7 +8,8 @@ use fl_opset::set::OpSet;
 /// The name after the last one of the node, or none where no sequence number is left. A binary search.
 pub fn next_name(saved: &OpSet, node: u16) -> Option<Name>
     requires { 0 < node }
-    ensures { MatchOption result (IsLast saved.now node 4294967295) (λ name. IsNextAfter saved.now node name) }
+    ensures { MatchOption result (IsLast saved.now node 4294967295)
+        (λ name. IsNextAfter saved.now node name) }
 {
     let seq = saved.last_of(node).checked_add(1)?;
     Some(Name { node, seq })

@@ -114,7 +114,8 @@ impl<K: Keeper> Node<K> {
         ensures cause { IfErr result (λ e. e.0 ≡ Fault.KeeperFailed
             → IsTrue (K.is_broken e.1) ⊎ (K.is_honest e.1 → K.has_bad_row keeper)) }
         ensures err { IfErr result (λ e. K.is_honest e.1 → K.is_honest keeper
-            × Follows (λ k k'. Opens 1 (IsOf number) k (Err e.0) k') (K.may_hold keeper) (K.may_hold e.1)) }
+            × Follows (λ k k'. Opens 1 (IsOf number) k (Err e.0) k')
+            (K.may_hold keeper) (K.may_hold e.1)) }
     {
         let saved = match find(alloc, &mut keeper, number) {
             Ok(saved) => saved,
@@ -180,7 +181,8 @@ impl<K: Keeper> Node<K> {
     pub fn text<W: Write>(&self, output: &mut W) -> Result<Result<(), WriteFault>, Fault>
         ensures running { IfOk result (λ written. IsRunning self.now.node.state) }
         ensures ok { let text = registry_text (set.of_list self.now.node.published) in
-            IfOk result (λ written. Writes (W.contents output.old) (W.contents output.new) text written) }
+            IfOk result (λ written.
+            Writes (W.contents output.old) (W.contents output.new) text written) }
         ensures err { IfErr result (λ fault. NotRunning self.now.node.state fault) }
         ensures nothing { OnErr result (W.contents output.new ≡ W.contents output.old) }
     {
@@ -313,7 +315,8 @@ impl<K: Keeper> Node<K> {
     // Opens the node again over its keeper, or leaves it stopped.
     fn open_again(&mut self, alloc: Global) -> Result<u32, Fault>
         ensures { K.is_honest self.new.keeper → K.is_honest self.old.keeper
-            × Follows (λ k k'. OpensAgain self.old.node (doubt_of self.old.node.state) k result self.new.node k')
+            × Follows (λ k k'. OpensAgain self.old.node (doubt_of self.old.node.state) k
+            result self.new.node k')
             (K.may_hold self.old.keeper) (K.may_hold self.new.keeper) }
     {
         let doubt = doubt(&self.state);
@@ -385,7 +388,8 @@ impl<K: Keeper> Node<K> {
         ensures running { IsRunning self.node.state
             → (result.0 ≡ self) × (result.1 ≡ Err (Fault.Refused Refusal.Busy)) }
         ensures stopped { (IsRunning self.node.state → ⊥)
-            → (made : K) × F.post make self.keeper made × (K.is_honest result.0.keeper → K.is_honest made
+            → (made : K) × F.post make self.keeper made
+            × (K.is_honest result.0.keeper → K.is_honest made
             × Follows (λ k k'. Reopens self.node k result.1 result.0.node k')
             (K.may_hold made) (K.may_hold result.0.keeper)) }
     {

@@ -66,18 +66,22 @@ pub fn recover<K: Keeper>(
     saved: &OpSet,
     doubt: Option<&Batch>,
 ) -> Result<Recovered, Fault>
-    ensures ok { let own = IsOwn (record { number = number; boot = boot; saved = saved.now }) (option_copied doubt.entry) in
+    ensures ok { let was : Kept = record { number = number; boot = boot; saved = saved.now } in
+        let own = IsOwn was (option_copied doubt.entry) in
         IfOk result (λ r. K.is_honest keeper.new → K.is_honest keeper.old
-        × Follows (λ k k'. Opens 1 own k (Ok (starting 1 number r.boot r.saved r.published.items)) k')
+        × Follows (λ k k'. Opens 1 own k
+        (Ok (starting 1 number r.boot r.saved r.published.items)) k')
         (K.may_hold keeper.old) (K.may_hold keeper.new)) }
     ensures kept { IfOk result (λ r. K.is_honest keeper.new → (k : Kept) → K.may_hold keeper.new k
         → k ≡ record { number = number; boot = r.boot; saved = r.saved }) }
     ensures index { IfOk result (λ r. r.index ≡ set.of_list r.published.items) }
     ensures names { IfOk result (λ r. HasNamesOnce r.saved) }
     ensures positive { IfOk result (λ r. 0 < r.boot) }
-    ensures err { let own = IsOwn (record { number = number; boot = boot; saved = saved.now }) (option_copied doubt.entry) in
+    ensures err { let was : Kept = record { number = number; boot = boot; saved = saved.now } in
+        let own = IsOwn was (option_copied doubt.entry) in
         IfErr result (λ fault. K.is_honest keeper.new → K.is_honest keeper.old
-        × Follows (λ k k'. Opens 1 own k (Err fault) k') (K.may_hold keeper.old) (K.may_hold keeper.new)) }
+        × Follows (λ k k'. Opens 1 own k (Err fault) k')
+        (K.may_hold keeper.old) (K.may_hold keeper.new)) }
 {
     let found = match find(alloc, keeper, number) {
         Ok(found) => found,

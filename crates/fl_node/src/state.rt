@@ -88,7 +88,8 @@ pub fn doubt(state: &State) -> Option<&Batch>
 
 /// What was to be saved is to be published.
 pub fn saved(state: &mut State)
-    ensures { (batch : Batch) → state.old ≡ Running (Unsaved batch) → state.new ≡ Running (Due batch) }
+    ensures { (batch : Batch) → state.old ≡ Running (Unsaved batch)
+        → state.new ≡ Running (Due batch) }
 {
     *state = match replace(state, State::Running(Pending::Nothing)) {
         State::Running(Pending::Unsaved(batch)) => State::Running(Pending::Due(batch)),
@@ -98,7 +99,8 @@ pub fn saved(state: &mut State)
 
 /// What was to be saved is in doubt.
 pub fn doubted(state: &mut State)
-    ensures { (batch : Batch) → state.old ≡ Running (Unsaved batch) → state.new ≡ Stopped (Some batch) }
+    ensures { (batch : Batch) → state.old ≡ Running (Unsaved batch)
+        → state.new ≡ Stopped (Some batch) }
 {
     *state = match replace(state, State::Running(Pending::Nothing)) {
         State::Running(Pending::Unsaved(batch)) => State::Stopped(Some(batch)),

@@ -1,0 +1,11 @@
+//! Tests of a node over a keeper in memory.
+#![tactic(auto)]
+
+#[cfg(test)]
+mod answers;
+#[cfg(test)]
+mod desk;
+#[cfg(test)]
+mod restarts;
+#[cfg(test)]
+mod steps;

@@ -1,0 +1,4 @@
+//! Laws of the steps of a node.
+#![tactic(auto)]
+
+pub mod laws;
