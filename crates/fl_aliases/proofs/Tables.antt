@@ -6,7 +6,7 @@ use Rattle.std.specs.Cmp.Lexicographic.{pointwise}
 use Rattle.std.specs.List.{IsDistinct}
 use Rattle.std.specs.Map.{keys_of}
 use Rattle.fl_sink.specs.Sink.{Passes, Cuts, Puts}
-use Rattle.fl_sink.proofs.SinkLemmas.{passes_then, puts_then, puts_stop}
+use Rattle.fl_sink.specs.laws.Passing.{passes_then, puts_then, puts_stop}
 use Rattle.fl_aliases.specs.Table.{Table, Entry, IsTable, entry_line, table_text}
 
 -- what is taken from a list's end was there

@@ -19,9 +19,9 @@ use Rattle.fl_wire.specs.declared.packet.Packet.{Packet}
 use Rattle.fl_wire.specs.declared.packet.Packet.TheVariants as kinds
 use Rattle.fl_jobs.specs.declared.job.Job.{Job}
 use Rattle.fl_jobs.specs.declared.job.Job.TheVariants.{Arrive}
-use Rattle.fl_mailbox.proofs.Table.{get_held, one_gone, one_put, put_same, put_through}
-use Rattle.fl_bench.proofs.Orders.{sending_at}
-use Rattle.fl_bench.proofs.Puts.{none_some}
+use Rattle.fl_mailbox.specs.laws.Tables.{get_held, one_gone, one_put, put_same, put_through}
+use Rattle.fl_bench.specs.laws.Orders.{sending_at}
+use Rattle.fl_bench.specs.laws.Puts.{none_some}
 use Rattle.fl_script.specs.declared.line.Line.TheVariants as line
 use Rattle.fl_cluster.specs.laws.NodePuts.{node_here}
 use Rattle.fl_cluster.specs.Cluster.{Cluster, NodeState, new_node, is_open, node_at, node_or_new, packet_at, with_node, with_open, with_packet}

@@ -38,7 +38,7 @@ use Rattle.fl_bench.specs.Process.{effective, is_busy}
 use Rattle.fl_bench.specs.Bench.{BenchState}
 use Rattle.fl_bench.specs.declared.process.Process.{Process}
 use Rattle.fl_bench.specs.Jobs.{order_checks, checks_of, act_checks, bench_checks, checks, Does, passed, failed, no_room, TakesMemory}
-use Rattle.fl_bench.proofs.Orders.{order_at, sending_at}
+use Rattle.fl_bench.specs.laws.Orders.{order_at, sending_at}
 use Rattle.fl_script.specs.declared.line.Line.TheVariants as line
 use Rattle.fl_cluster.specs.Cluster.{Cluster, NodeState, is_open, node_at}
 use Rattle.fl_cluster.specs.MayWant.{LineTakesMemory}

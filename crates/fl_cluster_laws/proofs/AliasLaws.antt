@@ -4,13 +4,13 @@ use Rattle.std.specs.Map.{keys_of}
 use Rattle.std.proofs.lemmas.List.{map-append}
 use Rattle.fl_aliases.specs.Table.{Table, target_of, retargeted}
 use Rattle.fl_aliases.specs.declared.target.Target.{Target}
-use Rattle.fl_aliases.proofs.Placing.{placed_found, placed_others, set_found, set_others, set_places}
+use Rattle.fl_aliases.specs.laws.Placing.{placed_found, placed_others, set_found, set_others, set_places}
 use Rattle.fl_jobs.specs.declared.answer.Refusal.TheVariants.{Memory}
 use Rattle.fl_script.specs.Reading.{IsReading}
 use Rattle.fl_script.specs.declared.line.Line.{Line}
 use Rattle.fl_script.specs.declared.reading.Reading.{Reading}
 use Rattle.fl_script.specs.declared.reading.Reading.TheVariants as reading
-use Rattle.fl_script.proofs.OneReading.{one_reading}
+use Rattle.fl_script.specs.laws.OneReading.{one_reading}
 use Rattle.fl_cluster.specs.Session.{Session}
 use Rattle.fl_cluster.specs.Answer.{Answer, refused}
 use Rattle.fl_cluster.specs.Naming.{made_by, with_alias, renamed, SetsAlias}

@@ -18,7 +18,7 @@ use Rattle.fl_jobs.specs.declared.job.Job.TheVariants.{By, Member}
 use Rattle.fl_jobs.specs.declared.answer.Refusal.{Refusal}
 use Rattle.fl_jobs.specs.declared.answer.Refusal.TheVariants.{Busy, Memory, NoProcess}
 use Rattle.fl_jobs.specs.declared.answer.Outcome.{Outcome}
-use Rattle.fl_opset.proofs.Join.{same_members}
+use Rattle.fl_opset.specs.laws.Unions.{same_members}
 use Rattle.fl_bench.specs.Checks.{◌then◌, no_check, refuse_if, with}
 use Rattle.fl_bench.specs.Process.{effective, is_busy, owns}
 use Rattle.fl_bench.specs.Bench as bench

@@ -32,7 +32,7 @@ use Rattle.fl_cluster.specs.Answer.{Answer}
 use Rattle.fl_cluster.specs.NodeStep.{view_of, AnswersResult, replies, refuses, makes, spends, NodeAnswers, Sends}
 use Rattle.fl_cluster.specs.Turn.{AnswersLine, works, sends, brings, no_room, never_sent, shows, unites, lists, AnswersReading, Turn}
 use Rattle.fl_cluster.specs.Output.{Run}
-use Rattle.fl_cluster.proofs.NodePuts.{node_put}
+use Rattle.fl_cluster.specs.laws.NodePuts.{node_put}
 
 -- ---- a registry that grew
 

@@ -8,7 +8,7 @@ use Rattle.fl_jobs.specs.declared.job.Job.TheVariants.{Arrive}
 use Rattle.fl_script.specs.declared.line.Line.{Line}
 use Rattle.fl_script.specs.declared.reading.Reading.{Reading}
 use Rattle.fl_script.specs.declared.reading.Reading.TheVariants as reading
-use Rattle.fl_script.proofs.OneReading.{one_reading}
+use Rattle.fl_script.specs.laws.OneReading.{one_reading}
 use Rattle.fl_cluster.specs.Cluster.{Cluster, NodeState, node_at, with_node, with_packet}
 use Rattle.fl_cluster.specs.Session.{Session}
 use Rattle.fl_cluster.specs.Answer.{Answer, IsStarved, on_arrival}
@@ -16,7 +16,7 @@ use Rattle.fl_cluster.specs.Naming.{made_by, renamed}
 use Rattle.fl_cluster.specs.Turn.{AnswersLine, works, sends, brings, no_room, never_sent, shows, unites, lists, AnswersNamed, AnswersReading, Turn}
 use Rattle.fl_cluster.specs.NodeStep.{NodeAnswers}
 use Rattle.fl_cluster.specs.Output.{Run, IsAmple}
-use Rattle.fl_cluster.proofs.Naming.{same_session}
+use Rattle.fl_cluster.specs.laws.Sessions.{same_session}
 use Rattle.fl_cluster_laws.proofs.OneStep.{Same, fed_work, fed_arrival, one_work, one_send, work_or_send}
 use Rattle.fl_cluster_laws.proofs.AliasLaws.{renamed_none}
 

@@ -28,7 +28,7 @@ use Rattle.fl_cluster.specs.NodeStep.{view_of, AnswersResult, replies, refuses, 
 use Rattle.fl_cluster.specs.Turn.{AnswersLine, works, sends, brings, no_room, never_sent, shows, unites, lists, AnswersReading, Turn}
 use Rattle.fl_cluster.specs.Output.{Run}
 use Rattle.fl_cluster_laws.proofs.Idle.{IsIdle, opened_idle, replied_idle, finished_idle}
-use Rattle.fl_cluster.proofs.NodePuts.{node_put}
+use Rattle.fl_cluster.specs.laws.NodePuts.{node_put}
 
 pub record IsOrdered (number : ℕ) (b : bench.BenchState) : Type 0 where
   pub node_is : b.node ≡ number

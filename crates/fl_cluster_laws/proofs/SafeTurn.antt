@@ -23,7 +23,7 @@ use Rattle.fl_script.specs.declared.line.Line.{Line}
 use Rattle.fl_script.specs.declared.line.Line.TheVariants as line
 use Rattle.fl_script.specs.declared.reading.Reading.{Reading}
 use Rattle.fl_script.specs.declared.reading.Reading.TheVariants as reading
-use Rattle.fl_script.proofs.OneReading.{one_reading}
+use Rattle.fl_script.specs.laws.OneReading.{one_reading}
 use Rattle.fl_cluster.specs.Cluster.{Cluster, NodeState, node_at, with_node, with_open}
 use Rattle.fl_cluster.specs.Session.{Session}
 use Rattle.fl_cluster.specs.Answer.{Answer, replied}
@@ -32,7 +32,7 @@ use Rattle.fl_cluster.specs.Turn.{AnswersLine, works, sends, brings, no_room, ne
 use Rattle.fl_cluster_laws.specs.LabelChange.{SetsSafely, AsksForLabel}
 use Rattle.fl_cluster_laws.specs.Living.{living, view_at}
 use Rattle.fl_cluster_laws.proofs.Orderly.{HasOrder, own_node}
-use Rattle.fl_cluster.proofs.NodePuts.{node_here, node_put, node_open, node_open_both}
+use Rattle.fl_cluster.specs.laws.NodePuts.{node_here, node_put, node_open, node_open_both}
 
 module _ (node : NodeState) (q : Pid) where
   -- what becomes of q at the node

@@ -14,7 +14,7 @@ use Rattle.fl_cluster_laws.specs.Lives.{Says, HasDo, asks, brings as has_brought
 use Rattle.fl_cluster.specs.NodeStep.{view_of}
 use Rattle.fl_cluster.specs.Turn.{AnswersLine, works, sends, brings, no_room, never_sent, shows, unites, lists, AnswersReading, Turn}
 use Rattle.fl_cluster_laws.proofs.Leaves.{Leaves, work_leaves, send_leaves, arrival_leaves}
-use Rattle.fl_cluster.proofs.NodePuts.{node_put, node_open, node_open_both}
+use Rattle.fl_cluster.specs.laws.NodePuts.{node_put, node_open, node_open_both}
 
 -- the bench of the node of this number is as it was, or the line has it do a job, which leaves it so
 pub data TurnAt (old : Session) (bytes : List ℕ) (answer : Answer) (number : ℕ) (after : bench.BenchState) : Type 0 where

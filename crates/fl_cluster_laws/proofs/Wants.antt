@@ -12,7 +12,7 @@ use Rattle.fl_script.specs.declared.line.Line.{Line}
 use Rattle.fl_script.specs.declared.line.Line.TheVariants as line
 use Rattle.fl_script.specs.declared.reading.Reading.{Reading}
 use Rattle.fl_script.specs.declared.reading.Reading.TheVariants as reading
-use Rattle.fl_script.proofs.OneReading.{one_reading}
+use Rattle.fl_script.specs.laws.OneReading.{one_reading}
 use Rattle.fl_cluster.specs.Cluster.{Cluster, is_open, packet_at}
 use Rattle.fl_cluster.specs.Session.{Session}
 use Rattle.fl_cluster.specs.Answer.{Answer, dropped, refused}

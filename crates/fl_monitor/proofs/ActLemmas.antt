@@ -44,7 +44,7 @@ use Rattle.fl_bench.specs.Jobs.{Answers, order_checks, emission_check, checks_of
 use Rattle.fl_bench.specs.declared.process.Holding.{Holding}
 use Rattle.fl_bench.specs.declared.process.Holding.TheVariants.{Idle, Ordering}
 use Rattle.fl_bench.specs.declared.process.Process.{Process}
-use Rattle.fl_mailbox.proofs.Table.{put_same}
+use Rattle.fl_mailbox.specs.laws.Tables.{put_same}
 use Rattle.fl_monitor.specs.parts.Acts.{Acts, Births, Yields, Required, Replies, Relabels, Drops, Enters, Mails, answered}
 use Rattle.fl_monitor.specs.parts.Checked.{Checked}
 use Rattle.fl_monitor.specs.declared.sequel.Sequel.{Sequel}

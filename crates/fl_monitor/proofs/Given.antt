@@ -9,7 +9,7 @@ use Rattle.fl_labels.specs.declared.cap.Cap.{Cap}
 use Rattle.fl_labels.specs.declared.pid.Pid.{Pid}
 use Rattle.fl_bench.specs.declared.process.Process.{Process}
 use Rattle.fl_bench.specs.Gifts.{receives, settled}
-use Rattle.fl_mailbox.proofs.Table.{get_held, put_through}
+use Rattle.fl_mailbox.specs.laws.Tables.{get_held, put_through}
 
 -- es are the entries of m, and fs those after it
 module _ (es fs : List (Pid × Process)) (m : map.FinMap pid_cmp Process) (pid : Pid) (caps : List Cap) (held : map.from_entries es ≡ m) where

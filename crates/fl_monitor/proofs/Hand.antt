@@ -10,13 +10,13 @@ use Rattle.fl_labels.specs.Name.{name_cmp}
 use Rattle.fl_labels.specs.SetBy.{SetBy, In, members}
 use Rattle.fl_labels.specs.Found.{Found, FoundAs, Within, IsLeastOutside}
 use Rattle.fl_labels.specs.parts.First.{IsFirst}
-use Rattle.fl_labels.proofs.Searches.{found_as, searched_set}
+use Rattle.fl_labels.specs.laws.Searches.{found_as, searched_set}
 use Rattle.fl_labels.specs.declared.cap.Cap.{Cap}
 use Rattle.fl_labels.specs.declared.cap.Cap.TheVariants.{Plus, Minus}
 use Rattle.fl_labels.specs.declared.name.Name.{Name}
 use Rattle.fl_ops.specs.declared.op.Op.{Op}
 use Rattle.fl_ops.specs.Registry.{Registry, Reach, InEffect, Listed}
-use Rattle.fl_ops.proofs.Reaching.{owned_eff}
+use Rattle.fl_ops.specs.laws.Reaching.{owned_eff}
 use Rattle.fl_rules.specs.Endpoint.{Crosses, SafeEndpoint}
 use Rattle.fl_rules.specs.Labels.{sets_of}
 use Rattle.fl_rules.specs.Safety.{Takes}

@@ -13,8 +13,8 @@ use Rattle.fl_ops.specs.OpOrder.{op_cmp}
 use Rattle.fl_ops.specs.OpLaws.{op_total, op_exact}
 use Rattle.fl_ops.specs.Registry.{Reach, From, InEffect, IsGlobal, Listed}
 use Rattle.fl_ops.specs.Logins.{IsFirstLogin, HasNoLogin}
-use Rattle.fl_ops.proofs.Logins.{answer_kept}
-use Rattle.fl_ops.proofs.Reaching.{eff_more, global_more, reach_more}
+use Rattle.fl_ops.specs.laws.Logins.{answer_kept}
+use Rattle.fl_ops.specs.laws.Reaching.{eff_more, global_more, reach_more}
 
 listed : (s : SetBy op_cmp) → Within (In s) (Listed (members s))
 listed s op h = Contains-from_any (λ x y e. op_exact x y ((Equal-is (op_cmp x y)).0 e)) op (members s) (sym (contains-members s op) ∙ h)

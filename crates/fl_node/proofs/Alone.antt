@@ -17,7 +17,7 @@ use Rattle.fl_jobs.specs.declared.answer.Outcome.TheVariants as outcome
 use Rattle.fl_wire.specs.declared.packet.Packet.{Packet}
 use Rattle.fl_bench.specs.Bench.{BenchState}
 use Rattle.fl_bench.specs.Jobs.{Does}
-use Rattle.fl_bench.proofs.Orders.{cancel_back}
+use Rattle.fl_bench.specs.laws.Orders.{cancel_back}
 use Rattle.fl_system.specs.declared.answer.Answer.{Answer}
 use Rattle.fl_system.specs.declared.answer.Answer.TheVariants as answer
 use Rattle.fl_system.specs.declared.answer.Fault.{Fault}

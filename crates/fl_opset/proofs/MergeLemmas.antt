@@ -13,7 +13,7 @@ use Rattle.std.proofs.lemmas.Map.Keys.{Less-from_sorted}
 use Rattle.fl_opset.proofs.Partition.{all_below}
 use Rattle.fl_labels.specs.SetBy.{SetBy, of_list, contains, contains-of_list, contains-union, same_set}
 use Rattle.fl_labels.specs.SetBy as set
-use Rattle.fl_labels.proofs.SortedVec.{Lists}
+use Rattle.fl_labels.specs.laws.SortedVec.{Lists}
 
 module _ {K : Type 0} (R : K → K → Ordering) where
   alone : (b : Bool) (us : List K) → sorted_merge R b us [] ≡ us ++ []

@@ -14,7 +14,7 @@ use Rattle.fl_wire.specs.Fields.{tag_key}
 use Rattle.fl_wire.specs.parts.Items.{name_key, key_before, is_above, IsNext}
 use Rattle.fl_wire.specs.parts.Ops.{IsNextOp}
 use Rattle.fl_wire.specs.PacketGrammar.{next_op, op_size}
-use Rattle.fl_ops.proofs.OneSpelling.{name_front}
+use Rattle.fl_ops.specs.laws.OneSpelling.{name_front}
 use Rattle.fl_wire.proofs.Shift.{moved, no_moved_fault, moved_fault, body_moved, byte_moved, name_moved, index_moved}
 
 size_of : (n : Name) (b : Body) → op_size (kind_byte b) ≡ length (op_bytes (record { name = n; body = b }))

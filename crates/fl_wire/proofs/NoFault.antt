@@ -21,7 +21,7 @@ use Rattle.fl_ops.specs.declared.op.Body.{Body}
 use Rattle.fl_ops.specs.declared.op.Body.TheVariants.{MakeTag, MakeGroup, Put, MakeLogin}
 use Rattle.fl_ops.specs.Bytes.{name_bytes, cap_bytes, op_bytes, kind_byte, body_bytes}
 use Rattle.fl_ops.specs.Grammar.{first_fault, has_byte, has_name, op_fault}
-use Rattle.fl_ops.proofs.OneSpelling.{no_fault as op_no_fault}
+use Rattle.fl_ops.specs.laws.OneSpelling.{no_fault as op_no_fault}
 use Rattle.fl_opset.specs.declared.span.Span.{Span}
 use Rattle.fl_opset.specs.declared.intervals.Intervals.{Intervals}
 use Rattle.fl_opset.specs.Rank.{name_rank, last_rank}

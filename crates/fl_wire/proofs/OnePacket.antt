@@ -16,7 +16,7 @@ use Rattle.fl_labels.specs.Endpoint.{same_endpoint}
 use Rattle.fl_labels.specs.SetBy.{SetBy, of_list, members, len, len-members, of_list-members}
 use Rattle.fl_ops.specs.declared.op.Op.{Op}
 use Rattle.fl_ops.specs.Bytes.{name_bytes, cap_bytes, op_bytes}
-use Rattle.fl_ops.proofs.OneSpelling.{name_front, cap_front, op_front}
+use Rattle.fl_ops.specs.laws.OneSpelling.{name_front, cap_front, op_front}
 use Rattle.fl_opset.specs.declared.span.Span.{Span}
 use Rattle.fl_opset.specs.declared.intervals.Intervals.{Intervals}
 use Rattle.fl_opset.specs.Rank.{name_rank, last_rank}

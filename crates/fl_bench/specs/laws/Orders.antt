@@ -19,7 +19,7 @@ use Rattle.fl_bench.specs.declared.process.Holding.{Holding}
 use Rattle.fl_bench.specs.declared.process.Holding.TheVariants.{Idle, Ordering}
 use Rattle.fl_bench.specs.declared.process.Process.{Process}
 use Rattle.fl_bench.specs.laws.Puts.{get_here, put_twice}
-use Rattle.fl_mailbox.proofs.Table.{put_same}
+use Rattle.fl_mailbox.specs.laws.Tables.{put_same}
 use Rattle.fl_bench.specs.laws.Steps.{does_step}
 use Rattle.fl_bench.specs.Summary.{Summary, sends, orders, refuses, IsSending, IsOrder}
 

@@ -46,7 +46,7 @@ use Rattle.fl_bench.specs.Jobs.{Performs, Effect, Does, passed, failed, no_room}
 use Rattle.fl_bench.specs.Following.{Follows}
 use Rattle.fl_bench.specs.Births.{IsBirth, alone, of}
 use Rattle.fl_bench.specs.declared.process.Process.{Process}
-use Rattle.fl_mailbox.proofs.Table.{put_same}
+use Rattle.fl_mailbox.specs.laws.Tables.{put_same}
 use Rattle.fl_bench.specs.Summary.{Keeps, stays, turns, Changes, keeps, bears, loses, IsOrder}
 use Rattle.fl_bench.specs.Summary.{IsSending, Summary, refuses, replies, orders, sends}
 

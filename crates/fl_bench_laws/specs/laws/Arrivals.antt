@@ -15,7 +15,7 @@ use Rattle.fl_labels.specs.Caps.{Dual}
 use Rattle.fl_rules.specs.declared.endpoint.Mode.{Mode}
 use Rattle.fl_rules.specs.declared.endpoint.Mode.TheVariants.{Read, Write, Both}
 use Rattle.fl_rules.specs.declared.labels.Labels.{Labels}
-use Rattle.fl_rules.proofs.Messages.{message_safe}
+use Rattle.fl_rules.specs.laws.Messages.{message_safe}
 use Rattle.fl_wire.specs.declared.packet.Data.{Data}
 use Rattle.fl_wire.specs.declared.packet.Packet.{Packet}
 use Rattle.fl_wire.specs.declared.packet.Packet.TheVariants as packets

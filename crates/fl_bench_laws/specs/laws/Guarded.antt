@@ -19,7 +19,7 @@ use Rattle.fl_labels.specs.declared.name.Name.{Name}
 use Rattle.fl_labels.specs.declared.pid.Pid.{Pid}
 use Rattle.fl_ops.specs.declared.op.Op.{Op}
 use Rattle.fl_ops.specs.Registry.{InEffect}
-use Rattle.fl_ops.proofs.Reaching.{eff_more}
+use Rattle.fl_ops.specs.laws.Reaching.{eff_more}
 use Rattle.fl_rules.specs.Endpoint.{Crosses}
 use Rattle.fl_labels.specs.Caps.{Dual}
 use Rattle.fl_rules.specs.declared.endpoint.Mode.{Mode}

@@ -1,5 +1,5 @@
 -- What a process does with its endpoints and messages has one verdict, and one end.
-use Rattle.fl_wire.proofs.OnePacket.{same_data}
+use Rattle.fl_wire.specs.laws.SameData.{same_data}
 use Rattle.std.proofs.Common.{◌≡◌, ◌∙◌, refl, sym, ap, Some, None}
 use mathlib.Core.HLevel.{Σ_prop_path}
 use Rattle.std.specs.Coded.{×_prop, le_prop}

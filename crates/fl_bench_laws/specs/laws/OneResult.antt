@@ -13,7 +13,7 @@ use Rattle.fl_ops.specs.declared.digest.Digest.{Digest}
 use Rattle.fl_ops.specs.declared.op.Op.{Op}
 use Rattle.fl_ops.specs.Registry.{InEffect}
 use Rattle.fl_ops.specs.Logins.{IsFirstLogin}
-use Rattle.fl_ops.proofs.Logins.{one_first}
+use Rattle.fl_ops.specs.laws.Logins.{one_first}
 use Rattle.fl_rules.specs.declared.labels.Labels.{Labels}
 use Rattle.fl_mailbox.specs.Endpoints.{Table}
 use Rattle.fl_jobs.specs.declared.secret.Secret.{Secret}

@@ -3,7 +3,7 @@ use Rattle.std.proofs.Common.{◌≡◌, ◌∙◌, ◌⊎◌, inl, inr, sym, ap
 use Rattle.std.specs.FinMap.{nat_cmp-IsAntisymmetric}
 use Rattle.std.proofs.lemmas.Cmp.{nat_cmp_total}
 use Rattle.fl_cluster.specs.Cluster.{Cluster, NodeState, node_or_new, node_at, with_node, with_open}
-use Rattle.fl_bench.proofs.Puts.{get_put, get_here}
+use Rattle.fl_bench.specs.laws.Puts.{get_put, get_here}
 
 pub node_here : (s : Cluster) (n : ℕ) (node : NodeState) → node_at (with_node s n node) n ≡ node
 node_here s n node = ap (node_or_new n) (get_here nat_cmp_total s.nodes n node)

@@ -3,7 +3,7 @@ use Rattle.std.proofs.Common.{◌≡◌, ◌↔◌, ℕ, zero, suc, get_or, Bool
 use Rattle.std.specs.List.{Contains, filter}
 use Rattle.std.proofs.lemmas.List.{get_or_default}
 use Rattle.fl_labels.specs.SetBy.{SetBy, In, of_list, members, of_list-members}
-use Rattle.fl_labels.proofs.SortedVec.{every_member, item_member}
+use Rattle.fl_labels.specs.laws.SortedVec.{every_member, item_member}
 use Rattle.fl_ops.specs.declared.op.Op.{Op}
 use Rattle.fl_ops.specs.OpOrder.{op_cmp}
 use Rattle.fl_ops.specs.OpLaws.{op_total, op_exact}

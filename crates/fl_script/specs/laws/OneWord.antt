@@ -30,7 +30,7 @@ use Rattle.fl_rules.specs.declared.endpoint.Mode.{Mode}
 use Rattle.fl_rules.specs.declared.endpoint.Mode.TheVariants.{Read as ReadMode, Write, Both as BothWays}
 use Rattle.fl_wire.specs.declared.packet.Message.{Message}
 use Rattle.fl_aliases.specs.Words.{Word}
-use Rattle.fl_labels.proofs.OneReading.{name_text_injective, pid_text_injective, cap_text_injective, endpoint_text_injective, name_text_some, cap_text_some, same_number, same_listing}
+use Rattle.fl_labels.specs.laws.OneReading.{name_text_injective, pid_text_injective, cap_text_injective, endpoint_text_injective, name_text_some, cap_text_some, same_number, same_listing}
 use Rattle.fl_script.specs.Grammar.{Is}
 use Rattle.fl_script.specs.laws.Agreement.{Both}
 use Rattle.fl_labels.specs.Words.{IsNode, IsNumber, IsListing}

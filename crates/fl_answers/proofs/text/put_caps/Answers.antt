@@ -1,6 +1,6 @@
 use Rattle.std.proofs.Common.{◌∙◌, sym}
 use Rattle.fl_answers.proofs.Braces.{caps_some}
-use Rattle.fl_sink.proofs.SinkLemmas.{puts_then, puts_stop}
+use Rattle.fl_sink.specs.laws.Passing.{puts_then, puts_stop}
 use Rattle.fl_answers.proofs.text.put_caps.Goals as goal
 
 pub returns-in_err-put_cap-in-Some : goal.returns-in_err-put_cap-in-Some

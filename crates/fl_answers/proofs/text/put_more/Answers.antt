@@ -1,5 +1,6 @@
 use Rattle.std.proofs.Common.{◌<◌, arith, length}
-use Rattle.fl_sink.proofs.SinkLemmas.{passes_then, puts_then, puts_stop, flat_map_more, flat_map_at}
+use Rattle.fl_sink.specs.laws.Passing.{passes_then, puts_then, puts_stop}
+use Rattle.fl_sink.specs.laws.Pieces.{flat_map_more, flat_map_at}
 use Rattle.fl_answers.proofs.Braces.{behind_comma}
 use Rattle.fl_answers.proofs.text.put_more.Goals as goal
 

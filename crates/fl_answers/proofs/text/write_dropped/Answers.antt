@@ -1,4 +1,4 @@
-use Rattle.fl_sink.proofs.SinkLemmas.{puts_then, puts_stop}
+use Rattle.fl_sink.specs.laws.Passing.{puts_then, puts_stop}
 use Rattle.fl_answers.proofs.text.write_dropped.Goals as goal
 
 pub returns-in_err-put_all : goal.returns-in_err-put_all

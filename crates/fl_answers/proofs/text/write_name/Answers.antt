@@ -1,7 +1,7 @@
 use Rattle.std.proofs.Common.{codes}
 use Rattle.std.proofs.lemmas.List.{append_assoc}
 use Rattle.fl_labels.specs.Text.{name_text}
-use Rattle.fl_sink.proofs.SinkLemmas.{puts_then, puts_stop}
+use Rattle.fl_sink.specs.laws.Passing.{puts_then, puts_stop}
 use Rattle.fl_answers.proofs.text.write_name.Goals as goal
 
 pub returns-in_err-put_name : goal.returns-in_err-put_name

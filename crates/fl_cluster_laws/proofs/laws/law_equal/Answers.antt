@@ -1,7 +1,7 @@
 use Rattle.std.proofs.Common.{ap}
 use Rattle.fl_ops.specs.OpLaws.{op_total, op_exact}
 use Rattle.fl_opset.specs.RegistryText.{registry_text}
-use Rattle.fl_opset.proofs.Join.{same_members}
+use Rattle.fl_opset.specs.laws.Unions.{same_members}
 use Rattle.fl_cluster_laws.proofs.Equals.{same_effect, same_reply, same_member, same_login}
 use Rattle.fl_cluster_laws.proofs.laws.law_equal.Goals as goal
 

@@ -1,5 +1,5 @@
 use Rattle.std.specs.Prelude.{⊤}
-use Rattle.fl_labels.proofs.Searches.{passed_by, stopped_at, at_end}
+use Rattle.fl_labels.specs.laws.Searches.{passed_by, stopped_at, at_end}
 use Rattle.fl_monitor.proofs.grant.first_unheld.Goals as goal
 
 pub returns-then-not-has-clause-first : goal.returns-then-not-has-clause-first

@@ -1,6 +1,6 @@
 use Rattle.std.proofs.Common.{◌≡◌, refl, ap, Err}
-use Rattle.fl_sink.proofs.SinkLemmas.{on_err_always}
-use Rattle.fl_bench.proofs.Orders.{cancel_back, refusal_leaves, sending_leaves}
+use Rattle.fl_sink.specs.laws.Passing.{on_err_always}
+use Rattle.fl_bench.specs.laws.Orders.{cancel_back, refusal_leaves, sending_leaves}
 use Rattle.fl_cluster.specs.NodeStep.{replies, refuses}
 use Rattle.fl_cluster.proofs.NodeLemmas.{same_registry}
 use Rattle.fl_cluster.proofs.Wanting.{order_takes, refused_takes}

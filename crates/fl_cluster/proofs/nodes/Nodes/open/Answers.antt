@@ -1,5 +1,5 @@
 use Rattle.std.proofs.Common.{◌∙◌, sym, ap, not}
-use Rattle.fl_sink.proofs.SinkLemmas.{on_err_always}
+use Rattle.fl_sink.specs.laws.Passing.{on_err_always}
 use Rattle.fl_cluster.proofs.NodesTable.{is_open-held, put_node, with_open-closed, with_open-open}
 use Rattle.fl_cluster.proofs.nodes.Nodes.open.Goals as goal
 

@@ -2,7 +2,7 @@ use Rattle.std.proofs.Common.{◌∙◌, sym, ap, is_some, ℕ}
 use Rattle.std.proofs.lemmas.Result.{on_err_weaker}
 use Rattle.std.specs.BTreeMap.{BTreeMap}
 use Rattle.std.specs.FinMap as map
-use Rattle.fl_sink.proofs.SinkLemmas.{on_err_always}
+use Rattle.fl_sink.specs.laws.Passing.{on_err_always}
 use Rattle.fl_cluster.specs.Cluster.{Cluster, NodeState, is_open}
 use Rattle.fl_cluster.proofs.NodesTable.{held, is_open-held, kept_so, node_at-Some, node_through, not_worked, worked_so}
 use Rattle.fl_cluster.proofs.Wanting.{opening_takes, packet_takes, work_takes}

@@ -1,5 +1,5 @@
 use Rattle.std.proofs.lemmas.Result.{on_err_weaker}
-use Rattle.fl_sink.proofs.SinkLemmas.{on_err_always}
+use Rattle.fl_sink.specs.laws.Passing.{on_err_always}
 use Rattle.fl_script.specs.laws.NamedLines.{named_takes}
 use Rattle.fl_cluster.specs.MayWant.{to_read, to_answer}
 use Rattle.fl_cluster.proofs.session.Session.understand.Goals as goal

@@ -1,4 +1,4 @@
-use Rattle.fl_sink.proofs.SinkLemmas.{on_err_always}
+use Rattle.fl_sink.specs.laws.Passing.{on_err_always}
 use Rattle.fl_cluster.proofs.StreamRuns.{cuts_answer}
 use Rattle.fl_cluster.proofs.session.SessionMachine.answer.Goals as goal
 

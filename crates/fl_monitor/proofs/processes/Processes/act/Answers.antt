@@ -7,7 +7,7 @@ use Rattle.fl_ops.specs.Registry.{Listed}
 use Rattle.fl_jobs.specs.declared.answer.Refusal.TheVariants.{NoProcess}
 use Rattle.fl_bench.specs.declared.process.Process.{Process}
 use Rattle.fl_monitor.specs.parts.Acts.{ActsAt}
-use Rattle.fl_mailbox.proofs.Table.{get_held, put_through}
+use Rattle.fl_mailbox.specs.laws.Tables.{get_held, put_through}
 use Rattle.fl_monitor.proofs.processes.Processes.act.Goals as goal
 
 pub returns-in_default-clause-acts : goal.returns-in_default-clause-acts

@@ -6,7 +6,7 @@ use Rattle.fl_labels.specs.PidOrder.{pid_total, pid_exact}
 use Rattle.fl_jobs.specs.declared.answer.Refusal.TheVariants.{NoProcess}
 use Rattle.fl_bench.specs.declared.process.Process.{Process}
 use Rattle.fl_monitor.specs.parts.Acts.{ArrivesAt}
-use Rattle.fl_mailbox.proofs.Table.{get_held, put_through}
+use Rattle.fl_mailbox.specs.laws.Tables.{get_held, put_through}
 use Rattle.fl_monitor.proofs.processes.Processes.arrive.Goals as goal
 
 pub returns-in_default : goal.returns-in_default

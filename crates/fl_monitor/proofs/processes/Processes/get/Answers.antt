@@ -1,6 +1,6 @@
 use Rattle.std.proofs.Common.{◌∙◌}
 use Rattle.fl_labels.specs.PidOrder.{pid_total, pid_exact}
-use Rattle.fl_mailbox.proofs.Table.{get_held}
+use Rattle.fl_mailbox.specs.laws.Tables.{get_held}
 use Rattle.fl_monitor.proofs.processes.Processes.get.Goals as goal
 
 pub returns : goal.returns

@@ -1,5 +1,5 @@
 use Rattle.fl_labels.specs.PidOrder.{pid_total, pid_exact}
-use Rattle.fl_mailbox.proofs.Table.{one_put}
+use Rattle.fl_mailbox.specs.laws.Tables.{one_put}
 use Rattle.fl_monitor.proofs.processes.Processes.insert.Goals as goal
 
 pub returns-clause-ok : goal.returns-clause-ok

@@ -1,5 +1,5 @@
 use Rattle.fl_labels.specs.PidOrder.{pid_total, pid_exact}
-use Rattle.fl_mailbox.proofs.Table.{one_gone}
+use Rattle.fl_mailbox.specs.laws.Tables.{one_gone}
 use Rattle.fl_monitor.proofs.processes.Processes.remove.Goals as goal
 
 pub returns : goal.returns

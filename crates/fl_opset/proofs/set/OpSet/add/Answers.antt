@@ -2,7 +2,7 @@ use Rattle.std.proofs.Common.{Result, Ok, Err, OnErr, sym, ap, subst, not}
 use Rattle.std.specs.List.Sorted.{IsStrictlySortedBy}
 use Rattle.fl_ops.specs.OpOrder.{op_cmp}
 use Rattle.fl_ops.specs.OpLaws.{op_total, op_exact}
-use Rattle.fl_labels.proofs.SortedVec.{answers, inserted, kept_insert}
+use Rattle.fl_labels.specs.laws.SortedVec.{answers, inserted, kept_insert}
 use Rattle.fl_opset.proofs.set.OpSet.add.Goals as goal
 
 known : {T E P : Type 0} (r : Result T E) → P → OnErr r P

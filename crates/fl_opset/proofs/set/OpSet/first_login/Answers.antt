@@ -4,7 +4,7 @@ use Rattle.fl_ops.specs.declared.op.Op.{Op}
 use Rattle.fl_ops.specs.OpOrder.{op_cmp}
 use Rattle.fl_ops.specs.Registry.{Listed}
 use Rattle.fl_ops.specs.Logins.{IsFirstLogin, HasNoLogin}
-use Rattle.fl_ops.proofs.Logins.{answer_kept}
+use Rattle.fl_ops.specs.laws.Logins.{answer_kept}
 use Rattle.fl_opset.specs.laws.Members.{listed_in}
 use Rattle.fl_opset.proofs.set.OpSet.first_login.Goals as goal
 

@@ -4,7 +4,7 @@ use Rattle.std.specs.List.Sorted.{IsStrictlySortedBy}
 use Rattle.fl_ops.specs.declared.op.Op.{Op}
 use Rattle.fl_ops.specs.OpOrder.{op_cmp}
 use Rattle.fl_ops.specs.OpLaws.{op_total, op_exact}
-use Rattle.fl_labels.proofs.SortedVec.{every_member, item_member}
+use Rattle.fl_labels.specs.laws.SortedVec.{every_member, item_member}
 use Rattle.fl_opset.proofs.set.OpSet.last_of.Goals as goal
 
 pub last_seq-requires : goal.last_seq-requires

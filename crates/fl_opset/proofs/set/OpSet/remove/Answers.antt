@@ -2,7 +2,7 @@ use Rattle.std.proofs.Common.{sym, subst, Ok, Err}
 use Rattle.std.specs.List.Sorted.{IsStrictlySortedBy}
 use Rattle.fl_ops.specs.OpOrder.{op_cmp}
 use Rattle.fl_ops.specs.OpLaws.{op_total, op_exact}
-use Rattle.fl_labels.proofs.SortedVec.{answers, removed, kept_remove}
+use Rattle.fl_labels.specs.laws.SortedVec.{answers, removed, kept_remove}
 use Rattle.fl_opset.proofs.set.OpSet.remove.Goals as goal
 
 pub invariant_of-self : goal.invariant_of-self
