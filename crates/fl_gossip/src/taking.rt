@@ -44,7 +44,12 @@ fn is_new(saved: &OpSet, me: u16, op: &Op) -> Result<bool, GossipFault>
 /// For the least name of an operation that may not be taken: `Impostor` where its node is `me` and the set has no operation of
 /// that name, and `Clash` where the set has another operation of that name. `Memory` where there was not enough for the answer.
 /// Two binary searches for each operation.
-pub fn take(alloc: Global, saved: &OpSet, me: u16, packet: &AnyPacket) -> Result<Vec<Op>, GossipFault>
+pub fn take(
+    alloc: Global,
+    saved: &OpSet,
+    me: u16,
+    packet: &AnyPacket,
+) -> Result<Vec<Op>, GossipFault>
     ensures { MatchResult result (λ new. AreTaken me saved.now (ops_of packet.now) new.items)
         (Refuses me (In saved.now) (ops_of packet.now)) }
 {
