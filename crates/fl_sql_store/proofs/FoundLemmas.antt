@@ -1,0 +1,73 @@
+-- What an opening leaves to the next.
+use Rattle.std.proofs.Common.{◌≡◌, ◌⊎◌, inl, inr, ℕ, List, [], ◌∷◌, Bool, true, false, not, ◌||◌, cond, IsTrue, refl, sym, ap, subst, ◌∙◌, arith, filter}
+use Rattle.std.specs.List.{AllZip}
+use Rattle.std.proofs.lemmas.Bool.{cases_Bool}
+use Rattle.sqlite.specs.Order.{Row}
+use Rattle.sqlite.specs.Tree.{Trees}
+use Rattle.sqlite.specs.Schema.{Schema}
+use Rattle.sqlite_trees.specs.Objects.{catalog_tree}
+use Rattle.sqlite_catalog.specs.Listing.{AreListed, IsTableRow, IsIndexRow, IsViewRow, is_table_row, is_index_row, is_view_row}
+use Rattle.sqlite.specs.Effect.{Database, IsDatabase}
+use Rattle.sqlite.specs.State.{State, HasCleanDisk, IsLive, IsUnchanged, Survives}
+use Rattle.fl_sql_store.specs.Tables.{keeper_schema, no_schema}
+use Rattle.fl_store.specs.Kept.{Kept}
+use Rattle.fl_sql_store.specs.Stored.{IsListed, if_listed, nothing_kept, kept_by, kept_in, ops_in, boot_in, self_row}
+use Rattle.fl_store.specs.Keeping.{Stays}
+use Rattle.fl_sql_store.specs.SqlKeeping.{IsReady, held_in}
+use Rattle.fl_sql_store.specs.Founding.{IsFounded, Founds, FoundsTo, IsSettled}
+use Rattle.fl_sql_store.proofs.KeepLemmas.{kept_listed}
+use Rattle.fl_sql_store.proofs.Creates.{listed_if_sound}
+
+head_kept : (p : Row → Bool) (r : Row) (rows : List Row) → p r ≡ true → filter p (r ∷ rows) ≡ r ∷ filter p rows
+head_kept p r rows h = rw h
+
+nothing_listed : (objects : List Row) → AreListed objects no_schema → objects ≡ []
+nothing_listed [] h = refl
+nothing_listed (r ∷ rows) h = elim (cases_Bool (is_table_row r)) [
+  | inl table ↦ absurd (subst (λ l. AllZip IsTableRow l []) (head_kept is_table_row r rows table) h.tables)
+  | inr no_table ↦ elim (cases_Bool (is_view_row r)) [
+    | inl view ↦ absurd (subst (λ l. AllZip IsViewRow l []) (head_kept is_view_row r rows view) h.views)
+    | inr no_view ↦
+        let index : is_index_row r ≡ true = ap (λ b. not (b || is_view_row r)) no_table ∙ ap not no_view in
+        absurd (subst (λ l. AllZip (IsIndexRow []) l []) (head_kept is_index_row r rows index) h.indexes)
+  ]
+]
+
+kept_blank : (number : ℕ) (db : Database) → IsDatabase db → db.schema ≡ no_schema → kept_in number db.trees ≡ nothing_kept number
+kept_blank number db sound blank =
+    ap (λ l. if_listed l (nothing_kept number) (kept_by number db.trees)) (nothing_listed (db.trees catalog_tree) (subst (AreListed (db.trees catalog_tree)) blank sound.lists.listed))
+
+kept_founded : (number : ℕ) (db : Database) → IsFounded number db → kept_in number db.trees ≡ nothing_kept number
+kept_founded number db h =
+    kept_listed number db.trees h.listed
+    ∙ ap (λ l. record { number = number; boot = boot_in (db.trees 0); saved = ops_in l }) h.none
+    ∙ ap (λ l. record { number = number; boot = boot_in l; saved = ops_in [] }) h.itself
+
+module _ (number : ℕ) (old : State) (blank : old.now.schema ≡ no_schema) (live : IsLive old) (settled : IsSettled old) (there : IsTrue old.is_open → old.may_leave old.committed.trees) where
+  nothing_held : IsTrue old.is_open → (k : Kept) → k ≡ nothing_kept number → held_in number old k
+  nothing_held is_open k is =
+      (old.committed.trees, there is_open, is ∙ sym (kept_blank number old.committed (live is_open).1 (ap (λ d. d.schema) (sym (settled is_open)) ∙ blank)))
+
+  pub held_founded : (new : State) → ((db : Trees) → IsTrue new.is_open → new.may_leave db → db ≡ new.committed.trees) → Founds number old new → Stays (held_in number old) (held_in number new)
+  held_founded new only h after it =
+      let is : after ≡ nothing_kept number = it.2 ∙ ap (kept_in number) (only it.0 h.shown.is_open it.1 ∙ ap (λ d. d.trees) h.shown.committed_is) ∙ kept_founded number new.now h.founded in
+      (after, nothing_held h.shown.was_open after is, refl)
+
+  pub held_or_founded : (mid new : State) → HasCleanDisk new → Survives old mid (FoundsTo number old) → Survives mid new (λ _. ⊥) → Stays (held_in number old) (held_in number new)
+  held_or_founded mid new clean s t after it = elim (t.crash clean it.0 it.1) [
+    | inl before ↦ elim (s.crash (omega (arith, t.clean)) it.0 before) [
+      | inl first ↦ (kept_in number it.0, (it.0, first, refl), it.2)
+      | inr made ↦ (after, nothing_held made.0 after (it.2 ∙ ap (kept_in number) made.3 ∙ kept_founded number made.1 made.2), refl)
+    ]
+    | inr none ↦ absurd none
+  ]
+
+pub ready_found : (number boot : ℕ) (old new : State) → old.now.schema ≡ keeper_schema → IsLive old → IsSettled old → IsUnchanged old new → old.now.trees 0 ≡ self_row number boot ∷ [] → IsReady number new
+ready_found number boot old new ours live settled h one = record {
+  is_open = h.0.is_open;
+  schema = ap (λ d. d.schema) h.0.now_is ∙ ours;
+  settled = h.0.now_is ∙ settled h.0.was_open ∙ sym h.0.committed_is;
+  listed = subst (λ (d : Database). IsListed d.trees) (sym h.0.now_is) (listed_if_sound old.now (live h.0.was_open).0 ours);
+  boot = boot;
+  itself = ap (λ d. d.trees 0) h.0.now_is ∙ one;
+}

@@ -1,0 +1,13 @@
+use Rattle.sqlite.specs.Held.{state}
+use Rattle.fl_sql_store.proofs.FoundLemmas.{held_founded, held_or_founded}
+use Rattle.fl_sql_store.proofs.open.found_on.Goals as goal
+
+pub returns-in-Ok-clause-held : goal.returns-in-Ok-clause-held
+returns-in-Ok-clause-held g c clean =
+    held_founded c.args.number (state g.S.Store c.args.conn.now) c.requires.blank c.requires.live c.requires.settled (g.met.S.Store.stays c.args.conn.now.store) (state g.S.Store c.found.new.conn)
+    (g.met.S.Store.settled c.found.new.conn.store) (c.in-Ok.ensures.ok clean)
+
+pub returns-in-Err-clause-held : goal.returns-in-Err-clause-held
+returns-in-Err-clause-held g c clean =
+    held_or_founded c.args.number (state g.S.Store c.args.conn.now) c.requires.blank c.requires.live c.requires.settled (g.met.S.Store.stays c.args.conn.now.store) (state g.S.Store c.found.new.conn)
+    (state g.S.Store c.fault_of.new.conn) clean c.found.ensures.survives c.fault_of.ensures.survives

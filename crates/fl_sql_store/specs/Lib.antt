@@ -1,0 +1,5 @@
+pub mod Tables
+pub mod Spelling
+pub mod Stored
+pub mod SqlKeeping
+pub mod Founding

@@ -1,0 +1,191 @@
+//! A keeper over a database.
+ghost use Rattle.std.specs.Prelude.{◌≡◌, ◌<◌, true, false, not, IfOk, IfErr};
+ghost use Rattle.sqlite.specs.Held.{state};
+ghost use Rattle.sqlite.specs.State.{HasCleanDisk, IsUnchanged};
+ghost use Rattle.std.proofs.Common.{ap, ◌∙◌};
+ghost use Rattle.fl_store.specs.Kept.{Kept};
+ghost use Rattle.fl_sql_store.specs.Stored.{HasBadRow};
+ghost use Rattle.fl_sql_store.specs.SqlKeeping.{held_in, something_held, kept_number};
+
+use crate::fault::{boot_on, fault_of, save_on};
+use crate::load::{LoadFault, load_ops};
+use crate::open::check;
+use fl_ops::op::Op;
+use fl_opset::set::OpSet;
+use fl_store::keeper::{Keeper, KeeperFault};
+use sqlite::{Alter, Connection};
+use std::alloc::Global;
+use std::marker::Model;
+
+/// A keeper over a database.
+pub struct SqlKeeper<S: Alter> {
+    alloc: Global,
+    conn: Connection<S>,
+    number: u16,
+    failures: u64,
+    is_broken: bool,
+}
+
+impl<S: Alter> Model for SqlKeeper<S> {
+    ghost use Rattle.std.specs.Prelude.{◌≡◌, ◌<◌, false, IsTrue};
+    ghost use Rattle.sqlite.specs.Held.{state};
+    ghost use Rattle.fl_sql_store.specs.SqlKeeping.{SqlKept, sql_code, IsServing};
+
+    ghost Value = { SqlKept S };
+
+    ghost coded = { sql_code S.code };
+
+    ghost view = { λ k. record { conn = k.conn; number = k.number; failures = k.failures; is_broken = k.is_broken } };
+
+    ghost invariant = { λ k. (k.conn.in_transaction ≡ false) × (k.is_broken ≡ false → IsServing k.number (state S.Store k.conn)) × (IsTrue k.is_broken → 0 < k.failures) };
+}
+
+impl<S: Alter + Drop> Drop for SqlKeeper<S> {
+    fn drop(self) {
+        let SqlKeeper {
+            alloc: _,
+            conn: _,
+            number: _,
+            failures: _,
+            is_broken: _,
+        } = self;
+    }
+}
+
+impl<S: Alter> SqlKeeper<S> {
+    ghost use Rattle.fl_store.specs.Keeping.{Stays};
+    ghost use Rattle.fl_sql_store.specs.SqlKeeping.{held_in, IsServing};
+
+    // A keeper over a database that is this node's.
+    fn over(alloc: Global, conn: Connection<S>, number: u16) -> SqlKeeper<S>
+        requires idle { conn.in_transaction ≡ false }
+        requires serving { IsServing number (state S.Store conn) }
+        ensures { result ≡ record { conn = conn; number = number; failures = 0; is_broken = false } }
+    {
+        SqlKeeper {
+            alloc,
+            conn,
+            number,
+            failures: 0,
+            is_broken: false,
+        }
+    }
+
+    /// Opens a keeper of this node over a database. Tables and a row of the node are made in a database that has no tables.
+    ///
+    /// It hands the database back where it refuses: `WrongNode` where its row is another node's, and nothing was written;
+    /// `BadRow` where it has other tables than a keeper's, no row of the node, or another format; want of memory; or `Broken`.
+    pub fn open(alloc: Global, conn: Connection<S>, number: u16) -> Result<SqlKeeper<S>, (KeeperFault, Connection<S>)>
+        ensures number { IfOk result (λ k. (k.number ≡ number) × (k.failures ≡ 0)
+            × (k.is_broken ≡ false)) }
+        ensures held { IfOk result (λ k. HasCleanDisk (state S.Store k.conn)
+            → Stays (held_in number (state S.Store conn)) (held_in number (state S.Store k.conn))) }
+        ensures refused { IfErr result (λ e. HasCleanDisk (state S.Store e.1)
+            → Stays (held_in number (state S.Store conn)) (held_in number (state S.Store e.1))) }
+        ensures wrong { IfErr result (λ e. HasCleanDisk (state S.Store e.1)
+            → e.0 ≡ KeeperFault.WrongNode
+            → IsUnchanged (state S.Store conn) (state S.Store e.1)) }
+    {
+        let mut conn = conn;
+        match check(&mut conn, number) {
+            Ok(()) => Ok(SqlKeeper::over(alloc, conn, number)),
+            Err(fault) => Err((fault, conn)),
+        }
+    }
+}
+
+impl<S: Alter + Drop> SqlKeeper<S> {
+    /// The connection, as the last call left it.
+    pub fn into_connection(self) -> Connection<S>
+        ensures { result ≡ self.conn }
+    {
+        let SqlKeeper {
+            alloc: _,
+            conn,
+            number: _,
+            failures: _,
+            is_broken: _,
+        } = self;
+        conn
+    }
+}
+
+impl<S: Alter> Keeper for SqlKeeper<S> {
+    ghost number = { λ k. k.number };
+
+    ghost may_hold = { λ k. held_in k.number (state S.Store k.conn) };
+
+    ghost failed = { λ k. k.failures };
+
+    ghost is_broken = { λ k. k.is_broken };
+
+    ghost is_honest = { λ k. HasCleanDisk (state S.Store k.conn) };
+
+    ghost has_bad_row = { λ k. HasBadRow ((state S.Store k.conn).now.trees 1) };
+
+    ghost holds = { λ k clean. something_held k.number (S.Store.recovers k.conn.store) (S.Store.survives k.conn.store clean) };
+
+    ghost numbered = { λ keeper k h. ap (λ (k : Kept). k.number) h.2 ∙ kept_number keeper.number h.0 };
+
+    fn number(&self) -> u16 {
+        self.number
+    }
+
+    fn failures(&self) -> u64 {
+        self.failures
+    }
+
+    fn load(&mut self, alloc: Global) -> Result<OpSet, KeeperFault> {
+        if self.is_broken {
+            return Err(KeeperFault::Broken);
+        }
+        let error = match load_ops(alloc, &mut self.conn, self.number) {
+            Ok(ops) => return Ok(ops),
+            Err(LoadFault::BadRow) => return Err(KeeperFault::BadRow),
+            Err(LoadFault::Memory) => return Err(KeeperFault::Memory),
+            Err(LoadFault::Failed(error)) => error,
+        };
+        match fault_of(&mut self.conn, error) {
+            KeeperFault::Memory => Err(KeeperFault::Memory),
+            _ => {
+                self.is_broken = true;
+                self.failures = self.failures.saturating_add(1);
+                Err(KeeperFault::Broken)
+            }
+        }
+    }
+
+    fn boot(&mut self) -> Result<u32, KeeperFault> {
+        if self.is_broken {
+            return Err(KeeperFault::Broken);
+        }
+        match boot_on(&mut self.conn, self.number) {
+            Ok(boot) => Ok(boot),
+            Err(KeeperFault::Memory) => Err(KeeperFault::Memory),
+            Err(KeeperFault::NamesSpent) => Err(KeeperFault::NamesSpent),
+            Err(_) => {
+                self.is_broken = true;
+                self.failures = self.failures.saturating_add(1);
+                Err(KeeperFault::Broken)
+            }
+        }
+    }
+
+    fn save(&mut self, ops: &[Op]) -> Result<(), KeeperFault> {
+        if self.is_broken {
+            return Err(KeeperFault::Broken);
+        }
+        if ops.is_empty() {
+            return Ok(());
+        }
+        match save_on(self.alloc, &mut self.conn, ops) {
+            Ok(()) => Ok(()),
+            Err(KeeperFault::Memory) => Err(KeeperFault::Memory),
+            Err(_) => {
+                self.is_broken = true;
+                self.failures = self.failures.saturating_add(1);
+                Err(KeeperFault::Broken)
+            }
+        }
+    }
+}
