@@ -59,13 +59,12 @@ after_update : (keys : Keys) (old new : Database) (next : Trees) (rows : List Ro
     → rows ≡ raised_row node boot ∷ [] → old.trees 0 ≡ self_row node old_boot ∷ []
     → new ≡ record { schema = keeper_schema; trees = next } → Applies keeper_schema keys old.trees (boot_edit old.trees rows) next
     → (new.schema ≡ keeper_schema) × (new.trees 0 ≡ self_row node boot ∷ []) × (new.trees 1 ≡ old.trees 1) × (new.trees catalog_tree ≡ old.trees catalog_tree)
-after_update keys old new next rows node old_boot boot is one now a =
-    (
-      ap (λ (d : Database). d.schema) now,
-      ap (λ (d : Database). d.trees 0) now ∙ a.rows ∙ updated old.trees node old_boot boot rows one is,
-      ap (λ (d : Database). d.trees 1) now ∙ a.others 1 (omega arith) (omega arith, tt),
-      ap (λ (d : Database). d.trees catalog_tree) now ∙ a.others catalog_tree (omega arith) (omega arith, tt),
-    )
+after_update keys old new next rows node old_boot boot is one now a = (
+  ap (λ (d : Database). d.schema) now,
+  ap (λ (d : Database). d.trees 0) now ∙ a.rows ∙ updated old.trees node old_boot boot rows one is,
+  ap (λ (d : Database). d.trees 1) now ∙ a.others 1 (omega arith) (omega arith, tt),
+  ap (λ (d : Database). d.trees catalog_tree) now ∙ a.others catalog_tree (omega arith) (omega arith, tt),
+)
 
 pub raises_boot : (old new : State) (node old_boot boot count : ℕ) → old.now.schema ≡ keeper_schema → old.now.trees 0 ≡ self_row node old_boot ∷ []
     → Executes raise_boot_text (Int (pos boot) ∷ []) old new (Ok count)

@@ -32,8 +32,7 @@ after_insert : (keys : Keys) (old new : Database) (next : Trees) (given : List R
     → new ≡ record { schema = keeper_schema; trees = next } → Applies keeper_schema keys old.trees (self_edit old.trees given) next
     → (new.schema ≡ keeper_schema) × (new.trees 0 ≡ self_row node 0 ∷ []) × (new.trees 1 ≡ old.trees 1) × (new.trees catalog_tree ≡ old.trees catalog_tree)
 after_insert keys old new next given node is none now a =
-    let rows : next 0 ≡ self_row node 0 ∷ [] = a.rows ∙ rw (is, none, cast_int node, cast_int 1, cast_int 0, cast_null) in
-    (
+    let rows : next 0 ≡ self_row node 0 ∷ [] = a.rows ∙ rw (is, none, cast_int node, cast_int 1, cast_int 0, cast_null) in (
       ap (λ (d : Database). d.schema) now,
       ap (λ (d : Database). d.trees 0) now ∙ rows,
       ap (λ (d : Database). d.trees 1) now ∙ a.others 1 (omega arith) (omega arith, tt),

@@ -115,8 +115,7 @@ module _ (number : ℕ) (old new : State) (ready : IsReady number old) (only : (
   pub held_raised : (n : ℕ) → (was_boot : ℕ) × (n ≡ was_boot + 1) × (old.now.trees 0 ≡ self_row number was_boot ∷ []) × Raises number n old new
       → Follows (λ s t. (t ≡ raised s) × (n ≡ s.boot + 1)) (held_in number old) (held_in number new)
   held_raised n ok after it =
-      let h = subst (λ b. Raises number b old new) ok.1 ok.3 in
-      (
+      let h = subst (λ b. Raises number b old new) ok.1 ok.3 in (
         was,
         was_held,
         (

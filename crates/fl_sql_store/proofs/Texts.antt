@@ -94,15 +94,19 @@ raise_boot_is = refl
 pub plain_1 : IsPlain (understood keeper_schema insert_op_text)
 unfolding understood everything
 plain_1 = (refl, refl)
+
 pub plain_2 : IsPlain (understood keeper_schema insert_self_text)
 unfolding understood everything
 plain_2 = (refl, refl)
+
 pub plain_3 : IsPlain (understood keeper_schema select_ops_text)
 unfolding understood everything
 plain_3 = (refl, refl)
+
 pub plain_4 : IsPlain (understood keeper_schema raise_boot_text)
 unfolding understood everything
 plain_4 = (refl, refl)
+
 pub unlisted_3 : reads_listing keeper_schema select_ops_text ≡ false
 unfolding everything
 unlisted_3 = refl
@@ -125,6 +129,7 @@ ops_added = refl
 pub plain_5 : IsPlain (understood keeper_schema select_self_text)
 unfolding understood everything
 plain_5 = (refl, refl)
+
 pub unlisted_5 : reads_listing keeper_schema select_self_text ≡ false
 unfolding everything
 unlisted_5 = refl
@@ -149,6 +154,7 @@ select_whole_is = refl
 pub plain_6 : IsPlain (understood keeper_schema select_whole_text)
 unfolding understood everything
 plain_6 = (refl, refl)
+
 pub unlisted_6 : reads_listing keeper_schema select_whole_text ≡ false
 unfolding everything
 unlisted_6 = refl

@@ -44,11 +44,7 @@ pub fn set_boot<S: Alter>(tx: &mut Transaction<'_, S>, number: u16, boot: u32) -
 }
 
 /// Sets the boot.
-pub fn raise_boot<S: Alter>(
-    conn: &mut Connection<S>,
-    number: u16,
-    boot: u32,
-) -> Result<(), Error>
+pub fn raise_boot<S: Alter>(conn: &mut Connection<S>, number: u16, boot: u32) -> Result<(), Error>
     requires idle { conn.old.in_transaction ≡ false }
     requires serving { IsServing number (state S.Store conn.old) }
     ensures idle { conn.new.in_transaction ≡ false }

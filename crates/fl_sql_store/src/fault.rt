@@ -32,7 +32,11 @@ pub fn fault_of<S: Alter>(conn: &mut Connection<S>, error: Error) -> KeeperFault
 }
 
 /// Adds the operations in one transaction.
-pub fn save_on<S: Alter>(alloc: Global, conn: &mut Connection<S>, ops: &[Op]) -> Result<(), KeeperFault>
+pub fn save_on<S: Alter>(
+    alloc: Global,
+    conn: &mut Connection<S>,
+    ops: &[Op],
+) -> Result<(), KeeperFault>
     requires idle { conn.old.in_transaction ≡ false }
     requires some { 0 < length ops.now }
     ensures clean { doubt (state S.Store conn.old).is_clean ≤ doubt

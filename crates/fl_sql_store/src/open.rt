@@ -14,7 +14,6 @@ use crate::reading::number_at;
 use fl_store::keeper::KeeperFault;
 use sqlite::{Alter, Connection, Error, Row};
 
-
 /// What the table of the node itself says.
 #[derive(Clone, Copy)]
 pub enum Itself {

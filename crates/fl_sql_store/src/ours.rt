@@ -5,8 +5,8 @@ ghost use Rattle.fl_sql_store.specs.Tables.{column_of, ops_table, ops_key, self_
 
 use sqlite_items::Items;
 use sqlite_schema::code::{Op, Terms};
-use sqlite_sql::ops::{BinaryOp, CompareOp};
 use sqlite_schema::schema::{Column, Index, Kind, Schema, Stamps, Table};
+use sqlite_sql::ops::{BinaryOp, CompareOp};
 use sqlite_value::keys::{Collation, Order};
 use sqlite_value::value::Value;
 

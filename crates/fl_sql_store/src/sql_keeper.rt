@@ -75,7 +75,11 @@ impl<S: Alter> SqlKeeper<S> {
     ///
     /// It hands the database back where it refuses: `WrongNode` where its row is another node's, and nothing was written;
     /// `BadRow` where it has other tables than a keeper's, no row of the node, or another format; want of memory; or `Broken`.
-    pub fn open(alloc: Global, conn: Connection<S>, number: u16) -> Result<SqlKeeper<S>, (KeeperFault, Connection<S>)>
+    pub fn open(
+        alloc: Global,
+        conn: Connection<S>,
+        number: u16,
+    ) -> Result<SqlKeeper<S>, (KeeperFault, Connection<S>)>
         ensures number { IfOk result (λ k. (k.number ≡ number) × (k.failures ≡ 0)
             × (k.is_broken ≡ false)) }
         ensures held { IfOk result (λ k. HasCleanDisk (state S.Store k.conn)

@@ -78,7 +78,7 @@ returns-in-Ok-End-clause-ok g c clean =
     let before = clean_before mid new _ c.next_op.ensures.survives late in
     let ready = c.requires.serving (clean_before old mid _ c.rows.invariant.survives before) in
     (ends_whole g.S.Store old c.rows.rows.conn.now c.next_op.new.rows.conn.now c.rows.ops ready.schema (c.rows.invariant.same before) (c.rows.invariant.given before) c.rows.invariant.names
-        (rw c.in-Ok-End.field-0-is at (c.in-Ok-End.ensures.ok late))).0
+    (rw c.in-Ok-End.field-0-is at (c.in-Ok-End.ensures.ok late))).0
 
 pub returns-in-Ok-End-clause-good : goal.returns-in-Ok-End-clause-good
 returns-in-Ok-End-clause-good g c clean =
@@ -89,7 +89,7 @@ returns-in-Ok-End-clause-good g c clean =
     let before = clean_before mid new _ c.next_op.ensures.survives late in
     let ready = c.requires.serving (clean_before old mid _ c.rows.invariant.survives before) in
     (ends_whole g.S.Store old c.rows.rows.conn.now c.next_op.new.rows.conn.now c.rows.ops ready.schema (c.rows.invariant.same before) (c.rows.invariant.given before) c.rows.invariant.names
-        (rw c.in-Ok-End.field-0-is at (c.in-Ok-End.ensures.ok late))).1
+    (rw c.in-Ok-End.field-0-is at (c.in-Ok-End.ensures.ok late))).1
 
 pub returns-in-Ok-Bad-clause-bad : goal.returns-in-Ok-Bad-clause-bad
 returns-in-Ok-Bad-clause-bad g c clean is =
@@ -112,4 +112,4 @@ returns-then-is_some-clause-bad g c clean is =
     let ready = c.requires.serving (clean_before old mid _ c.rows.invariant.survives before) in
     let found = some_then c.clash.result _ (sym c.is_some.ensures ∙ c.if-is_some.true) c.clash.ensures.some in
     clash_step g.S.Store old c.rows.rows.conn.now c.next_op.new.rows.conn.now c.rows.ops ready.schema (c.rows.invariant.same before) (c.rows.invariant.given before) (c.in-Ok-Found.ensures.same late)
-        c.in-Ok-Found.op found.1.1.0 (rw c.in-Ok-Found.field-0-is at (c.in-Ok-Found.ensures.ok late)) found.1.1.1 (found.1.1.2 ∙ found.1.0) found.1.1.3
+    c.in-Ok-Found.op found.1.1.0 (rw c.in-Ok-Found.field-0-is at (c.in-Ok-Found.ensures.ok late)) found.1.1.1 (found.1.1.2 ∙ found.1.0) found.1.1.3

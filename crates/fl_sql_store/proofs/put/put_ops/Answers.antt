@@ -15,8 +15,8 @@ ops-preserved g c =
       same_reference = c.put_op.ensures.same_reference ∙ c.ops.invariant.same_reference;
       first = λ none. absurd (omega arith);
       ok = λ clean inside ours _.
-      puts_next old mid new c.args.ops.now c.ops.op-index c.op-item.result (omega arith) (λ start. ap (state g.S.Store) (c.ops.invariant.first start))
-      (c.ops.invariant.ok (before clean) inside ours) inside ours (λ inside ours. subst (λ o. PutsIn (o ∷ []) mid new) c.op-item.is (c.in_ok-put_op.ensures.ok clean inside ours));
+          puts_next old mid new c.args.ops.now c.ops.op-index c.op-item.result (omega arith) (λ start. ap (state g.S.Store) (c.ops.invariant.first start))
+          (c.ops.invariant.ok (before clean) inside ours) inside ours (λ inside ours. subst (λ o. PutsIn (o ∷ []) mid new) c.op-item.is (c.in_ok-put_op.ensures.ok clean inside ours));
       kept = λ clean. keeps_on old mid new (c.ops.invariant.kept (before clean)) (c.put_op.ensures.kept clean);
       survives = survives_on old mid new c.ops.invariant.survives c.put_op.ensures.survives;
     }

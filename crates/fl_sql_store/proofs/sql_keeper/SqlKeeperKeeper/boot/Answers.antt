@@ -14,10 +14,10 @@ pub invariant_of-self-in-Err-Memory : goal.invariant_of-self-in-Err-Memory
 invariant_of-self-in-Err-Memory g c = (
   c.boot_on.ensures.idle,
   λ whole clean.
-  let old = state g.S.Store c.self.inside.conn in
-  let new = state g.S.Store c.boot_on.new.conn in
-  let ready = c.self.invariant.1 whole (omega (arith, c.boot_on.ensures.clean)) in
-  ready_as_committed c.self.inside.number old new ready (c.in-Err-Memory.ensures.memory clean (ap Err c.in-Err-Memory.field-0-is)),
+      let old = state g.S.Store c.self.inside.conn in
+      let new = state g.S.Store c.boot_on.new.conn in
+      let ready = c.self.invariant.1 whole (omega (arith, c.boot_on.ensures.clean)) in
+      ready_as_committed c.self.inside.number old new ready (c.in-Err-Memory.ensures.memory clean (ap Err c.in-Err-Memory.field-0-is)),
   c.self.invariant.2,
 )
 

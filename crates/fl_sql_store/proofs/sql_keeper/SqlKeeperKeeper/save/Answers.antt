@@ -26,10 +26,10 @@ pub invariant_of-self : goal.invariant_of-self
 invariant_of-self g c = (
   c.save_on.ensures.idle,
   λ whole clean.
-  let old = state g.S.Store c.self.inside.conn in
-  let new = state g.S.Store c.save_on.new.conn in
-  let ready = c.self.invariant.1 whole (omega (arith, c.save_on.ensures.clean)) in
-  ready_saved c.self.inside.number c.args.ops.now old new ready (c.in-Ok.ensures.ok clean (λ _. ready.schema)),
+      let old = state g.S.Store c.self.inside.conn in
+      let new = state g.S.Store c.save_on.new.conn in
+      let ready = c.self.invariant.1 whole (omega (arith, c.save_on.ensures.clean)) in
+      ready_saved c.self.inside.number c.args.ops.now old new ready (c.in-Ok.ensures.ok clean (λ _. ready.schema)),
   c.self.invariant.2,
 )
 
@@ -37,10 +37,10 @@ pub invariant_of-self-in-Err-Memory : goal.invariant_of-self-in-Err-Memory
 invariant_of-self-in-Err-Memory g c = (
   c.save_on.ensures.idle,
   λ whole clean.
-  let old = state g.S.Store c.self.inside.conn in
-  let new = state g.S.Store c.save_on.new.conn in
-  let ready = c.self.invariant.1 whole (omega (arith, c.save_on.ensures.clean)) in
-  ready_as_committed c.self.inside.number old new ready (c.in-Err-Memory.ensures.memory clean (λ _. ready.schema) (ap Err c.in-Err-Memory.field-0-is)),
+      let old = state g.S.Store c.self.inside.conn in
+      let new = state g.S.Store c.save_on.new.conn in
+      let ready = c.self.invariant.1 whole (omega (arith, c.save_on.ensures.clean)) in
+      ready_as_committed c.self.inside.number old new ready (c.in-Err-Memory.ensures.memory clean (λ _. ready.schema) (ap Err c.in-Err-Memory.field-0-is)),
   c.self.invariant.2,
 )
 
