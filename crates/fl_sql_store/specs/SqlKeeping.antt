@@ -28,7 +28,8 @@ pub record SqlKept (S : Type 0) : Type 0 where
 abbrev pub sql_code : {S : Type 0} → Coded S → Coded (SqlKept S)
 sql_code {S} store =
     code_by (Held S × (ℕ × (ℕ × Bool))) (coded× (held_code store) (coded× coded_ℕ (coded× coded_ℕ coded_bool)))
-    (λ k. (k.conn, (k.number, (k.failures, k.is_broken)))) (λ p. record { conn = p.0; number = p.1.0; failures = p.1.1.0; is_broken = p.1.1.1 }) (λ _. refl)
+    (λ k. (k.conn, (k.number, (k.failures, k.is_broken))))
+    (λ p. record { conn = p.0; number = p.1.0; failures = p.1.1.0; is_broken = p.1.1.1 }) (λ _. refl)
 
 -- the database is a keeper's, and no transaction is under way
 pub record IsReady (number : ℕ) (s : State) : Type 0 where

@@ -73,7 +73,8 @@ pub fn boot_on<S: Alter>(conn: &mut Connection<S>, number: u16) -> Result<u32, K
         × ((state S.Store conn.old).now.trees 0 ≡ self_row number (2 ^ 32 - 1) ∷ []) }
     ensures memory { HasCleanDisk (state S.Store conn.new) → result ≡ Err KeeperFault.Memory
         → IsAsCommitted (state S.Store conn.old) (state S.Store conn.new) }
-    ensures either { IfErr result (λ e. (e ≡ KeeperFault.Memory) ⊎ ((e ≡ KeeperFault.Broken) ⊎ (e ≡ KeeperFault.NamesSpent))) }
+    ensures either { IfErr result (λ e. (e ≡ KeeperFault.Memory)
+        ⊎ ((e ≡ KeeperFault.Broken) ⊎ (e ≡ KeeperFault.NamesSpent))) }
     ensures survives { (was : ℕ) → (state S.Store conn.old).now.trees 0 ≡ self_row number was ∷ []
         → Survives (state S.Store conn.old) (state S.Store conn.new) (RaisesTo number (was + 1)
         (state S.Store conn.old).now) }

@@ -37,7 +37,9 @@ impl<S: Alter> Model for SqlKeeper<S> {
 
     ghost view = { λ k. record { conn = k.conn; number = k.number; failures = k.failures; is_broken = k.is_broken } };
 
-    ghost invariant = { λ k. (k.conn.in_transaction ≡ false) × (k.is_broken ≡ false → IsServing k.number (state S.Store k.conn)) × (IsTrue k.is_broken → 0 < k.failures) };
+    ghost invariant = { λ k. (k.conn.in_transaction ≡ false)
+        × (k.is_broken ≡ false → IsServing k.number (state S.Store k.conn))
+        × (IsTrue k.is_broken → 0 < k.failures) };
 }
 
 impl<S: Alter + Drop> Drop for SqlKeeper<S> {
@@ -127,7 +129,8 @@ impl<S: Alter> Keeper for SqlKeeper<S> {
 
     ghost has_bad_row = { λ k. HasBadRow ((state S.Store k.conn).now.trees 1) };
 
-    ghost holds = { λ k clean. something_held k.number (S.Store.recovers k.conn.store) (S.Store.survives k.conn.store clean) };
+    ghost holds = { λ k clean. something_held k.number
+        (S.Store.recovers k.conn.store) (S.Store.survives k.conn.store clean) };
 
     ghost numbered = { λ keeper k h. ap (λ (k : Kept). k.number) h.2 ∙ kept_number keeper.number h.0 };
 
