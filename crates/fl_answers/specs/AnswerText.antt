@@ -3,7 +3,7 @@ use Rattle.std.specs.Prelude.{◌++◌, [], ◌∷◌, ℕ, List, codes}
 use Rattle.std.specs.Fmt.{decimal}
 use Rattle.hex.specs.Hex.{encode_lower}
 use Rattle.fl_labels.specs.Text.{name_text, pid_text, cap_text, caps_text, endpoint_text}
-use Rattle.fl_wire.specs.declared.packet.Letter.{Letter}
+use Rattle.fl_message.specs.declared.message.Letter.{Letter}
 use Rattle.fl_jobs.specs.declared.answer.Refusal.{Refusal}
 use Rattle.fl_jobs.specs.declared.answer.Refusal.TheVariants.{NoProcess, Busy, MissingCap, NoEndpoint, UnsafeEndpoint, EndpointsFull, NotWritable, NotReadable, Secrecy, Integrity, NoLogin, WrongSecret, NamesSpent, LabelTooLong, Memory, NotOwned, InboxFull}
 use Rattle.fl_jobs.specs.declared.answer.Reply.{Reply}

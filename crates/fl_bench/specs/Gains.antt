@@ -11,7 +11,7 @@ use Rattle.fl_labels.specs.declared.pid.Pid.{Pid}
 use Rattle.fl_ops.specs.declared.op.Op.{Op}
 use Rattle.fl_ops.specs.Registry.{Registry}
 use Rattle.fl_ops.specs.Logins.{IsFirstLogin}
-use Rattle.fl_wire.specs.declared.packet.Data.{Data}
+use Rattle.fl_message.specs.declared.message.Data.{Data}
 use Rattle.fl_jobs.specs.declared.secret.Secret.{Secret}
 use Rattle.fl_jobs.specs.declared.job.Act.TheVariants.{Spawn, Enter}
 use Rattle.fl_jobs.specs.declared.job.Job.{Job}

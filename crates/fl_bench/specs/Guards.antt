@@ -15,7 +15,7 @@ use Rattle.fl_rules.specs.declared.endpoint.Mode.TheVariants.{Write}
 use Rattle.fl_rules.specs.declared.labels.Labels.{Labels}
 use Rattle.fl_rules.specs.declared.pair.PairFault.{PairFault}
 use Rattle.fl_rules.specs.declared.pair.PairFault.TheVariants as faults
-use Rattle.fl_wire.specs.declared.packet.Data.{Data}
+use Rattle.fl_message.specs.declared.message.Data.{Data}
 use Rattle.fl_mailbox.specs.Endpoints.{Table, end_of}
 use Rattle.fl_mailbox.specs.Offenders.{offender_cmp, CrossesAt, DualAt}
 use Rattle.fl_mailbox.specs.declared.endpoints.OpenEndpoint.{OpenEndpoint}

@@ -9,10 +9,9 @@ use Rattle.fl_labels.specs.declared.endpoint.Endpoint.{Endpoint}
 use Rattle.fl_labels.specs.declared.pid.Pid.{Pid}
 use Rattle.fl_rules.specs.Endpoint.{writes}
 use Rattle.fl_rules.specs.declared.labels.Labels.{Labels}
-use Rattle.fl_wire.specs.declared.packet.Data.{Data}
-use Rattle.fl_wire.specs.declared.packet.Letter.{Letter}
-use Rattle.fl_wire.specs.declared.packet.Message.{Message}
-use Rattle.fl_wire.specs.declared.packet.Packet.TheVariants as packets
+use Rattle.fl_message.specs.declared.message.Data.{Data}
+use Rattle.fl_message.specs.declared.message.Letter.{Letter}
+use Rattle.fl_message.specs.declared.message.Message.{Message}
 use Rattle.fl_mailbox.specs.Mailbox.{oldest, without_oldest}
 use Rattle.fl_mailbox.specs.Endpoints.{IsLeastFree}
 use Rattle.fl_mailbox.specs.declared.mailbox.Mailbox.{Mailbox}
@@ -85,7 +84,7 @@ MailDoes pid ch (Close e) outcome ch' =
 MailDoes pid ch (Send from receiver to message) outcome ch' =
     (opened : OpenEndpoint) × (map.get ch.endpoints from ≡ Some opened) × (d : Data)
     × IsSent pid from opened.labels receiver to message d
-    × (outcome ≡ Outcome.Out (packets.Data d)) × (ch' ≡ ch)
+    × (outcome ≡ Outcome.Out d) × (ch' ≡ ch)
 MailDoes pid ch Take outcome ch' =
     (outcome ≡ Outcome.Reply (taken (oldest ch.inbox))) × (ch' ≡ record ch { inbox = without_oldest ch.inbox })
 

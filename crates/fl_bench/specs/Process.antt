@@ -15,7 +15,7 @@ use Rattle.fl_jobs.specs.declared.job.Side.TheVariants.{Secrecy, Integrity}
 use Rattle.fl_jobs.specs.declared.job.Order.{Order}
 use Rattle.fl_jobs.specs.declared.job.Order.TheVariants.{Tag, Group, Put, MakeLogin}
 use Rattle.fl_rules.specs.declared.labels.Labels.{Labels}
-use Rattle.fl_wire.specs.declared.packet.Data.{Data}
+use Rattle.fl_message.specs.declared.message.Data.{Data}
 use Rattle.fl_mailbox.specs.Mailbox.{closed}
 use Rattle.fl_bench.specs.Mailbox.{entered}
 use Rattle.fl_bench.specs.Secrets.{digest_of}

@@ -17,9 +17,7 @@ use Rattle.fl_jobs.specs.declared.answer.Refusal.{Refusal}
 use Rattle.fl_jobs.specs.declared.answer.Reply.{Reply}
 use Rattle.fl_jobs.specs.declared.answer.Outcome.{Outcome}
 use Rattle.fl_rules.specs.Endpoint.{writes}
-use Rattle.fl_wire.specs.declared.packet.Data.{Data}
-use Rattle.fl_wire.specs.declared.packet.Packet.{Packet}
-use Rattle.fl_wire.specs.declared.packet.Packet.TheVariants as packets
+use Rattle.fl_message.specs.declared.message.Data.{Data}
 use Rattle.fl_mailbox.specs.declared.endpoints.OpenEndpoint.{OpenEndpoint}
 use Rattle.fl_bench.specs.Process.{is_busy, ordering, effective, body_of}
 use Rattle.fl_bench.specs.Bench.{BenchState, has_at, gone, born}
@@ -54,10 +52,8 @@ pub record IsOrder (V : Registry) (b : BenchState) (job : Job) (body : Body) (pi
   pub body_is : body ≡ body_of order
   pub leaves : after ≡ has_at b pid (ordering process)
 
--- the job sends the packet from an open endpoint that is for writing, with what its process has in effect
-pub record IsSending (V : Registry) (b : BenchState) (job : Job) (packet : Packet) : Type 0 where
-  pub sent : Data
-  pub packet_is : packet ≡ packets.Data sent
+-- the job sends the message from an open endpoint that is for writing, with what its process has in effect
+pub record IsSending (V : Registry) (b : BenchState) (job : Job) (sent : Data) : Type 0 where
   pub process : Process
   pub lived : map.get b.processes sent.sender ≡ Some process
   pub opened : OpenEndpoint
@@ -68,12 +64,12 @@ pub record IsSending (V : Registry) (b : BenchState) (job : Job) (packet : Packe
   pub asked : job ≡ By sent.sender (Mail (Send sent.from sent.receiver sent.to sent.message))
   pub granted : Within (In sent.message.caps) (effective V process)
 
--- the job is refused and leaves all, replies, orders an operation, or sends a packet, which leaves the bench
+-- the job is refused and leaves all, replies, orders an operation, or sends a message, which leaves the bench
 pub data Summary (V : Registry) (b : BenchState) (job : Job) : Result Outcome Refusal → BenchState → Type 0 where
   refuses : {f : Refusal} → Summary V b job (Err f) b
   replies : {reply : Reply} {after : BenchState} → Changes V b job after
       → Summary V b job (Ok (Outcome.Reply reply)) after
   orders : {body : Body} {pid : Pid} {after : BenchState} → IsOrder V b job body pid after
       → Summary V b job (Ok (Outcome.Order body pid)) after
-  sends : {packet : Packet} {after : BenchState} → IsSending V b job packet → after ≡ b
-      → Summary V b job (Ok (Outcome.Out packet)) after
+  sends : {sent : Data} {after : BenchState} → IsSending V b job sent → after ≡ b
+      → Summary V b job (Ok (Outcome.Out sent)) after

@@ -14,9 +14,7 @@ ghost use Rattle.fl_jobs.specs.declared.job.Act.TheVariants.{Exit};
 ghost use Rattle.fl_jobs.specs.declared.job.Job.{Job};
 ghost use Rattle.fl_jobs.specs.declared.job.Job.TheVariants.{By, Arrive};
 ghost use Rattle.fl_rules.specs.Message.{SafeMessage};
-ghost use Rattle.fl_wire.specs.declared.packet.Data.{Data};
-ghost use Rattle.fl_wire.specs.declared.packet.Packet.{Packet};
-ghost use Rattle.fl_wire.specs.declared.packet.Packet.TheVariants as packets;
+ghost use Rattle.fl_message.specs.declared.message.Data.{Data};
 ghost use Rattle.fl_bench.specs.Bench.{BenchState, IsNext, new_bench};
 ghost use Rattle.fl_bench.specs.Following.{Follows};
 ghost use Rattle.fl_bench.specs.Gifts.{cancelled, finished};
@@ -150,7 +148,7 @@ pub fn law_arrivals()
     ensures { (sending earlier taking ops : List Op) (a sent b after : BenchState) (job : Job) (message : Data)
         (outcome : Outcome) (p q : Process) →
         IsGuarded (Listed earlier) a → map.get a.processes message.sender ≡ Some p →
-        Does (Listed sending) a job (Ok (Outcome.Out (packets.Data message))) sent →
+        Does (Listed sending) a job (Ok (Outcome.Out message)) sent →
         IsGuarded (Listed ops) b → map.get b.processes message.receiver ≡ Some q →
         Does (Listed taking) b (Arrive message) (Ok outcome) after →
         SafeMessage (effective (Listed earlier) p) p.labels (effective (Listed ops) q) q.labels }
@@ -161,7 +159,7 @@ pub fn law_arrivals()
 pub fn law_taken_back()
     ensures order { (ops : List Op) (b after : BenchState) (job : Job) (body : Body) (pid : Pid) →
         Does (Listed ops) b job (Ok (Outcome.Order body pid)) after → cancelled after pid ≡ b }
-    ensures packet { (ops : List Op) (b after : BenchState) (job : Job) (packet : Packet) →
+    ensures packet { (ops : List Op) (b after : BenchState) (job : Job) (packet : Data) →
         Does (Listed ops) b job (Ok (Outcome.Out packet)) after → after ≡ b }
     ensures refusal { (ops : List Op) (b after : BenchState) (job : Job) (refusal : Refusal) →
         Does (Listed ops) b job (Err refusal) after → after ≡ b }

@@ -14,9 +14,7 @@ use Rattle.fl_labels.specs.SetBy as set
 use Rattle.fl_ops.specs.OpOrder.{op_cmp}
 use Rattle.fl_ops.specs.OpLaws.{op_total, op_exact}
 use Rattle.fl_aliases.specs.Table.{Table}
-use Rattle.fl_wire.specs.declared.packet.Data.{Data}
-use Rattle.fl_wire.specs.declared.packet.Packet.{Packet}
-use Rattle.fl_wire.specs.declared.packet.Packet.TheVariants as kinds
+use Rattle.fl_message.specs.declared.message.Data.{Data}
 use Rattle.fl_jobs.specs.declared.job.Job.{Job}
 use Rattle.fl_jobs.specs.declared.job.Job.TheVariants.{Arrive}
 use Rattle.fl_mailbox.specs.laws.Tables.{get_held, one_gone, one_put, put_same, put_through}
@@ -35,29 +33,29 @@ use Rattle.fl_cluster.specs.declared.response.Response.TheVariants as responses
 abbrev pub Entries : Type 0
 Entries = List (ℕ × NodeState)
 
-abbrev pub of_entries : Entries → List Packet → Cluster
+abbrev pub of_entries : Entries → List Data → Cluster
 of_entries es packets = record { nodes = map.from_entries es; sent = packets }
 
-the_map : (es : Entries) (packets : List Packet) (s : Cluster) → of_entries es packets ≡ s → map.from_entries es ≡ s.nodes
+the_map : (es : Entries) (packets : List Data) (s : Cluster) → of_entries es packets ≡ s → map.from_entries es ≡ s.nodes
 the_map es packets s e = ap (λ (t : Cluster). t.nodes) e
 
 -- where the nodes changed, and the packets did not
-with_nodes : (es fs : Entries) (packets : List Packet) (s : Cluster) (m : map.FinMap nat_cmp NodeState) → of_entries es packets ≡ s → map.from_entries fs ≡ m → of_entries fs packets ≡ record s { nodes = m }
-with_nodes es fs packets s m e f = ap (λ (m : map.FinMap nat_cmp NodeState). record { nodes = m; sent = packets }) f ∙ ap (λ (x : List Packet). record { nodes = m; sent = x }) (ap (λ (t : Cluster). t.sent) e)
+with_nodes : (es fs : Entries) (packets : List Data) (s : Cluster) (m : map.FinMap nat_cmp NodeState) → of_entries es packets ≡ s → map.from_entries fs ≡ m → of_entries fs packets ≡ record s { nodes = m }
+with_nodes es fs packets s m e f = ap (λ (m : map.FinMap nat_cmp NodeState). record { nodes = m; sent = packets }) f ∙ ap (λ (x : List Data). record { nodes = m; sent = x }) (ap (λ (t : Cluster). t.sent) e)
 
-pub held : (es : Entries) (packets : List Packet) (s : Cluster) (n : ℕ) → of_entries es packets ≡ s → lookup (is_at (nat_cmp n)) es ≡ map.get s.nodes n
+pub held : (es : Entries) (packets : List Data) (s : Cluster) (n : ℕ) → of_entries es packets ≡ s → lookup (is_at (nat_cmp n)) es ≡ map.get s.nodes n
 held es packets s n e = get_held nat_cmp_total nat_cmp-IsAntisymmetric es s.nodes n (the_map es packets s e)
 
 -- a node was put into the place of its number
-pub put_node : (es fs : Entries) (packets : List Packet) (s : Cluster) (n : ℕ) (x : NodeState) → of_entries es packets ≡ s → ((q : ℕ) → lookup (is_at (nat_cmp q)) fs ≡ cond (is_at (nat_cmp n) q) (Some x) (lookup (is_at (nat_cmp q)) es)) → of_entries fs packets ≡ with_node s n x
+pub put_node : (es fs : Entries) (packets : List Data) (s : Cluster) (n : ℕ) (x : NodeState) → of_entries es packets ≡ s → ((q : ℕ) → lookup (is_at (nat_cmp q)) fs ≡ cond (is_at (nat_cmp n) q) (Some x) (lookup (is_at (nat_cmp q)) es)) → of_entries fs packets ≡ with_node s n x
 put_node es fs packets s n x e h = with_nodes es fs packets s _ e (one_put nat_cmp_total nat_cmp-IsAntisymmetric es fs s.nodes n x (the_map es packets s e) h)
 
 -- a node that is there was changed
-pub node_through : (es fs : Entries) (packets : List Packet) (s : Cluster) (n : ℕ) (x w : NodeState) → of_entries es packets ≡ s → lookup (is_at (nat_cmp n)) es ≡ Some x → fs ≡ set_value (is_at (nat_cmp n)) es w → of_entries fs packets ≡ with_node s n w
+pub node_through : (es fs : Entries) (packets : List Data) (s : Cluster) (n : ℕ) (x w : NodeState) → of_entries es packets ≡ s → lookup (is_at (nat_cmp n)) es ≡ Some x → fs ≡ set_value (is_at (nat_cmp n)) es w → of_entries fs packets ≡ with_node s n w
 node_through es fs packets s n x w e there f = with_nodes es fs packets s _ e (put_through nat_cmp_total nat_cmp-IsAntisymmetric es fs s.nodes n x w (the_map es packets s e) there f)
 
 -- and one was taken out
-pub gone_node : (es fs : Entries) (packets : List Packet) (s : Cluster) (n : ℕ) → of_entries es packets ≡ s → ((q : ℕ) → lookup (is_at (nat_cmp q)) fs ≡ cond (is_at (nat_cmp n) q) None (lookup (is_at (nat_cmp q)) es)) → of_entries fs packets ≡ record s { nodes = map.remove s.nodes n }
+pub gone_node : (es fs : Entries) (packets : List Data) (s : Cluster) (n : ℕ) → of_entries es packets ≡ s → ((q : ℕ) → lookup (is_at (nat_cmp q)) fs ≡ cond (is_at (nat_cmp n) q) None (lookup (is_at (nat_cmp q)) es)) → of_entries fs packets ≡ record s { nodes = map.remove s.nodes n }
 gone_node es fs packets s n e h = with_nodes es fs packets s _ e (one_gone nat_cmp_total nat_cmp-IsAntisymmetric es fs s.nodes n (the_map es packets s e) h)
 
 pub node_at-Some : (s : Cluster) (n : ℕ) (x : NodeState) → map.get s.nodes n ≡ Some x → node_at s n ≡ x
@@ -98,7 +96,7 @@ pub with_open-closed : (s : Cluster) (n : ℕ) → is_open s n ≡ false → wit
 with_open-closed s n e = ap (with_node s n) (sym (node_at-closed s n e))
 
 -- whether a look at the entries finds the node
-pub is_open-held : (es : Entries) (packets : List Packet) (s : Cluster) (n : ℕ) → of_entries es packets ≡ s → is_some (lookup (is_at (nat_cmp n)) es) ≡ is_open s n
+pub is_open-held : (es : Entries) (packets : List Data) (s : Cluster) (n : ℕ) → of_entries es packets ≡ s → is_some (lookup (is_at (nat_cmp n)) es) ≡ is_open s n
 is_open-held es packets s n e = ap is_some (held es packets s n e)
 
 -- a node that was not open is taken out again
@@ -145,7 +143,7 @@ pub not_worked : (s new : Cluster) (n : ℕ) (node after : NodeState) → map.ge
 not_worked s new n node after there e same = e ∙ ap (with_node s n) same ∙ with_node-same s n node there
 
 -- a node sent a packet
-pub sent_so : (s mid new : Cluster) (n : ℕ) (job : Job) (node after : NodeState) (packet : Packet) (place : ℕ) (table : Table) → node_at s n ≡ node → mid ≡ with_node s n after → new ≡ with_packet mid packet → Sends node job packet after → AnswersLine place table s (line.Job n job) (sent (length mid.sent + 1)) new
+pub sent_so : (s mid new : Cluster) (n : ℕ) (job : Job) (node after : NodeState) (packet : Data) (place : ℕ) (table : Table) → node_at s n ≡ node → mid ≡ with_node s n after → new ≡ with_packet mid packet → Sends node job packet after → AnswersLine place table s (line.Job n job) (sent (length mid.sent + 1)) new
 sent_so s mid new n job node after packet place table here e f sending =
     let whole : with_packet (with_node s n after) packet ≡ new = sym (f ∙ ap (λ (t : Cluster). with_packet t packet) e) in
     let count : length s.sent + 1 ≡ length mid.sent + 1 = ap (λ (t : Cluster). length t.sent + 1) (sym e) in
@@ -153,25 +151,18 @@ sent_so s mid new n job node after packet place table here e f sending =
     (subst (AnswersLine place table s (line.Job n job) (sent (length s.sent + 1))) whole (sends (subst (λ (x : NodeState). Sends x job packet after) (sym here) sending)))
 
 -- a new node sends none
-pub new_sends_none : (n : ℕ) (job : Job) (packet : Packet) (after : NodeState) → Sends (new_node n) job packet after → ⊥
+pub new_sends_none : (n : ℕ) (job : Job) (packet : Data) (after : NodeState) → Sends (new_node n) job packet after → ⊥
 new_sends_none n job packet after sending =
     let s = sending_at sending.does in
-    none_some (map.get-empty pid_cmp s.sent.sender) s.lived
-
--- what a packet is of
-abbrev pub data_of : Packet → Data
-data_of (kinds.Data d) = d
-
-pub is_data : (packet : Packet) → packet ≡ kinds.Data (data_of packet)
-is_data (kinds.Data d) = refl
+    none_some (map.get-empty pid_cmp packet.sender) s.lived
 
 -- a node took a message
-pub took : {place : ℕ} {table : Table} {s : Cluster} {n k : ℕ} {d : Data} {a : Answer} {new : Cluster} → packet_at s.sent k ≡ Some (kinds.Data d) → AnswersLine place table s (line.Job n (Arrive d)) a new → AnswersLine place table s (line.Deliver n k) (on_arrival a) new
+pub took : {place : ℕ} {table : Table} {s : Cluster} {n k : ℕ} {d : Data} {a : Answer} {new : Cluster} → packet_at s.sent k ≡ Some d → AnswersLine place table s (line.Job n (Arrive d)) a new → AnswersLine place table s (line.Deliver n k) (on_arrival a) new
 took found (works w) = brings found w
 took found (sends sending) = let s = sending_at sending.does in let asked = s.asked in absurd (cc)
 
 -- and the packet was kept, where there was room for it
-pub kept_so : (s mid new : Cluster) (n : ℕ) (job : Job) (node after : NodeState) (packet : Packet) (result : Result Response AllocError) → node_at s n ≡ node → mid ≡ with_node s n after → Sends node job packet after →
+pub kept_so : (s mid new : Cluster) (n : ℕ) (job : Job) (node after : NodeState) (packet : Data) (result : Result Response AllocError) → node_at s n ≡ node → mid ≡ with_node s n after → Sends node job packet after →
     OnOk result (new ≡ with_packet mid packet) → IfOk result (λ r. r ≡ responses.Sent (length mid.sent + 1)) → IfOk result (λ r. (place : ℕ) (table : Table) → AnswersLine place table s (line.Job n job) (shown (record { state = new; aliases = table }) r) new)
 kept_so s mid new n job node after packet (Result.Ok r) here e sending f is = λ place table.
     subst (λ x. AnswersLine place table s (line.Job n job) (shown (record { state = new; aliases = table }) x) new) (sym is) (sent_so s mid new n job node after packet place table here e f sending)

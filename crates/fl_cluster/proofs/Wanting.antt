@@ -14,8 +14,7 @@ use Rattle.fl_rules.specs.declared.labels.Labels.{Labels}
 use Rattle.fl_rules.specs.declared.endpoint.Mode.{Mode}
 use Rattle.fl_rules.specs.declared.pair.PairFault.{PairFault}
 use Rattle.fl_rules.specs.declared.pair.PairFault.TheVariants as faults
-use Rattle.fl_wire.specs.declared.packet.Data.{Data}
-use Rattle.fl_wire.specs.declared.packet.Packet.{Packet}
+use Rattle.fl_message.specs.declared.message.Data.{Data}
 use Rattle.fl_mailbox.specs.declared.mailbox.Mailbox.{Mailbox}
 use Rattle.fl_mailbox.specs.declared.endpoints.OpenEndpoint.{OpenEndpoint}
 use Rattle.fl_jobs.specs.Given.{labels_of}
@@ -154,11 +153,11 @@ module _ {V : Registry} {b : BenchState} where
   checks_pass is (failed c) = absurd (cc)
   checks_pass is (no_room t) = absurd (cc)
 
-  pub send_takes : {job : Job} {packet : Packet} {after : BenchState} → Does V b job (Ok (outcome.Out packet)) after → TakesMemory V b job
-  send_takes {job} d =
+  pub send_takes : {job : Job} {packet : Data} {after : BenchState} → Does V b job (Ok (outcome.Out packet)) after → TakesMemory V b job
+  send_takes {job} {packet} d =
       let s = sending_at d in
       let pass = subst (λ j. checks V b j None) s.asked (checks_pass refl d) in
-      subst (TakesMemory V b) (sym s.asked) (s.process, s.lived, idle_at V b s.sent.sender (Mail (Send s.sent.from s.sent.receiver s.sent.to s.sent.message)) s.process _ s.lived pass, (s.opened, s.is_open, s.writable))
+      subst (TakesMemory V b) (sym s.asked) (s.process, s.lived, idle_at V b packet.sender (Mail (Send packet.from packet.receiver packet.to packet.message)) s.process _ s.lived pass, (s.opened, s.is_open, s.writable))
 
 -- ---- so does its line
 
@@ -168,5 +167,5 @@ opening_takes s n job closed = inl closed
 pub work_takes : (s : Cluster) (n : ℕ) (job : Job) (node : NodeState) → node_at s n ≡ node → TakesMemory (view_of node) node.bench job → LineTakesMemory s (line.Job n job)
 work_takes s n job node here takes = inr (subst (λ (x : NodeState). TakesMemory (view_of x) x.bench job) (sym here) takes)
 
-pub packet_takes : (s : Cluster) (n : ℕ) (job : Job) (node after : NodeState) (packet : Packet) → node_at s n ≡ node → Sends node job packet after → LineTakesMemory s (line.Job n job)
+pub packet_takes : (s : Cluster) (n : ℕ) (job : Job) (node after : NodeState) (packet : Data) → node_at s n ≡ node → Sends node job packet after → LineTakesMemory s (line.Job n job)
 packet_takes s n job node after packet here sending = work_takes s n job node here (send_takes sending.does)

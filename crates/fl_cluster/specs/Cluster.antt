@@ -9,8 +9,8 @@ use Rattle.std.specs.declared.option.Option.TheVariants.{None, Some}
 use Rattle.fl_labels.specs.SetBy as set
 use Rattle.fl_ops.specs.OpOrder.{op_cmp}
 use Rattle.fl_ops.specs.OpLaws.{coded_op}
-use Rattle.fl_wire.specs.declared.packet.Packet.{Packet}
-use Rattle.fl_wire.specs.contracts.packet.Packet as packets_row
+use Rattle.fl_message.specs.declared.message.Data.{Data}
+use Rattle.fl_message.specs.contracts.message.Data as packets_row
 use Rattle.fl_bench.specs.Bench as bench
 
 -- a node: its number, its operations, and its processes
@@ -22,7 +22,7 @@ pub record NodeState : Type 0 where
 -- the nodes that are open, by their numbers, and the packets that were sent, in their order
 pub record Cluster : Type 0 where
   pub nodes : map.FinMap nat_cmp NodeState
-  pub sent : List Packet
+  pub sent : List Data
 
 -- a node at its first opening: no operation, and one bench, with no process
 abbrev pub new_node : ℕ → NodeState
@@ -54,11 +54,11 @@ abbrev pub with_open : Cluster → ℕ → Cluster
 with_open state number = with_node state number (node_at state number)
 
 -- the packet was sent as the last one
-abbrev pub with_packet : Cluster → Packet → Cluster
+abbrev pub with_packet : Cluster → Data → Cluster
 with_packet state packet = record state { sent = state.sent ++ packet ∷ [] }
 
 -- the packet of this number, counted from 1, if so many were sent
-abbrev pub packet_at : List Packet → ℕ → Option Packet
+abbrev pub packet_at : List Data → ℕ → Option Data
 packet_at sent zero = None
 packet_at sent (suc before) = slice_get sent before
 
@@ -70,12 +70,12 @@ coded_node =
     (λ t. record { number = t.0; registry = t.1.0; bench = t.1.1 })
     (λ _. refl)
 
-abbrev pub coded_sent : Coded (List Packet)
+abbrev pub coded_sent : Coded (List Data)
 coded_sent = coded_list (packets_row.the_row).coded
 
 abbrev pub coded_cluster : Coded Cluster
 coded_cluster =
-    code_by (map.FinMap nat_cmp NodeState × List Packet) (coded× (map.code coded_ℕ coded_node) coded_sent)
+    code_by (map.FinMap nat_cmp NodeState × List Data) (coded× (map.code coded_ℕ coded_node) coded_sent)
     (λ s. (s.nodes, s.sent))
     (λ t. record { nodes = t.0; sent = t.1 })
     (λ _. refl)

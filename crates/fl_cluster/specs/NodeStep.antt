@@ -14,7 +14,7 @@ use Rattle.fl_jobs.specs.declared.answer.Refusal.TheVariants.{NamesSpent, Memory
 use Rattle.fl_jobs.specs.declared.answer.Reply.{Reply}
 use Rattle.fl_jobs.specs.declared.answer.Outcome.{Outcome}
 use Rattle.fl_jobs.specs.declared.answer.Outcome.TheVariants as outcome
-use Rattle.fl_wire.specs.declared.packet.Packet.{Packet}
+use Rattle.fl_message.specs.declared.message.Data.{Data}
 use Rattle.fl_bench.specs.Bench as bench
 use Rattle.fl_bench.specs.Gifts.{finished, cancelled}
 use Rattle.fl_bench.specs.Jobs.{Does}
@@ -62,7 +62,7 @@ pub record NodeAnswers (node : NodeState) (job : Job) (answer : Answer) (new : N
   pub answered : AnswersResult node result after answer new
 
 -- the node does a job that sends the packet, and is left so
-pub record Sends (node : NodeState) (job : Job) (packet : Packet) (new : NodeState) : Type 0 where
+pub record Sends (node : NodeState) (job : Job) (packet : Data) (new : NodeState) : Type 0 where
   pub after : bench.BenchState
   pub does : Does (view_of node) node.bench job (Ok (outcome.Out packet)) after
   pub left : new ≡ record node { bench = after }

@@ -3,9 +3,7 @@ use Rattle.std.specs.Prelude.{◌≡◌, ◌⊎◌, ◌+◌, ℕ, List, Option, 
 use Rattle.fl_labels.specs.SetBy as set
 use Rattle.fl_aliases.specs.Table.{Table}
 use Rattle.fl_jobs.specs.declared.answer.Refusal.TheVariants.{Memory}
-use Rattle.fl_wire.specs.declared.packet.Data.{Data}
-use Rattle.fl_wire.specs.declared.packet.Packet.{Packet}
-use Rattle.fl_wire.specs.declared.packet.Packet.TheVariants as packets
+use Rattle.fl_message.specs.declared.message.Data.{Data}
 use Rattle.fl_jobs.specs.declared.job.Job.{Job}
 use Rattle.fl_jobs.specs.declared.job.Job.TheVariants.{Arrive}
 use Rattle.fl_script.specs.declared.line.Line.{Line}
@@ -27,15 +25,15 @@ pub data AnswersLine (place : ℕ) (aliases : Table) (old : Cluster) : Line → 
   works : {number : ℕ} {job : Job} {answer : Answer} {after : NodeState} →
       NodeAnswers (node_at old number) job answer after →
       AnswersLine place aliases old (line.Job number job) answer (with_node old number after)
-  sends : {number : ℕ} {job : Job} {packet : Packet} {after : NodeState} →
+  sends : {number : ℕ} {job : Job} {packet : Data} {after : NodeState} →
       Sends (node_at old number) job packet after →
       AnswersLine place aliases old (line.Job number job) (sent (length old.sent + 1))
       (with_packet (with_node old number after) packet)
   brings : {number k : ℕ} {d : Data} {answer : Answer} {after : NodeState} →
-      packet_at old.sent k ≡ Some (packets.Data d) →
+      packet_at old.sent k ≡ Some d →
       NodeAnswers (node_at old number) (Arrive d) answer after →
       AnswersLine place aliases old (line.Deliver number k) (on_arrival answer) (with_node old number after)
-  no_room : {number k : ℕ} {d : Data} → packet_at old.sent k ≡ Some (packets.Data d) →
+  no_room : {number k : ℕ} {d : Data} → packet_at old.sent k ≡ Some d →
       AnswersLine place aliases old (line.Deliver number k) (dropped Memory) old
   never_sent : {number k : ℕ} → packet_at old.sent k ≡ None →
       AnswersLine place aliases old (line.Deliver number k) (bad_line place) old

@@ -14,10 +14,10 @@ use crate::response::{JobResult, Response};
 use crate::sent::Sent;
 use fl_jobs::answer::Refusal;
 use fl_jobs::job::Job;
+use fl_message::message::Data;
 use fl_opset::set::OpSet;
 use fl_script::line::Line;
 use fl_sink::sink::{Sink, WriteFault};
-use fl_wire::packet::Packet;
 use std::alloc::{AllocError, Global};
 use std::collections::BTreeMap;
 use std::io::Write;
@@ -88,7 +88,7 @@ impl Nodes {
     }
 
     // Keeps a packet as the last that was sent.
-    fn send(&mut self, packet: Packet) -> Result<Response, AllocError>
+    fn send(&mut self, packet: Data) -> Result<Response, AllocError>
         ensures ok { OnOk result (self.new ≡ with_packet self.old packet) }
         ensures number { IfOk result (λ response. response ≡ Response.Sent (length self.old.sent + 1)) }
         ensures err { OnErr result (self.new ≡ self.old) }
@@ -119,7 +119,7 @@ impl Nodes {
         requires { 0 < number }
         ensures { RespondsAt place self.old (Line.Deliver number packet) result self.new }
     {
-        let Some(Packet::Data(sent)) = self.sent.get(packet) else {
+        let Some(sent) = self.sent.get(packet) else {
             return Response::BadLine(place);
         };
         let Ok(message) = sent.copy(alloc) else {

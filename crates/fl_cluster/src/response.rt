@@ -4,8 +4,8 @@ ghost use Rattle.std.specs.Prelude.{◌≡◌};
 use fl_aliases::target::Target;
 use fl_jobs::answer::{Refusal, Reply};
 use fl_labels::name::Name;
+use fl_message::message::Data;
 use fl_opset::set::OpSet;
-use fl_wire::packet::Packet;
 
 /// What is answered to a line.
 #[derive(Debug, Drop)]
@@ -38,7 +38,7 @@ pub enum JobResult {
     /// It is answered.
     Answer(Response),
     /// It sends the packet.
-    Packet(Packet),
+    Packet(Data),
 }
 
 impl Response {

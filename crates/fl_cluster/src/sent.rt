@@ -2,22 +2,22 @@
 ghost use Rattle.std.specs.Prelude.{◌≡◌, ◌+◌, ◌++◌, ◌∷◌, [], IfOk, MatchOption, None, OnErr, OnOk, Some, length};
 ghost use Rattle.fl_cluster.specs.Cluster.{packet_at};
 
-use fl_wire::packet::Packet;
+use fl_message::message::Data;
 use std::alloc::{AllocError, Global};
 use std::marker::Model;
 
 /// The packets that were sent, in their order.
 #[derive(Debug, Drop)]
 pub struct Sent {
-    packets: Vec<Packet>,
+    packets: Vec<Data>,
 }
 
 impl Model for Sent {
     ghost use Rattle.std.specs.Prelude.{List};
-    ghost use Rattle.fl_wire.specs.declared.packet.Packet.{Packet};
+    ghost use Rattle.fl_message.specs.declared.message.Data.{Data};
     ghost use Rattle.fl_cluster.specs.Cluster.{coded_sent};
 
-    ghost Value = { List Packet };
+    ghost Value = { List Data };
 
     ghost coded = { coded_sent };
 
@@ -36,7 +36,7 @@ impl Sent {
 
     /// Keeps a packet as the last one, and answers its number. Fails only where there is not enough memory, and then leaves
     /// the others.
-    pub fn push(&mut self, packet: Packet) -> Result<u64, AllocError>
+    pub fn push(&mut self, packet: Data) -> Result<u64, AllocError>
         ensures ok { OnOk result (self.new ≡ self.old ++ packet ∷ []) }
         ensures number { IfOk result (λ number. number ≡ length self.old + 1) }
         ensures err { OnErr result (self.new ≡ self.old) }
@@ -46,7 +46,7 @@ impl Sent {
     }
 
     /// The packet of this number, counted from 1, or none where fewer were sent.
-    pub fn get(&self, number: u32) -> Option<&Packet>
+    pub fn get(&self, number: u32) -> Option<&Data>
         ensures { MatchOption result (packet_at self.now number ≡ None)
             (λ packet. packet_at self.now number ≡ Some packet.now) }
     {

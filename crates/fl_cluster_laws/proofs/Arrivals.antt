@@ -7,7 +7,7 @@ use Rattle.fl_ops.specs.declared.op.Op.{Op}
 use Rattle.fl_rules.specs.Endpoint.{SafeEndpoint}
 use Rattle.fl_rules.specs.Message.{SafeMessage}
 use Rattle.fl_rules.specs.declared.endpoint.Mode.TheVariants.{Write}
-use Rattle.fl_wire.specs.declared.packet.Data.{Data}
+use Rattle.fl_message.specs.declared.message.Data.{Data}
 use Rattle.fl_jobs.specs.declared.job.Job.TheVariants.{Arrive}
 use Rattle.fl_jobs.specs.declared.answer.Outcome.{Outcome}
 use Rattle.fl_bench.specs.Bench as bench

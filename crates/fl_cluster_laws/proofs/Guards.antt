@@ -12,7 +12,7 @@ use Rattle.fl_ops.specs.OpOrder.{op_cmp}
 use Rattle.fl_ops.specs.Registry.{Listed}
 use Rattle.fl_ops.specs.declared.op.Op.{Op}
 use Rattle.fl_aliases.specs.Table.{Table}
-use Rattle.fl_wire.specs.declared.packet.Packet.{Packet}
+use Rattle.fl_message.specs.declared.message.Data.{Data}
 use Rattle.fl_jobs.specs.declared.job.Job.{Job}
 use Rattle.fl_jobs.specs.declared.job.Job.TheVariants.{Arrive}
 use Rattle.fl_jobs.specs.declared.answer.Refusal.{Refusal}
@@ -63,7 +63,7 @@ module _ (node : NodeState) (job : Job) (h : GuardedNode node) where
   work_guarded : (a : Answer) (m : NodeState) → NodeAnswers node job a m → GuardedNode m
   work_guarded a m w = result_guarded w.result w.after a m w.does w.answered
 
-  send_guarded : {packet : Packet} {m : NodeState} → Sends node job packet m → GuardedNode m
+  send_guarded : {packet : Data} {m : NodeState} → Sends node job packet m → GuardedNode m
   send_guarded s = subst GuardedNode (sym s.left) (subst (IsGuarded (view_of node)) (sym (sending_leaves s.does)) h)
 
 -- ---- each node of the state

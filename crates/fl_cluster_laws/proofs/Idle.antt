@@ -13,7 +13,7 @@ use Rattle.fl_rules.specs.declared.labels.Labels.{Labels}
 use Rattle.fl_rules.specs.declared.pair.PairFault.{PairFault}
 use Rattle.fl_rules.specs.declared.pair.PairFault.TheVariants as faults
 use Rattle.fl_rules.specs.Endpoint.{writes}
-use Rattle.fl_wire.specs.declared.packet.Data.{Data}
+use Rattle.fl_message.specs.declared.message.Data.{Data}
 use Rattle.fl_mailbox.specs.declared.mailbox.Mailbox.{Mailbox}
 use Rattle.fl_mailbox.specs.declared.endpoints.OpenEndpoint.{OpenEndpoint}
 use Rattle.fl_jobs.specs.Given.{labels_of}

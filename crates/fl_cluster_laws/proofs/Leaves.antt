@@ -14,7 +14,7 @@ use Rattle.fl_labels.specs.declared.cap.Cap.{Cap}
 use Rattle.fl_labels.specs.declared.name.Name.{Name}
 use Rattle.fl_labels.specs.declared.pid.Pid.{Pid}
 use Rattle.fl_ops.specs.declared.op.Op.{Op}
-use Rattle.fl_wire.specs.declared.packet.Packet.{Packet}
+use Rattle.fl_message.specs.declared.message.Data.{Data}
 use Rattle.fl_ops.specs.declared.op.Body.{Body}
 use Rattle.fl_jobs.specs.declared.job.Act.{Act}
 use Rattle.fl_jobs.specs.declared.job.Act.TheVariants.{Order, Relabel, Ask, Spawn, Exit, Drop, Enter, Emit, Mail}
@@ -140,7 +140,7 @@ module _ (node : NodeState) (job : Job) where
   work_leaves a m w = answered_leaves w.result w.after a m w.does w.answered
 
   -- a job that sends leaves the bench as it was
-  pub send_leaves : {packet : Packet} {m : NodeState} (a : Answer) → Sends node job packet m → Leaves (view_of node) node.bench job a m.bench
+  pub send_leaves : {packet : Data} {m : NodeState} (a : Answer) → Sends node job packet m → Leaves (view_of node) node.bench job a m.bench
   send_leaves {m} a s = subst (λ (x : NodeState). Leaves (view_of node) node.bench job a x.bench) (sym s.left) (stays (sending_leaves s.does))
 
 -- ---- a message that comes

@@ -10,7 +10,7 @@ use Rattle.fl_jobs.specs.declared.job.Job.{Job}
 use Rattle.fl_jobs.specs.declared.answer.Outcome.{Outcome}
 use Rattle.fl_jobs.specs.declared.answer.Refusal.{Refusal}
 use Rattle.fl_jobs.specs.declared.answer.Refusal.TheVariants.{Memory}
-use Rattle.fl_wire.specs.declared.packet.Packet.{Packet}
+use Rattle.fl_message.specs.declared.message.Data.{Data}
 use Rattle.fl_bench.specs.Bench as bench
 use Rattle.fl_bench_laws.specs.laws.OneResult.{one_result}
 use Rattle.fl_cluster.specs.Cluster.{NodeState}
@@ -73,7 +73,7 @@ one_work node job a b m n h k =
 
 -- ---- a job that sends
 
-no_send : {node : NodeState} {r : Result Outcome Refusal} {after : bench.BenchState} {a : Answer} {m : NodeState} {packet : Packet} → AnswersResult node r after a m → r ≢ Ok (Outcome.Out packet)
+no_send : {node : NodeState} {r : Result Outcome Refusal} {after : bench.BenchState} {a : Answer} {m : NodeState} {packet : Data} → AnswersResult node r after a m → r ≢ Ok (Outcome.Out packet)
 no_send replies = λ e. cc
 no_send (refuses more) = λ e. cc
 no_send (makes next) = λ e. cc
@@ -83,20 +83,20 @@ is_ok : {x : Outcome} → Ok x ≢ Err Memory
 is_ok e = absurd (cc)
 
 -- is not answered by the node
-pub work_or_send : (node : NodeState) (job : Job) (a : Answer) (packet : Packet) (m n : NodeState) → NodeAnswers node job a m → Sends node job packet n → ⊥
+pub work_or_send : (node : NodeState) (job : Job) (a : Answer) (packet : Data) (m n : NodeState) → NodeAnswers node job a m → Sends node job packet n → ⊥
 work_or_send node job a packet m n h k =
     no_send h.answered (one_result (view_of node) node.bench job h.result (Ok (Outcome.Out packet)) h.after k.after h.does k.does (ample h.answered) is_ok).0
 
-abbrev ok_out : Packet → Result Outcome Refusal
+abbrev ok_out : Data → Result Outcome Refusal
 ok_out packet = Ok (Outcome.Out packet)
 
 -- and sends one packet
-pub one_send : (node : NodeState) (job : Job) (a b : Packet) (m n : NodeState) → Sends node job a m → Sends node job b n → (a ≡ b) × (m ≡ n)
+pub one_send : (node : NodeState) (job : Job) (a b : Data) (m n : NodeState) → Sends node job a m → Sends node job b n → (a ≡ b) × (m ≡ n)
 one_send node job a b m n h k =
     let e = one_result (view_of node) node.bench job (Ok (Outcome.Out a)) (Ok (Outcome.Out b)) h.after k.after h.does k.does is_ok is_ok in
     (same_packet a b e.0, h.left ∙ ap (λ after. record node { bench = after }) e.1 ∙ sym k.left)
   where
-    same_packet : (x y : Packet) → ok_out x ≡ ok_out y → x ≡ y
+    same_packet : (x y : Data) → ok_out x ≡ ok_out y → x ≡ y
     same_packet x y e = cc
 
 -- ---- nor is what is answered to a job want of memory

@@ -1,9 +1,7 @@
 -- Where memory is not wanted, a line has one answer, and lines have one run.
 use Rattle.std.proofs.Common.{◌≡◌, ◌⊎◌, ◌+◌, ◌∙◌, inl, inr, refl, sym, ap, subst, List, [], ◌∷◌, ℕ, suc, length, Option, None, Some}
 use Rattle.fl_aliases.specs.Table.{Table}
-use Rattle.fl_wire.specs.declared.packet.Data.{Data}
-use Rattle.fl_wire.specs.declared.packet.Packet.{Packet}
-use Rattle.fl_wire.specs.declared.packet.Packet.TheVariants as packets
+use Rattle.fl_message.specs.declared.message.Data.{Data}
 use Rattle.fl_jobs.specs.declared.job.Job.TheVariants.{Arrive}
 use Rattle.fl_script.specs.declared.line.Line.{Line}
 use Rattle.fl_script.specs.declared.reading.Reading.{Reading}
@@ -20,10 +18,10 @@ use Rattle.fl_cluster.specs.laws.Sessions.{same_session}
 use Rattle.fl_cluster_laws.proofs.OneStep.{Same, fed_work, fed_arrival, one_work, one_send, work_or_send}
 use Rattle.fl_cluster_laws.proofs.AliasLaws.{renamed_none}
 
-same_data : {o : Option Packet} {d e : Data} → o ≡ Some (packets.Data d) → o ≡ Some (packets.Data e) → d ≡ e
+same_data : {o : Option Data} {d e : Data} → o ≡ Some d → o ≡ Some e → d ≡ e
 same_data h k = cc
 
-data_or_none : {o : Option Packet} {d : Data} → o ≡ Some (packets.Data d) → o ≡ None → ⊥
+data_or_none : {o : Option Data} {d : Data} → o ≡ Some d → o ≡ None → ⊥
 data_or_none h k = absurd (cc)
 
 module _ (place : ℕ) (table : Table) (old : Cluster) where

@@ -4,7 +4,7 @@ use Rattle.std.specs.FinMap as map
 use Rattle.std.specs.Ordering.{nat_cmp}
 use Rattle.fl_labels.specs.declared.pid.Pid.{Pid}
 use Rattle.fl_aliases.specs.Table.{Table}
-use Rattle.fl_wire.specs.declared.packet.Packet.{Packet}
+use Rattle.fl_message.specs.declared.message.Data.{Data}
 use Rattle.fl_jobs.specs.declared.job.Job.{Job}
 use Rattle.fl_jobs.specs.declared.job.Job.TheVariants.{Arrive}
 use Rattle.fl_jobs.specs.declared.answer.Refusal.{Refusal}
@@ -52,7 +52,7 @@ module _ {number : ℕ} (node : NodeState) (job : Job) (h : IsOrdered number nod
   work_ordered : (a : Answer) (m : NodeState) → NodeAnswers node job a m → IsOrdered number m.bench
   work_ordered a m w = result_ordered w.result w.after a m w.does w.answered
 
-  send_ordered : {packet : Packet} {m : NodeState} → Sends node job packet m → IsOrdered number m.bench
+  send_ordered : {packet : Data} {m : NodeState} → Sends node job packet m → IsOrdered number m.bench
   send_ordered s = subst (λ (x : NodeState). IsOrdered number x.bench) (sym s.left) (subst (IsOrdered number) (sym (sending_leaves s.does)) h)
 
 -- each node of the state has such a bench
@@ -77,7 +77,7 @@ with_order s number node h k = record { bench_is = λ m. by_place m (node_put s 
 open_order : (s : Cluster) (number : ℕ) → HasOrder s → HasOrder (with_open s number)
 open_order s number h = with_order s number (node_at s number) h (h.bench_is number)
 
-packet_order : (s : Cluster) (packet : Packet) → HasOrder s → HasOrder (with_packet s packet)
+packet_order : (s : Cluster) (packet : Data) → HasOrder s → HasOrder (with_packet s packet)
 packet_order s packet h = record { bench_is = h.bench_is }
 
 answers_order : {place : ℕ} {table : Table} {old : Cluster} {l : Line} {a : Answer} {m : Cluster} → HasOrder old → AnswersLine place table old l a m → HasOrder m

@@ -9,10 +9,8 @@ use Rattle.fl_labels.specs.Found.{Within}
 use Rattle.fl_labels.specs.SetBy.{In}
 use Rattle.fl_labels.specs.declared.pid.Pid.{Pid}
 use Rattle.fl_ops.specs.declared.op.Op.{Op}
-use Rattle.fl_wire.specs.declared.packet.Data.{Data}
-use Rattle.fl_wire.specs.declared.packet.Letter.{Letter}
-use Rattle.fl_wire.specs.declared.packet.Packet.{Packet}
-use Rattle.fl_wire.specs.declared.packet.Packet.TheVariants as packets
+use Rattle.fl_message.specs.declared.message.Data.{Data}
+use Rattle.fl_message.specs.declared.message.Letter.{Letter}
 use Rattle.fl_mailbox.specs.Mailbox.{oldest}
 use Rattle.fl_mailbox.specs.declared.mailbox.Mailbox.{Mailbox}
 use Rattle.fl_jobs.specs.declared.job.Act.{Act}
@@ -61,13 +59,13 @@ get_last xs x y n h = elim (cases_lt n (length xs)) [
 ]
 
 -- a packet that there is after one more was sent was there, or is the last
-one_more : (ps : List Packet) (p q : Packet) (k : ℕ) → packet_at (ps ++ p ∷ []) k ≡ Some q → (packet_at ps k ≡ Some q) ⊎ ((k ≡ length ps + 1) × (p ≡ q))
+one_more : (ps : List Data) (p q : Data) (k : ℕ) → packet_at (ps ++ p ∷ []) k ≡ Some q → (packet_at ps k ≡ Some q) ⊎ ((k ≡ length ps + 1) × (p ≡ q))
 one_more ps p q zero h = absurd (cc)
 one_more ps p q (suc n) h = elim (get_last ps p q n h) [ inl old ↦ inl old | inr last ↦ inr (omega (arith, last.0), last.1) ]
 
-none_at_first : (p : Packet) (k : ℕ) → packet_at [] k ≡ Some p → ⊥
+none_at_first : (p : Data) (k : ℕ) → packet_at [] k ≡ Some p → ⊥
 none_at_first p zero h = absurd (cc)
-none_at_first p (suc n) h = let none = slice_get_past {X = Packet} [] n (omega arith) in absurd (cc)
+none_at_first p (suc n) h = let none = slice_get_past {X = Data} [] n (omega arith) in absurd (cc)
 
 -- ---- one line
 
@@ -78,41 +76,37 @@ record SentAt (old : Session) (line : List ℕ) (a : Answer) (k : ℕ) (d : Data
   might : MaySend old.state d
 
 module _ (old : Session) (line : List ℕ) (h : HasOrder old.state) where
-  sending_so : (number k : ℕ) (job : Job) (packet : Packet) (a : Answer) → Says old line (lines.Job number job) → (s : IsSending (view_of (node_at old.state number)) (node_at old.state number).bench job packet) → a ≡ sent k → SentAt old line a k s.sent
-  sending_so number k job packet a says s is =
-      let own : number ≡ s.sent.sender.node = sym (own_node h number s.sent.sender s.process s.lived) in
+  sending_so : (number k : ℕ) (job : Job) (d : Data) (a : Answer) → Says old line (lines.Job number job) → (s : IsSending (view_of (node_at old.state number)) (node_at old.state number).bench job d) → a ≡ sent k → SentAt old line a k d
+  sending_so number k job d a says s is =
+      let own : number ≡ d.sender.node = sym (own_node h number d.sender s.process s.lived) in
       record {
         is_said = is;
-        says = subst (λ n. Says old line (lines.Job n (By s.sent.sender (Mail (Send s.sent.from s.sent.receiver s.sent.to s.sent.message))))) own (subst (λ j. Says old line (lines.Job number j)) s.asked says);
+        says = subst (λ n. Says old line (lines.Job n (By d.sender (Mail (Send d.from d.receiver d.to d.message))))) own (subst (λ j. Says old line (lines.Job number j)) s.asked says);
         might = record {
           process = s.process;
-          lives = subst (λ n. process_at (node_at old.state n) s.sent.sender ≡ Some s.process) own s.lived;
+          lives = subst (λ n. process_at (node_at old.state n) d.sender ≡ Some s.process) own s.lived;
           opened = s.opened;
           is_open = s.is_open;
           writes_it = s.writable;
           secrecy_is = s.secrecy_is;
           integrity_is = s.integrity_is;
-          granted = subst (λ n. Within (In s.sent.message.caps) (effective (view_of (node_at old.state n)) s.process)) own s.granted;
+          granted = subst (λ n. Within (In d.message.caps) (effective (view_of (node_at old.state n)) s.process)) own s.granted;
         };
       }
 
-  sends_at : (number k : ℕ) (job : Job) (packet : Packet) (after : NodeState) (d : Data) → Says old line (lines.Job number job) → Sends (node_at old.state number) job packet after → packet ≡ packets.Data d → k ≡ length old.state.sent + 1 → SentAt old line (sent (length old.state.sent + 1)) k d
+  sends_at : (number k : ℕ) (job : Job) (packet : Data) (after : NodeState) (d : Data) → Says old line (lines.Job number job) → Sends (node_at old.state number) job packet after → packet ≡ d → k ≡ length old.state.sent + 1 → SentAt old line (sent (length old.state.sent + 1)) k d
   sends_at number k job packet after d says sending is count =
-      let s = sending_at sending.does in
-      let same : s.sent ≡ d = same_data (sym s.packet_is ∙ is) in
-      subst (SentAt old line (sent (length old.state.sent + 1)) k) same (sending_so number k job packet (sent (length old.state.sent + 1)) says s (ap sent (sym count)))
-    where
-      same_data : {x y : Data} → packets.Data x ≡ packets.Data y → x ≡ y
-      same_data e = cc
+      subst (SentAt old line (sent (length old.state.sent + 1)) k) is
+      (sending_so number k job packet (sent (length old.state.sent + 1)) says (sending_at sending.does) (ap sent (sym count)))
 
   module _ (k : ℕ) (d : Data) where
     -- it was sent before, or by this line
     abbrev Known : Answer → Cluster → Type 0
-    Known a m = packet_at m.sent k ≡ Some (packets.Data d) → (packet_at old.state.sent k ≡ Some (packets.Data d)) ⊎ SentAt old line a k d
+    Known a m = packet_at m.sent k ≡ Some d → (packet_at old.state.sent k ≡ Some d) ⊎ SentAt old line a k d
 
     answers_known : {place : ℕ} {l : Line} {a : Answer} {m : Cluster} → Says old line l → AnswersLine place old.aliases old.state l a m → Known a m
     answers_known says (works w) e = inl e
-    answers_known says (sends {number} {job} {packet} {after} s) e = elim (one_more old.state.sent packet (packets.Data d) k e) [
+    answers_known says (sends {number} {job} {packet} {after} s) e = elim (one_more old.state.sent packet d k e) [
       | inl before ↦ inl before
       | inr last ↦ inr (sends_at number k job packet after d says s last.1 last.0)
     ]
@@ -124,7 +118,7 @@ module _ (old : Session) (line : List ℕ) (h : HasOrder old.state) where
     answers_known says lists e = inl e
 
     left_known : (a : Answer) (m : Session) → m ≡ old → Known a m.state
-    left_known a m same e = inl (subst (λ (s : Session). packet_at s.state.sent k ≡ Some (packets.Data d)) same e)
+    left_known a m same e = inl (subst (λ (s : Session). packet_at s.state.sent k ≡ Some d) same e)
 
     reading_known : (number : ℕ) (r : Reading) (a : Answer) (m : Session) → IsReading old.aliases line r → AnswersReading number old r a m → Known a m.state
     reading_known number reading.Quiet a m says t = left_known a m t.1
@@ -156,8 +150,8 @@ module _ (k : ℕ) (d : Data) where
     might = s.might;
   }
 
-  run_sent : (number : ℕ) (old : Session) (ls : List (List ℕ)) (bs : List Answer) (end : Session) → HasOrder old.state → Run number old ls bs end → packet_at end.state.sent k ≡ Some (packets.Data d) → (packet_at old.state.sent k ≡ Some (packets.Data d)) ⊎ WasSent number old ls bs k d
-  run_sent number old [] [] end h r e = inl (subst (λ (s : Session). packet_at s.state.sent k ≡ Some (packets.Data d)) r e)
+  run_sent : (number : ℕ) (old : Session) (ls : List (List ℕ)) (bs : List Answer) (end : Session) → HasOrder old.state → Run number old ls bs end → packet_at end.state.sent k ≡ Some d → (packet_at old.state.sent k ≡ Some d) ⊎ WasSent number old ls bs k d
+  run_sent number old [] [] end h r e = inl (subst (λ (s : Session). packet_at s.state.sent k ≡ Some d) r e)
   run_sent number old (l ∷ ls) (b ∷ bs) end h r e = elim (run_sent (number + 1) r.0 ls bs end (turn_order number old l b r.0 h r.1) r.2 e) [
     | inl mid ↦ elim (turn_known old l h k d number b r.0 r.1 mid) [ inl before ↦ inl before | inr s ↦ inr (sent_first number old l ls b bs s) ]
     | inr s ↦ inr (sent_later number old r.0 l ls b bs r.1 s)
@@ -165,9 +159,9 @@ module _ (k : ℕ) (d : Data) where
   run_sent number old [] (b ∷ bs) end h r e = absurd r
   run_sent number old (l ∷ ls) [] end h r e = absurd r
 
-  pub was_sent : (ls : List (List ℕ)) (bs : List Answer) (end : Session) → Run 1 begun ls bs end → packet_at end.state.sent k ≡ Some (packets.Data d) → WasSent 1 begun ls bs k d
+  pub was_sent : (ls : List (List ℕ)) (bs : List Answer) (end : Session) → Run 1 begun ls bs end → packet_at end.state.sent k ≡ Some d → WasSent 1 begun ls bs k d
   was_sent ls bs end r e = elim (run_sent 1 begun ls bs end start_order r e) [
-    | inl first ↦ absurd (none_at_first (packets.Data d) k first)
+    | inl first ↦ absurd (none_at_first d k first)
     | inr s ↦ s
   ]
 
@@ -230,7 +224,7 @@ pub record Comes (old : Session) (line : List ℕ) (pid : Pid) : Type 0 where
   pub k : ℕ
   pub packet : Data
   pub says : Says old line (lines.Deliver number k)
-  pub was_sent : packet_at old.state.sent k ≡ Some (packets.Data packet)
+  pub was_sent : packet_at old.state.sent k ≡ Some packet
   pub takes_in : TakesIn (node_at old.state number) (Arrive packet) pid
 
 module _ (pid : Pid) where

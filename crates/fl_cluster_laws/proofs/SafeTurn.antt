@@ -5,7 +5,7 @@ use Rattle.fl_labels.specs.Name.{name_cmp}
 use Rattle.fl_labels.specs.SetBy.{SetBy}
 use Rattle.fl_labels.specs.declared.pid.Pid.{Pid}
 use Rattle.fl_aliases.specs.Table.{Table}
-use Rattle.fl_wire.specs.declared.packet.Packet.{Packet}
+use Rattle.fl_message.specs.declared.message.Data.{Data}
 use Rattle.fl_jobs.specs.declared.job.Side.{Side}
 use Rattle.fl_jobs.specs.declared.job.Act.TheVariants.{Relabel}
 use Rattle.fl_jobs.specs.declared.job.Job.{Job}
@@ -48,7 +48,7 @@ module _ (node : NodeState) (q : Pid) where
   follows_work : (job : Job) (a : Answer) (m : NodeState) → IsOrderly node.bench → NodeAnswers node job a m → To m
   follows_work job a m h w = follows_result job w.result w.after a m h w.does w.answered
 
-  follows_send : {job : Job} {packet : Packet} {m : NodeState} → Sends node job packet m → To m
+  follows_send : {job : Job} {packet : Data} {m : NodeState} → Sends node job packet m → To m
   follows_send s = subst To (sym s.left) (subst (λ (b : bench.BenchState). Follows (view_of node) (map.get node.bench.processes q) (map.get b.processes q)) (sym (sending_leaves s.does)) (follows_same _ _))
 
 -- what becomes of q

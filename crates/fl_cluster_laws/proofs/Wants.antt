@@ -2,8 +2,7 @@
 use Rattle.std.proofs.Common.{◌≡◌, ◌≢◌, inl, inr, refl, subst, ℕ, List, true, Option, None, Some}
 use Rattle.fl_aliases.specs.Table.{Table}
 use Rattle.fl_labels.specs.declared.pid.Pid.{Pid}
-use Rattle.fl_wire.specs.declared.packet.Data.{Data}
-use Rattle.fl_wire.specs.declared.packet.Packet.TheVariants as packets
+use Rattle.fl_message.specs.declared.message.Data.{Data}
 use Rattle.fl_jobs.specs.declared.answer.Refusal.TheVariants.{Memory}
 use Rattle.fl_jobs.specs.declared.job.Act.TheVariants.{Exit}
 use Rattle.fl_jobs.specs.declared.job.Job.TheVariants.{By}
@@ -69,15 +68,15 @@ module _ (old : Session) (bytes : List ℕ) (plain : ¬ ReadingTakesMemory bytes
   ]
 
 -- a message is dropped for want of memory only where its packet was sent
-brought : {place : ℕ} {table : Table} {old : Cluster} {node packet : ℕ} {a : Answer} {m : Cluster} → a ≡ dropped Memory → AnswersLine place table old (line.Deliver node packet) a m → (d : Data) × (packet_at old.sent packet ≡ Some (packets.Data d))
+brought : {place : ℕ} {table : Table} {old : Cluster} {node packet : ℕ} {a : Answer} {m : Cluster} → a ≡ dropped Memory → AnswersLine place table old (line.Deliver node packet) a m → (d : Data) × (packet_at old.sent packet ≡ Some d)
 brought e (brings {d} found w) = (d, found)
 brought e (no_room {d} found) = (d, found)
 brought e (never_sent none) = absurd (cc)
 
-pub dropped_was_sent : (number node packet : ℕ) (old new : Session) (bytes : List ℕ) (alias : Option (List ℕ)) → IsReading old.aliases bytes (reading.Means (line.Deliver node packet) alias) → Turn number old bytes (dropped Memory) new → (d : Data) × (packet_at old.state.sent packet ≡ Some (packets.Data d))
+pub dropped_was_sent : (number node packet : ℕ) (old new : Session) (bytes : List ℕ) (alias : Option (List ℕ)) → IsReading old.aliases bytes (reading.Means (line.Deliver node packet) alias) → Turn number old bytes (dropped Memory) new → (d : Data) × (packet_at old.state.sent packet ≡ Some d)
 dropped_was_sent number node packet old new bytes alias reads (inr h) = let e = h.answered in absurd (cc)
 dropped_was_sent number node packet old new bytes alias reads (inl h) =
     by_reading (one_reading old.aliases bytes h.reading (reading.Means (line.Deliver node packet) alias) h.says reads) h.answered
   where
-    by_reading : {r : Reading} → r ≡ reading.Means (line.Deliver node packet) alias → AnswersReading number old r (dropped Memory) new → (d : Data) × (packet_at old.state.sent packet ≡ Some (packets.Data d))
+    by_reading : {r : Reading} → r ≡ reading.Means (line.Deliver node packet) alias → AnswersReading number old r (dropped Memory) new → (d : Data) × (packet_at old.state.sent packet ≡ Some d)
     by_reading e h = let named = subst (λ r. AnswersReading number old r (dropped Memory) new) e h in brought refl named.answered

@@ -1,8 +1,7 @@
 -- Who a line bears, and who goes at one.
 use Rattle.std.specs.Prelude.{◌≡◌, ℕ, List, Option, Some}
 use Rattle.fl_labels.specs.declared.pid.Pid.{Pid}
-use Rattle.fl_wire.specs.declared.packet.Data.{Data}
-use Rattle.fl_wire.specs.declared.packet.Packet.TheVariants as packets
+use Rattle.fl_message.specs.declared.message.Data.{Data}
 use Rattle.fl_jobs.specs.declared.job.Act.TheVariants.{Exit}
 use Rattle.fl_jobs.specs.declared.job.Job.{Job}
 use Rattle.fl_jobs.specs.declared.job.Job.TheVariants.{By, Arrive}
@@ -26,7 +25,7 @@ pub record Says (session : Session) (bytes : List ℕ) (line : Line) : Type 0 wh
 -- the line has the node of this number do the job: it asks for it, or brings the message of a packet that was sent
 pub data HasDo (session : Session) (bytes : List ℕ) (number : ℕ) : Job → Type 0 where
   asks : {job : Job} → Says session bytes (lines.Job number job) → HasDo session bytes number job
-  brings : {k : ℕ} {d : Data} → Says session bytes (lines.Deliver number k) → packet_at session.state.sent k ≡ Some (packets.Data d) → HasDo session bytes number (Arrive d)
+  brings : {k : ℕ} {d : Data} → Says session bytes (lines.Deliver number k) → packet_at session.state.sent k ≡ Some d → HasDo session bytes number (Arrive d)
 
 -- the line has the process's own node bear it under the next serial, and is answered with its identifier
 pub record IsBorn (old : Session) (bytes : List ℕ) (answer : Answer) (pid : Pid) (child : Process) : Type 0 where

@@ -10,7 +10,7 @@ use Rattle.fl_jobs.specs.declared.secret.Secret.{Secret}
 use Rattle.fl_jobs.specs.declared.job.Order as orders
 use Rattle.fl_jobs.specs.declared.job.Act.TheVariants.{Order, Spawn, Enter}
 use Rattle.fl_jobs.specs.declared.job.Job.{Job}
-use Rattle.fl_wire.specs.declared.packet.Data.{Data}
+use Rattle.fl_message.specs.declared.message.Data.{Data}
 use Rattle.fl_jobs.specs.declared.job.Job.TheVariants.{By, Arrive}
 use Rattle.fl_jobs.specs.declared.answer.Reply.TheVariants.{Made, Entered, Arrived}
 use Rattle.fl_bench.specs.Gifts.{given_by}

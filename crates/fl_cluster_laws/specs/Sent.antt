@@ -6,8 +6,7 @@ use Rattle.fl_labels.specs.SetBy.{In}
 use Rattle.fl_labels.specs.declared.pid.Pid.{Pid}
 use Rattle.fl_rules.specs.Endpoint.{writes}
 use Rattle.fl_rules.specs.Message.{SafeMessage}
-use Rattle.fl_wire.specs.declared.packet.Data.{Data}
-use Rattle.fl_wire.specs.declared.packet.Packet.TheVariants as packets
+use Rattle.fl_message.specs.declared.message.Data.{Data}
 use Rattle.fl_mailbox.specs.declared.endpoints.OpenEndpoint.{OpenEndpoint}
 use Rattle.fl_jobs.specs.declared.job.Act.TheVariants.{Mail}
 use Rattle.fl_jobs.specs.declared.job.Mail.TheVariants.{Send}
@@ -53,7 +52,7 @@ pub record Delivers (old : Session) (bytes : List ℕ) (pid : Pid) : Type 0 wher
   pub k : ℕ
   pub packet : Data
   pub says : Says old bytes (lines.Deliver number k)
-  pub was_sent : packet_at old.state.sent k ≡ Some (packets.Data packet)
+  pub was_sent : packet_at old.state.sent k ≡ Some packet
   pub receiver_is : pid ≡ packet.receiver
 
 -- after these lines, the line brings the process a message that is safe from its sender to it, by the labels of each and by what each had in effect, the

@@ -8,8 +8,7 @@ ghost use Rattle.fl_labels.specs.declared.cap.Cap.{Cap};
 ghost use Rattle.fl_labels.specs.declared.name.Name.{Name};
 ghost use Rattle.fl_labels.specs.declared.pid.Pid.{Pid};
 ghost use Rattle.fl_aliases.specs.declared.target.Target.{Target};
-ghost use Rattle.fl_wire.specs.declared.packet.Data.{Data};
-ghost use Rattle.fl_wire.specs.declared.packet.Packet.TheVariants as packets;
+ghost use Rattle.fl_message.specs.declared.message.Data.{Data};
 ghost use Rattle.fl_ops.specs.Logins.{IsFirstLogin};
 ghost use Rattle.fl_ops.specs.declared.digest.Digest.{Digest};
 ghost use Rattle.fl_jobs.specs.declared.answer.Refusal.TheVariants.{Busy, Memory};
@@ -157,7 +156,7 @@ pub fn law_sent()
         ComesSafely before answers old line pid }
     ensures sent { (before : List (List ℕ)) (answers : List Answer) (old : Session) (k : ℕ)
         (d : Data) → Run 1 begun before answers old →
-        packet_at old.state.sent k ≡ Some (packets.Data d) → WasSent 1 begun before answers k d }
+        packet_at old.state.sent k ≡ Some d → WasSent 1 begun before answers k d }
 {}
 
 /// As long as a process is there, a tag stays in its label where the process never has the tag's minus in
@@ -216,7 +215,7 @@ pub fn law_memory()
         (alias : Option (List ℕ)) →
         IsReading old.aliases line (Means (lines_said.Deliver node packet) alias) →
         Turn number old line (dropped Memory) new →
-        (d : Data) × (packet_at old.state.sent packet ≡ Some (packets.Data d)) }
+        (d : Data) × (packet_at old.state.sent packet ≡ Some d) }
 {}
 
 /// Nodes with the same operations have the same text, and tell the same: two processes that own the same have

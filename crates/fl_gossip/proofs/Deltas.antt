@@ -15,7 +15,7 @@ use Rattle.fl_opset.specs.declared.intervals.Intervals.{Intervals}
 use Rattle.fl_opset.specs.Catching.{HaveNoClash}
 use Rattle.fl_opset.specs.Windows.{is_lacking, lacking}
 use Rattle.fl_opset.specs.laws.Members.{lacking_member}
-use Rattle.fl_wire.specs.declared.packet.AnyPacket.{AnyPacket}
+use Rattle.fl_wire.specs.declared.packet.Packet.{Packet}
 use Rattle.fl_wire.specs.NameOrder.{by_name}
 use Rattle.fl_gossip.specs.Taking.{ops_of}
 use Rattle.fl_gossip.specs.Replying.{IsDelta, AreDeltas, AreInDeltas}
@@ -86,39 +86,39 @@ lacking_rises s w single =
     names_rise (In s) single (lacking s w) all (kept_rises op_cmp (is_lacking w) (members s) (members_rise s))
 
 -- deltas of 64 operations each
-abbrev pub AreFull : List AnyPacket → Type 0
+abbrev pub AreFull : List Packet → Type 0
 AreFull [] = Unit {0}
 AreFull (p ∷ ps) = IsDelta p × (length (ops_of p) ≡ 64) × AreFull ps
 
-full_more : (ps : List AnyPacket) (p : AnyPacket) → AreFull ps → IsDelta p → length (ops_of p) ≡ 64 → AreFull (ps ++ p ∷ [])
+full_more : (ps : List Packet) (p : Packet) → AreFull ps → IsDelta p → length (ops_of p) ≡ 64 → AreFull (ps ++ p ∷ [])
 full_more [] p h is long = (is, long, tt)
 full_more (q ∷ ps) p h is long = (h.0, h.1, full_more ps p h.2 is long)
 
-full_deltas : (ps : List AnyPacket) → AreFull ps → AreDeltas ps
+full_deltas : (ps : List Packet) → AreFull ps → AreDeltas ps
 full_deltas [] h = tt
 full_deltas (p ∷ []) h = h.0
 full_deltas (p ∷ q ∷ ps) h = (h.0, h.1, full_deltas (q ∷ ps) h.2)
 
-full_last : (ps : List AnyPacket) (p : AnyPacket) → AreFull ps → IsDelta p → AreDeltas (ps ++ p ∷ [])
+full_last : (ps : List Packet) (p : Packet) → AreFull ps → IsDelta p → AreDeltas (ps ++ p ∷ [])
 full_last [] p h is = is
 full_last (q ∷ []) p h is = (h.0, h.1, is)
 full_last (q ∷ r ∷ ps) p h is = (h.0, h.1, full_last (r ∷ ps) p h.2 is)
 
 -- so far: the packets are full, and the rest is left
-pub record CutTo (ops : List Op) (packets : List AnyPacket) (rest : List Op) : Type 0 where
+pub record CutTo (ops : List Op) (packets : List Packet) (rest : List Op) : Type 0 where
   pub full : AreFull packets
   pub joined : flat_map ops_of packets ++ rest ≡ ops
   pub rises : IsStrictlySortedBy by_name rest
 
-pub cut_start : (ops : List Op) (packets : List AnyPacket) → packets ≡ [] → IsStrictlySortedBy by_name ops → CutTo ops packets ops
+pub cut_start : (ops : List Op) (packets : List Packet) → packets ≡ [] → IsStrictlySortedBy by_name ops → CutTo ops packets ops
 cut_start ops packets none up = subst (λ l. CutTo ops l ops) (sym none) (record { full = tt; joined = refl; rises = up })
 
-pub parts_rise : (ops : List Op) (packets : List AnyPacket) (rest front back : List Op) → CutTo ops packets rest → front ≡ take 64 rest → back ≡ drop 64 rest → IsStrictlySortedBy by_name front × IsStrictlySortedBy by_name back
+pub parts_rise : (ops : List Op) (packets : List Packet) (rest front back : List Op) → CutTo ops packets rest → front ≡ take 64 rest → back ≡ drop 64 rest → IsStrictlySortedBy by_name front × IsStrictlySortedBy by_name back
 parts_rise ops packets rest front back c e f =
     let up = subst (IsStrictlySortedBy by_name) (sym ((λ i. e i ++ f i) ∙ take-append-drop 64 rest)) c.rises in
     (front_rises by_name front back up, back_rises by_name front back up)
 
-pub cut_step : (ops : List Op) (packets more : List AnyPacket) (rest front back : List Op) (p : AnyPacket) → CutTo ops packets rest → front ≡ take 64 rest → back ≡ drop 64 rest → 64 < length rest
+pub cut_step : (ops : List Op) (packets more : List Packet) (rest front back : List Op) (p : Packet) → CutTo ops packets rest → front ≡ take 64 rest → back ≡ drop 64 rest → 64 < length rest
     → IsDelta p × (ops_of p ≡ front) → more ≡ packets ++ p ∷ [] → CutTo ops more back
 cut_step ops packets more rest front back p c e f long is new = subst (λ l. CutTo ops l back) (sym new) (record {
   full = full_more packets p c.full is.0 (ap length (is.1 ∙ e) ∙ length-take-le 64 rest (omega arith));
@@ -127,13 +127,13 @@ cut_step ops packets more rest front back p c e f long is new = subst (λ l. Cut
   rises = (parts_rise ops packets rest front back c e f).1;
 })
 
-pub cut_end : (ops : List Op) (packets more : List AnyPacket) (rest : List Op) (p : AnyPacket) → CutTo ops packets rest → IsDelta p × (ops_of p ≡ rest) → more ≡ packets ++ p ∷ [] → AreInDeltas ops more
+pub cut_end : (ops : List Op) (packets more : List Packet) (rest : List Op) (p : Packet) → CutTo ops packets rest → IsDelta p × (ops_of p ≡ rest) → more ≡ packets ++ p ∷ [] → AreInDeltas ops more
 cut_end ops packets more rest p c is new = subst (AreInDeltas ops) (sym new) (record {
   deltas = full_last packets p c.full is.0;
   whole = sym (flat_map_more ops_of [] packets p) ∙ ap (λ l. flat_map ops_of packets ++ l) is.1 ∙ c.joined;
 })
 
-pub cut_none : (ops : List Op) (packets more : List AnyPacket) (rest : List Op) → CutTo ops packets rest → length rest ≡ 0 → more ≡ packets → AreInDeltas ops more
+pub cut_none : (ops : List Op) (packets more : List Packet) (rest : List Op) → CutTo ops packets rest → length rest ≡ 0 → more ≡ packets → AreInDeltas ops more
 cut_none ops packets more rest c none same = subst (AreInDeltas ops) (sym same) (record {
   deltas = full_deltas packets c.full;
   whole = sym (append-nil (flat_map ops_of packets)) ∙ ap (λ l. flat_map ops_of packets ++ l) (sym (nil_from_length rest none)) ∙ c.joined;

@@ -9,13 +9,13 @@ use Rattle.fl_ops.specs.Registry.{Registry}
 use Rattle.fl_opset.specs.Catching.{MayTake}
 use Rattle.fl_opset.specs.Windows.{IsName}
 use Rattle.fl_wire.specs.NameOrder.{by_name}
-use Rattle.fl_wire.specs.declared.packet.AnyPacket.{AnyPacket}
-use Rattle.fl_wire.specs.declared.packet.AnyPacket.TheVariants as kinds
+use Rattle.fl_wire.specs.declared.packet.Packet.{Packet}
+use Rattle.fl_wire.specs.declared.packet.Packet.TheVariants as kinds
 use Rattle.fl_gossip.specs.declared.fault.GossipFault.{GossipFault}
 use Rattle.fl_gossip.specs.declared.fault.GossipFault.TheVariants.{Impostor, Clash, Memory}
 
 -- the operations that a packet brings
-abbrev pub ops_of : AnyPacket → List Op
+abbrev pub ops_of : Packet → List Op
 ops_of (kinds.Full b) = b.ops
 ops_of (kinds.Have w) = []
 ops_of (kinds.Delta b) = b.ops

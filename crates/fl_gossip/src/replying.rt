@@ -12,22 +12,22 @@ use fl_ops::op::Op;
 use fl_opset::intervals::Intervals;
 use fl_opset::set::OpSet;
 use fl_wire::batch::{Batch, MOST_OPS, OpList};
-use fl_wire::packet::AnyPacket;
+use fl_wire::packet::Packet;
 use std::alloc::{AllocError, Global};
 
 // The delta of these operations, which are copied.
-fn delta_of(alloc: Global, ops: &[Op]) -> Result<AnyPacket, AllocError>
+fn delta_of(alloc: Global, ops: &[Op]) -> Result<Packet, AllocError>
     requires some { 0 < length ops.now }
     requires few { length ops.now ≤ 64 }
     requires rise { IsStrictlySortedBy by_name ops.now }
     ensures { IfOk result (λ p. IsDelta p × (ops_of p ≡ ops.now)) }
 {
     let ops = OpList::from_vec(Vec::from_slice(alloc, ops)?);
-    Ok(AnyPacket::Delta(Batch { ops }))
+    Ok(Packet::Delta(Batch { ops }))
 }
 
 // The deltas of 64 of these operations each, the last one shorter.
-fn deltas_of(alloc: Global, ops: &[Op]) -> Result<Vec<AnyPacket>, AllocError>
+fn deltas_of(alloc: Global, ops: &[Op]) -> Result<Vec<Packet>, AllocError>
     requires { IsStrictlySortedBy by_name ops.now }
     ensures { IfOk result (λ packets. AreInDeltas ops.now packets.items) }
 {
@@ -47,7 +47,7 @@ fn deltas_of(alloc: Global, ops: &[Op]) -> Result<Vec<AnyPacket>, AllocError>
 
 /// What the window lacks of the set, which has each name once: deltas of 64 operations, the last one shorter, rising. Two
 /// binary searches a span, and then linear in what is lacking. An error says that there was no memory for it.
-pub fn reply(alloc: Global, saved: &OpSet, window: &Intervals) -> Result<Vec<AnyPacket>, AllocError>
+pub fn reply(alloc: Global, saved: &OpSet, window: &Intervals) -> Result<Vec<Packet>, AllocError>
     requires { HaveNoClash (In saved.now) (In saved.now) }
     ensures { IfOk result (λ packets. AreInDeltas (lacking saved.now window.now) packets.items) }
 {

@@ -9,16 +9,16 @@ ghost use Rattle.fl_gossip.specs.Taking.{ops_of, Offends, AreTaken, Refuses};
 use crate::fault::GossipFault;
 use fl_ops::op::Op;
 use fl_opset::set::OpSet;
-use fl_wire::packet::AnyPacket;
+use fl_wire::packet::Packet;
 use std::alloc::Global;
 
 // The operations that a packet brings.
-fn operations(packet: &AnyPacket) -> &[Op]
+fn operations(packet: &Packet) -> &[Op]
     ensures ops { result.now ≡ ops_of packet.now }
     ensures rise { IsStrictlySortedBy by_name result.now }
 {
     match packet {
-        AnyPacket::Full(batch) | AnyPacket::Delta(batch) => batch.ops.as_slice(),
+        Packet::Full(batch) | Packet::Delta(batch) => batch.ops.as_slice(),
         _ => &[],
     }
 }
@@ -44,12 +44,7 @@ fn is_new(saved: &OpSet, me: u16, op: &Op) -> Result<bool, GossipFault>
 /// For the least name of an operation that may not be taken: `Impostor` where its node is `me` and the set has no operation of
 /// that name, and `Clash` where the set has another operation of that name. `Memory` where there was not enough for the answer.
 /// Two binary searches for each operation.
-pub fn take(
-    alloc: Global,
-    saved: &OpSet,
-    me: u16,
-    packet: &AnyPacket,
-) -> Result<Vec<Op>, GossipFault>
+pub fn take(alloc: Global, saved: &OpSet, me: u16, packet: &Packet) -> Result<Vec<Op>, GossipFault>
     ensures { MatchResult result (λ new. AreTaken me saved.now (ops_of packet.now) new.items)
         (Refuses me (In saved.now) (ops_of packet.now)) }
 {

@@ -8,7 +8,7 @@ use fl_gossip::taking::take;
 use fl_labels::text::read_number;
 use fl_ops::op::Op;
 use fl_opset::set::OpSet;
-use fl_wire::packet::AnyPacket;
+use fl_wire::packet::Packet;
 use fl_wire::reading::decode;
 use std::alloc::{AllocError, Global};
 
@@ -30,7 +30,7 @@ fn push_taken(
     out: &mut String,
     saved: &OpSet,
     node: u16,
-    packet: &AnyPacket,
+    packet: &Packet,
 ) -> Result<(), AllocError> {
     match take(alloc, saved, node, packet) {
         Ok(new) => write!(out, "new {}", new.len()),
@@ -51,10 +51,10 @@ pub fn counts(alloc: Global, out: &mut String, rest: &str) -> Result<(), AllocEr
     Ok(())
 }
 
-fn push_counts(out: &mut String, packets: &[AnyPacket]) -> Result<(), AllocError> {
+fn push_counts(out: &mut String, packets: &[Packet]) -> Result<(), AllocError> {
     for packet in packets {
         match packet {
-            AnyPacket::Delta(batch) => write!(out, "{} ", batch.ops.as_slice().len())?,
+            Packet::Delta(batch) => write!(out, "{} ", batch.ops.as_slice().len())?,
             _ => out.push_str("no delta ")?,
         }
     }
@@ -91,7 +91,7 @@ pub fn caught_up(alloc: Global, out: &mut String, rest: &str) -> Result<(), Allo
 }
 
 // Takes what is new of the packets.
-fn take_all(alloc: Global, ops: &mut OpSet, packets: &[AnyPacket]) -> Result<(), AllocError> {
+fn take_all(alloc: Global, ops: &mut OpSet, packets: &[Packet]) -> Result<(), AllocError> {
     for packet in packets {
         let Ok(new) = take(alloc, ops, 2, packet) else {
             return Ok(());

@@ -1,6 +1,6 @@
 //! Packets of any kind, and where bytes are none.
 use fl_wire::fault::ReadFault;
-use fl_wire::packet::AnyPacket;
+use fl_wire::packet::Packet;
 use fl_wire::reading::decode;
 use fl_wire::writing::encode;
 use std::alloc::{AllocError, Global};
@@ -14,7 +14,7 @@ pub fn bytes_of(alloc: Global, digits: &str) -> Result<Vec<u8>, AllocError> {
 }
 
 /// Adds the digits of a packet's bytes.
-pub fn push_packet(alloc: Global, out: &mut String, packet: &AnyPacket) -> Result<(), AllocError> {
+pub fn push_packet(alloc: Global, out: &mut String, packet: &Packet) -> Result<(), AllocError> {
     let bytes = encode(alloc, packet)?;
     let digits = hex::encode(alloc, bytes.as_slice())?;
     out.push_str(digits.as_str())
@@ -30,21 +30,16 @@ pub fn read(alloc: Global, out: &mut String, digits: &str) -> Result<(), AllocEr
     }
 }
 
-fn show(
-    alloc: Global,
-    out: &mut String,
-    packet: &AnyPacket,
-    bytes: &[u8],
-) -> Result<(), AllocError> {
+fn show(alloc: Global, out: &mut String, packet: &Packet, bytes: &[u8]) -> Result<(), AllocError> {
     let written = encode(alloc, packet)?;
     if written.as_slice() != bytes {
         return out.push_str("other bytes");
     }
     out.push_str(match packet {
-        AnyPacket::Full(_) => "full",
-        AnyPacket::Have(_) => "have",
-        AnyPacket::Delta(_) => "delta",
-        AnyPacket::Data(_) => "data",
+        Packet::Full(_) => "full",
+        Packet::Have(_) => "have",
+        Packet::Delta(_) => "delta",
+        Packet::Data(_) => "data",
     })
 }
 

@@ -9,7 +9,7 @@ use fl_ops::op::{Body, Op, Policy};
 use fl_opset::intervals::Intervals;
 use fl_opset::laws::{law_caught_up, law_one_summary, law_windows};
 use fl_opset::set::OpSet;
-use fl_wire::packet::AnyPacket;
+use fl_wire::packet::Packet;
 use std::alloc::{AllocError, Global};
 
 fn tag(node: u16, seq: u32) -> Op
@@ -102,7 +102,7 @@ fn push_window(out: &mut String, window: &Intervals) -> Result<(), AllocError> {
 pub fn have(alloc: Global, out: &mut String, name: &str) -> Result<(), AllocError> {
     let ops = named(alloc, name)?;
     for window in ops.have(alloc)? {
-        push_packet(alloc, out, &AnyPacket::Have(window))?;
+        push_packet(alloc, out, &Packet::Have(window))?;
     }
     Ok(())
 }

@@ -4,9 +4,9 @@ use fl_labels::cap::Cap;
 use fl_labels::endpoint::Endpoint;
 use fl_labels::name::Name;
 use fl_labels::pid::Pid;
+use fl_message::message::{Data, Letter};
+use fl_message::payload::Payload;
 use fl_ops::op::Body;
-use fl_wire::packet::{Letter, Packet};
-use fl_wire::payload::Payload;
 
 /// Why a job was refused. The bench is then as before.
 #[derive(Clone, Copy, Debug, PartialEq, Eq)]
@@ -76,5 +76,5 @@ pub enum Outcome {
     /// An operation of this body is to be saved and published for its maker.
     Order(Body, Pid),
     /// The packet is to be sent.
-    Out(Packet),
+    Out(Data),
 }

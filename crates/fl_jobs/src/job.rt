@@ -9,11 +9,11 @@ use fl_labels::endpoint::Endpoint;
 use fl_labels::label::Label;
 use fl_labels::name::Name;
 use fl_labels::pid::Pid;
+use fl_message::message::{Data, Message};
+use fl_message::payload::Payload;
 use fl_ops::op::Policy;
 use fl_rules::endpoint::Mode;
 use fl_rules::labels::Labels;
-use fl_wire::packet::{Data, Message};
-use fl_wire::payload::Payload;
 
 /// One of the two labels of a process.
 #[derive(Clone, Copy, Debug, PartialEq, Eq)]

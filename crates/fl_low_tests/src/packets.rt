@@ -5,10 +5,11 @@ use fl_labels::endpoint::Endpoint;
 use fl_labels::error::SetError;
 use fl_labels::label::Label;
 use fl_labels::pid::Pid;
+use fl_message::message::{Data, Message};
+use fl_message::payload::Payload;
 use fl_wire::fault::ReadFault;
 use fl_wire::laws::law_one_packet;
-use fl_wire::packet::{AnyPacket, Data, Message};
-use fl_wire::payload::Payload;
+use fl_wire::packet::Packet;
 use fl_wire::reading::decode;
 use fl_wire::writing::encode;
 use std::alloc::{AllocError, Global};
@@ -58,10 +59,10 @@ fn ask_packet(
     alloc: Global,
     out: &mut String,
     what: &str,
-    packet: &AnyPacket,
+    packet: &Packet,
     bytes: &[u8],
 ) -> Result<(), AllocError> {
-    let AnyPacket::Data(sent) = packet else {
+    let Packet::Data(sent) = packet else {
         return out.push_str("another kind");
     };
     match what {
@@ -83,7 +84,7 @@ fn show(out: &mut String, sent: &Data) -> Result<(), AllocError> {
 fn write_again(
     alloc: Global,
     out: &mut String,
-    packet: &AnyPacket,
+    packet: &Packet,
     bytes: &[u8],
 ) -> Result<(), AllocError> {
     let written = encode(alloc, packet)?;
@@ -100,7 +101,7 @@ fn write_copy(
     sent: &Data,
     bytes: &[u8],
 ) -> Result<(), AllocError> {
-    let copy = AnyPacket::Data(sent.copy(alloc)?);
+    let copy = Packet::Data(sent.copy(alloc)?);
     write_again(alloc, out, &copy, bytes)
 }
 
@@ -222,9 +223,9 @@ fn vector_message(alloc: Global) -> Result<Option<Message>, AllocError> {
     Ok(Message::new(CapSet::new(alloc), payload))
 }
 
-fn vector_packet(alloc: Global) -> Result<Option<AnyPacket>, SetError> {
+fn vector_packet(alloc: Global) -> Result<Option<Packet>, SetError> {
     match vector_message(alloc)? {
-        Some(message) => Ok(Some(AnyPacket::Data(vector(alloc, message)?))),
+        Some(message) => Ok(Some(Packet::Data(vector(alloc, message)?))),
         None => Ok(None),
     }
 }

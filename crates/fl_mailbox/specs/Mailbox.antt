@@ -3,7 +3,7 @@ use Rattle.std.specs.Prelude.{List, [], ◌∷◌}
 use Rattle.std.specs.declared.option.Option.{Option}
 use Rattle.std.specs.declared.option.Option.TheVariants.{None, Some}
 use Rattle.std.specs.FinMap as map
-use Rattle.fl_wire.specs.declared.packet.Letter.{Letter}
+use Rattle.fl_message.specs.declared.message.Letter.{Letter}
 use Rattle.fl_mailbox.specs.declared.mailbox.Mailbox.{Mailbox}
 
 -- no endpoint is open, and no message waits

@@ -2,7 +2,7 @@
 ghost use Rattle.std.specs.Prelude.{◌≡◌, ◌++◌, ◌∷◌, [], length, nat_le, OnOk, OnErr};
 ghost use Rattle.fl_mailbox.specs.Mailbox.{oldest, without_oldest};
 
-use fl_wire::packet::Letter;
+use fl_message::message::Letter;
 use std::alloc::{AllocError, Global};
 use std::collections::VecDeque;
 use std::marker::Model;
@@ -19,8 +19,8 @@ pub struct Inbox {
 impl Model for Inbox {
     ghost use Rattle.std.specs.Prelude.{List};
     ghost use Rattle.std.specs.Coded.{codes};
-    ghost use Rattle.fl_wire.specs.contracts.packet.Letter as letter_row;
-    ghost use Rattle.fl_wire.specs.declared.packet.Letter.{Letter};
+    ghost use Rattle.fl_message.specs.contracts.message.Letter as letter_row;
+    ghost use Rattle.fl_message.specs.declared.message.Letter.{Letter};
 
     ghost Value = { List Letter };
 

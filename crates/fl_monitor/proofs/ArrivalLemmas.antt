@@ -8,8 +8,8 @@ use Rattle.fl_labels.specs.SetBy.{SetBy}
 use Rattle.fl_rules.specs.Pair as pairs
 use Rattle.fl_rules.specs.Pair.{SafePair, PairFails}
 use Rattle.fl_rules.specs.declared.pair.PairFault.{PairFault}
-use Rattle.fl_wire.specs.declared.packet.Data.{Data}
-use Rattle.fl_wire.specs.declared.packet.Letter.{Letter}
+use Rattle.fl_message.specs.declared.message.Data.{Data}
+use Rattle.fl_message.specs.declared.message.Letter.{Letter}
 use Rattle.fl_mailbox.specs.Endpoints.{end_of}
 use Rattle.fl_mailbox.specs.declared.endpoints.OpenEndpoint.{OpenEndpoint}
 use Rattle.fl_jobs.specs.declared.answer.Refusal.{Refusal}

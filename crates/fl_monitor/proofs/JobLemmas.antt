@@ -13,7 +13,7 @@ use Rattle.fl_jobs.specs.declared.answer.Refusal.{Refusal}
 use Rattle.fl_jobs.specs.declared.answer.Refusal.TheVariants.{NoProcess, Busy, NamesSpent, Memory}
 use Rattle.fl_jobs.specs.declared.answer.Reply.TheVariants.{Made, Done}
 use Rattle.fl_jobs.specs.declared.answer.Outcome.{Outcome}
-use Rattle.fl_wire.specs.declared.packet.Data.{Data}
+use Rattle.fl_message.specs.declared.message.Data.{Data}
 use Rattle.fl_bench.specs.Mailbox.{arrival_checks}
 use Rattle.fl_bench.specs.Checks.{with, refuse_if, ◌then◌}
 use Rattle.fl_bench.specs.Process.{newborn, is_busy}

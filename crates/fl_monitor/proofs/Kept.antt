@@ -8,7 +8,7 @@ use Rattle.fl_ops.specs.Registry.{Registry}
 use Rattle.fl_jobs.specs.declared.job.Act.{Act}
 use Rattle.fl_jobs.specs.declared.answer.Refusal.{Refusal}
 use Rattle.fl_jobs.specs.declared.answer.Outcome.{Outcome}
-use Rattle.fl_wire.specs.declared.packet.Data.{Data}
+use Rattle.fl_message.specs.declared.message.Data.{Data}
 use Rattle.fl_bench.specs.Bench.{BenchState, IsNext}
 use Rattle.fl_bench.specs.Gifts.{receives}
 use Rattle.fl_bench.specs.Orderly.{IsOrderly}

@@ -18,9 +18,8 @@ use Rattle.fl_rules.specs.Pair as pairs
 use Rattle.fl_labels.specs.Caps.{Caps}
 use Rattle.fl_rules.specs.declared.endpoint.Mode.{Mode}
 use Rattle.fl_rules.specs.declared.labels.Labels.{Labels}
-use Rattle.fl_wire.specs.declared.packet.Data.{Data}
-use Rattle.fl_wire.specs.declared.packet.Message.{Message}
-use Rattle.fl_wire.specs.declared.packet.Packet.TheVariants as packets
+use Rattle.fl_message.specs.declared.message.Data.{Data}
+use Rattle.fl_message.specs.declared.message.Message.{Message}
 use Rattle.fl_mailbox.specs.Mailbox.{oldest, without_oldest}
 use Rattle.fl_mailbox.specs.Endpoints.{Table, IsLeastFree}
 use Rattle.fl_mailbox.specs.declared.mailbox.Mailbox.{Mailbox}
@@ -172,7 +171,7 @@ module _ (V : Registry) (owned : SetBy cap_cmp) (process : Labels) where
             pub send_ungranted : (f : Refusal) → r ≡ Err f → (q : Result Outcome Refusal) → IsErr q × IsErrAnd q (λ g. g ≡ f) → IsDone (Send from receiver to message) q ch
             send_ungranted f u q s = subst (λ q. IsDone (Send from receiver to message) q ch) (sym (passed_on q f s)) (send_fails f (why_refused checked f u))
 
-            pub send_done : (u : Unit {0}) → r ≡ Ok u → (d : Data) → IsSent pid from opened.labels receiver to message d → IsDone (Send from receiver to message) (Ok (Outcome.Out (packets.Data d))) ch
+            pub send_done : (u : Unit {0}) → r ≡ Ok u → (d : Data) → IsSent pid from opened.labels receiver to message d → IsDone (Send from receiver to message) (Ok (Outcome.Out d)) ch
             send_done u passes d sent = Mails.passed (verdict_of None (is_writable, has_passed checked u passes)) (opened, there, d, sent, refl, refl)
 
     -- ---- by what is asked for

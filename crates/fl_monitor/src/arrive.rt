@@ -7,10 +7,10 @@ ghost use Rattle.fl_monitor.specs.parts.Acts.{Arrives};
 use fl_bench::process::{Holding, Process};
 use fl_jobs::answer::{Outcome, Refusal, Reply};
 use fl_labels::endpoint::Endpoint;
+use fl_message::message::{Data, Letter};
 use fl_rules::endpoint::Mode;
 use fl_rules::labels::LabelsRef;
 use fl_rules::pair::{EndRef, PairFault, safe_pair};
-use fl_wire::packet::{Data, Letter};
 use std::alloc::Global;
 
 // The end that a message left, which was for writing.

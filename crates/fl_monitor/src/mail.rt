@@ -17,10 +17,10 @@ use fl_labels::endpoint::Endpoint;
 use fl_labels::pid::Pid;
 use fl_mailbox::endpoints::OpenEndpoint;
 use fl_mailbox::mailbox::Mailbox;
+use fl_message::message::{Data, Message};
 use fl_rules::endpoint::Mode;
 use fl_rules::labels::{Labels, LabelsRef};
 use fl_rules::pair::EndRef;
-use fl_wire::packet::{Data, Message, Packet};
 use std::alloc::{AllocError, Global};
 
 // The least endpoint that is not open is opened, where it is safe.
@@ -152,7 +152,7 @@ fn send<V: View>(
     }
     check(alloc, view, owned, Demand::Grant(&message.caps))?;
     match packet_of(alloc, route, &opened.labels, message) {
-        Ok(data) => Ok(Outcome::Out(Packet::Data(data))),
+        Ok(data) => Ok(Outcome::Out(data)),
         Err(_) => Err(Refusal::Memory),
     }
 }

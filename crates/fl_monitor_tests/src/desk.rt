@@ -6,13 +6,13 @@ use fl_jobs::answer::{Outcome, Refusal, Reply};
 use fl_jobs::job::Job;
 use fl_labels::pid::Pid;
 use fl_labels::text::{read_name, read_number, read_pid};
+use fl_message::message::Data;
 use fl_monitor::bench::Bench;
 use fl_ops::op::{Body, Op};
 use fl_rules::labels::Labels;
 use fl_script::line::Line;
 use fl_script::reading::{Reading, read_line};
 use fl_sink::sink::Sink;
-use fl_wire::packet::{Data, Packet};
 use std::alloc::{AllocGlobal, Global};
 use std::process::Abort;
 use std::test::Fail;
@@ -125,7 +125,7 @@ impl Desk {
                 self.ordered = Some((body, pid));
                 order_text(self.alloc, &body, pid)
             }
-            Outcome::Out(Packet::Data(data)) => {
+            Outcome::Out(data) => {
                 self.sent.push(data)?;
                 Ok(format!(in self.alloc; "sent {}", self.sent.len())?.into_bytes())
             }

@@ -14,7 +14,7 @@ use Rattle.fl_jobs.specs.declared.answer.Refusal.{Refusal}
 use Rattle.fl_jobs.specs.declared.answer.Reply.{Reply}
 use Rattle.fl_jobs.specs.declared.answer.Outcome.{Outcome}
 use Rattle.fl_jobs.specs.declared.answer.Outcome.TheVariants as outcome
-use Rattle.fl_wire.specs.declared.packet.Packet.{Packet}
+use Rattle.fl_message.specs.declared.message.Data.{Data}
 use Rattle.fl_bench.specs.Bench.{BenchState}
 use Rattle.fl_bench.specs.Jobs.{Does}
 use Rattle.fl_bench.specs.laws.Orders.{cancel_back}
@@ -114,7 +114,7 @@ module _ (number boot : ℕ) (saved : SetBy op_cmp) (published : List Op) (seen 
         subst (λ n. Jobs (alone number boot saved published seen state b) 1 (length published) job (Ok (answer.Reply reply)) n)
         (worked_alone (length published)) (Jobs.replied looks (decides does))
 
-    pub sent_alone : {packet : Packet} → Does (Listed (set.members (set.of_list {R = op_cmp} published))) b job (Ok (outcome.Out packet)) left
+    pub sent_alone : {packet : Data} → Does (Listed (set.members (set.of_list {R = op_cmp} published))) b job (Ok (outcome.Out packet)) left
         → Jobs (alone number boot saved published seen state b) 1 (length published) job (Ok (answer.Out packet)) (alone number boot saved published (length published) state left)
     sent_alone {packet} does =
         subst (λ n. Jobs (alone number boot saved published seen state b) 1 (length published) job (Ok (answer.Out packet)) n)

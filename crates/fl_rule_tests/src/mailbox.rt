@@ -8,11 +8,11 @@ use fl_mailbox::endpoints::{Endpoints, OpenEndpoint};
 use fl_mailbox::inbox::{Inbox, MOST_LETTERS};
 use fl_mailbox::mailbox::Mailbox;
 use fl_mailbox::offender::{Offender, first_unsafe};
+use fl_message::message::{Letter, Message};
+use fl_message::payload::Payload;
 use fl_rules::endpoint::Mode;
 use fl_rules::has::Owner;
 use fl_rules::labels::Labels;
-use fl_wire::packet::{Letter, Message};
-use fl_wire::payload::Payload;
 use std::alloc::{AllocError, Global};
 use std::test::Fail;
 

@@ -3,7 +3,7 @@ use Rattle.std.proofs.Common.{◌≡◌, ◌<◌, ◌⊎◌, inl, inr, ℕ, List
 use Rattle.fl_labels.specs.Cap.{cap_cmp}
 use Rattle.fl_labels.specs.Found.{Finds}
 use Rattle.fl_labels.specs.SetBy.{SetBy, len}
-use Rattle.fl_wire.specs.declared.packet.Message.{Message}
+use Rattle.fl_message.specs.declared.message.Message.{Message}
 use Rattle.fl_aliases.specs.Words.{Word}
 use Rattle.fl_script.specs.Words.{IsCapsWord, IsBytesWord, AreMessageWords}
 use Rattle.fl_script.specs.laws.OneWord.{same_caps, same_bytes}

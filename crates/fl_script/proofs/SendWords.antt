@@ -4,7 +4,7 @@ use Rattle.fl_labels.specs.Text.{endpoint_text, pid_text}
 use Rattle.fl_labels.specs.declared.endpoint.Endpoint.{Endpoint}
 use Rattle.fl_labels.specs.declared.pid.Pid.{Pid}
 use Rattle.fl_jobs.specs.declared.job.Job.{Job}
-use Rattle.fl_wire.specs.declared.packet.Message.{Message}
+use Rattle.fl_message.specs.declared.message.Message.{Message}
 use Rattle.fl_aliases.specs.Words.{Word}
 use Rattle.fl_script.specs.Grammar.{Is, Matches, SpellsJob}
 use Rattle.fl_script.specs.Words.{IsCapsWord, IsBytesWord, AreMessageWords}

@@ -14,7 +14,7 @@ use Rattle.fl_jobs.specs.declared.job.TooLong.{TooLong}
 use Rattle.fl_jobs.specs.declared.secret.Secret.{Secret}
 use Rattle.fl_rules.specs.declared.endpoint.Mode.{Mode}
 use Rattle.fl_rules.specs.declared.endpoint.Mode.TheVariants.{Read, Write, Both}
-use Rattle.fl_wire.specs.declared.packet.Message.{Message}
+use Rattle.fl_message.specs.declared.message.Message.{Message}
 use Rattle.fl_aliases.specs.Words.{Word}
 use Rattle.fl_labels.specs.Words.{IsListing}
 

@@ -10,10 +10,10 @@ use fl_jobs::secret::Secret;
 use fl_labels::cap_set::CapSet;
 use fl_labels::error::SetError;
 use fl_labels::label::Label;
+use fl_message::message::Message;
+use fl_message::payload::Payload;
 use fl_ops::op::Policy;
 use fl_rules::endpoint::Mode;
-use fl_wire::packet::Message;
-use fl_wire::payload::Payload;
 use hex::{FromHex, FromHexError};
 use std::alloc::{AllocError, Global};
 

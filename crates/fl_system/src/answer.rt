@@ -2,7 +2,7 @@
 
 use fl_jobs::answer::{Refusal, Reply};
 use fl_labels::name::Name;
-use fl_wire::packet::Packet;
+use fl_message::message::Data;
 
 /// Why a node refused a call.
 #[derive(Clone, Copy, Debug, PartialEq, Eq)]
@@ -26,7 +26,7 @@ pub enum Fault {
 pub enum Answer {
     Reply(Reply),
     /// The packet is to be sent.
-    Out(Packet),
+    Out(Data),
     /// An operation of this name is under way, to be saved and published.
     Begun(Name),
 }

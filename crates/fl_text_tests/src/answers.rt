@@ -6,9 +6,9 @@ use fl_labels::cap_set::CapSet;
 use fl_labels::endpoint::Endpoint;
 use fl_labels::name::Name;
 use fl_labels::pid::Pid;
+use fl_message::message::{Letter, Message};
+use fl_message::payload::Payload;
 use fl_sink::sink::Sink;
-use fl_wire::packet::{Letter, Message};
-use fl_wire::payload::Payload;
 use std::alloc::{AllocError, Global};
 use std::test::Fail;
 

@@ -30,10 +30,10 @@ use Rattle.fl_opset.specs.laws.Fits.{fit_at}
 use Rattle.fl_wire.specs.NameOrder.{by_name}
 use Rattle.fl_wire.specs.parts.Ops.{IsNextOp}
 use Rattle.fl_wire.specs.declared.batch.Batch.{Batch}
-use Rattle.fl_wire.specs.declared.packet.Message.{Message}
-use Rattle.fl_wire.specs.declared.packet.Data.{Data}
-use Rattle.fl_wire.specs.declared.packet.AnyPacket.{AnyPacket}
-use Rattle.fl_wire.specs.declared.packet.AnyPacket.TheVariants as kinds
+use Rattle.fl_message.specs.declared.message.Message.{Message}
+use Rattle.fl_message.specs.declared.message.Data.{Data}
+use Rattle.fl_wire.specs.declared.packet.Packet.{Packet}
+use Rattle.fl_wire.specs.declared.packet.Packet.TheVariants as kinds
 use Rattle.fl_wire.specs.parts.Items.{name_key, key_of_cap, key_before, is_above, IsNext}
 use Rattle.fl_wire.specs.Fields.{is_next, short_at, long_at, has_short, has_long, has_cap, tag_key, cap_key, rising_fields}
 use Rattle.fl_wire.specs.PacketBytes.{pid_bytes, label_bytes, caps_bytes, payload_bytes, message_bytes, data_bytes, batch_bytes, span_bytes, intervals_bytes, packet_bytes}
@@ -259,7 +259,7 @@ module _ (bs : List ℕ) where
       let kinds = byte_is bs 1 kind rest 1 4 low high (ap (drop 1) e) in
       (λ i. if format.0 i then (if kinds.0 i then first_fault (kind_fields bs (kinds.1 i)) else Some 1) else Some 0) ∙ h
 
-pub no_fault : (p : AnyPacket) → packet_fault (packet_bytes p) ≡ None
+pub no_fault : (p : Packet) → packet_fault (packet_bytes p) ≡ None
 no_fault (kinds.Full b) = opened (packet_bytes (kinds.Full b)) 1 (batch_bytes b.ops) (lit≤ tt) (lit≤ tt) refl (batch_is (packet_bytes (kinds.Full b)) 2 b refl)
 no_fault (kinds.Have w) = opened (packet_bytes (kinds.Have w)) 2 (intervals_bytes w) (lit≤ tt) (lit≤ tt) refl (window_is (packet_bytes (kinds.Have w)) 2 w refl)
 no_fault (kinds.Delta b) = opened (packet_bytes (kinds.Delta b)) 3 (batch_bytes b.ops) (lit≤ tt) (lit≤ tt) refl (batch_is (packet_bytes (kinds.Delta b)) 2 b refl)

@@ -22,12 +22,12 @@ use Rattle.fl_opset.specs.declared.intervals.Intervals.{Intervals}
 use Rattle.fl_opset.specs.Rank.{name_rank, last_rank}
 use Rattle.fl_opset.specs.laws.ByRank.{same_span, same_window}
 use Rattle.fl_wire.specs.NameOrder.{by_name}
-use Rattle.fl_wire.specs.laws.SameData.{same_data}
+use Rattle.fl_message.specs.laws.SameData.{same_data}
 use Rattle.fl_wire.specs.declared.batch.Batch.{Batch}
-use Rattle.fl_wire.specs.declared.packet.Message.{Message}
-use Rattle.fl_wire.specs.declared.packet.Data.{Data}
-use Rattle.fl_wire.specs.declared.packet.AnyPacket.{AnyPacket}
-use Rattle.fl_wire.specs.declared.packet.AnyPacket.TheVariants as kinds
+use Rattle.fl_message.specs.declared.message.Message.{Message}
+use Rattle.fl_message.specs.declared.message.Data.{Data}
+use Rattle.fl_wire.specs.declared.packet.Packet.{Packet}
+use Rattle.fl_wire.specs.declared.packet.Packet.TheVariants as kinds
 use Rattle.fl_wire.specs.PacketBytes.{pid_bytes, label_bytes, caps_bytes, payload_bytes, message_bytes, data_bytes, batch_bytes, span_bytes, intervals_bytes, packet_bytes}
 
 two_back : (n : ℕ) → n < 2 ^ 16 → from_be_bytes w16 (to_be_bytes w16 n) ≡ n
@@ -130,7 +130,7 @@ window_same a b e =
     let e3 = two_front (length a.spans) (length b.spans) (flat_map span_bytes a.spans) (flat_map span_bytes b.spans) (omega (arith, a.few)) (omega (arith, b.few)) e2.1 in
     same_window a b e1.0 e2.0 (items_front span_bytes span_front a.spans b.spans [] [] e3.0 (ap (λ l. l ++ []) e3.1)).0
 
-pub one_packet : (a b : AnyPacket) → packet_bytes a ≡ packet_bytes b → a ≡ b
+pub one_packet : (a b : Packet) → packet_bytes a ≡ packet_bytes b → a ≡ b
 one_packet (kinds.Full a) (kinds.Full b) e = ap kinds.Full (batch_same a b (ap (drop 2) e))
 one_packet (kinds.Have a) (kinds.Have b) e = ap kinds.Have (window_same a b (ap (drop 2) e))
 one_packet (kinds.Delta a) (kinds.Delta b) e = ap kinds.Delta (batch_same a b (ap (drop 2) e))

@@ -3,5 +3,4 @@ pub mod PacketBytes
 pub mod Fields
 pub mod Faults
 pub mod PacketGrammar
-pub mod laws
 pub mod parts

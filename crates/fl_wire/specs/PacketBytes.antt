@@ -10,10 +10,10 @@ use Rattle.fl_ops.specs.declared.op.Op.{Op}
 use Rattle.fl_ops.specs.Bytes.{name_bytes, cap_bytes, op_bytes}
 use Rattle.fl_opset.specs.declared.span.Span.{Span}
 use Rattle.fl_opset.specs.declared.intervals.Intervals.{Intervals}
-use Rattle.fl_wire.specs.declared.packet.Message.{Message}
-use Rattle.fl_wire.specs.declared.packet.Data.{Data}
-use Rattle.fl_wire.specs.declared.packet.AnyPacket.{AnyPacket}
-use Rattle.fl_wire.specs.declared.packet.AnyPacket.TheVariants as kinds
+use Rattle.fl_message.specs.declared.message.Message.{Message}
+use Rattle.fl_message.specs.declared.message.Data.{Data}
+use Rattle.fl_wire.specs.declared.packet.Packet.{Packet}
+use Rattle.fl_wire.specs.declared.packet.Packet.TheVariants as kinds
 
 -- the node in two bytes, then the boot and the serial in four each
 abbrev pub pid_bytes : Pid → List ℕ
@@ -56,7 +56,7 @@ intervals_bytes w =
     ++ (name_bytes w.to ++ (to_be_bytes w16 (length w.spans) ++ flat_map span_bytes w.spans))
 
 -- the format, the kind, and what the kind asks for
-abbrev pub packet_bytes : AnyPacket → List ℕ
+abbrev pub packet_bytes : Packet → List ℕ
 packet_bytes (kinds.Full b) = 241 ∷ 1 ∷ batch_bytes b.ops
 packet_bytes (kinds.Have w) = 241 ∷ 2 ∷ intervals_bytes w
 packet_bytes (kinds.Delta b) = 241 ∷ 3 ∷ batch_bytes b.ops

@@ -8,7 +8,6 @@ mod items;
 pub mod laws;
 mod ops;
 pub mod packet;
-pub mod payload;
 pub mod reading;
 mod window;
 pub mod writing;

@@ -9,9 +9,10 @@ use crate::fault::ReadFault;
 use crate::fields::{end_at, short_at};
 use crate::items::{caps_at, label_at};
 use crate::ops::batch_at;
-use crate::packet::{AnyPacket, Data, Message};
-use crate::payload::Payload;
+use crate::packet::Packet;
 use crate::window::window_at;
+use fl_message::message::{Data, Message};
+use fl_message::payload::Payload;
 use fl_ops::fields::{CAP_SIZE, NAME_SIZE, byte_at};
 use std::alloc::Global;
 
@@ -75,16 +76,16 @@ fn data_at(alloc: Global, bytes: &[u8]) -> Result<Data, ReadFault>
 ///
 /// `BadPacket` where no packet spells them, at the first byte of the first field that is cut off, out of its range or against a
 /// rule with what came before it, or at the first byte after the packet's end. `Memory` where there is not enough memory.
-pub fn decode(alloc: Global, bytes: &[u8]) -> Result<AnyPacket, ReadFault>
+pub fn decode(alloc: Global, bytes: &[u8]) -> Result<Packet, ReadFault>
     ensures { MatchResult result
         (λ packet. packet_bytes packet ≡ bytes.now)
         (IsBadOrMemoryAfter (packet_head bytes.now) (packet_fields bytes.now)) }
 {
     byte_at(bytes, 0, 0xf1, 0xf1)?;
     match byte_at(bytes, 1, 1, 4)? {
-        1 => Ok(AnyPacket::Full(batch_at(alloc, bytes, 2)?)),
-        2 => Ok(AnyPacket::Have(window_at(alloc, bytes, 2)?)),
-        3 => Ok(AnyPacket::Delta(batch_at(alloc, bytes, 2)?)),
-        _ => Ok(AnyPacket::Data(data_at(alloc, bytes)?)),
+        1 => Ok(Packet::Full(batch_at(alloc, bytes, 2)?)),
+        2 => Ok(Packet::Have(window_at(alloc, bytes, 2)?)),
+        3 => Ok(Packet::Delta(batch_at(alloc, bytes, 2)?)),
+        _ => Ok(Packet::Data(data_at(alloc, bytes)?)),
     }
 }

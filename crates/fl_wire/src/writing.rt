@@ -6,11 +6,12 @@ ghost use Rattle.fl_labels.specs.SetBy.{len};
 ghost use Rattle.fl_wire.specs.PacketBytes.{pid_bytes, label_bytes, caps_bytes, message_bytes, data_bytes, batch_bytes, span_bytes, intervals_bytes, packet_bytes};
 
 use crate::batch::Batch;
-use crate::packet::{AnyPacket, Data, Message};
+use crate::packet::Packet;
 use fl_labels::cap_set::CapSet;
 use fl_labels::endpoint::Endpoint;
 use fl_labels::label::Label;
 use fl_labels::pid::Pid;
+use fl_message::message::{Data, Message};
 use fl_ops::fields::{push_cap, push_name};
 use fl_ops::writing::push_op;
 use fl_opset::intervals::Intervals;
@@ -121,25 +122,25 @@ fn push_intervals(out: &mut Vec<u8>, window: &Intervals) -> Result<(), AllocErro
 }
 
 /// The spelling of a packet. Linear in it. An error says that there was no memory for it.
-pub fn encode(alloc: Global, packet: &AnyPacket) -> Result<Vec<u8>, AllocError>
+pub fn encode(alloc: Global, packet: &Packet) -> Result<Vec<u8>, AllocError>
     ensures { IfOk result (λ bytes. bytes.items ≡ packet_bytes packet.now) }
 {
     let mut bytes = Vec::new(alloc);
     bytes.push(0xf1)?;
     match packet {
-        AnyPacket::Full(batch) => {
+        Packet::Full(batch) => {
             bytes.push(1)?;
             push_batch(&mut bytes, batch)?;
         }
-        AnyPacket::Have(window) => {
+        Packet::Have(window) => {
             bytes.push(2)?;
             push_intervals(&mut bytes, window)?;
         }
-        AnyPacket::Delta(batch) => {
+        Packet::Delta(batch) => {
             bytes.push(3)?;
             push_batch(&mut bytes, batch)?;
         }
-        AnyPacket::Data(sent) => {
+        Packet::Data(sent) => {
             bytes.push(4)?;
             push_data(&mut bytes, sent)?;
         }

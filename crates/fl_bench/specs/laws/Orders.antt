@@ -10,7 +10,7 @@ use Rattle.fl_ops.specs.declared.op.Body.{Body}
 use Rattle.fl_jobs.specs.declared.job.Job.{Job}
 use Rattle.fl_jobs.specs.declared.answer.Refusal.{Refusal}
 use Rattle.fl_jobs.specs.declared.answer.Outcome.{Outcome}
-use Rattle.fl_wire.specs.declared.packet.Packet.{Packet}
+use Rattle.fl_message.specs.declared.message.Data.{Data}
 use Rattle.fl_bench.specs.Process.{owns, is_busy, ordering}
 use Rattle.fl_bench.specs.Bench.{BenchState, has_at}
 use Rattle.fl_bench.specs.Gifts.{given, receives, settles, finished, cancelled}
@@ -73,7 +73,7 @@ module _ {V : Op → Type 0} {b : BenchState} {job : Job} where
         (λ m. record b { processes = m })
         (put_same pid_total pid_exact b.processes pid o.process o.lived)
 
-  module _ {packet : Packet} {after : BenchState} where
+  module _ {packet : Data} {after : BenchState} where
     step_sends : Summary V b job (Ok (Outcome.Out packet)) after
         → IsSending V b job packet × (after ≡ b)
     step_sends (sends h is) = (h, is)

@@ -29,10 +29,8 @@ use Rattle.fl_jobs.specs.declared.answer.Reply.{Reply}
 use Rattle.fl_jobs.specs.declared.answer.Outcome.{Outcome}
 use Rattle.fl_rules.specs.Endpoint.{writes}
 use Rattle.fl_rules.specs.Safety.{SafeChange}
-use Rattle.fl_wire.specs.declared.packet.Data.{Data}
-use Rattle.fl_wire.specs.declared.packet.Message.{Message}
-use Rattle.fl_wire.specs.declared.packet.Packet.{Packet}
-use Rattle.fl_wire.specs.declared.packet.Packet.TheVariants as packets
+use Rattle.fl_message.specs.declared.message.Data.{Data}
+use Rattle.fl_message.specs.declared.message.Message.{Message}
 use Rattle.fl_mailbox.specs.declared.mailbox.Mailbox.{Mailbox}
 use Rattle.fl_mailbox.specs.declared.endpoints.OpenEndpoint.{OpenEndpoint}
 use Rattle.fl_bench.specs.Checks.{refuse_if, with, ◌then◌}
@@ -124,12 +122,10 @@ module _ (V : Op → Type 0) where
         → map.get b.processes pid ≡ Some p → map.get p.mailbox.endpoints from ≡ Some opened
         → mail_checks (effective V p) p.labels p.mailbox (Send from receiver to message) None →
         IsSent pid from opened.labels receiver to message d → IsSending V b
-        (By pid (Mail (Send from receiver to message))) (packets.Data d)
+        (By pid (Mail (Send from receiver to message))) d
     is_sending pid p from to receiver message opened d e there h is =
         let both = send_passed p from to receiver message opened there h in
         record {
-          sent = d;
-          packet_is = refl;
           process = p;
           lived = subst (λ k. map.get b.processes k ≡ Some p) (sym is.sender_is) e;
           opened = opened;

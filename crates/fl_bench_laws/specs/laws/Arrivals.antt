@@ -16,9 +16,7 @@ use Rattle.fl_rules.specs.declared.endpoint.Mode.{Mode}
 use Rattle.fl_rules.specs.declared.endpoint.Mode.TheVariants.{Read, Write, Both}
 use Rattle.fl_rules.specs.declared.labels.Labels.{Labels}
 use Rattle.fl_rules.specs.laws.Messages.{message_safe}
-use Rattle.fl_wire.specs.declared.packet.Data.{Data}
-use Rattle.fl_wire.specs.declared.packet.Packet.{Packet}
-use Rattle.fl_wire.specs.declared.packet.Packet.TheVariants as packets
+use Rattle.fl_message.specs.declared.message.Data.{Data}
 use Rattle.fl_mailbox.specs.Endpoints.{end_of}
 use Rattle.fl_mailbox.specs.declared.mailbox.Mailbox.{Mailbox}
 use Rattle.fl_mailbox.specs.declared.endpoints.OpenEndpoint.{OpenEndpoint}
@@ -91,16 +89,13 @@ module _ {V : Op → Type 0} {b after : BenchState} {d : Data} {x : Outcome} (q 
 
 -- ---- the sender
 
-same_packet : {d e : Data} → packets.Data d ≡ packets.Data e → d ≡ e
-same_packet e = ap (λ (p : Packet). elim p [ packets.Data d ↦ d ]) e
-
 module _ {V W : Op → Type 0} {b : BenchState} {job : Job} where
-  left_safe : (o : Packet) (s : IsSending V b job o) → IsGuarded W b
-      → SafeEndpoint (effective W s.process) Write s.process.labels (sent_from s.sent).labels
-  left_safe o s h =
-      let safe = open_safe W s.process s.sent.from s.opened (h.each s.sent.sender s.process s.lived)
+  left_safe : (d : Data) (s : IsSending V b job d) → IsGuarded W b
+      → SafeEndpoint (effective W s.process) Write s.process.labels (sent_from d).labels
+  left_safe d s h =
+      let safe = open_safe W s.process d.from s.opened (h.each d.sender s.process s.lived)
       s.is_open in
-      let same : s.opened.labels ≡ (sent_from s.sent).labels = λ i. record
+      let same : s.opened.labels ≡ (sent_from d).labels = λ i. record
       { secrecy = sym s.secrecy_is i; integrity = sym s.integrity_is i } in
       subst (λ l. SafeEndpoint (effective W s.process) Write s.process.labels l) same
       (record { read = λ e. absurd (false≢true e); write = λ e. safe.write s.writable })
@@ -108,13 +103,10 @@ module _ {V W : Op → Type 0} {b : BenchState} {job : Job} where
   -- a message that is sent left a safe endpoint
   pub sent_safe : {after : BenchState} (d : Data) (p : Process)
       → map.get b.processes d.sender ≡ Some p → IsGuarded W b
-      → Does V b job (Ok (Outcome.Out (packets.Data d))) after
+      → Does V b job (Ok (Outcome.Out d)) after
       → SafeEndpoint (effective W p) (sent_from d).mode p.labels (sent_from d).labels
   sent_safe d p lived h does =
       let s = sending_at does in
-      let e : s.sent ≡ d = same_packet (sym s.packet_is) in
-      let who : s.process ≡ p = same_found
-      (subst (λ (k : Data). map.get b.processes k.sender ≡ Some s.process) e s.lived) lived in
-      subst (λ (k : Data). SafeEndpoint (effective W p) Write p.labels (sent_from k).labels) e
-      (subst (λ (r : Process). SafeEndpoint (effective W r) Write r.labels
-      (sent_from s.sent).labels) who (left_safe (packets.Data d) s h))
+      let who : s.process ≡ p = same_found s.lived lived in
+      subst (λ (r : Process). SafeEndpoint (effective W r) Write r.labels (sent_from d).labels) who
+      (left_safe d s h)

@@ -32,7 +32,7 @@ use Rattle.fl_jobs.specs.declared.answer.Outcome.{Outcome}
 use Rattle.fl_rules.specs.declared.labels.Labels.{Labels}
 use Rattle.fl_rules.specs.declared.pair.PairFault.{PairFault}
 use Rattle.fl_rules.specs.declared.pair.PairFault.TheVariants as faults
-use Rattle.fl_wire.specs.declared.packet.Data.{Data}
+use Rattle.fl_message.specs.declared.message.Data.{Data}
 use Rattle.fl_mailbox.specs.Endpoints.{Table, IsLeastFree}
 use Rattle.fl_mailbox.specs.Offenders.{offender_cmp, CrossesAt, DualAt}
 use Rattle.fl_mailbox.specs.declared.mailbox.Mailbox.{Mailbox}

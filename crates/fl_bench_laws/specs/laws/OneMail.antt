@@ -1,5 +1,5 @@
 -- What a process does with its endpoints and messages has one verdict, and one end.
-use Rattle.fl_wire.specs.laws.SameData.{same_data}
+use Rattle.fl_message.specs.laws.SameData.{same_data}
 use Rattle.std.proofs.Common.{◌≡◌, ◌∙◌, refl, sym, ap, Some, None}
 use mathlib.Core.HLevel.{Σ_prop_path}
 use Rattle.std.specs.Coded.{×_prop, le_prop}
@@ -18,9 +18,8 @@ use Rattle.fl_rules.specs.Pair.{SafePair, PairFails}
 use Rattle.fl_rules.specs.declared.labels.Labels.{Labels}
 use Rattle.fl_rules.specs.declared.pair.PairFault.{PairFault}
 use Rattle.fl_rules.specs.declared.pair.PairFault.TheVariants as faults
-use Rattle.fl_wire.specs.declared.packet.Data.{Data}
-use Rattle.fl_wire.specs.declared.packet.Message.{Message}
-use Rattle.fl_wire.specs.declared.packet.Packet.TheVariants as packets
+use Rattle.fl_message.specs.declared.message.Data.{Data}
+use Rattle.fl_message.specs.declared.message.Message.{Message}
 use Rattle.fl_mailbox.specs.TableLaws.{one_least_free}
 use Rattle.fl_mailbox.specs.declared.mailbox.Mailbox.{Mailbox}
 use Rattle.fl_mailbox.specs.declared.endpoints.OpenEndpoint.{OpenEndpoint}
@@ -147,5 +146,5 @@ one_mail_does pid ch (Send from receiver to message) x y c d h k =
     let o : h.0 ≡ k.0 = same_found h.1 k.1 in
     let e : h.2 ≡ k.2 = one_sent h.0.labels k.0.labels h.2 k.2
     (ap (λ (o : OpenEndpoint). o.labels) o) h.3 k.3 in
-    (h.4 ∙ ap (λ d. Outcome.Out (packets.Data d)) e ∙ sym k.4, h.5 ∙ sym k.5)
+    (h.4 ∙ ap Outcome.Out e ∙ sym k.4, h.5 ∙ sym k.5)
 one_mail_does pid ch Take x y c d h k = (h.0 ∙ sym k.0, h.1 ∙ sym k.1)

@@ -28,7 +28,7 @@ use Rattle.fl_jobs.specs.declared.job.TooLong.{TooLong}
 use Rattle.fl_jobs.specs.declared.secret.Secret.{Secret}
 use Rattle.fl_rules.specs.declared.endpoint.Mode.{Mode}
 use Rattle.fl_rules.specs.declared.endpoint.Mode.TheVariants.{Read as ReadMode, Write, Both as BothWays}
-use Rattle.fl_wire.specs.declared.packet.Message.{Message}
+use Rattle.fl_message.specs.declared.message.Message.{Message}
 use Rattle.fl_aliases.specs.Words.{Word}
 use Rattle.fl_labels.specs.laws.OneReading.{name_text_injective, pid_text_injective, cap_text_injective, endpoint_text_injective, name_text_some, cap_text_some, same_number, same_listing}
 use Rattle.fl_script.specs.Grammar.{Is}

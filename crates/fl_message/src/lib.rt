@@ -1,0 +1,5 @@
+//! Messages between processes, and what they are on their way.
+#![tactic(auto)]
+
+pub mod message;
+pub mod payload;
