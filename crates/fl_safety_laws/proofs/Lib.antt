@@ -1,0 +1,4 @@
+pub mod Rules
+pub mod Admitted
+pub mod Numbers
+pub mod Nodes
