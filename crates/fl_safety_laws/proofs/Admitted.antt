@@ -2,7 +2,6 @@
 use Rattle.std.proofs.Common.{◌≡◌, inl, inr, refl, sym, subst, ℕ, List, Some, None, Ok}
 use Rattle.std.specs.Prelude.{not}
 use Rattle.std.specs.FinMap as map
-use Rattle.fl_labels.specs.Caps.{Caps, Dual}
 use Rattle.fl_labels.specs.Found.{Within}
 use Rattle.fl_labels.specs.Name.{name_cmp}
 use Rattle.fl_labels.specs.Cap.{cap_cmp}
@@ -25,7 +24,6 @@ use Rattle.fl_mailbox.specs.declared.endpoints.OpenEndpoint.{OpenEndpoint}
 use Rattle.fl_jobs.specs.Given.{labels_of}
 use Rattle.fl_jobs.specs.declared.job.GivenLabels.{GivenLabels}
 use Rattle.fl_jobs.specs.declared.job.Side.{Side}
-use Rattle.fl_jobs.specs.declared.job.Order as orders
 use Rattle.fl_jobs.specs.declared.job.Order.TheVariants.{Put, MakeLogin}
 use Rattle.fl_jobs.specs.declared.job.Act.{Act}
 use Rattle.fl_jobs.specs.declared.job.Act.TheVariants.{Order, Relabel, Ask, Spawn, Enter, Emit, Mail}
@@ -36,7 +34,7 @@ use Rattle.fl_jobs.specs.declared.answer.Refusal.TheVariants.{NoEndpoint, NotWri
 use Rattle.fl_jobs.specs.declared.answer.Reply.TheVariants.{Yes, Entered}
 use Rattle.fl_jobs.specs.declared.answer.Outcome.{Outcome}
 use Rattle.fl_bench.specs.Bench.{BenchState}
-use Rattle.fl_bench.specs.Process.{effective, side_of, owns, PutTakes}
+use Rattle.fl_bench.specs.Process.{effective, side_of, PutTakes}
 use Rattle.fl_bench.specs.Secrets.{digest_of}
 use Rattle.fl_bench.specs.Checks.{refuse_if, with, ◌then◌}
 use Rattle.fl_bench.specs.Guards.{grant_check}

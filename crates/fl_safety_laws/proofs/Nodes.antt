@@ -1,6 +1,6 @@
 -- The open endpoints of the processes of a node stay safe under each registry that has all that the node published.
-use Rattle.std.proofs.Common.{◌≡◌, ◌⊎◌, inl, inr, refl, sym, subst, arith, ◌+◌, ℕ, zero, suc, Bool, List, [], ◌∷◌, length, take, get_or}
-use Rattle.std.proofs.Common.{Option, Some, None, Result, Ok, Err}
+use Rattle.std.proofs.Common.{refl, arith, ◌+◌, ℕ, zero, suc, Bool, List, [], ◌∷◌, length, take}
+use Rattle.std.proofs.Common.{Option, Some, None, Result}
 use Rattle.std.specs.List.{Contains}
 use Rattle.fl_labels.specs.Found.{Within}
 use Rattle.fl_labels.specs.SetBy as set
@@ -13,7 +13,10 @@ use Rattle.fl_ops.specs.OpOrder.{op_cmp}
 use Rattle.fl_ops.specs.Registry.{Listed}
 use Rattle.fl_opset.specs.laws.Members.{listed_in, listed_member}
 use Rattle.fl_store.specs.Kept.{Kept}
+use Rattle.fl_wire.specs.declared.packet.Data.{Data}
 use Rattle.fl_jobs.specs.declared.job.Job.{Job}
+use Rattle.fl_jobs.specs.declared.job.Job.TheVariants.{Arrive}
+use Rattle.fl_jobs.specs.declared.answer.Reply.{Reply}
 use Rattle.fl_jobs.specs.declared.answer.Refusal.{Refusal}
 use Rattle.fl_jobs.specs.declared.answer.Outcome.{Outcome}
 use Rattle.fl_bench.specs.Bench.{BenchState}
@@ -27,9 +30,10 @@ use Rattle.fl_system.specs.declared.state.Batch.TheVariants.{Ordered, Received}
 use Rattle.fl_system.specs.State.{NodeState, first_ops}
 use Rattle.fl_system.specs.Begins.{Begins}
 use Rattle.fl_system.specs.Jobs.{Jobs, Decides, place_of, bench_of, worked}
+use Rattle.fl_system.specs.Arrives.{Unasked, ArrivesAt, delivered, Arrives}
 use Rattle.fl_system.specs.Receives.{Receives}
-use Rattle.fl_system.specs.Saves.{Saves, stored}
-use Rattle.fl_system.specs.Publishes.{Publishes, Cancels, at_bench_of, given_to, released}
+use Rattle.fl_system.specs.Saves.{Saves}
+use Rattle.fl_system.specs.Publishes.{Publishes, Cancels, given_to, released}
 use Rattle.fl_system.specs.Openings.{Opens, OpensAgain, Restarts, Reopens, opened}
 use Rattle.fl_safety_laws.proofs.Numbers.{Each, changed_each, items_each}
 
@@ -91,6 +95,20 @@ module _ (U : Op → Type 0) where
           begins_guarded _ _ _ _ begun (worked_guarded desk v job d)
       jobs_guarded desk upto job (Jobs.not_begun look d begun) = h
 
+    delivered_guarded : (d : Data) {result : Result Outcome Refusal} {left : BenchState} → ArrivesAt n d result left
+        → NodeGuarded U (delivered n d left)
+    delivered_guarded d {left = left} at =
+        changed_each (IsGuarded U) (λ _. left) n.benches (place_of n (Arrive d))
+        (λ b there. does_guarded Unasked U (λ op m. absurd m) at.bench (h (place_of n (Arrive d)) at.bench at.stands)
+        at.does) h
+
+    -- a message asks nothing of the registry
+    pub arrives_guarded : (d : Data) {result : Result Reply Fault} {n' : NodeState} → Arrives n d result n'
+        → NodeGuarded U n'
+    arrives_guarded d (Arrives.stopped why) = h
+    arrives_guarded d (Arrives.refused {left = left} at) = delivered_guarded d at
+    arrives_guarded d (Arrives.arrives {left = left} at) = delivered_guarded d at
+
     -- ---- the registrar's calls
 
     pub receives_guarded : (ops : SetBy op_cmp) {result : Result ℕ Fault} {n' : NodeState} → Receives n ops result n'
@@ -139,7 +157,7 @@ module _ (U : Op → Type 0) where
   starting_guarded desks k =
       items_each (IsGuarded U) _ (λ index. opened_guarded U k.number (k.boot + 1) index desks) desks
 
-  again_guarded : (n : NodeState) (doubt : Option Batch) (k : Kept) {result : Result ℕ Fault} {n' : NodeState}
+  pub again_guarded : (n : NodeState) (doubt : Option Batch) (k : Kept) {result : Result ℕ Fault} {n' : NodeState}
       {k' : Kept} → OpensAgain n doubt k result n' k' → NodeGuarded U n → NodeGuarded U n'
   again_guarded n doubt k (OpensAgain.opens (Opens.opens own)) h = starting_guarded (length n.views) k
   again_guarded n doubt k (OpensAgain.stays why) h = h

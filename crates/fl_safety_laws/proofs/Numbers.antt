@@ -1,5 +1,5 @@
 -- What holds of each item of a numbered list.
-use Rattle.std.proofs.Common.{◌≡◌, refl, subst, ℕ, zero, suc, List, [], ◌∷◌, ◌++◌, Some, None}
+use Rattle.std.proofs.Common.{◌≡◌, refl, subst, ℕ, zero, suc, List, [], ◌∷◌, ◌++◌, Some}
 use Rattle.fl_system.specs.Numbered.{item_at, change_item, items_to}
 use Rattle.fl_bench.specs.laws.Puts.{none_some, same_found}
 

@@ -1,6 +1,7 @@
 //! Laws of what a job lets pass.
 ghost use Rattle.std.specs.Prelude.{◌≡◌, List, ℕ, Result, Some, Ok};
 ghost use Rattle.std.specs.FinMap as map;
+ghost use Rattle.std.specs.List.{Contains};
 ghost use Rattle.fl_labels.specs.Cap.{cap_cmp};
 ghost use Rattle.fl_labels.specs.Found.{Within};
 ghost use Rattle.fl_labels.specs.Name.{name_cmp};
@@ -18,6 +19,7 @@ ghost use Rattle.fl_rules.specs.declared.endpoint.Mode.{Mode};
 ghost use Rattle.fl_rules.specs.declared.labels.Labels.{Labels};
 ghost use Rattle.fl_wire.specs.declared.packet.Data.{Data};
 ghost use Rattle.fl_wire.specs.declared.packet.Message.{Message};
+ghost use Rattle.fl_mailbox.specs.Offenders.{AllSafe};
 ghost use Rattle.fl_mailbox.specs.declared.endpoints.OpenEndpoint.{OpenEndpoint};
 ghost use Rattle.fl_jobs.specs.Given.{labels_of};
 ghost use Rattle.fl_jobs.specs.declared.answer.Outcome.{Outcome};
@@ -36,6 +38,13 @@ ghost use Rattle.fl_bench.specs.Jobs.{Does};
 ghost use Rattle.fl_bench.specs.Process.{effective, side_of, PutTakes};
 ghost use Rattle.fl_bench.specs.Secrets.{digest_of};
 ghost use Rattle.fl_bench.specs.declared.process.Process.{Process};
+ghost use Rattle.fl_system.specs.Audit.{SafeUnder};
+ghost use Rattle.fl_system.specs.Numbered.{item_at};
+ghost use Rattle.fl_system.specs.Runs.{Moment, IsRun, IsReached, end};
+ghost use Rattle.fl_system.specs.Union.{Union};
+ghost use Rattle.fl_system.specs.World.{World, KeptNode};
+ghost use Rattle.fl_system.specs.WorldSteps.{IsAt};
+ghost use Rattle.fl_system.specs.declared.admission.Admission.{Admission};
 
 /// What a job lets pass under a view, which may lag, is safe under all operations that are saved: what a process p does
 /// by its labels and by what it had in effect just before, and a yes by what the root reaches. A message that comes is
@@ -99,4 +108,21 @@ pub fn law_admitted()
         SafeEndpoint (effective (Listed earlier) p) (sent_from d).mode p.labels (sent_from d).labels →
         Does (Listed view) b (Arrive d) (Ok x) after →
         SafeMessage (effective (Listed ops) p) p.labels (effective (Listed ops) q) q.labels }
+{}
+
+/// What was admitted stays safe, whatever its kind, as operations are added.
+pub fn law_more()
+    ensures { (ops more : List Op) (entry : Admission) → Within (Listed ops) (Listed more) →
+        SafeUnder (Listed ops) entry → SafeUnder (Listed more) entry }
+{}
+
+/// In every world that a run leads to, each open endpoint of each process is safe by all that is saved. Each thing that was
+/// admitted is safe so at that moment, and at every later one, by the labels and the owned capabilities of its moment.
+pub fn law_safe()
+    ensures endpoints { (w : World) (number k : ℕ) (s : KeptNode) (b : BenchState) (pid : Pid) (p : Process) →
+        IsReached w → IsAt w number s → item_at s.node.benches k ≡ Some b →
+        map.get b.processes pid ≡ Some p →
+        AllSafe (effective (Union w) p) p.labels p.mailbox.endpoints }
+    ensures admissions { (w : World) (later : List Moment) (entry : Admission) →
+        IsReached w → IsRun w later → Contains w.audit entry → SafeUnder (Union (end w later)) entry }
 {}

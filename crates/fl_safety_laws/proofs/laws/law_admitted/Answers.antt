@@ -1,4 +1,3 @@
-use Rattle.std.proofs.Common.{refl}
 use Rattle.fl_ops.specs.laws.Reaching.{eff_more}
 use Rattle.fl_rules.specs.laws.Endpoints.{endpoint_more}
 use Rattle.fl_bench_laws.specs.laws.Arrivals.{arrival_safe}
