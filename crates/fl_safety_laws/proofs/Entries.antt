@@ -1,4 +1,5 @@
--- What is noted of a job at a node, and what it sends, is safe under each registry that has all that the node published.
+-- What is noted of a job at a node, and what it sends, is safe under each registry that has all that the node
+-- published.
 use Rattle.std.proofs.Common.{◌≡◌, ◌⊎◌, ◌∙◌, inl, inr, refl, sym, ap, subst, arith, ℕ, zero, suc, List, [], ◌∷◌, length}
 use Rattle.std.proofs.Common.{Option, Some, None, Ok, Err}
 use Rattle.std.specs.Cmp.{Equal-is}
@@ -45,7 +46,8 @@ use Rattle.fl_bench.specs.declared.process.Process.{Process}
 use Rattle.fl_bench.specs.laws.Orders.{sending_at}
 use Rattle.fl_bench_laws.specs.laws.Arrivals.{arrival_safe, sent_safe}
 use Rattle.fl_system.specs.Arrives.{Arrives}
-use Rattle.fl_system.specs.Audit.{SafeUnder, has, party, if_yes, if_entered, endpoint_entries, tuned_entries, order_entries}
+use Rattle.fl_system.specs.Audit.{SafeUnder, has, party, if_yes, if_entered, order_entries}
+use Rattle.fl_system.specs.Audit.{endpoint_entries, tuned_entries}
 use Rattle.fl_system.specs.Audit.{act_entries, entries_by, entries, message_entries}
 use Rattle.fl_system.specs.Jobs.{Jobs, Decides, place_of, bench_of}
 use Rattle.fl_system.specs.Numbered.{item_at}

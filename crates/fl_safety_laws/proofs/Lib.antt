@@ -5,3 +5,4 @@ pub mod Nodes
 pub mod Shown
 pub mod Entries
 pub mod Worlds
+pub mod Moments

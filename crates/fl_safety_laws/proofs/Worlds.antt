@@ -1,5 +1,5 @@
--- Each open endpoint of a world, each message and each entry of the audit is safe under the union of all that is saved, and
--- stays so, whatever happens.
+-- Each open endpoint of a world, each message and each entry of the audit is safe under the union of all that is
+-- saved, and stays so, whatever happens.
 use Rattle.std.proofs.Common.{◌≡◌, ◌∙◌, inl, inr, refl, sym, ap, subst, arith, Bool, ◌++◌, ℕ, zero, suc, List, [], ◌∷◌}
 use Rattle.std.proofs.Common.{Option, Some, None, Ok, nat_cmp, map as list_map}
 use Rattle.std.specs.FinMap as map
@@ -180,7 +180,8 @@ module _ (w : World) (g : Guarded w) (number : ℕ) (s : KeptNode) (at : IsAt w 
     }
 
     went_guarded : NodeGuarded (Union w) n → ((x : Sent) → Contains sent x → MessageGuarded (Union w) x)
-        → ((x : Sent) → Contains sent x → HasSender x) → EntriesSafe (Union w) admitted → Next w (went w number n k sent admitted)
+        → ((x : Sent) → Contains sent x → HasSender x) → EntriesSafe (Union w) admitted
+        → Next w (went w number n k sent admitted)
     went_guarded safe messages senders entries =
         record { guarded = goes_guarded safe messages senders entries; union = grown; sent = sent; packets = refl }
 
@@ -363,7 +364,7 @@ module _ (w : World) (g : Guarded w) (number : ℕ) (s : KeptNode) (at : IsAt w 
 
 -- ---- what happens
 
-item_there : {X : Type 0} (xs : List X) (k : ℕ) (x : X) → item_at xs k ≡ Some x → Contains xs x
+pub item_there : {X : Type 0} (xs : List X) (k : ℕ) (x : X) → item_at xs k ≡ Some x → Contains xs x
 item_there [] k x e = absurd (none_some refl e)
 item_there (y ∷ ys) zero x e = absurd (none_some refl e)
 item_there (y ∷ ys) (suc zero) x e = (0, omega arith, same_found refl e)
@@ -436,7 +437,12 @@ joins_guarded w g number k (Joins.not_opened free why) = same_next w g
 joins_guarded w g number k (Joins.clash free own least) = same_next w g
 joins_guarded w g number k (Joins.impostor free own none least) = same_next w g
 joins_guarded w g number k (Joins.joins free own once clashes strays) =
-    record { guarded = joined_guarded w number k free own g; union = union_joined w number k free; sent = []; packets = refl }
+    record {
+      guarded = joined_guarded w number k free own g;
+      union = union_joined w number k free;
+      sent = [];
+      packets = refl;
+    }
 
 pub reopening_guarded : (w : World) → Guarded w → (number : ℕ) (k : Kept) {reply : Reply} {w' : World}
     → Reopening w number k reply w' → Next w w'
