@@ -96,7 +96,7 @@ module _ (E : Cap → Type 0) (process : Labels) (table : Table) where
 
 module _ (E : Cap → Type 0) (process : Labels) (ch : Mailbox) where
   -- what was opened is safe
-  open_passed : (mode : Mode) (given : GivenLabels) (labels : Labels) (e : Endpoint)
+  pub open_passed : (mode : Mode) (given : GivenLabels) (labels : Labels) (e : Endpoint)
       → labels_of given ≡ Some labels → IsLeastFree ch.endpoints (Some e)
       → mail_checks E process ch (Open mode given) None
       → Within (Crosses mode process labels) (Dual E)
@@ -108,7 +108,7 @@ module _ (E : Cap → Type 0) (process : Labels) (ch : Mailbox) where
       (one_least_free ch.endpoints found.0 (Some e) found.1 least) found.2
 
   -- and what was tuned
-  tune_passed : (e : Endpoint) (given : GivenLabels) (labels : Labels) (end : OpenEndpoint)
+  pub tune_passed : (e : Endpoint) (given : GivenLabels) (labels : Labels) (end : OpenEndpoint)
       → labels_of given ≡ Some labels → map.get ch.endpoints e ≡ Some end
       → mail_checks E process ch (Tune e given) None
       → Within (Crosses end.mode process labels) (Dual E)
