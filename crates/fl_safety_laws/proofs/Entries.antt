@@ -177,9 +177,6 @@ module _ {V U : Op → Type 0} (more : Within V U) {b after : BenchState} {x : O
 
 -- ---- who sends
 
-same_data : {d e : Data} → d ≡ e → d ≡ e
-same_data e = cc
-
 at_bench : (o : Option BenchState) (b : BenchState) (pid : Pid) (p : Process) → o ≡ Some b
     → process_at o pid ≡ Some p → map.get b.processes pid ≡ Some p
 at_bench o b pid p is there = ap (λ o. process_at o pid) (sym is) ∙ there
@@ -195,13 +192,10 @@ module _ (n : NodeState) where
       → (did : Decides n v job (Ok (Outcome.Out d)) left) → Sends n did.bench d
   sending v job d did =
       let s = sending_at did.does in
-      let same : s.sent ≡ d = same_data (sym s.packet_is) in
-      let place : place_of n job ≡ bench_of (length n.benches) d.sender.serial =
-      ap (place_of n) s.asked ∙ ap (λ (k : Data). bench_of (length n.benches) k.sender.serial) same in
       record {
-        stands = ap (item_at n.benches) (sym place) ∙ did.stands;
+        stands = ap (item_at n.benches) (sym (ap (place_of n) s.asked)) ∙ did.stands;
         process = s.process;
-        lives = subst (λ (k : Data). map.get did.bench.processes k.sender ≡ Some s.process) same s.lived;
+        lives = s.lived;
       }
 
   pub sender_there : (desk upto : ℕ) (job : Job) (d : Data) {n' : NodeState}
