@@ -8,9 +8,9 @@ use crate::alias::Alias;
 use crate::target::Target;
 use crate::text::write_line;
 use fl_sink::sink::{Sink, WriteFault};
+use fl_sink::writer::Writer;
 use indexmap::IndexMap;
 use std::alloc::{AllocError, Global};
-use std::io::Write;
 use std::marker::Model;
 
 /// The most aliases that are set.
@@ -108,9 +108,10 @@ impl Aliases {
     /// Puts the text of the aliases into a sink, a line for each in order: `$a p1.1.1`. Takes no memory but the sink's.
     ///
     /// At a fault a front of what waited and the text was written, and the sink may not be used again.
-    pub fn write_text<W: Write>(&self, sink: &mut Sink, output: &mut W) -> Result<(), WriteFault>
-        ensures { let text = table_text self.now in
+    pub fn write_text<W: Writer>(&self, sink: &mut Sink, output: &mut W) -> Result<(), WriteFault>
+        ensures puts { let text = table_text self.now in
             Puts (W.contents output.old) (W.contents output.new) sink.old text sink.new result }
+        ensures cause { OnErr result (W.has_failed output.new) }
     {
         for (alias, target) in self.targets.iter() {
             write_line(alias, target, sink, output)?;

@@ -1,22 +1,24 @@
 //! The text of aliases.
+ghost use Rattle.std.specs.Prelude.{OnErr};
 ghost use Rattle.fl_sink.specs.Sink.{Puts};
 ghost use Rattle.fl_aliases.specs.Table.{entry_line};
 
 use crate::alias::Alias;
 use crate::target::Target;
 use fl_sink::sink::{Sink, WriteFault};
+use fl_sink::writer::Writer;
 use itoa::Buffer;
-use std::io::Write;
 
 // Puts the line of an alias into the sink.
-pub(crate) fn write_line<W: Write>(
+pub(crate) fn write_line<W: Writer>(
     alias: &Alias,
     target: &Target,
     sink: &mut Sink,
     output: &mut W,
 ) -> Result<(), WriteFault>
-    ensures { let text = entry_line (alias.now, target.now) in
+    ensures puts { let text = entry_line (alias.now, target.now) in
         Puts (W.contents output.old) (W.contents output.new) sink.old text sink.new result }
+    ensures cause { OnErr result (W.has_failed output.new) }
 {
     let letters = alias.as_str().as_bytes();
     let mut number = Buffer::new();

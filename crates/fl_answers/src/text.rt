@@ -1,6 +1,6 @@
 //! Replies and refusals, a line each. Writing takes no memory but the sink's, and does without.
 //! At a fault a front of what waited and of the line was written, and the sink may not be used again.
-ghost use Rattle.std.specs.Prelude.{◌≡◌, ◌++◌, ◌∷◌, [], codes};
+ghost use Rattle.std.specs.Prelude.{◌≡◌, ◌++◌, ◌∷◌, [], codes, OnErr};
 ghost use Rattle.std.specs.Fmt.{decimal};
 ghost use Rattle.std.specs.List.{flat_map};
 ghost use Rattle.hex.specs.Hex.{encode_lower};
@@ -16,32 +16,34 @@ use fl_labels::name::Name;
 use fl_labels::pid::Pid;
 use fl_message::message::Letter;
 use fl_sink::sink::{Sink, WriteFault};
+use fl_sink::writer::Writer;
 use hex::encode_to_slice;
 use itoa::Buffer;
-use std::io::Write;
 
 /// Puts the line of a reply into the sink: `p1.1.1`, `ok`, `yes`, `not-yet`, `ok -1.1`, `out 6869`, `ok e1`, `message p1.1.1 {*1.4} 6869`,
 /// `empty`, `arrived p1.1.1`. Looks at each byte of a payload once.
-pub fn write_reply<W: Write>(
+pub fn write_reply<W: Writer>(
     reply: &Reply,
     sink: &mut Sink,
     output: &mut W,
 ) -> Result<(), WriteFault>
-    ensures { let text = reply_text reply.now ++ codes "\n" in
+    ensures puts { let text = reply_text reply.now ++ codes "\n" in
         Puts (W.contents output.old) (W.contents output.new) sink.old text sink.new result }
+    ensures cause { OnErr result (W.has_failed output.new) }
 {
     put_reply(reply, sink, output)?;
     sink.put_all(output, &[b"\n"])
 }
 
 /// Puts the line of a refusal into the sink: `refused`, its number, and what it is about.
-pub fn write_refusal<W: Write>(
+pub fn write_refusal<W: Writer>(
     refusal: Refusal,
     sink: &mut Sink,
     output: &mut W,
 ) -> Result<(), WriteFault>
-    ensures { let text = refused_text refusal in
+    ensures puts { let text = refused_text refusal in
         Puts (W.contents output.old) (W.contents output.new) sink.old text sink.new result }
+    ensures cause { OnErr result (W.has_failed output.new) }
 {
     sink.put_all(output, &[b"refused "])?;
     put_refusal(refusal, sink, output)?;
@@ -49,13 +51,14 @@ pub fn write_refusal<W: Write>(
 }
 
 /// Puts the line of a message that does not arrive into the sink: `dropped`, and then as a refusal.
-pub fn write_dropped<W: Write>(
+pub fn write_dropped<W: Writer>(
     refusal: Refusal,
     sink: &mut Sink,
     output: &mut W,
 ) -> Result<(), WriteFault>
-    ensures { let text = dropped_text refusal in
+    ensures puts { let text = dropped_text refusal in
         Puts (W.contents output.old) (W.contents output.new) sink.old text sink.new result }
+    ensures cause { OnErr result (W.has_failed output.new) }
 {
     sink.put_all(output, &[b"dropped "])?;
     put_refusal(refusal, sink, output)?;
@@ -63,32 +66,35 @@ pub fn write_dropped<W: Write>(
 }
 
 /// Puts the line of a packet that was sent into the sink, by its number: `sent 1`.
-pub fn write_sent<W: Write>(number: u64, sink: &mut Sink, output: &mut W) -> Result<(), WriteFault>
-    ensures { let text = sent_text number ++ codes "\n" in
+pub fn write_sent<W: Writer>(number: u64, sink: &mut Sink, output: &mut W) -> Result<(), WriteFault>
+    ensures puts { let text = sent_text number ++ codes "\n" in
         Puts (W.contents output.old) (W.contents output.new) sink.old text sink.new result }
+    ensures cause { OnErr result (W.has_failed output.new) }
 {
     let mut buffer = Buffer::new();
     sink.put_all(output, &[b"sent ", buffer.format(number).as_bytes(), b"\n"])
 }
 
 /// Puts a line of these bytes and a name into the sink.
-pub fn write_name<W: Write>(
+pub fn write_name<W: Writer>(
     front: &[u8],
     name: Name,
     sink: &mut Sink,
     output: &mut W,
 ) -> Result<(), WriteFault>
-    ensures { let text = front.now ++ (name_text name ++ codes "\n") in
+    ensures puts { let text = front.now ++ (name_text name ++ codes "\n") in
         Puts (W.contents output.old) (W.contents output.new) sink.old text sink.new result }
+    ensures cause { OnErr result (W.has_failed output.new) }
 {
     put_name(front, name, sink, output)?;
     sink.put_all(output, &[b"\n"])
 }
 
 // What a reply says.
-fn put_reply<W: Write>(reply: &Reply, sink: &mut Sink, output: &mut W) -> Result<(), WriteFault>
-    ensures { let text = reply_text reply.now in
+fn put_reply<W: Writer>(reply: &Reply, sink: &mut Sink, output: &mut W) -> Result<(), WriteFault>
+    ensures puts { let text = reply_text reply.now in
         Puts (W.contents output.old) (W.contents output.new) sink.old text sink.new result }
+    ensures cause { OnErr result (W.has_failed output.new) }
 {
     match reply {
         Reply::Made(pid) => put_pid(b"", *pid, sink, output),
@@ -105,13 +111,14 @@ fn put_reply<W: Write>(reply: &Reply, sink: &mut Sink, output: &mut W) -> Result
 }
 
 // A refusal's number, and what it is about.
-fn put_refusal<W: Write>(
+fn put_refusal<W: Writer>(
     refusal: Refusal,
     sink: &mut Sink,
     output: &mut W,
 ) -> Result<(), WriteFault>
-    ensures { let text = refusal_text refusal in
+    ensures puts { let text = refusal_text refusal in
         Puts (W.contents output.old) (W.contents output.new) sink.old text sink.new result }
+    ensures cause { OnErr result (W.has_failed output.new) }
 {
     match refusal {
         Refusal::NoProcess(pid) => put_pid(b"F1 ", pid, sink, output),
@@ -135,15 +142,16 @@ fn put_refusal<W: Write>(
 }
 
 // These bytes, a sign and a name.
-fn put_signed<'a, W: Write>(
+fn put_signed<'a, W: Writer>(
     front: &'a [u8],
     sign: &'a [u8],
     name: Name,
     sink: &mut Sink,
     output: &mut W,
 ) -> Result<(), WriteFault>
-    ensures { let text = front.now ++ (sign.now ++ name_text name) in
+    ensures puts { let text = front.now ++ (sign.now ++ name_text name) in
         Puts (W.contents output.old) (W.contents output.new) sink.old text sink.new result }
+    ensures cause { OnErr result (W.has_failed output.new) }
 {
     let mut node = Buffer::new();
     let mut seq = Buffer::new();
@@ -160,40 +168,43 @@ fn put_signed<'a, W: Write>(
 }
 
 // These bytes and a capability.
-fn put_cap<W: Write>(
+fn put_cap<W: Writer>(
     front: &[u8],
     cap: Cap,
     sink: &mut Sink,
     output: &mut W,
 ) -> Result<(), WriteFault>
-    ensures { let text = front.now ++ cap_text cap in
+    ensures puts { let text = front.now ++ cap_text cap in
         Puts (W.contents output.old) (W.contents output.new) sink.old text sink.new result }
+    ensures cause { OnErr result (W.has_failed output.new) }
 {
     put_signed(front, cap.sign().as_bytes(), cap.name(), sink, output)
 }
 
 // These bytes and a name.
-fn put_name<W: Write>(
+fn put_name<W: Writer>(
     front: &[u8],
     name: Name,
     sink: &mut Sink,
     output: &mut W,
 ) -> Result<(), WriteFault>
-    ensures { let text = front.now ++ name_text name in
+    ensures puts { let text = front.now ++ name_text name in
         Puts (W.contents output.old) (W.contents output.new) sink.old text sink.new result }
+    ensures cause { OnErr result (W.has_failed output.new) }
 {
     put_signed(front, b"", name, sink, output)
 }
 
 // These bytes and an endpoint.
-fn put_endpoint<W: Write>(
+fn put_endpoint<W: Writer>(
     front: &[u8],
     endpoint: Endpoint,
     sink: &mut Sink,
     output: &mut W,
 ) -> Result<(), WriteFault>
-    ensures { let text = front.now ++ endpoint_text endpoint in
+    ensures puts { let text = front.now ++ endpoint_text endpoint in
         Puts (W.contents output.old) (W.contents output.new) sink.old text sink.new result }
+    ensures cause { OnErr result (W.has_failed output.new) }
 {
     let mut buffer = Buffer::new();
     sink.put_all(
@@ -203,28 +214,31 @@ fn put_endpoint<W: Write>(
 }
 
 // The endpoint that would not be safe, and its tag.
-fn put_unsafe<W: Write>(
+fn put_unsafe<W: Writer>(
     endpoint: Endpoint,
     tag: Name,
     sink: &mut Sink,
     output: &mut W,
 ) -> Result<(), WriteFault>
-    ensures { let text = codes "F4 " ++ (endpoint_text endpoint ++ (codes " " ++ name_text tag)) in
+    ensures puts {
+        let text = codes "F4 " ++ (endpoint_text endpoint ++ (codes " " ++ name_text tag)) in
         Puts (W.contents output.old) (W.contents output.new) sink.old text sink.new result }
+    ensures cause { OnErr result (W.has_failed output.new) }
 {
     put_endpoint(b"F4 ", endpoint, sink, output)?;
     put_name(b" ", tag, sink, output)
 }
 
 // These bytes and a pid.
-fn put_pid<W: Write>(
+fn put_pid<W: Writer>(
     front: &[u8],
     pid: Pid,
     sink: &mut Sink,
     output: &mut W,
 ) -> Result<(), WriteFault>
-    ensures { let text = front.now ++ pid_text pid in
+    ensures puts { let text = front.now ++ pid_text pid in
         Puts (W.contents output.old) (W.contents output.new) sink.old text sink.new result }
+    ensures cause { OnErr result (W.has_failed output.new) }
 {
     let mut node = Buffer::new();
     let mut boot = Buffer::new();
@@ -252,17 +266,19 @@ fn digits_of(byte: u8) -> [u8; 2]
     digits
 }
 
-fn put_byte<W: Write>(byte: u8, sink: &mut Sink, output: &mut W) -> Result<(), WriteFault>
-    ensures { let text = encode_lower (byte ∷ []) in
+fn put_byte<W: Writer>(byte: u8, sink: &mut Sink, output: &mut W) -> Result<(), WriteFault>
+    ensures puts { let text = encode_lower (byte ∷ []) in
         Puts (W.contents output.old) (W.contents output.new) sink.old text sink.new result }
+    ensures cause { OnErr result (W.has_failed output.new) }
 {
     sink.put_all(output, &[digits_of(byte).as_slice()])
 }
 
 // Two digits for each byte.
-fn put_digits<W: Write>(bytes: &[u8], sink: &mut Sink, output: &mut W) -> Result<(), WriteFault>
-    ensures { let text = flat_map (λ b. encode_lower (b ∷ [])) bytes.now in
+fn put_digits<W: Writer>(bytes: &[u8], sink: &mut Sink, output: &mut W) -> Result<(), WriteFault>
+    ensures puts { let text = flat_map (λ b. encode_lower (b ∷ [])) bytes.now in
         Puts (W.contents output.old) (W.contents output.new) sink.old text sink.new result }
+    ensures cause { OnErr result (W.has_failed output.new) }
 {
     for byte in bytes {
         put_byte(*byte, sink, output)?;
@@ -271,9 +287,10 @@ fn put_digits<W: Write>(bytes: &[u8], sink: &mut Sink, output: &mut W) -> Result
 }
 
 // The word of some bytes.
-fn put_word<W: Write>(bytes: &[u8], sink: &mut Sink, output: &mut W) -> Result<(), WriteFault>
-    ensures { let text = bytes_text bytes.now in
+fn put_word<W: Writer>(bytes: &[u8], sink: &mut Sink, output: &mut W) -> Result<(), WriteFault>
+    ensures puts { let text = bytes_text bytes.now in
         Puts (W.contents output.old) (W.contents output.new) sink.old text sink.new result }
+    ensures cause { OnErr result (W.has_failed output.new) }
 {
     match bytes {
         [] => sink.put_all(output, &[b"none"]),
@@ -282,23 +299,25 @@ fn put_word<W: Write>(bytes: &[u8], sink: &mut Sink, output: &mut W) -> Result<(
 }
 
 // These bytes, and the word of some bytes.
-fn put_bytes<W: Write>(
+fn put_bytes<W: Writer>(
     front: &[u8],
     bytes: &[u8],
     sink: &mut Sink,
     output: &mut W,
 ) -> Result<(), WriteFault>
-    ensures { let text = front.now ++ bytes_text bytes.now in
+    ensures puts { let text = front.now ++ bytes_text bytes.now in
         Puts (W.contents output.old) (W.contents output.new) sink.old text sink.new result }
+    ensures cause { OnErr result (W.has_failed output.new) }
 {
     sink.put(output, front)?;
     put_word(bytes, sink, output)
 }
 
 // Capabilities, each after a comma.
-fn put_more<W: Write>(caps: &[Cap], sink: &mut Sink, output: &mut W) -> Result<(), WriteFault>
-    ensures { let text = flat_map (λ cap. 44 ∷ cap_text cap) caps.now in
+fn put_more<W: Writer>(caps: &[Cap], sink: &mut Sink, output: &mut W) -> Result<(), WriteFault>
+    ensures puts { let text = flat_map (λ cap. 44 ∷ cap_text cap) caps.now in
         Puts (W.contents output.old) (W.contents output.new) sink.old text sink.new result }
+    ensures cause { OnErr result (W.has_failed output.new) }
 {
     for cap in caps {
         put_cap(b",", *cap, sink, output)?;
@@ -307,9 +326,10 @@ fn put_more<W: Write>(caps: &[Cap], sink: &mut Sink, output: &mut W) -> Result<(
 }
 
 // A set of capabilities.
-fn put_caps<W: Write>(caps: &CapSet, sink: &mut Sink, output: &mut W) -> Result<(), WriteFault>
-    ensures { let text = caps_text caps.now in
+fn put_caps<W: Writer>(caps: &CapSet, sink: &mut Sink, output: &mut W) -> Result<(), WriteFault>
+    ensures puts { let text = caps_text caps.now in
         Puts (W.contents output.old) (W.contents output.new) sink.old text sink.new result }
+    ensures cause { OnErr result (W.has_failed output.new) }
 {
     match caps.as_slice().split_first() {
         None => sink.put_all(output, &[b"{}"]),
@@ -322,9 +342,10 @@ fn put_caps<W: Write>(caps: &CapSet, sink: &mut Sink, output: &mut W) -> Result<
 }
 
 // A message that was taken, with who sent it.
-fn put_letter<W: Write>(letter: &Letter, sink: &mut Sink, output: &mut W) -> Result<(), WriteFault>
-    ensures { let text = letter_text letter.now in
+fn put_letter<W: Writer>(letter: &Letter, sink: &mut Sink, output: &mut W) -> Result<(), WriteFault>
+    ensures puts { let text = letter_text letter.now in
         Puts (W.contents output.old) (W.contents output.new) sink.old text sink.new result }
+    ensures cause { OnErr result (W.has_failed output.new) }
 {
     put_pid(b"message ", letter.sender, sink, output)?;
     sink.put_all(output, &[b" "])?;

@@ -41,7 +41,7 @@ use Rattle.fl_bench.specs.Guards.{grant_check, endpoints_check}
 use Rattle.fl_bench.specs.Mailbox.{mail_checks, arrival_checks, MailDoes, MailTakesMemory}
 use Rattle.fl_bench.specs.Process.{newborn, owns, is_busy, ordering, owning, child_of, effective}
 use Rattle.fl_bench.specs.Process.{side_of, with_side, body_of, receiving, PutTakes}
-use Rattle.fl_bench.specs.Hand.{AtHand, Refuses}
+use Rattle.fl_bench.specs.Hand.{AtHand, Refuses, Searches, SearchesFrom}
 use Rattle.fl_bench.specs.Bench.{BenchState, has_at, gone, IsNext, born}
 use Rattle.fl_bench.specs.declared.process.Process.{Process}
 
@@ -157,11 +157,12 @@ abbrev pub ActTakesMemory : Registry → Process → Act → Type 0
 ActTakesMemory V p (Order order) = Unit {0}
 ActTakesMemory V p (Relabel side (Err e)) = ⊥
 ActTakesMemory V p (Relabel side (Ok label)) = RelabelTakesMemory V (owns p) p.labels p.mailbox.endpoints side label
-ActTakesMemory V p (Ask c) = (¬ In (owns p) c) × (¬ IsGlobal V c)
+ActTakesMemory V p (Ask c) = Searches V (owns p) c
 ActTakesMemory V p (Spawn caps) = Unit {0}
 ActTakesMemory V p Exit = ⊥
 ActTakesMemory V p (Drop c) = In (owns p) c × (e : Endpoint) × IsOpen p.mailbox.endpoints e
-ActTakesMemory V p (Enter login secret) = enter_check V login secret None
+ActTakesMemory V p (Enter login secret) =
+    (c : Cap) × IsFirstLogin V login c (digest_of secret) × (¬ In (owns p) c)
 ActTakesMemory V p (Emit bytes) = Refuses (emission_check (AtHand V (owns p)) p.labels.secrecy)
 ActTakesMemory V p (Mail c) = MailTakesMemory (AtHand V (owns p)) p.labels p.mailbox c
 
@@ -169,7 +170,7 @@ abbrev pub TakesMemory : Registry → BenchState → Job → Type 0
 TakesMemory V b Proc = serials_left b None
 TakesMemory V b (By pid act) =
     (p : Process) × (map.get b.processes pid ≡ Some p) × (is_busy p ≡ false) × ActTakesMemory V p act
-TakesMemory V b (Member root c) = root ≢ c
+TakesMemory V b (Member root c) = SearchesFrom root c
 TakesMemory V b (Arrive d) =
     (q : Process) × (map.get b.processes d.receiver ≡ Some q) × (is_busy q ≡ false) × arrival_checks q.mailbox d None
 

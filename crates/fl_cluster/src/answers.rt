@@ -1,5 +1,5 @@
 //! The text of the answers. Writing takes no memory but the sink's, and does without.
-ghost use Rattle.std.specs.Prelude.{◌++◌, codes};
+ghost use Rattle.std.specs.Prelude.{◌++◌, codes, OnErr};
 ghost use Rattle.std.specs.Fmt.{decimal};
 ghost use Rattle.fl_sink.specs.Sink.{Puts};
 ghost use Rattle.fl_cluster.specs.Answer.{shown};
@@ -9,18 +9,19 @@ use crate::response::Response;
 use crate::session::Session;
 use fl_answers::text::{write_dropped, write_name, write_refusal, write_reply, write_sent};
 use fl_sink::sink::{Sink, WriteFault};
+use fl_sink::writer::Writer;
 use itoa::Buffer;
-use std::io::Write;
 
 /// Puts the text of what is answered to a line into the sink.
-pub fn write_response<W: Write>(
+pub fn write_response<W: Writer>(
     session: &Session,
     response: &Response,
     sink: &mut Sink,
     output: &mut W,
 ) -> Result<(), WriteFault>
-    ensures { let text = text_of (shown session.now response.now) in
+    ensures puts { let text = text_of (shown session.now response.now) in
         Puts (W.contents output.old) (W.contents output.new) sink.old text sink.new result }
+    ensures cause { OnErr result (W.has_failed output.new) }
 {
     match response {
         Response::Silence => sink.put_all(output, &[]),
@@ -37,9 +38,10 @@ pub fn write_response<W: Write>(
 }
 
 // Puts the text of a line that is none of the script into the sink.
-fn write_bad_line<W: Write>(number: u64, sink: &mut Sink, output: &mut W) -> Result<(), WriteFault>
-    ensures { let text = codes "refused F19 " ++ (decimal number ++ codes "\n") in
+fn write_bad_line<W: Writer>(number: u64, sink: &mut Sink, output: &mut W) -> Result<(), WriteFault>
+    ensures puts { let text = codes "refused F19 " ++ (decimal number ++ codes "\n") in
         Puts (W.contents output.old) (W.contents output.new) sink.old text sink.new result }
+    ensures cause { OnErr result (W.has_failed output.new) }
 {
     let mut buffer = Buffer::new();
     sink.put_all(

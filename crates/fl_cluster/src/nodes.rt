@@ -18,9 +18,9 @@ use fl_message::message::Data;
 use fl_opset::set::OpSet;
 use fl_script::line::Line;
 use fl_sink::sink::{Sink, WriteFault};
+use fl_sink::writer::Writer;
 use std::alloc::{AllocError, Global};
 use std::collections::BTreeMap;
-use std::io::Write;
 use std::marker::Model;
 
 /// The nodes of a script by their numbers, and the packets that they sent. Each node has its own registry, and is opened by
@@ -214,14 +214,15 @@ impl Nodes {
     }
 
     /// Puts the lines of the node's operations into the sink, and nothing where it is not open.
-    pub fn write_text<W: Write>(
+    pub fn write_text<W: Writer>(
         &self,
         number: u16,
         sink: &mut Sink,
         output: &mut W,
     ) -> Result<(), WriteFault>
-        ensures { let text = registry_text (node_at self.now number).registry in
+        ensures puts { let text = registry_text (node_at self.now number).registry in
             Puts (W.contents output.old) (W.contents output.new) sink.old text sink.new result }
+        ensures cause { OnErr result (W.has_failed output.new) }
     {
         match self.registry(number) {
             Some(registry) => registry.write_text(sink, output),

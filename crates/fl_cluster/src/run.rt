@@ -8,6 +8,7 @@ ghost use Rattle.fl_cluster.specs.Output.{WritesFirst, WritesOutput};
 
 use crate::fault::RunFault;
 use crate::session::Session;
+use fl_sink::writer::Writer;
 use fl_stream::conversation::Conversation;
 use std::alloc::AllocGlobal;
 use std::io::{Read, Write};
@@ -21,7 +22,7 @@ use std::io::{Read, Write};
 /// At a fault a front of the answers to the first lines is written: `Read` only where hearing fails or the script is
 /// longer; `Write` where a write fails or takes no bytes, or sending fails; `Memory` where there is no room for the 64 KiB
 /// that are heard at once, or for a line that has not ended. Want of memory in a line's own work is that line's answer.
-pub fn converse<RT: AllocGlobal, C: Conversation<W>, W: Write>(
+pub fn converse<RT: AllocGlobal, C: Conversation<W>, W: Writer>(
     rt: &RT,
     input: &mut C,
     output: &mut W,
@@ -40,6 +41,7 @@ pub fn converse<RT: AllocGlobal, C: Conversation<W>, W: Write>(
         (C.remaining input.old) (C.remaining input.new) (W.contents output.old) (W.contents output.new)) }
     ensures cause { IfErr result (λ e. e ≡ RunFault.Read →
         C.is_deaf input.new ⊎ Outgrows 16777216 (C.heard input.old) (C.heard input.new)) }
+    ensures write_cause { IfErr result (λ e. e ≡ RunFault.Write → W.has_failed output.new) }
     ensures err { OnErr result (IfSome (C.remaining input.old) (λ script.
         WritesFirst (W.contents output.old) (W.contents output.new) script)) }
 {

@@ -20,9 +20,9 @@ use fl_labels::name::Name;
 use fl_script::line::Line;
 use fl_script::reading::{Reading, read_line};
 use fl_sink::sink::{Sink, WriteFault};
+use fl_sink::writer::Writer;
 use fl_stream::machine::Machine;
 use std::alloc::{AllocError, Global};
-use std::io::Write;
 use std::marker::Model;
 
 /// What an alias stands for until its line is answered.
@@ -154,7 +154,7 @@ impl Machine for Session {
 
     ghost turns = { TurnsOut };
 
-    fn answer<W: Write>(
+    fn answer<W: Writer>(
         &mut self,
         alloc: Global,
         number: u64,

@@ -17,7 +17,7 @@ use Rattle.fl_labels.specs.declared.cap.Cap.{Cap}
 use Rattle.fl_labels.specs.declared.pid.Pid.{Pid}
 use Rattle.fl_ops.specs.declared.op.Body.{Body}
 use Rattle.fl_ops.specs.declared.op.Policy.{Policy}
-use Rattle.fl_ops.specs.Registry.{Registry, InEffect, IsGlobal, From}
+use Rattle.fl_ops.specs.Registry.{Registry, InEffect, From}
 use Rattle.fl_jobs.specs.declared.job.Act.{Act}
 use Rattle.fl_jobs.specs.declared.job.Act.TheVariants.{Order, Relabel, Ask, Spawn, Exit, Drop, Enter, Emit, Mail}
 use Rattle.fl_jobs.specs.declared.job.Job.TheVariants.{By}
@@ -36,7 +36,7 @@ use Rattle.fl_rules.specs.declared.labels.Labels.{Labels}
 use Rattle.fl_mailbox.specs.Mailbox.{closed}
 use Rattle.fl_mailbox.specs.declared.mailbox.Mailbox.{Mailbox}
 use Rattle.fl_bench.specs.Process.{is_busy, is_under_way, ordering, child_of, with_side, body_of, OneOf, PutTakes}
-use Rattle.fl_bench.specs.Hand.{AtHand, Refuses}
+use Rattle.fl_bench.specs.Hand.{AtHand, Refuses, Searches}
 use Rattle.fl_bench.specs.Checks.{Check, demand, with, ◌then◌}
 use Rattle.fl_bench.specs.Guards.{grant_check}
 use Rattle.fl_bench.specs.Bench.{BenchState, has_at, gone}
@@ -220,7 +220,7 @@ module _ (V : Registry) (pid : Pid) (l : Labels) (owned : SetBy cap_cmp) (ch : M
   relabelled side given (Relabels.too_long {e = long} e) = subst (λ g. Acts V pid idle (Relabel side g) (Err LabelTooLong) idle) (sym e) (is_refused V pid idle (Relabel side (Err long)) (inr (refl, refl)))
   relabelled side given (Relabels.no_room {label} e h) = subst (λ g. Acts V pid idle (Relabel side g) (Err Memory) idle) (sym e) (starves V pid idle (Relabel side (Ok label)) refl h)
 
-  asked : (c : Cap) {r : Result Outcome Refusal} → Replies (InEffect V (In owned) c) ((¬ In owned c) × (¬ IsGlobal V c)) r → Acts V pid idle (Ask c) (answered r) idle
+  asked : (c : Cap) {r : Result Outcome Refusal} → Replies (InEffect V (In owned) c) (Searches V owned c) r → Acts V pid idle (Ask c) (answered r) idle
   asked c (Replies.replied {outcome} h) = is_answered V pid idle (Ask c) outcome idle (refl, refl) (λ b. refl) (λ b there. (h, stays b pid idle there))
   asked c (Replies.no_room h) = starves V pid idle (Ask c) refl h
 
@@ -249,7 +249,7 @@ module _ (V : Registry) (pid : Pid) (l : Labels) (owned : SetBy cap_cmp) (ch : M
   entered login secret {s = s} (Enters.enters {c} first) = is_answered V pid idle (Enter login secret) _ (record idle { owned = Idle s }) (refl, (c, first)) (λ b. refl) (λ b there. (c, first, refl, refl))
   entered login secret (Enters.unknown none) = is_refused V pid idle (Enter login secret) (inr (refl, inl (refl, none)))
   entered login secret (Enters.wrong {c} {digest} first other) = is_refused V pid idle (Enter login secret) (inr (refl, inr (refl, c, digest, first, other)))
-  entered login secret (Enters.no_room {c} first) = starves V pid idle (Enter login secret) refl (c, first)
+  entered login secret (Enters.no_room {c} first new) = starves V pid idle (Enter login secret) refl (c, first, new)
 
   mailed : (mail : mailbox.Mail) {r : Result Outcome Refusal} {ch' : Mailbox} → Mails V owned pid l ch mail r ch' → Acts V pid idle (Mail mail) (answered r) (record idle { mailbox = ch' })
   mailed mail (Mails.passed {outcome} {ch'} h does) = is_answered V pid idle (Mail mail) outcome (record idle { mailbox = ch' }) (refl, h) (λ b. refl) (λ b there. (ch', does, refl))
@@ -301,7 +301,7 @@ module _ (V : Registry) (pid : Pid) (p : Process) (act : Act) (owned : SetBy cap
   pub act_relabel : (side : Side) (given : Result (SetBy name_cmp) TooLong) → act ≡ Relabel side given → {r : Result Outcome Refusal} {l' : Labels} → Relabels V owned p.mailbox.endpoints p.labels side given r l' → (q : Result Sequel Refusal) → q ≡ answered r → Acts V pid p act q (record as_idle { labels = l' })
   act_relabel side given e {r} h q is = act_answers (Relabel side given) e r (relabelled V pid p.labels owned p.mailbox side given h) q is
 
-  pub act_ask : (c : Cap) → act ≡ Ask c → {r : Result Outcome Refusal} → Replies (InEffect V (In owned) c) ((¬ In owned c) × (¬ IsGlobal V c)) r → (q : Result Sequel Refusal) → q ≡ answered r → Acts V pid p act q as_idle
+  pub act_ask : (c : Cap) → act ≡ Ask c → {r : Result Outcome Refusal} → Replies (InEffect V (In owned) c) (Searches V owned c) r → (q : Result Sequel Refusal) → q ≡ answered r → Acts V pid p act q as_idle
   act_ask c e {r} h q is = act_answers (Ask c) e r (asked V pid p.labels owned p.mailbox c h) q is
 
   pub act_spawn : (caps : SetBy cap_cmp) → act ≡ Spawn caps → {q : Result Sequel Refusal} → Yields (grant_check (InEffect V (In owned)) caps) (Birth (child_of p caps)) q → Acts V pid p act q as_idle

@@ -1,6 +1,7 @@
 -- What entries by a secret owe.
 use Rattle.std.proofs.Common.{◌≡◌, ◌∙◌, refl, sym, ap, subst, Bool, true, false, Ok, Err}
 use Rattle.std.specs.Prelude.{not, nat_eq}
+use Rattle.std.proofs.lemmas.Bool.{false≢true}
 use Rattle.std.specs.Cmp.Lexicographic.{pointwise, same_text, other_text}
 use Rattle.fl_labels.specs.Cap.{cap_cmp}
 use Rattle.fl_labels.specs.SetBy as set
@@ -35,8 +36,8 @@ module _ (V : Op → Type 0) (owned : SetBy cap_cmp) (login : Name) (secret : Se
   shown : ne ≡ false → IsFirstLogin V login c (digest_of secret)
   shown e = subst (IsFirstLogin V login c) (same_digest digest other (same_text digest.bytes other.bytes (turned_false _ (sym told ∙ e))) ∙ is) first
 
-  pub enters_starved : ne ≡ false → (after : SetBy cap_cmp) → after ≡ owned → Enters V owned login secret (Err Memory) after
-  enters_starved e after same = subst (Enters V owned login secret (Err Memory)) (sym same) (Enters.no_room (shown e))
+  pub enters_starved : ne ≡ false → (after : SetBy cap_cmp) → after ≡ owned → set.contains owned c ≡ false → Enters V owned login secret (Err Memory) after
+  enters_starved e after same new = subst (Enters V owned login secret (Err Memory)) (sym same) (Enters.no_room (shown e) (λ has. absurd (false≢true (sym new ∙ has))))
 
   pub enters_by : ne ≡ false → (after : SetBy cap_cmp) → after ≡ set.insert owned c → Enters V owned login secret (Ok (Outcome.Reply (Entered c))) after
   enters_by e after same = subst (Enters V owned login secret (Ok (Outcome.Reply (Entered c)))) (sym same) (Enters.enters (shown e))

@@ -18,6 +18,7 @@ use Rattle.fl_bench.specs.Mailbox.{arrival_checks}
 use Rattle.fl_bench.specs.Checks.{with, refuse_if, ◌then◌}
 use Rattle.fl_bench.specs.Process.{newborn, is_busy}
 use Rattle.fl_bench.specs.Bench.{BenchState, IsNext, has_at}
+use Rattle.fl_bench.specs.Hand.{SearchesFrom}
 use Rattle.fl_bench.specs.Jobs.{act_checks, bench_checks, checks, Does, serials_left}
 use Rattle.fl_bench.specs.declared.process.Process.{Process}
 use Rattle.fl_monitor.specs.parts.Acts.{Acts, ActsAt, Births, Settles, Arrives, ArrivesAt, Replies}
@@ -97,7 +98,7 @@ pub arrives_does : (V : Registry) (a b : BenchState) → a ≡ b → (d : Data) 
 arrives_does V a b is d {r} {m} h = subst (λ x. Does V x (Arrive d) r (record a { processes = m })) is (arrives V a d h)
 
 -- the reply to a question whether a capability is reached is a job
-pub replies_does : (V : Registry) (b : BenchState) (root c : Cap) {r : Result Outcome Refusal} → Replies (Reach V (From root) c) (root ≢ c) r → Does V b (Member root c) r b
+pub replies_does : (V : Registry) (b : BenchState) (root c : Cap) {r : Result Outcome Refusal} → Replies (Reach V (From root) c) (SearchesFrom root c) r → Does V b (Member root c) r b
 replies_does V b root c (Replies.replied h) = Does.passed refl (h, refl)
 replies_does V b root c (Replies.no_room h) = Does.no_room h
 

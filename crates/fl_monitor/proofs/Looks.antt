@@ -1,5 +1,5 @@
 -- What the members of a set tell of its registry.
-use Rattle.std.proofs.Common.{◌↔◌, sym, ◌∙◌, Bool, Result, Ok, Err, IfOk, OnErr, Option}
+use Rattle.std.proofs.Common.{◌≡◌, ◌≢◌, ◌↔◌, sym, ◌∙◌, Bool, Result, Ok, Err, IfOk, OnErr, Option}
 use Rattle.std.specs.Prelude.{MatchOption}
 use Rattle.std.specs.Cmp.{Equal-is, eq_by_cmp_equiv}
 use Rattle.std.proofs.lemmas.Map.Views.{Contains-from_any, list_any-from_Contains}
@@ -8,6 +8,7 @@ use Rattle.fl_labels.specs.Found.{Within, Tells}
 use Rattle.fl_labels.specs.SetBy.{SetBy, In, members, contains-members}
 use Rattle.fl_labels.specs.declared.name.Name.{Name}
 use Rattle.fl_labels.specs.declared.cap.Cap.{Cap}
+use Rattle.fl_labels.specs.declared.cap.Cap.TheVariants.{Use}
 use Rattle.fl_ops.specs.declared.digest.Digest.{Digest}
 use Rattle.fl_ops.specs.OpOrder.{op_cmp}
 use Rattle.fl_ops.specs.OpLaws.{op_total, op_exact}
@@ -15,6 +16,7 @@ use Rattle.fl_ops.specs.Registry.{Reach, From, InEffect, IsGlobal, Listed}
 use Rattle.fl_ops.specs.Logins.{IsFirstLogin, HasNoLogin}
 use Rattle.fl_ops.specs.laws.Logins.{answer_kept}
 use Rattle.fl_ops.specs.laws.Reaching.{eff_more, global_more, reach_more}
+use Rattle.fl_bench.specs.Hand.{Searches, SearchesFrom}
 
 listed : (s : SetBy op_cmp) → Within (In s) (Listed (members s))
 listed s op h = Contains-from_any (λ x y e. op_exact x y ((Equal-is (op_cmp x y)).0 e)) op (members s) (sym (contains-members s op) ∙ h)
@@ -37,9 +39,13 @@ module _ (s : SetBy op_cmp) where
     told_effective (Ok b) t = told b to_listed from_listed t
     told_effective (Err e) t = t
 
-    pub searched : {E : Type 0} (r : Result Bool E) → OnErr r ((¬ In owned c) × (¬ IsGlobal (In s) c)) → OnErr r ((¬ In owned c) × (¬ IsGlobal (Listed (members s)) c))
-    searched (Ok b) h = h
-    searched (Err e) h = (h.0, λ g. h.1 (global_more (unlisted s) c g))
+    pub searched : {E : Type 0} (r : Result Bool E) → OnErr r ((¬ In owned c) × (¬ IsGlobal (In s) c)) → OnErr r ((group : Name) × In owned (Use group)) → OnErr r (Searches (Listed (members s)) owned c)
+    searched (Ok b) h u = h
+    searched (Err e) h u = (h.0, λ g. h.1 (global_more (unlisted s) c g), u)
+
+  pub searched_from : {E : Type 0} (root c : Cap) (r : Result Bool E) → OnErr r (root ≢ c) → OnErr r ((group : Name) × (root ≡ Use group)) → OnErr r (SearchesFrom root c)
+  searched_from root c (Ok b) h u = h
+  searched_from root c (Err e) h u = (h, u)
 
   pub told_reached : {E : Type 0} (root c : Cap) (r : Result Bool E) → IfOk r (λ yes. Tells yes (Reach (In s) (From root) c)) → IfOk r (λ yes. Tells yes (Reach (Listed (members s)) (From root) c))
   told_reached root c (Ok b) t = told b (reach_more (listed s) (λ c h. h) c) (reach_more (unlisted s) (λ c h. h) c) t

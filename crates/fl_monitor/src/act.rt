@@ -3,11 +3,12 @@ ghost use Rattle.std.specs.Prelude.{◌≡◌, ⊤, false, cond};
 ghost use Rattle.std.specs.Ordering.{is_gt};
 ghost use Rattle.fl_labels.specs.Cap.{cap_cmp};
 ghost use Rattle.fl_labels.specs.SetBy.{In};
-ghost use Rattle.fl_ops.specs.Registry.{InEffect, IsGlobal, Listed};
+ghost use Rattle.fl_ops.specs.Registry.{InEffect, Listed};
 ghost use Rattle.fl_jobs.specs.declared.answer.Refusal.TheVariants.{MissingCap};
 ghost use Rattle.fl_jobs.specs.declared.answer.Reply.TheVariants.{Yes, NotYet};
 ghost use Rattle.fl_bench.specs.Process.{body_of, OneOf, PutTakes};
 ghost use Rattle.fl_bench.specs.Checks.{demand};
+ghost use Rattle.fl_bench.specs.Hand.{Searches};
 ghost use Rattle.fl_bench.specs.Jobs.{order_checks};
 ghost use Rattle.fl_monitor.specs.parts.Acts.{Required, Replies, Acts};
 ghost use Rattle.fl_monitor.specs.parts.Checked.{Checked};
@@ -119,7 +120,7 @@ fn check_order<V: View>(
 // The reply to whether the capability is in effect.
 fn ask<V: View>(alloc: Global, view: &mut V, owned: &CapSet, cap: Cap) -> Result<Outcome, Refusal>
     ensures replies { let registry = Listed (V.list view.old) in
-        Replies (InEffect registry (In owned.now) cap) ((¬ In owned.now cap) × (¬ IsGlobal registry cap)) result }
+        Replies (InEffect registry (In owned.now) cap) (Searches registry owned.now cap) result }
     ensures same { V.list view.new ≡ V.list view.old }
 {
     let Ok(yes) = view.effective(alloc, owned, cap) else {

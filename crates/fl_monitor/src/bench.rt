@@ -1,10 +1,11 @@
 //! Benches: processes that work under one view.
 ghost use Rattle.std.specs.Option.{option_copied};
-ghost use Rattle.std.specs.Prelude.{◌≡◌, ◌≢◌, ◌≤◌, ◌<◌};
+ghost use Rattle.std.specs.Prelude.{◌≡◌, ◌≤◌, ◌<◌};
 ghost use Rattle.std.specs.FinMap as map;
 ghost use Rattle.fl_ops.specs.Registry.{Reach, From, Listed};
 ghost use Rattle.fl_jobs.specs.declared.job.Job.TheVariants.{By};
 ghost use Rattle.fl_bench.specs.Bench.{new_bench};
+ghost use Rattle.fl_bench.specs.Hand.{SearchesFrom};
 ghost use Rattle.fl_bench.specs.Jobs.{Does};
 ghost use Rattle.fl_bench.specs.Orderly.{IsOrderly};
 ghost use Rattle.fl_monitor.specs.parts.Acts.{Births, Replies};
@@ -197,7 +198,8 @@ impl Bench {
 
 // The reply to whether the capability is reached from the root.
 fn member<V: View>(alloc: Global, view: &mut V, root: Cap, cap: Cap) -> Result<Outcome, Refusal>
-    ensures replies { Replies (Reach (Listed (V.list view.old)) (From root) cap) (root ≢ cap) result }
+    ensures replies {
+        Replies (Reach (Listed (V.list view.old)) (From root) cap) (SearchesFrom root cap) result }
     ensures same { V.list view.new ≡ V.list view.old }
 {
     let Ok(yes) = view.reaches(alloc, root, cap) else {

@@ -16,6 +16,7 @@ pub trait View {
     ghost use Rattle.fl_ops.specs.declared.op.Op.{Op};
     ghost use Rattle.fl_ops.specs.Registry.{Reach, From, IsGlobal, InEffect, Listed};
     ghost use Rattle.fl_ops.specs.Logins.{IsFirstLogin, HasNoLogin};
+    ghost use Rattle.fl_bench.specs.Hand.{Searches, SearchesFrom};
 
     // the operations
     ghost list: { Self → List Op };
@@ -25,17 +26,17 @@ pub trait View {
         ensures { result ≡ length (list self.now) };
 
     /// Whether the owner of these capabilities has this one in effect. An error says that there was not
-    /// enough memory for a search: none for a capability that is owned, or everybody's.
+    /// enough memory for a search: none for a capability that is owned, or everybody's, nor where no use of a group is owned.
     fn effective(&mut self, alloc: Global, owned: &CapSet, cap: Cap) -> Result<bool, AllocError>
         ensures answer { IfOk result (λ yes. Tells yes (InEffect (Listed (list self.old)) (In owned.now) cap)) }
-        ensures err { OnErr result ((¬ In owned.now cap) × (¬ IsGlobal (Listed (list self.old)) cap)) }
+        ensures err { OnErr result (Searches (Listed (list self.old)) owned.now cap) }
         ensures same { list self.new ≡ list self.old };
 
     /// Whether the capability is reached from the root. An error says that there was not enough memory for a
-    /// search: none for the root itself.
+    /// search: none for the root itself, nor from a root that is not the use of a group.
     fn reaches(&mut self, alloc: Global, root: Cap, cap: Cap) -> Result<bool, AllocError>
         ensures answer { IfOk result (λ yes. Tells yes (Reach (Listed (list self.old)) (From root) cap)) }
-        ensures err { OnErr result (root ≢ cap) }
+        ensures err { OnErr result (SearchesFrom root cap) }
         ensures same { list self.new ≡ list self.old };
 
     /// All that the owner of these capabilities reaches. An error says that there was not enough memory.

@@ -21,8 +21,8 @@ use fl_labels::name::Name;
 use fl_ops::digest::Digest;
 use fl_ops::op::Op;
 use fl_sink::sink::{Sink, WriteFault};
+use fl_sink::writer::Writer;
 use std::alloc::{AllocError, Global};
-use std::io::Write;
 use std::marker::Model;
 
 /// A set of operations. Two members may have one name.
@@ -178,16 +178,18 @@ impl OpSet {
     /// Puts the text of the members into a sink, a line for each, rising: `1.1 tag export`, `1.2 group`. Takes no memory but the sink's.
     ///
     /// At a fault a front of what waited and the text was written, and the sink may not be used again.
-    pub fn write_text<W: Write>(&self, sink: &mut Sink, output: &mut W) -> Result<(), WriteFault>
-        ensures { let text = registry_text self.now in
+    pub fn write_text<W: Writer>(&self, sink: &mut Sink, output: &mut W) -> Result<(), WriteFault>
+        ensures puts { let text = registry_text self.now in
             Puts (W.contents output.old) (W.contents output.new) sink.old text sink.new result }
+        ensures cause { OnErr result (W.has_failed output.new) }
     {
         write_lines(&self.ops, sink, output)
     }
 
     /// Writes the text of the members, as [`OpSet::write_text`] has it. At a fault a front of it was written.
-    pub fn text<W: Write>(&self, output: &mut W) -> Result<(), WriteFault>
-        ensures { Writes (W.contents output.old) (W.contents output.new) (registry_text self.now) result }
+    pub fn text<W: Writer>(&self, output: &mut W) -> Result<(), WriteFault>
+        ensures writes { Writes (W.contents output.old) (W.contents output.new) (registry_text self.now) result }
+        ensures cause { OnErr result (W.has_failed output.new) }
     {
         let mut sink = Sink::new(*self.ops.allocator());
         self.write_text(&mut sink, output)?;

@@ -1,5 +1,5 @@
 //! The text of a registry.
-ghost use Rattle.std.specs.Prelude.{◌≡◌, ◌∷◌, ◌++◌, []};
+ghost use Rattle.std.specs.Prelude.{◌≡◌, ◌∷◌, ◌++◌, [], OnErr};
 ghost use Rattle.std.specs.List.{flat_map};
 ghost use Rattle.fl_labels.specs.Text.{name_text};
 ghost use Rattle.hex.specs.Hex.{encode_lower};
@@ -11,9 +11,9 @@ use fl_labels::name::{Group, Name};
 use fl_ops::digest::Digest;
 use fl_ops::op::{Body, Op};
 use fl_sink::sink::{Sink, WriteFault};
+use fl_sink::writer::Writer;
 use hex::encode_to_slice;
 use itoa::Buffer;
-use std::io::Write;
 
 // The digits of a digest, in lower case.
 fn digits_of(digest: &Digest) -> [u8; 64]
@@ -25,15 +25,16 @@ fn digits_of(digest: &Digest) -> [u8; 64]
 }
 
 // The name, the two words, and a line feed.
-fn write_words<W: Write>(
+fn write_words<W: Writer>(
     name: Name,
     first: &[u8],
     second: &[u8],
     sink: &mut Sink,
     output: &mut W,
 ) -> Result<(), WriteFault>
-    ensures { let text = name_text name ++ (first.now ++ (second.now ++ 10 ∷ [])) in
+    ensures puts { let text = name_text name ++ (first.now ++ (second.now ++ 10 ∷ [])) in
         Puts (W.contents output.old) (W.contents output.new) sink.old text sink.new result }
+    ensures cause { OnErr result (W.has_failed output.new) }
 {
     let mut node = Buffer::new();
     let mut seq = Buffer::new();
@@ -43,15 +44,16 @@ fn write_words<W: Write>(
 }
 
 // `1.6 put 1.4 *1.5`, and a line feed.
-fn write_put<W: Write>(
+fn write_put<W: Writer>(
     name: Name,
     group: Group,
     cap: Cap,
     sink: &mut Sink,
     output: &mut W,
 ) -> Result<(), WriteFault>
-    ensures { let text = put_line name group cap in
+    ensures puts { let text = put_line name group cap in
         Puts (W.contents output.old) (W.contents output.new) sink.old text sink.new result }
+    ensures cause { OnErr result (W.has_failed output.new) }
 {
     let (mut node, mut seq) = (Buffer::new(), Buffer::new());
     let (mut group_node, mut group_seq) = (Buffer::new(), Buffer::new());
@@ -75,15 +77,16 @@ fn write_put<W: Write>(
 }
 
 // `1.7 login *1.5`, the 64 digits of the digest, and a line feed.
-fn write_login<W: Write>(
+fn write_login<W: Writer>(
     name: Name,
     cap: Cap,
     digest: &Digest,
     sink: &mut Sink,
     output: &mut W,
 ) -> Result<(), WriteFault>
-    ensures { let text = login_line name cap digest.now in
+    ensures puts { let text = login_line name cap digest.now in
         Puts (W.contents output.old) (W.contents output.new) sink.old text sink.new result }
+    ensures cause { OnErr result (W.has_failed output.new) }
 {
     let (mut node, mut seq) = (Buffer::new(), Buffer::new());
     let (mut cap_node, mut cap_seq) = (Buffer::new(), Buffer::new());
@@ -105,9 +108,10 @@ fn write_login<W: Write>(
 }
 
 // The line of an operation.
-fn write_line<W: Write>(op: &Op, sink: &mut Sink, output: &mut W) -> Result<(), WriteFault>
-    ensures { let text = op_line op.now in
+fn write_line<W: Writer>(op: &Op, sink: &mut Sink, output: &mut W) -> Result<(), WriteFault>
+    ensures puts { let text = op_line op.now in
         Puts (W.contents output.old) (W.contents output.new) sink.old text sink.new result }
+    ensures cause { OnErr result (W.has_failed output.new) }
 {
     match op.body {
         Body::MakeTag(policy) => {
@@ -120,9 +124,10 @@ fn write_line<W: Write>(op: &Op, sink: &mut Sink, output: &mut W) -> Result<(), 
 }
 
 /// Puts the line of each operation into the sink.
-pub fn write_lines<W: Write>(ops: &[Op], sink: &mut Sink, output: &mut W) -> Result<(), WriteFault>
-    ensures { let text = flat_map op_line ops.now in
+pub fn write_lines<W: Writer>(ops: &[Op], sink: &mut Sink, output: &mut W) -> Result<(), WriteFault>
+    ensures puts { let text = flat_map op_line ops.now in
         Puts (W.contents output.old) (W.contents output.new) sink.old text sink.new result }
+    ensures cause { OnErr result (W.has_failed output.new) }
 {
     for op in ops {
         write_line(op, sink, output)?;

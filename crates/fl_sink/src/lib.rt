@@ -3,3 +3,4 @@
 
 pub mod laws;
 pub mod sink;
+pub mod writer;

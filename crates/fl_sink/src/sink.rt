@@ -1,11 +1,11 @@
 //! The bytes that wait to be written.
-ghost use Rattle.std.specs.Prelude.{◌≡◌, ◌++◌, [], OnOk};
+ghost use Rattle.std.specs.Prelude.{◌≡◌, ◌++◌, [], OnErr, OnOk};
 ghost use Rattle.std.specs.Bool.{OnTrue, OnFalse};
 ghost use Rattle.std.specs.List.{flat_map};
 ghost use Rattle.fl_sink.specs.Sink.{Puts, Writes};
 
+use crate::writer::Writer;
 use std::alloc::Global;
-use std::io::Write;
 use std::marker::Model;
 use thiserror::Error;
 
@@ -20,12 +20,13 @@ pub struct WriteFault;
 /// Writes all the bytes, by as many writes as the writer needs.
 ///
 /// A write that fails or takes no bytes is a fault; a front of the bytes was written then.
-pub fn write_out<W: Write>(output: &mut W, bytes: &[u8]) -> Result<(), WriteFault>
-    ensures { Writes (W.contents output.old) (W.contents output.new) bytes.now result }
+pub fn write_out<W: Writer>(output: &mut W, bytes: &[u8]) -> Result<(), WriteFault>
+    ensures writes { Writes (W.contents output.old) (W.contents output.new) bytes.now result }
+    ensures cause { OnErr result (W.has_failed output.new) }
 {
     let mut rest = bytes;
     while !rest.is_empty() {
-        match output.write(rest) {
+        match output.write_some(rest) {
             Ok(count) if count > 0 => rest = &rest[count..],
             _ => return Err(WriteFault),
         }
@@ -60,9 +61,10 @@ impl Sink {
     /// Writes what waits, so that nothing does. The writer is not flushed.
     ///
     /// At a fault a front of what waited was written, and the sink may not be used again.
-    pub fn finish<W: Write>(&mut self, output: &mut W) -> Result<(), WriteFault>
+    pub fn finish<W: Writer>(&mut self, output: &mut W) -> Result<(), WriteFault>
         ensures writes { Writes (W.contents output.old) (W.contents output.new) self.old result }
         ensures empty { OnOk result (self.new ≡ []) }
+        ensures cause { OnErr result (W.has_failed output.new) }
     {
         write_out(output, &self.pending)?;
         self.pending.clear();
@@ -75,8 +77,10 @@ impl Sink {
     /// written now, so that want of memory is no fault. At a fault a front of what waited and the bytes was written, and
     /// the sink may not be used again.
     #[tactic(auto, using(crate::proofs::SinkLemmas::passes))]
-    pub fn put<W: Write>(&mut self, output: &mut W, bytes: &[u8]) -> Result<(), WriteFault>
-        ensures { Puts (W.contents output.old) (W.contents output.new) self.old bytes.now self.new result }
+    pub fn put<W: Writer>(&mut self, output: &mut W, bytes: &[u8]) -> Result<(), WriteFault>
+        ensures puts {
+            Puts (W.contents output.old) (W.contents output.new) self.old bytes.now self.new result }
+        ensures cause { OnErr result (W.has_failed output.new) }
     {
         if self.hold(bytes) {
             return Ok(());
@@ -89,9 +93,10 @@ impl Sink {
     }
 
     /// Takes the pieces, one after another, as [`Sink::put`] does.
-    pub fn put_all<W: Write>(&mut self, output: &mut W, pieces: &[&[u8]]) -> Result<(), WriteFault>
-        ensures { let text = flat_map (λ p. p.now) pieces.now in
+    pub fn put_all<W: Writer>(&mut self, output: &mut W, pieces: &[&[u8]]) -> Result<(), WriteFault>
+        ensures puts { let text = flat_map (λ p. p.now) pieces.now in
             Puts (W.contents output.old) (W.contents output.new) self.old text self.new result }
+        ensures cause { OnErr result (W.has_failed output.new) }
     {
         for piece in pieces {
             self.put(output, piece)?;

@@ -3,12 +3,13 @@ ghost use Rattle.std.specs.Prelude.{◌≡◌, ◌+◌, ◌<◌, ◌≤◌, ℕ,
 ghost use Rattle.std.specs.Io.{ReadsAtMost};
 ghost use Rattle.std.specs.Io.KnownBytes.{Keeps, ReadConsumes, append_known};
 
+use fl_sink::writer::Writer;
 use std::io::{Read, Result, Write};
 
 /// The end at which a conversation is heard. What is said is written at its other end, and sent.
 ///
 /// Any reader is one, with any writer: there nothing is known of what was heard, and to send is to flush.
-pub trait Conversation<W: Write> {
+pub trait Conversation<W: Writer> {
     // The bytes that will be heard from here on, where they are known.
     ghost remaining: { Self → Option (List ℕ) };
 
@@ -43,7 +44,8 @@ pub trait Conversation<W: Write> {
     /// Sends what was written, so that it is said. Fails where sending does; it was not all said then.
     fn send(&self, output: &mut W) -> Result<()>
         ensures bytes { Keeps (W.contents output.old) (W.contents output.new) }
-        ensures sent { OnOk result (said output.new ≡ W.contents output.new) };
+        ensures sent { OnOk result (said output.new ≡ W.contents output.new) }
+        ensures failed { OnErr result (W.has_failed output.new) };
 }
 
 impl<R: Read, W: Write> Conversation<W> for R {

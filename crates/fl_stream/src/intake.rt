@@ -9,8 +9,8 @@ use crate::conversation::Conversation;
 use crate::fault::RunFault;
 use crate::machine::Machine;
 use crate::stream::Stream;
+use fl_sink::writer::Writer;
 use std::alloc::Global;
-use std::io::Write;
 
 /// A stream, what it reads into, and how many more bytes it may take.
 #[derive(Drop)]
@@ -25,7 +25,7 @@ impl<M: Machine> Intake<M> {
     ///
     /// `Read` where hearing fails or gives more than there is room for; `Write` where a write fails or takes no bytes, or
     /// sending fails; `Memory` where there is no room for a line that has not ended.
-    pub fn turn<C: Conversation<W>, W: Write>(
+    pub fn turn<C: Conversation<W>, W: Writer>(
         &mut self,
         alloc: Global,
         input: &mut C,
@@ -50,6 +50,7 @@ impl<M: Machine> Intake<M> {
             (W.contents output.old) (W.contents output.new) self.old.room) }
         ensures cause { IfErr result (λ e. e ≡ RunFault.Read →
             C.is_deaf input.new ⊎ Outgrows self.old.room (C.heard input.old) (C.heard input.new)) }
+        ensures write_cause { IfErr result (λ e. e ≡ RunFault.Write → W.has_failed output.new) }
         ensures err { OnErr result (ReadingCuts M.turns (C.remaining input.old) (C.remaining input.new)
             (W.contents output.old) (W.contents output.new) self.old.stream) }
     {
@@ -76,7 +77,7 @@ impl<M: Machine> Intake<M> {
     /// Answers the last line, where it did not end, and sends all. Says whether some line was none of the script.
     ///
     /// `Write` where a write fails or takes no bytes, or sending fails.
-    pub fn close<C: Conversation<W>, W: Write>(
+    pub fn close<C: Conversation<W>, W: Writer>(
         &mut self,
         alloc: Global,
         input: &C,
@@ -87,6 +88,7 @@ impl<M: Machine> Intake<M> {
             (W.contents output.old) (W.contents output.new) bad) }
         ensures said { OnOk result (C.said output.new ≡ W.contents output.new) }
         ensures kind { IfErr result (λ e. e ≡ RunFault.Write) }
+        ensures cause { OnErr result (W.has_failed output.new) }
         ensures err { OnErr result (EndCuts M.turns self.old.stream
             (W.contents output.old) (W.contents output.new)) }
     {

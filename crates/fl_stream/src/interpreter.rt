@@ -4,8 +4,8 @@ ghost use Rattle.fl_stream.specs.parts.Interpreter.{LinesCut, LinesPass, fresh};
 
 use crate::machine::Machine;
 use fl_sink::sink::{Sink, WriteFault};
+use fl_sink::writer::Writer;
 use std::alloc::Global;
-use std::io::Write;
 use std::marker::Model;
 
 /// Answers the lines of a script by a machine, one after another.
@@ -55,7 +55,7 @@ impl<M: Machine> Interpreter<M> {
     /// Answers the next line, given without its line feed. The answer may wait to be written.
     ///
     /// At a fault a front of what waited and the answer was written, and the interpreter may not be used again.
-    pub fn answer<W: Write>(
+    pub fn answer<W: Writer>(
         &mut self,
         alloc: Global,
         line: &[u8],
@@ -68,6 +68,7 @@ impl<M: Machine> Interpreter<M> {
         ensures err { OnErr result (
             LinesCut M.turns self.old
             (W.contents output.old) (W.contents output.new) (line.now ∷ [])) }
+        ensures cause { OnErr result (W.has_failed output.new) }
     {
         let bad = self
             .machine
@@ -80,12 +81,13 @@ impl<M: Machine> Interpreter<M> {
     /// Writes the answers that wait. The writer is not flushed.
     ///
     /// At a fault a front of what waited was written, and the interpreter may not be used again.
-    pub fn write_answers<W: Write>(&mut self, output: &mut W) -> Result<(), WriteFault>
+    pub fn write_answers<W: Writer>(&mut self, output: &mut W) -> Result<(), WriteFault>
         ensures ok { OnOk result (LinesPass M.turns self.old self.new
             (W.contents output.old) (W.contents output.new) []) }
         ensures empty { OnOk result (self.new.pending ≡ []) }
         ensures err { OnErr result (LinesCut M.turns self.old
             (W.contents output.old) (W.contents output.new) []) }
+        ensures cause { OnErr result (W.has_failed output.new) }
     {
         self.sink.finish(output)
     }

@@ -3,8 +3,8 @@ ghost use Rattle.std.specs.Prelude.{IfOk, OnErr};
 ghost use Rattle.fl_stream.specs.Turns.{AnswerPasses, AnswerCuts, Turns};
 
 use fl_sink::sink::{Sink, WriteFault};
+use fl_sink::writer::Writer;
 use std::alloc::Global;
-use std::io::Write;
 
 /// What answers lines, one after another.
 pub trait Machine {
@@ -15,7 +15,7 @@ pub trait Machine {
     /// line is none of the script.
     ///
     /// At a fault a front of what waited and the text was written, and the machine is not used again.
-    fn answer<W: Write>(
+    fn answer<W: Writer>(
         &mut self,
         alloc: Global,
         number: u64,
@@ -28,5 +28,6 @@ pub trait Machine {
             (W.contents output.old) (W.contents output.new) sink.old sink.new) }
         ensures err { OnErr result (
             AnswerCuts turns number self.old line.now self.new
-            (W.contents output.old) (W.contents output.new) sink.old) };
+            (W.contents output.old) (W.contents output.new) sink.old) }
+        ensures cause { OnErr result (W.has_failed output.new) };
 }

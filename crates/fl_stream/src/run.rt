@@ -9,6 +9,7 @@ use crate::fault::RunFault;
 use crate::intake::Intake;
 use crate::machine::Machine;
 use crate::stream::Stream;
+use fl_sink::writer::Writer;
 use std::alloc::{AllocGlobal, Global};
 use std::io::{Read, Write};
 
@@ -42,7 +43,7 @@ fn status_of(any_bad: bool) -> u8
 /// At a fault a front of the answers to the first lines is written: `Read` only where hearing fails or the script is
 /// longer; `Write` where a write fails or takes no bytes, or sending fails; `Memory` where there is no room for the 64 KiB
 /// that are heard at once, or for a line that has not ended.
-pub fn converse<M: Machine + Drop, C: Conversation<W>, W: Write>(
+pub fn converse<M: Machine + Drop, C: Conversation<W>, W: Writer>(
     alloc: Global,
     machine: M,
     input: &mut C,
@@ -64,6 +65,7 @@ pub fn converse<M: Machine + Drop, C: Conversation<W>, W: Write>(
         (W.contents output.old) (W.contents output.new)) }
     ensures cause { IfErr result (λ e. e ≡ RunFault.Read →
         C.is_deaf input.new ⊎ Outgrows 16777216 (C.heard input.old) (C.heard input.new)) }
+    ensures write_cause { IfErr result (λ e. e ≡ RunFault.Write → W.has_failed output.new) }
     ensures err { OnErr result (IfSome (C.remaining input.old) (λ script.
         WritesFirst M.turns machine (W.contents output.old) (W.contents output.new) script)) }
 {

@@ -10,8 +10,8 @@ use crate::interpreter::Interpreter;
 use crate::machine::Machine;
 use crate::split::{cut_line, without_return};
 use fl_sink::sink::WriteFault;
+use fl_sink::writer::Writer;
 use std::alloc::Global;
-use std::io::Write;
 use std::marker::Model;
 
 /// An interpreter, and the line that has not ended yet.
@@ -43,7 +43,7 @@ impl<M: Machine> Stream<M> {
     }
 
     // Answers the line that ends with these bytes and a line feed. It is copied only where some of it came before.
-    fn end_line<W: Write>(
+    fn end_line<W: Writer>(
         &mut self,
         alloc: Global,
         line: &[u8],
@@ -58,6 +58,7 @@ impl<M: Machine> Stream<M> {
         ensures number { OnOk result (self.new.interpreter.number ≡ self.old.interpreter.number + 1) }
         ensures part { OnOk result (self.new.held ≡ []) }
         ensures kind { IfErr result (λ e. e ≢ RunFault.Read) }
+        ensures write_cause { IfErr result (λ e. e ≡ RunFault.Write → W.has_failed output.new) }
         ensures err { OnErr result (
             BytesCut M.turns self.old
             (W.contents output.old) (W.contents output.new) (line.now ++ 10 ∷ [])) }
@@ -80,7 +81,7 @@ impl<M: Machine> Stream<M> {
     ///
     /// `Write` where a write fails; `Memory` where there is no room for a part of a line. A front of what waited and of the
     /// answers was written then, and the stream may not be used again. Each byte is looked at once, and copied at most once.
-    pub fn take<W: Write>(
+    pub fn take<W: Writer>(
         &mut self,
         alloc: Global,
         bytes: &[u8],
@@ -95,6 +96,7 @@ impl<M: Machine> Stream<M> {
             self.new.interpreter.number ≤ self.old.interpreter.number + length bytes.now) }
         ensures part { OnOk result (HasNoFeed self.new.held) }
         ensures kind { IfErr result (λ e. e ≢ RunFault.Read) }
+        ensures write_cause { IfErr result (λ e. e ≡ RunFault.Write → W.has_failed output.new) }
         ensures err { OnErr result (
             BytesCut M.turns self.old (W.contents output.old) (W.contents output.new) bytes.now) }
     {
@@ -111,7 +113,7 @@ impl<M: Machine> Stream<M> {
 
     /// Writes the answers that wait. The writer is not flushed. At a fault a front of them was written, and the stream may
     /// not be used again.
-    pub fn write_answers<W: Write>(&mut self, output: &mut W) -> Result<(), WriteFault>
+    pub fn write_answers<W: Writer>(&mut self, output: &mut W) -> Result<(), WriteFault>
         ensures ok { OnOk result (BytesPass M.turns self.old self.new
             (W.contents output.old) (W.contents output.new) []) }
         ensures same { OnOk result (self.new.interpreter.number ≡ self.old.interpreter.number) }
@@ -119,18 +121,20 @@ impl<M: Machine> Stream<M> {
         ensures empty { OnOk result (self.new.interpreter.pending ≡ []) }
         ensures err { OnErr result (BytesCut M.turns self.old
             (W.contents output.old) (W.contents output.new) []) }
+        ensures cause { OnErr result (W.has_failed output.new) }
     {
         self.interpreter.write_answers(output)
     }
 
     // Answers the last line, where it did not end. A return at its end is its last byte.
-    fn answer_last<W: Write>(&mut self, alloc: Global, output: &mut W) -> Result<(), WriteFault>
+    fn answer_last<W: Writer>(&mut self, alloc: Global, output: &mut W) -> Result<(), WriteFault>
         requires number { self.old.interpreter.number ≤ 16777217 }
         requires part { HasNoFeed self.old.held }
         ensures ok { OnOk result (LinesPass M.turns self.old.interpreter self.new.interpreter
             (W.contents output.old) (W.contents output.new) (lines self.old.held)) }
         ensures err { OnErr result (LinesCut M.turns self.old.interpreter
             (W.contents output.old) (W.contents output.new) (lines self.old.held)) }
+        ensures cause { OnErr result (W.has_failed output.new) }
     {
         if self.held.is_empty() {
             return Ok(());
@@ -140,13 +144,14 @@ impl<M: Machine> Stream<M> {
 
     /// Answers the last line, where it did not end, and writes all. Says whether some line was none of the script. The
     /// writer is not flushed. At a fault a front of the answers was written.
-    pub fn finish<W: Write>(&mut self, alloc: Global, output: &mut W) -> Result<bool, WriteFault>
+    pub fn finish<W: Writer>(&mut self, alloc: Global, output: &mut W) -> Result<bool, WriteFault>
         requires number { self.old.interpreter.number ≤ 16777217 }
         requires part { HasNoFeed self.old.held }
         ensures ok { IfOk result (λ bad. EndPasses M.turns self.old
             (W.contents output.old) (W.contents output.new) bad) }
         ensures err { OnErr result (EndCuts M.turns self.old
             (W.contents output.old) (W.contents output.new)) }
+        ensures cause { OnErr result (W.has_failed output.new) }
     {
         self.answer_last(alloc, output)?;
         self.interpreter.write_answers(output)?;

@@ -95,7 +95,8 @@ pub data Enters (V : Registry) (owned : SetBy cap_cmp) (login : Name) (secret : 
   unknown : HasNoLogin V login → Enters V owned login secret (Err (NoLogin login)) owned
   wrong : {c : Cap} {digest : Digest} → IsFirstLogin V login c digest → digest ≢ digest_of secret
       → Enters V owned login secret (Err WrongSecret) owned
-  no_room : {c : Cap} → IsFirstLogin V login c (digest_of secret) → Enters V owned login secret (Err Memory) owned
+  no_room : {c : Cap} → IsFirstLogin V login c (digest_of secret) → ¬ In owned c
+      → Enters V owned login secret (Err Memory) owned
 
 -- who owns these, a process of these labels, uses its mailbox
 pub data Mails (V : Registry) (owned : SetBy cap_cmp) (pid : Pid) (labels : Labels) (ch : Mailbox) (mail : Mail) : Result Outcome Refusal → Mailbox → Type 0 where

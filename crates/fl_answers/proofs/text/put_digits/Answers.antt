@@ -8,10 +8,10 @@ pub loop-byte-preserved : goal.loop-byte-preserved
 loop-byte-preserved g c =
     let inside : c.loop-byte.byte-index < length c.args.bytes.now = omega arith in
     rw (flat_map_more digits c.args.bytes.now c.loop-byte.byte-index 0 inside)
-    (passes_then _ _ _ c.loop-byte.invariant c.in_ok-put_byte.ensures.is)
+    (passes_then _ _ _ c.loop-byte.invariant c.in_ok-put_byte.ensures.puts.is)
 
-pub returns-in_err-put_byte : goal.returns-in_err-put_byte
-returns-in_err-put_byte g c =
+pub returns-in_err-put_byte-clause-puts : goal.returns-in_err-put_byte-clause-puts
+returns-in_err-put_byte-clause-puts g c =
     let inside : c.loop-byte.byte-index < length c.args.bytes.now = omega arith in
     rw (flat_map_at digits c.args.bytes.now c.loop-byte.byte-index 0 inside)
-    (puts_then c.loop-byte.invariant (puts_stop _ _ c.in_err-put_byte.ensures.is c.from_residual.ensures.0))
+    (puts_then c.loop-byte.invariant (puts_stop _ _ c.in_err-put_byte.ensures.puts.is c.from_residual.ensures.0))

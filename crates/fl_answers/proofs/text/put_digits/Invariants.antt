@@ -6,4 +6,4 @@ use Rattle.fl_answers.proofs.text.put_digits.Given as goal
 
 -- the digits so far passed
 abbrev pub invariant-loop-byte : goal.invariant-loop-byte
-invariant-loop-byte g l = Passes (g.W.Write.contents l.initial.output) (g.W.Write.contents l.output) l.initial.sink (flat_map digits (take l.byte-index l.bytes)) l.sink
+invariant-loop-byte g l = Passes (g.W.Writer.contents l.initial.output) (g.W.Writer.contents l.output) l.initial.sink (flat_map digits (take l.byte-index l.bytes)) l.sink

@@ -8,10 +8,10 @@ pub loop-cap-preserved : goal.loop-cap-preserved
 loop-cap-preserved g c =
     let inside : c.loop-cap.cap-index < length c.args.caps.now = omega arith in
     rw (flat_map_more behind_comma c.args.caps.now c.loop-cap.cap-index c.cap-item.result inside, ← c.cap-item.is)
-    (passes_then _ _ _ c.loop-cap.invariant c.in_ok-put_cap.ensures.is)
+    (passes_then _ _ _ c.loop-cap.invariant c.in_ok-put_cap.ensures.puts.is)
 
-pub returns-in_err-put_cap : goal.returns-in_err-put_cap
-returns-in_err-put_cap g c =
+pub returns-in_err-put_cap-clause-puts : goal.returns-in_err-put_cap-clause-puts
+returns-in_err-put_cap-clause-puts g c =
     let inside : c.loop-cap.cap-index < length c.args.caps.now = omega arith in
     rw (flat_map_at behind_comma c.args.caps.now c.loop-cap.cap-index c.cap-item.result inside, ← c.cap-item.is)
-    (puts_then c.loop-cap.invariant (puts_stop _ _ c.in_err-put_cap.ensures.is c.from_residual.ensures.0))
+    (puts_then c.loop-cap.invariant (puts_stop _ _ c.in_err-put_cap.ensures.puts.is c.from_residual.ensures.0))

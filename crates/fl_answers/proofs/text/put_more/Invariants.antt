@@ -6,4 +6,4 @@ use Rattle.fl_answers.proofs.text.put_more.Given as goal
 
 -- the capabilities so far passed
 abbrev pub invariant-loop-cap : goal.invariant-loop-cap
-invariant-loop-cap g l = Passes (g.W.Write.contents l.initial.output) (g.W.Write.contents l.output) l.initial.sink (flat_map behind_comma (take l.cap-index l.caps)) l.sink
+invariant-loop-cap g l = Passes (g.W.Writer.contents l.initial.output) (g.W.Writer.contents l.output) l.initial.sink (flat_map behind_comma (take l.cap-index l.caps)) l.sink

@@ -4,8 +4,8 @@ use Rattle.fl_labels.specs.Text.{name_text}
 use Rattle.fl_sink.specs.laws.Passing.{puts_then, puts_stop}
 use Rattle.fl_answers.proofs.text.write_name.Goals as goal
 
-pub returns-in_err-put_name : goal.returns-in_err-put_name
-returns-in_err-put_name g c = rw (← append_assoc c.args.front.now (name_text c.args.name) (codes "\n")) (puts_stop _ _ c.in_err-put_name.ensures.is c.from_residual.ensures.0)
+pub returns-in_err-put_name-clause-puts : goal.returns-in_err-put_name-clause-puts
+returns-in_err-put_name-clause-puts g c = rw (← append_assoc c.args.front.now (name_text c.args.name) (codes "\n")) (puts_stop _ _ c.in_err-put_name.ensures.puts.is c.from_residual.ensures.0)
 
-pub returns : goal.returns
-returns g c = rw (← append_assoc c.args.front.now (name_text c.args.name) (codes "\n")) (puts_then c.in_ok-put_name.ensures.is c.put_all.ensures)
+pub returns-clause-puts : goal.returns-clause-puts
+returns-clause-puts g c = rw (← append_assoc c.args.front.now (name_text c.args.name) (codes "\n")) (puts_then c.in_ok-put_name.ensures.puts.is c.put_all.ensures.puts)

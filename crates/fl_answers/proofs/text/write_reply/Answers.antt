@@ -1,8 +1,8 @@
 use Rattle.fl_sink.specs.laws.Passing.{puts_then, puts_stop}
 use Rattle.fl_answers.proofs.text.write_reply.Goals as goal
 
-pub returns-in_err-put_reply : goal.returns-in_err-put_reply
-returns-in_err-put_reply g c = puts_stop _ _ c.in_err-put_reply.ensures.is c.from_residual.ensures.0
+pub returns-in_err-put_reply-clause-puts : goal.returns-in_err-put_reply-clause-puts
+returns-in_err-put_reply-clause-puts g c = puts_stop _ _ c.in_err-put_reply.ensures.puts.is c.from_residual.ensures.0
 
-pub returns : goal.returns
-returns g c = puts_then c.in_ok-put_reply.ensures.is c.put_all.ensures
+pub returns-clause-puts : goal.returns-clause-puts
+returns-clause-puts g c = puts_then c.in_ok-put_reply.ensures.puts.is c.put_all.ensures.puts

@@ -8,10 +8,10 @@ pub loop-op-preserved : goal.loop-op-preserved
 loop-op-preserved g c =
     let inside : c.loop-op.op-index < length c.args.ops.now = omega arith in
     rw (flat_map_more op_line c.args.ops.now c.loop-op.op-index c.op-item.result inside, ← c.op-item.is)
-    (passes_then _ _ _ c.loop-op.invariant c.in_ok-write_line.ensures.is)
+    (passes_then _ _ _ c.loop-op.invariant c.in_ok-write_line.ensures.puts.is)
 
-pub returns-in_err-write_line : goal.returns-in_err-write_line
-returns-in_err-write_line g c =
+pub returns-in_err-write_line-clause-puts : goal.returns-in_err-write_line-clause-puts
+returns-in_err-write_line-clause-puts g c =
     let inside : c.loop-op.op-index < length c.args.ops.now = omega arith in
     rw (flat_map_at op_line c.args.ops.now c.loop-op.op-index c.op-item.result inside, ← c.op-item.is)
-    (puts_then c.loop-op.invariant (puts_stop _ _ c.in_err-write_line.ensures.is c.from_residual.ensures.0))
+    (puts_then c.loop-op.invariant (puts_stop _ _ c.in_err-write_line.ensures.puts.is c.from_residual.ensures.0))

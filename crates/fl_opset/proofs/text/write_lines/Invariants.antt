@@ -6,4 +6,4 @@ use Rattle.fl_opset.proofs.text.write_lines.Given as goal
 
 -- the lines so far passed
 abbrev pub invariant-loop-op : goal.invariant-loop-op
-invariant-loop-op g l = Passes (g.W.Write.contents l.initial.output) (g.W.Write.contents l.output) l.initial.sink (flat_map op_line (take l.op-index l.ops)) l.sink
+invariant-loop-op g l = Passes (g.W.Writer.contents l.initial.output) (g.W.Writer.contents l.output) l.initial.sink (flat_map op_line (take l.op-index l.ops)) l.sink

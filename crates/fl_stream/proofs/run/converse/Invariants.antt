@@ -5,10 +5,10 @@ use Rattle.fl_stream.proofs.run.converse.Given as goal
 
 abbrev pub invariant-hearing : goal.invariant-hearing
 invariant-hearing g l = record {
-  reads : ReadingPasses g.M.Machine.turns (g.C.Conversation.remaining l.initial.input) (g.C.Conversation.remaining l.input) (g.C.Conversation.heard l.initial.input) (g.C.Conversation.heard l.input) (g.W.Write.contents l.initial.output) (g.W.Write.contents l.output) (fresh_stream l.fn.machine) l.intake.stream 16777216 l.intake.room;
+  reads : ReadingPasses g.M.Machine.turns (g.C.Conversation.remaining l.initial.input) (g.C.Conversation.remaining l.input) (g.C.Conversation.heard l.initial.input) (g.C.Conversation.heard l.input) (g.W.Writer.contents l.initial.output) (g.W.Writer.contents l.output) (fresh_stream l.fn.machine) l.intake.stream 16777216 l.intake.room;
   ready : IsReady l.intake.stream l.intake.room;
   chunk : vec_len l.intake.chunk ≡ 65536;
-  said : g.C.Conversation.said l.output ≡ g.W.Write.contents l.output;
+  said : g.C.Conversation.said l.output ≡ g.W.Writer.contents l.output;
   count : g.C.Conversation.hearings l.input + l.intake.room ≤ 16777216;
 }
 

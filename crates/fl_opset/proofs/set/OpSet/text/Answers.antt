@@ -1,8 +1,8 @@
 use Rattle.fl_opset.proofs.Written.{finished, stopped}
 use Rattle.fl_opset.proofs.set.OpSet.text.Goals as goal
 
-pub returns-in_err-write_text : goal.returns-in_err-write_text
-returns-in_err-write_text g c = stopped c.new-sink.ensures c.in_err-write_text.ensures.is c.from_residual.ensures.0
+pub returns-in_err-write_text-clause-writes : goal.returns-in_err-write_text-clause-writes
+returns-in_err-write_text-clause-writes g c = stopped c.new-sink.ensures c.in_err-write_text.ensures.puts.is c.from_residual.ensures.0
 
-pub returns : goal.returns
-returns g c = finished c.new-sink.ensures c.in_ok-write_text.ensures.is c.finish.ensures.writes
+pub returns-clause-writes : goal.returns-clause-writes
+returns-clause-writes g c = finished c.new-sink.ensures c.in_ok-write_text.ensures.puts.is c.finish.ensures.writes

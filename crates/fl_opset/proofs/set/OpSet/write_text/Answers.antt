@@ -3,8 +3,8 @@ use Rattle.fl_sink.specs.Sink.{Puts}
 use Rattle.fl_opset.proofs.Written.{listed_text}
 use Rattle.fl_opset.proofs.set.OpSet.write_text.Goals as goal
 
-pub returns : goal.returns
-returns g c =
-    let W = g.W.Write.contents in
+pub returns-clause-puts : goal.returns-clause-puts
+returns-clause-puts g c =
+    let W = g.W.Writer.contents in
     subst (λ (text : List ℕ). Puts (W c.args.output.now) (W c.write_lines.new.output) c.args.sink.now text c.write_lines.new.sink c.write_lines.result)
-    (listed_text _ _ _ c.self.invariant c.self.view_is c.deref.ensures.value) c.write_lines.ensures
+    (listed_text _ _ _ c.self.invariant c.self.view_is c.deref.ensures.value) c.write_lines.ensures.puts

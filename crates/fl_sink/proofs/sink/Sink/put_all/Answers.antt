@@ -7,10 +7,10 @@ pub loop-piece-preserved : goal.loop-piece-preserved
 loop-piece-preserved g c =
     let inside : c.loop-piece.piece-index < length c.args.pieces.now = omega arith in
     rw (flat_map_more (λ p. p.now) c.args.pieces.now c.loop-piece.piece-index (record { ref_ptr = (0, 0); now = [] }) inside)
-    (passes_then _ _ _ c.loop-piece.invariant c.in_ok-put.ensures.is)
+    (passes_then _ _ _ c.loop-piece.invariant c.in_ok-put.ensures.puts.is)
 
-pub returns-in_err-put : goal.returns-in_err-put
-returns-in_err-put g c =
+pub returns-in_err-put-clause-puts : goal.returns-in_err-put-clause-puts
+returns-in_err-put-clause-puts g c =
     let inside : c.loop-piece.piece-index < length c.args.pieces.now = omega arith in
     rw (flat_map_at (λ p. p.now) c.args.pieces.now c.loop-piece.piece-index (record { ref_ptr = (0, 0); now = [] }) inside)
-    (puts_then c.loop-piece.invariant (puts_stop _ _ c.in_err-put.ensures.is c.from_residual.ensures.0))
+    (puts_then c.loop-piece.invariant (puts_stop _ _ c.in_err-put.ensures.puts.is c.from_residual.ensures.0))
