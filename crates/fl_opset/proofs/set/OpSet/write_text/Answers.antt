@@ -7,4 +7,4 @@ pub returns : goal.returns
 returns g c =
     let W = g.W.Write.contents in
     subst (λ (text : List ℕ). Puts (W c.args.output.now) (W c.write_lines.new.output) c.args.sink.now text c.write_lines.new.sink c.write_lines.result)
-    (listed_text _ _ _ c.self.invariant c.self.view_is c.deref.ensures.value) c.write_lines.ensures
+    (listed_text _ _ _ c.self.invariant.rises c.self.view_is c.deref.ensures.value) c.write_lines.ensures
