@@ -8,7 +8,10 @@ pub mod Lacks
 pub mod Cuts
 pub mod CutSteps
 pub mod Walk
-pub mod SpanSteps
+pub mod Changes
+pub mod Places
+pub mod Added
+pub mod Kept
 pub mod Whole
 pub mod OneCut
 pub mod CaughtUp

@@ -1,5 +1,5 @@
 -- Two lists that rise, merged.
-use Rattle.std.proofs.Common.{is_ok, Result, Ok, Err, OnOk, if◌then◌else◌, ◌≡◌, ℕ, ◌-◌, ◌≤◌, suc, true, Bool, ◌||◌, List, [], ◌∷◌, ◌++◌, ◌⊎◌, inl, inr, length, drop, get_or, refl, sym, ap, subst, ◌∙◌, Ordering, Less, append-nil, arith}
+use Rattle.std.proofs.Common.{◌≡◌, ℕ, ◌-◌, ◌≤◌, suc, true, Bool, ◌||◌, List, [], ◌∷◌, ◌++◌, ◌⊎◌, inl, inr, length, drop, get_or, refl, sym, ap, subst, ◌∙◌, Ordering, Less, append-nil, arith}
 use Rattle.std.specs.Cmp.{IsTotalOrder}
 use Rattle.std.specs.FinMap.{IsAntisymmetric}
 use Rattle.std.specs.List.{All, list_any}
@@ -49,12 +49,10 @@ module _ {K : Type 0} {R : K → K → Ordering} (o : IsTotalOrder R) (exact : I
             ∙ sym (contains-union o s t q));
       }
 
-  -- two sets' items, the second's after the first's where they stand above them, list the union; else nothing is new
-  pub appended_lists : {T E : Type 0} (r : Result T E) (xs ys zs xs' ys' more : List K) (s t : SetBy R) → IsStrictlySortedBy R xs → IsStrictlySortedBy R ys → of_list xs ≡ s → of_list ys ≡ t → xs' ≡ xs → ys' ≡ ys → more ≡ ys → All (λ x. All (λ y. R x y ≡ Less) ys') xs' → zs ≡ (if is_ok r then xs ++ more else xs) → IsStrictlySortedBy R zs × OnOk r (of_list zs ≡ set.union s t)
-  appended_lists (Err e) xs ys zs xs' ys' more s t up_xs up_ys s_is t_is same_xs same_ys same_more below is = (subst (IsStrictlySortedBy R) (sym is) up_xs, tt)
-  appended_lists (Ok u) xs ys zs xs' ys' more s t up_xs up_ys s_is t_is same_xs same_ys same_more below is =
-      let new = merged_lists xs ys zs xs' ys' s t up_xs up_ys s_is t_is same_xs same_ys (is ∙ (λ i. sym same_xs i ++ (same_more ∙ sym same_ys) i) ∙ sym (merge_below R true xs' ys' below)) in
-      (new.rises, new.view)
+  -- the second's items after the first's, where they stand above them, list the union too
+  pub appended_lists : (xs ys zs xs' ys' more : List K) (s t : SetBy R) → IsStrictlySortedBy R xs → IsStrictlySortedBy R ys → of_list xs ≡ s → of_list ys ≡ t → xs' ≡ xs → ys' ≡ ys → more ≡ ys → All (λ x. All (λ y. R x y ≡ Less) ys') xs' → zs ≡ xs ++ more → Lists R zs (set.union s t)
+  appended_lists xs ys zs xs' ys' more s t up_xs up_ys s_is t_is same_xs same_ys same_more below is =
+      merged_lists xs ys zs xs' ys' s t up_xs up_ys s_is t_is same_xs same_ys (is ∙ (λ i. sym same_xs i ++ (same_more ∙ sym same_ys) i) ∙ sym (merge_below R true xs' ys' below))
 
 module _ {K : Type 0} {R : K → K → Ordering} (o : IsTotalOrder R) where
   -- where the last of one list is below the first of another, each of the one is below each of the other

@@ -1,7 +1,8 @@
 -- The spans of names that are met in their order.
 use Rattle.std.proofs.Common.{◌≡◌, ◌⊎◌, inl, inr, ℕ, zero, suc, ◌+◌, ◌-◌, ◌<◌, ◌≤◌, true, List, [], ◌∷◌, ◌++◌, length, get_or, refl, sym, ap, subst, ◌∙◌, arith, append_assoc, Less}
 use Rattle.std.specs.List.{Contains, AllByRecursion}
-use Rattle.std.specs.List.Sorted.{IsStrictlySortedBy}
+use Rattle.std.specs.List.Sorted.{IsStrictlySortedBy, IsNonDecreasingBy}
+use Rattle.std.proofs.lemmas.List.{get_or_default}
 use Rattle.std.proofs.lemmas.Bool.{cases_lt}
 use Rattle.std.proofs.lemmas.List.Elements.{Contains-push, Contains-push_cases, Contains-append_left}
 use Rattle.fl_labels.specs.declared.name.Name.{Name}
@@ -155,90 +156,18 @@ same_spans U V ss there back a = record {
       none_after = λ n next named. x.none_after n next (named.0, back named.0 named.1, named.2);
     }
 
--- So far the names of xs were met: the spans ss are done, and r may still grow.
-pub record Met (xs : List Op) (ss : List Span) (r : Span) : Type 0 where
-  pub fits : fit 0 (last_rank r) (ss ++ r ∷ []) ≡ true
-  pub holds : Holds (Listed xs) (ss ++ r ∷ [])
+-- spans that fit end ever higher
+ends_rise : (from to : ℕ) (ss : List Span) → fit from to ss ≡ true → (i j : ℕ) (d : Span) → i ≤ j → j < length ss
+    → last_rank (get_or ss i d) ≤ last_rank (get_or ss j d)
+ends_rise from to [] h i j d order inside = absurd (omega arith)
+ends_rise from to (s ∷ ss) h zero zero d order inside = omega arith
+ends_rise from to (s ∷ ss) h zero (suc j) d order inside =
+    let f = fit_at from to s ss h in
+    let low = low_in (last_rank s + 2) to ss j (get_or ss j d) f.rest (omega arith) (get_or_default ss j (get_or ss j d) d (omega arith)) in
+    omega (arith, low, ends_above (get_or ss j d))
+ends_rise from to (s ∷ ss) h (suc i) zero d order inside = absurd (omega arith)
+ends_rise from to (s ∷ ss) h (suc i) (suc j) d order inside =
+    ends_rise (last_rank s + 2) to ss (fit_at from to s ss h).rest i j d (omega arith) (omega arith)
 
-more_named : (xs : List Op) (x : Op) (n : Name) → IsName (Listed xs) n → IsName (Listed (xs ++ x ∷ [])) n
-more_named xs x n named = (named.0, Contains-append_left xs (x ∷ []) named.0 named.1, named.2)
-
-last_named : (xs : List Op) (x : Op) (n : Name) → name_rank n ≡ op_rank x → IsName (Listed (xs ++ x ∷ [])) n
-last_named xs x n same = (x, Contains-push xs x, rank_exact x.name n (sym same))
-
-pub met_first : (x : Op) (r : Span) → r.first ≡ x.name → last_rank r ≡ op_rank x → Met (x ∷ []) [] r
-met_first x r first last =
-    let low : name_rank r.first ≡ op_rank x = ap name_rank first in
-    record {
-      fits = at_fit 0 (last_rank r) r [] (record { starts = omega arith; ends = omega arith; rest = refl });
-      holds = record {
-        held = λ s in_s n inside. elim (Contains-push_cases [] r s in_s) [
-          | inl none ↦ absurd (omega (arith, none.1))
-          | inr is ↦
-              let b = bounds (name_rank r.first) (name_rank n) (last_rank r) (subst (λ (y : Span). in_span y n ≡ true) (sym is) inside) in
-              last_named [] x n (omega (arith, low, last, b.0, b.1))
-        ];
-        covered = λ op in_xs. elim (Contains-push_cases [] x op in_xs) [
-          | inl none ↦ absurd (omega (arith, none.1))
-          | inr is ↦ (r, Contains-push [] r, subst (λ (y : Op). in_span r y.name ≡ true) is (within (name_rank r.first) (op_rank x) (last_rank r) (omega (arith, low)) (omega (arith, last))))
-        ];
-      };
-    }
-
--- a name that is the last one or the next
-pub met_same : (xs : List Op) (ss : List Span) (r q : Span) (x : Op) → Met xs ss r → q.first ≡ r.first → last_rank q ≡ op_rank x → last_rank r ≤ op_rank x → op_rank x ≤ last_rank r + 1
-    → Met (xs ++ x ∷ []) ss q
-met_same xs ss r q x m first last low high =
-    let start : name_rank q.first ≡ name_rank r.first = ap name_rank first in
-    let grown : (n : Name) → in_span r n ≡ true → in_span q n ≡ true = λ n inside.
-    let b = bounds (name_rank r.first) (name_rank n) (last_rank r) inside in
-    within (name_rank q.first) (name_rank n) (last_rank q) (omega (arith, start, b.0)) (omega (arith, last, low, b.1)) in
-    record {
-      fits = fit_instead 0 (last_rank r) (last_rank q) ss r (q ∷ []) m.fits (omega (arith, last)) (λ from le. at_fit from (last_rank q) q [] (record { starts = omega (arith, start); ends = omega arith; rest = refl }));
-      holds = record {
-        held = λ s in_s n inside. elim (Contains-push_cases ss q s in_s) [
-          | inl done ↦ more_named xs x n (m.holds.held s (Contains-append_left ss (r ∷ []) s done) n inside)
-          | inr is ↦
-              let b = bounds (name_rank q.first) (name_rank n) (last_rank q) (subst (λ (y : Span). in_span y n ≡ true) (sym is) inside) in
-              elim (cases_lt (last_rank r) (name_rank n)) [
-                | inl past ↦ last_named xs x n (omega (arith, b.1))
-                | inr old ↦ more_named xs x n (m.holds.held r (Contains-push ss r) n (within (name_rank r.first) (name_rank n) (last_rank r) (omega (arith, start, b.0)) (omega arith)))
-              ]
-        ];
-        covered = λ op in_xs. elim (Contains-push_cases xs x op in_xs) [
-          | inl old ↦
-              let c = m.holds.covered op old in
-              elim (Contains-push_cases ss r c.0 c.1) [
-                | inl done ↦ (c.0, Contains-append_left ss (q ∷ []) c.0 done, c.2)
-                | inr is ↦ (q, Contains-push ss q, grown op.name (subst (λ (y : Span). in_span y op.name ≡ true) (sym is) c.2))
-              ]
-          | inr is ↦ (q, Contains-push ss q, subst (λ (y : Op). in_span q y.name ≡ true) is (within (name_rank q.first) (op_rank x) (last_rank q) (omega (arith, start, low, ends_above r)) (omega (arith, last))))
-        ];
-      };
-    }
-
--- one after a gap
-pub met_new : (xs : List Op) (ss : List Span) (r q : Span) (x : Op) → Met xs ss r → q.first ≡ x.name → last_rank q ≡ op_rank x → last_rank r + 1 < op_rank x
-    → Met (xs ++ x ∷ []) (ss ++ r ∷ []) q
-met_new xs ss r q x m first last gap =
-    let start : name_rank q.first ≡ op_rank x = ap name_rank first in
-    let all : fit 0 (last_rank q) (ss ++ r ∷ q ∷ []) ≡ true = fit_instead 0 (last_rank r) (last_rank q) ss r (r ∷ q ∷ []) m.fits (omega (arith, last)) (λ from le. at_fit from (last_rank q) r (q ∷ []) (record {
-      starts = le;
-      ends = omega (arith, last);
-      rest = at_fit (last_rank r + 2) (last_rank q) q [] (record { starts = omega (arith, start); ends = omega arith; rest = refl });
-    })) in
-    record {
-      fits = subst (λ l. fit 0 (last_rank q) l ≡ true) (sym (append_assoc ss (r ∷ []) (q ∷ []))) all;
-      holds = record {
-        held = λ s in_s n inside. elim (Contains-push_cases (ss ++ r ∷ []) q s in_s) [
-          | inl done ↦ more_named xs x n (m.holds.held s done n inside)
-          | inr is ↦
-              let b = bounds (name_rank q.first) (name_rank n) (last_rank q) (subst (λ (y : Span). in_span y n ≡ true) (sym is) inside) in
-              last_named xs x n (omega (arith, start, last, b.0, b.1))
-        ];
-        covered = λ op in_xs. elim (Contains-push_cases xs x op in_xs) [
-          | inl old ↦ let c = m.holds.covered op old in (c.0, Contains-append_left (ss ++ r ∷ []) (q ∷ []) c.0 c.1, c.2)
-          | inr is ↦ (q, Contains-push (ss ++ r ∷ []) q, subst (λ (y : Op). in_span q y.name ≡ true) is (within (name_rank q.first) (op_rank x) (last_rank q) (omega (arith, start)) (omega (arith, last))))
-        ];
-      };
-    }
+pub lasts_rise : (from to : ℕ) (ss : List Span) → fit from to ss ≡ true → IsNonDecreasingBy last_rank ss
+lasts_rise from to ss h i j d order inside = ends_rise from to ss h i j d order inside

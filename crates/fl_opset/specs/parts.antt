@@ -1,2 +1,3 @@
 -- Relations that join functions, and that no public clause needs.
 pub mod LoginPlace
+pub mod Kept

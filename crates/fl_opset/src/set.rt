@@ -1,5 +1,5 @@
 //! Sets of operations, in a sorted `Vec`.
-ghost use Rattle.std.specs.Prelude.{◌≡◌, ◌≢◌, ◌≤◌, ◌<◌, IfOk, IfSome, IfNone, OnOk, OnErr, false, not};
+ghost use Rattle.std.specs.Prelude.{◌≡◌, ◌≢◌, ◌≤◌, ◌<◌, IfOk, IfSome, IfNone, OnOk, OnErr, false, not, ◌&&◌, is_ok};
 ghost use Rattle.fl_labels.specs.SetBy as set;
 ghost use Rattle.fl_labels.specs.SetBy.{In};
 ghost use Rattle.fl_ops.specs.declared.op.Op.{Op};
@@ -13,7 +13,8 @@ use crate::intervals::Intervals;
 use crate::lacking::lacking_of;
 use crate::merging::{all_below, merged};
 use crate::search::{first_login, has_other, last_seq, place_of};
-use crate::spans::spans_of;
+use crate::span::Span;
+use crate::spans::{add_name, add_names, remove_name, spans_of};
 use crate::text::write_lines;
 use crate::windows::windows_of;
 use fl_labels::cap::Cap;
@@ -29,13 +30,16 @@ use std::marker::Model;
 #[derive(Debug, Drop)]
 pub struct OpSet {
     ops: Vec<Op>,
+    // Those of the members' names, where they are known: there was memory for them.
+    spans: Vec<Span>,
+    known: bool,
 }
 
 impl Model for OpSet {
-    ghost use Rattle.std.specs.List.Sorted.{IsStrictlySortedBy};
     ghost use Rattle.fl_labels.specs.SetBy as set;
     ghost use Rattle.fl_ops.specs.OpOrder.{op_cmp};
     ghost use Rattle.fl_ops.specs.OpLaws.{coded_op};
+    ghost use Rattle.fl_opset.specs.parts.Kept.{AreKept};
 
     ghost Value = { set.SetBy op_cmp };
 
@@ -43,7 +47,14 @@ impl Model for OpSet {
 
     ghost view = { λ a. set.of_list a.ops.items };
 
-    ghost invariant = { λ a. IsStrictlySortedBy op_cmp a.ops.items };
+    ghost invariant = { λ a. AreKept a.ops.items a.spans.items a.known };
+}
+
+// Whether spans that were known or not are known after a change, which may have had no memory.
+fn still_known(known: bool, change: Result<(), AllocError>) -> bool
+    ensures { result ≡ (known && is_ok change) }
+{
+    known && change.is_ok()
 }
 
 impl OpSet {
@@ -53,6 +64,8 @@ impl OpSet {
     {
         OpSet {
             ops: Vec::new(alloc),
+            spans: Vec::new(alloc),
+            known: true,
         }
     }
 
@@ -61,7 +74,12 @@ impl OpSet {
         ensures { IfOk result (λ made. made ≡ self.now) }
     {
         let ops = Vec::from_slice(alloc, &self.ops)?;
-        Ok(OpSet { ops })
+        let spans = Vec::from_slice(alloc, &self.spans)?;
+        Ok(OpSet {
+            ops,
+            spans,
+            known: self.known,
+        })
     }
 
     /// How many members there are.
@@ -113,7 +131,9 @@ impl OpSet {
 
     /// Adds an operation, and answers whether it is new. Only a new one can fail; an error leaves the set.
     ///
-    /// One above all members costs one comparison, and none of them moves; else a binary search, and those above it move.
+    /// One above all members costs one comparison, and none of them moves; else a binary search, and those above it move. The
+    /// spans of the names are kept by one binary search among them. That never fails: where there is no memory for one, they
+    /// are not known until the next merge.
     pub fn add(&mut self, op: Op) -> Result<bool, AllocError>
         ensures ok { OnOk result (self.new ≡ set.insert self.old op) }
         ensures new { IfOk result (λ new. new ≡ not (set.contains self.old op)) }
@@ -124,19 +144,28 @@ impl OpSet {
             Ok(_) => Ok(false),
             Err(place) => {
                 self.ops.insert(place, op)?;
+                let added = add_name(&mut self.spans, op.name);
+                self.known = still_known(self.known, added);
                 Ok(true)
             }
         }
     }
 
-    /// Takes an operation out, and answers whether it was a member. Takes no memory. The members above it move.
+    /// Takes an operation out, and answers whether it was a member. Takes no memory. The members above it move, and the spans
+    /// are kept as [`OpSet::add`] keeps them.
     pub fn remove(&mut self, op: &Op) -> bool
         ensures after { self.new ≡ set.remove self.old op.now }
         ensures was { result ≡ set.contains self.old op.now }
     {
         match place_of(&self.ops, op) {
             Ok(place) => {
+                let shared = has_other(&self.ops, op);
                 self.ops.remove(place);
+                if shared {
+                    return true;
+                }
+                let removed = remove_name(&mut self.spans, op.name);
+                self.known = still_known(self.known, removed);
                 true
             }
             Err(_) => false,
@@ -146,23 +175,43 @@ impl OpSet {
     /// Adds the members of another set; operations of one name all stay. An error leaves the set.
     ///
     /// Where all of the other's are above all members, they are appended, and no member moves. Else both sets are walked once,
-    /// into a new vector.
+    /// into a new vector, and its spans are found by one more walk.
     pub fn merge(&mut self, other: &OpSet) -> Result<(), AllocError>
         ensures ok { OnOk result (self.new ≡ set.union self.old other.now) }
         ensures err { OnErr result (self.new ≡ self.old) }
     {
         if all_below(&self.ops, &other.ops) {
-            return self.ops.extend_from_slice(&other.ops);
+            self.ops.extend_from_slice(&other.ops)?;
+            let added = add_names(&mut self.spans, &other.ops);
+            self.known = still_known(self.known, added);
+            return Ok(());
         }
         self.ops = merged(*self.ops.allocator(), &self.ops, &other.ops)?;
+        self.known = false;
+        self.find_spans();
         Ok(())
     }
 
+    // Walks the members for their spans, once. Where there is no memory for them, they are not known.
+    fn find_spans(&mut self)
+        ensures { self.new ≡ self.old }
+    {
+        let Ok(spans) = spans_of(*self.ops.allocator(), &self.ops) else {
+            return;
+        };
+        self.spans = spans;
+        self.known = true;
+    }
+
     /// What names the members have, as windows that cover all names: each with at most 512 spans, all but the last with just so
-    /// many. One walk. An error says that there was no memory for them.
+    /// many. Copies the spans, and walks no member; where there was no memory to keep the spans, it walks all of them, once. An
+    /// error says that there was no memory for the windows.
     pub fn have(&self, alloc: Global) -> Result<Vec<Intervals>, AllocError>
         ensures { IfOk result (λ windows. AreWindows (In self.now) windows.items) }
     {
+        if self.known {
+            return windows_of(alloc, &self.spans);
+        }
         let spans = spans_of(alloc, &self.ops)?;
         windows_of(alloc, &spans)
     }

@@ -19,7 +19,7 @@ none_given Q true n r e h = subst (λ r. IfNone r Q) (sym e) tt
 none_given Q false n r e h = subst (λ r. IfNone r Q) (sym e) (h refl)
 
 pub has_other-requires : goal.has_other-requires
-has_other-requires c = subst (IsStrictlySortedBy op_cmp) (sym c.deref.ensures.value) c.self.invariant
+has_other-requires c = subst (IsStrictlySortedBy op_cmp) (sym c.deref.ensures.value) c.self.invariant.rises
 
 pub returns-clause-some : goal.returns-clause-some
 returns-clause-some c =

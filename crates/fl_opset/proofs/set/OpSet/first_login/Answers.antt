@@ -9,7 +9,7 @@ use Rattle.fl_opset.specs.laws.Members.{listed_in}
 use Rattle.fl_opset.proofs.set.OpSet.first_login.Goals as goal
 
 pub first_login-requires : goal.first_login-requires
-first_login-requires c = subst (IsStrictlySortedBy op_cmp) (sym c.deref.ensures.value) c.self.invariant
+first_login-requires c = subst (IsStrictlySortedBy op_cmp) (sym c.deref.ensures.value) c.self.invariant.rises
 
 pub returns : goal.returns
 returns c =

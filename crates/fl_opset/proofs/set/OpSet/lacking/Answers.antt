@@ -7,8 +7,8 @@ use Rattle.fl_opset.proofs.Whole.{lacking_found}
 use Rattle.fl_opset.proofs.set.OpSet.lacking.Goals as goal
 
 pub lacking_of-requires : goal.lacking_of-requires
-lacking_of-requires c = subst (IsNonDecreasingBy op_rank) (sym c.deref.ensures.value) (ranks_rise _ c.self.invariant)
+lacking_of-requires c = subst (IsNonDecreasingBy op_rank) (sym c.deref.ensures.value) (ranks_rise _ c.self.invariant.rises)
 
 pub returns : goal.returns
 returns c =
-    subst (λ (l : List Op). IfOk c.lacking_of.result (λ ops. ops.items ≡ l)) (lacking_found _ _ _ c.self.view_is c.deref.ensures.value c.self.invariant c.args.window.now) c.lacking_of.ensures
+    subst (λ (l : List Op). IfOk c.lacking_of.result (λ ops. ops.items ≡ l)) (lacking_found _ _ _ c.self.view_is c.deref.ensures.value c.self.invariant.rises c.args.window.now) c.lacking_of.ensures

@@ -8,7 +8,7 @@ use Rattle.fl_labels.specs.laws.SortedVec.{every_member, item_member}
 use Rattle.fl_opset.proofs.set.OpSet.last_of.Goals as goal
 
 pub last_seq-requires : goal.last_seq-requires
-last_seq-requires c = subst (IsStrictlySortedBy op_cmp) (sym c.deref.ensures.value) c.self.invariant
+last_seq-requires c = subst (IsStrictlySortedBy op_cmp) (sym c.deref.ensures.value) c.self.invariant.rises
 
 pub returns-clause-upper : goal.returns-clause-upper
 returns-clause-upper c =

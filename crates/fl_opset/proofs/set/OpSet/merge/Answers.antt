@@ -1,19 +1,27 @@
+use Rattle.std.proofs.Common.{sym, ap, ◌∙◌, subst, refl}
 use Rattle.fl_ops.specs.OpLaws.{op_total, op_exact}
+use Rattle.fl_labels.specs.SetBy.{of_list}
+use Rattle.fl_opset.proofs.Kept.{kept_same, kept_union, kept_lost}
 use Rattle.fl_opset.proofs.MergeLemmas.{merged_lists, appended_lists}
 use Rattle.fl_opset.proofs.set.OpSet.merge.Goals as goal
 
 pub invariant_of-self : goal.invariant_of-self
-invariant_of-self c =
-    (appended_lists op_total op_exact c.extend_from_slice.result _ _ _ _ _ _ _ _ c.self.invariant c.other.invariant c.self.view_is c.other.view_is c.deref.ensures.value c.deref-2.ensures.value c.deref-then-all_below.ensures.value (c.all_below.ensures.below c.if-all_below.true) c.extend_from_slice.ensures.items).0
+invariant_of-self c = kept_same _ _ _ _ c.in_err-extend_from_slice.ensures.items c.self.invariant
+
+pub invariant_of-self-then-all_below : goal.invariant_of-self-then-all_below
+invariant_of-self-then-all_below c =
+    let new = appended_lists op_total op_exact _ _ _ _ _ _ _ _ c.self.invariant.rises c.other.invariant.rises c.self.view_is c.other.view_is c.deref.ensures.value c.deref-2.ensures.value c.deref-then-all_below.ensures.value (c.all_below.ensures.below c.if-all_below.true) c.in_ok-extend_from_slice.ensures.items in
+    kept_union _ _ _ c.args.self.now c.self.invariant c.self.view_is _ _ _ _ new c.add_names-added.result c.args.other.now _ c.still_known-self-inside.ensures refl
+    (ap of_list c.deref-then-all_below-2.ensures.value ∙ c.other.view_is) c.add_names-added.ensures.fits c.add_names-added.ensures.ok
 
 pub returns-then-all_below-clause-ok : goal.returns-then-all_below-clause-ok
 returns-then-all_below-clause-ok c =
-    (appended_lists op_total op_exact c.extend_from_slice.result _ _ _ _ _ _ _ _ c.self.invariant c.other.invariant c.self.view_is c.other.view_is c.deref.ensures.value c.deref-2.ensures.value c.deref-then-all_below.ensures.value (c.all_below.ensures.below c.if-all_below.true) c.extend_from_slice.ensures.items).1
+    (appended_lists op_total op_exact _ _ _ _ _ _ _ _ c.self.invariant.rises c.other.invariant.rises c.self.view_is c.other.view_is c.deref.ensures.value c.deref-2.ensures.value c.deref-then-all_below.ensures.value (c.all_below.ensures.below c.if-all_below.true) c.in_ok-extend_from_slice.ensures.items).view
 
 pub invariant_of-self-2 : goal.invariant_of-self-2
 invariant_of-self-2 c =
-    (merged_lists op_total op_exact _ _ _ _ _ _ _ c.self.invariant c.other.invariant c.self.view_is c.other.view_is c.deref-3.ensures.value c.deref-4.ensures.value c.in_ok-self-inside.ensures).rises
+    kept_lost _ _ _ (merged_lists op_total op_exact _ _ _ _ _ _ _ c.self.invariant.rises c.other.invariant.rises c.self.view_is c.other.view_is c.deref-3.ensures.value c.deref-4.ensures.value c.in_ok-self-inside.ensures).rises c.self.invariant.fits refl
 
 pub returns-clause-ok : goal.returns-clause-ok
 returns-clause-ok c =
-    (merged_lists op_total op_exact _ _ _ _ _ _ _ c.self.invariant c.other.invariant c.self.view_is c.other.view_is c.deref-3.ensures.value c.deref-4.ensures.value c.in_ok-self-inside.ensures).view
+    c.find_spans.ensures ∙ (merged_lists op_total op_exact _ _ _ _ _ _ _ c.self.invariant.rises c.other.invariant.rises c.self.view_is c.other.view_is c.deref-3.ensures.value c.deref-4.ensures.value c.in_ok-self-inside.ensures).view

@@ -7,4 +7,4 @@ pub returns-clause-puts : goal.returns-clause-puts
 returns-clause-puts g c =
     let W = g.W.Writer.contents in
     subst (λ (text : List ℕ). Puts (W c.args.output.now) (W c.write_lines.new.output) c.args.sink.now text c.write_lines.new.sink c.write_lines.result)
-    (listed_text _ _ _ c.self.invariant c.self.view_is c.deref.ensures.value) c.write_lines.ensures.puts
+    (listed_text _ _ _ c.self.invariant.rises c.self.view_is c.deref.ensures.value) c.write_lines.ensures.puts
