@@ -1,15 +1,14 @@
 -- What a restart finds.
-use Rattle.std.proofs.Common.{◌≡◌, ◌≢◌, ◌+◌, ◌∙◌, refl, sym, ap, subst, inl, ℕ, Bool, true, false, length, le_refl, Result, Ok, Err, None}
+use Rattle.std.proofs.Common.{◌≡◌, ◌+◌, refl, subst, inl, ℕ, Bool, true, false, length, le_refl, Ok, Err, None}
 use Rattle.std.specs.declared.option.Option.{Option}
-use Rattle.fl_jobs.specs.declared.answer.Refusal.TheVariants as refusal
-use Rattle.fl_store.specs.Kept.{Kept, with_batch}
+use Rattle.fl_store.specs.Kept.{Kept}
 use Rattle.fl_system.specs.declared.answer.Fault.{Fault}
-use Rattle.fl_system.specs.declared.answer.Fault.TheVariants.{Refused, KeeperFailed, WrongNode}
+use Rattle.fl_system.specs.declared.answer.Fault.TheVariants.{WrongNode}
 use Rattle.fl_system.specs.declared.state.Batch.{Batch}
 use Rattle.fl_system.specs.declared.state.Pending.TheVariants.{Nothing, Unsaved, Due}
 use Rattle.fl_system.specs.declared.state.State.{State}
 use Rattle.fl_system.specs.declared.state.State.TheVariants.{Running, Stopped}
-use Rattle.fl_system.specs.State.{NodeState, kept_of, ops_of}
+use Rattle.fl_system.specs.State.{NodeState, kept_of}
 use Rattle.fl_system.specs.Waiting.{IsRunning, NoneUnsaved}
 use Rattle.fl_system.specs.Saves.{Saves, stored}
 use Rattle.fl_system.specs.Openings.{Opens, FailsToOpen, IsOwn, OpensAgain, Restarts, opened}

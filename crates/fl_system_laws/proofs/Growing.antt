@@ -1,5 +1,5 @@
 -- What is saved stays saved.
-use Rattle.std.proofs.Common.{◌≡◌, ◌⊎◌, ◌∙◌, refl, sym, ap, subst, inl, inr, ℕ, Bool, List, Result, Ok, Err, None}
+use Rattle.std.proofs.Common.{◌≡◌, ◌∙◌, refl, sym, ap, subst, inl, inr, ℕ, Bool, List, Result}
 use Rattle.std.specs.Prelude.{◌||◌}
 use Rattle.std.specs.declared.option.Option.{Option}
 use Rattle.fl_labels.specs.declared.pid.Pid.{Pid}
@@ -17,7 +17,7 @@ use Rattle.fl_system.specs.declared.state.Batch.{Batch}
 use Rattle.fl_system.specs.State.{NodeState}
 use Rattle.fl_system.specs.Begins.{Begins}
 use Rattle.fl_system.specs.Jobs.{Jobs}
-use Rattle.fl_system.specs.Saves.{Saves, stored}
+use Rattle.fl_system.specs.Saves.{Saves}
 use Rattle.fl_system.specs.Publishes.{Publishes, Cancels}
 use Rattle.fl_system.specs.Openings.{Opens, OpensAgain, Restarts, Reopens}
 
