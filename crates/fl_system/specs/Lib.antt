@@ -9,3 +9,14 @@ pub mod Receives
 pub mod Saves
 pub mod Publishes
 pub mod Openings
+pub mod Arrives
+pub mod Gossip
+pub mod World
+pub mod Union
+pub mod Audit
+pub mod WorldJobs
+pub mod WorldCalls
+pub mod Deliveries
+pub mod WorldSteps
+pub mod Joins
+pub mod Runs

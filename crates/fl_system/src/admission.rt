@@ -1,0 +1,40 @@
+//! What is noted of a world: each thing that a reference monitor admitted.
+
+use fl_jobs::job::Side;
+use fl_labels::cap::Cap;
+use fl_labels::cap_set::CapSet;
+use fl_labels::label::Label;
+use fl_labels::name::Name;
+use fl_labels::pid::Pid;
+use fl_ops::digest::Digest;
+use fl_rules::endpoint::Mode;
+use fl_rules::labels::Labels;
+
+/// A process as the rules judge it: its labels, and what it owned then.
+#[derive(Debug, Drop, PartialEq, Eq)]
+pub struct Party {
+    pub pid: Pid,
+    pub labels: Labels,
+    pub owned: CapSet,
+}
+
+/// One thing that was admitted, with all that its safety is judged by.
+#[derive(Debug, Drop, PartialEq, Eq)]
+pub enum Admission {
+    /// The label of this side became this one.
+    Change(Party, Side, Label),
+    /// An endpoint of this mode was opened with these labels, or tuned to them.
+    Endpoint(Party, Mode, Labels),
+    /// Bytes went to the outside.
+    Emission(Party),
+    /// Capabilities were handed on: at a birth, into a group, into a login, or in a message.
+    Grant(Party, CapSet),
+    /// The login of this name gave the capability for a secret of this digest.
+    Entry(Party, Name, Cap, Digest),
+    /// A message arrived: its sender as it was when it sent, and its receiver just before.
+    Message(Party, Party),
+    /// The process was told that it has the capability in effect.
+    Yes(Party, Cap),
+    /// Somebody was told at this node, in this boot, that the first capability reaches the second.
+    Reached(u16, u32, Cap, Cap),
+}
