@@ -1,5 +1,6 @@
--- Proved laws of one node, that the crates above cite.
+-- Proved laws of nodes and worlds, that the crates above cite.
 pub mod Steps
 pub mod Owning
 pub mod Wholes
 pub mod Numbered
+pub mod Going
