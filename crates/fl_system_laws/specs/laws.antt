@@ -4,3 +4,4 @@ pub mod Owning
 pub mod Wholes
 pub mod Numbered
 pub mod Going
+pub mod Finding

@@ -90,6 +90,12 @@ windows_bring_none windows p h op i =
     let m = in_mapped packets.Have windows p h in
     in_none op (subst (λ q. Contains (gossip.ops_of q) op) (sym m.is) i)
 
+-- what a packet of operations carries
+pub carried_is : (sent : Sent) {batch : Batch}
+    → (sent.packet ≡ packets.Full batch) ⊎ (sent.packet ≡ packets.Delta batch) → batch.ops ≡ carried sent
+carried_is sent (inl e) = ap gossip.ops_of (sym e)
+carried_is sent (inr e) = ap gossip.ops_of (sym e)
+
 module _ (w : World) where
   -- an event that leaves the world, or not
   job_goes : (number : ℕ) {desk upto : ℕ} {s : KeptNode} {job : Job} {reply : Reply} {w' : World} → IsAt w number s
@@ -151,11 +157,6 @@ module _ (w : World) where
   message_goes number at (MessageAt.arrives does) = Goes.calls number _ _ at (Calls.arrives does) (λ x h. in_none x h)
   message_goes number at (MessageAt.refused does) = Goes.calls number _ _ at (Calls.arrives does) (λ x h. in_none x h)
   message_goes number at (MessageAt.no_room running) = Goes.stays
-
-  carried_is : (sent : Sent) {batch : Batch} → (sent.packet ≡ packets.Full batch) ⊎ (sent.packet ≡ packets.Delta batch)
-      → batch.ops ≡ carried sent
-  carried_is sent (inl e) = ap gossip.ops_of (sym e)
-  carried_is sent (inr e) = ap gossip.ops_of (sym e)
 
   deliver_goes : (number : ℕ) {s : KeptNode} (sent : Sent) {reply : Reply} {w' : World} → Contains w.packets sent
       → IsAt w number s → DeliverAt w number s sent reply w' → Goes w w'

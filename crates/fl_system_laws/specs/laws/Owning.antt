@@ -6,6 +6,8 @@ use Rattle.fl_labels.specs.declared.pid.Pid.{Pid}
 use Rattle.fl_labels.specs.SetBy.{SetBy}
 use Rattle.fl_ops.specs.declared.op.Body.{Body}
 use Rattle.fl_ops.specs.OpOrder.{op_cmp}
+use Rattle.fl_wire.specs.declared.packet.Data.{Data}
+use Rattle.fl_jobs.specs.declared.answer.Reply.{Reply}
 use Rattle.fl_jobs.specs.declared.job.Job.{Job}
 use Rattle.fl_store.specs.Kept.{Kept, with_batch}
 use Rattle.fl_system.specs.declared.answer.Answer.{Answer}
@@ -16,8 +18,9 @@ use Rattle.fl_system.specs.declared.state.State.TheVariants.{Stopped}
 use Rattle.fl_system.specs.State.{NodeState, ops_of, kept_of}
 use Rattle.fl_system.specs.Waiting.{IsRunning}
 use Rattle.fl_system.specs.Begins.{Begins}
-use Rattle.fl_system.specs.Jobs.{Jobs, worked}
+use Rattle.fl_system.specs.Jobs.{Jobs, Looks, looking, worked}
 use Rattle.fl_system.specs.Receives.{Receives}
+use Rattle.fl_system.specs.Arrives.{Arrives}
 use Rattle.fl_system.specs.Saves.{Saves, stored}
 use Rattle.fl_system.specs.Publishes.{Publishes, Cancels}
 use Rattle.fl_system.specs.Openings.{Opens, OpensAgain, Restarts, Reopens, opened}
@@ -46,6 +49,16 @@ jobs_own h (Jobs.sent look decided) = runs_on look.running refl h
 jobs_own {n} {desk} {upto} {job} h (Jobs.begun {v = v} {left = left} look decided begun) =
     begins_own {n = worked n desk v job left} (runs_on look.running refl h) begun
 jobs_own h (Jobs.not_begun look decided begun) = runs_on look.running refl h
+
+pub looks_own : {n : NodeState} {desk upto v : ℕ} (seen : ℕ) {k : Kept} → IsKeptOwn n k → Looks n desk upto v
+    → IsKeptOwn (looking n desk seen) k
+looks_own seen h look = runs_on look.running refl h
+
+pub arrives_own : {n : NodeState} {d : Data} {result : Result Reply Fault} {n' : NodeState} {k : Kept}
+    → IsKeptOwn n k → Arrives n d result n' → IsKeptOwn n' k
+arrives_own h (Arrives.stopped why) = h
+arrives_own h (Arrives.refused at) = runs_on at.running refl h
+arrives_own h (Arrives.arrives at) = runs_on at.running refl h
 
 pub receives_own : {n : NodeState} {ops : SetBy op_cmp} {result : Result ℕ Fault} {n' : NodeState} {k : Kept}
     → IsKeptOwn n k → Receives n ops result n' → IsKeptOwn n' k

@@ -15,6 +15,8 @@ use Rattle.fl_ops.specs.OpOrder.{op_cmp}
 use Rattle.fl_ops.specs.OpLaws.{op_total}
 use Rattle.fl_opset.specs.laws.Members.{listed_in, listed_member}
 use Rattle.fl_opset.specs.laws.Unions.{union_upper}
+use Rattle.fl_wire.specs.declared.packet.Data.{Data}
+use Rattle.fl_jobs.specs.declared.answer.Reply.{Reply}
 use Rattle.fl_jobs.specs.declared.job.Job.{Job}
 use Rattle.fl_store.specs.Kept.{Kept, with_ops}
 use Rattle.fl_system.specs.declared.answer.Answer.{Answer}
@@ -28,6 +30,7 @@ use Rattle.fl_system.specs.Naming.{IsNextAfter}
 use Rattle.fl_system.specs.Begins.{Begins}
 use Rattle.fl_system.specs.Jobs.{Jobs, worked}
 use Rattle.fl_system.specs.Receives.{Receives}
+use Rattle.fl_system.specs.Arrives.{Arrives}
 use Rattle.fl_system.specs.Saves.{Saves, stored}
 use Rattle.fl_system.specs.Publishes.{Publishes, Cancels}
 use Rattle.fl_system.specs.Openings.{Opens, OpensAgain, IsOwn, Restarts, Reopens, opened}
@@ -211,6 +214,12 @@ module _ {known : Op → Type 0} where
       begins_step {n = worked n desk v job left} s begun
   jobs_step s (Jobs.not_begun look decided begun) = stays s
 
+  pub arrives_step : {n : NodeState} {d : Data} {result : Result Reply Fault} {n' : NodeState}
+      → IsSound known (holding n) → Arrives n d result n' → IsStep known (holding n) (holding n')
+  arrives_step s (Arrives.stopped why) = stays s
+  arrives_step s (Arrives.refused at) = stays s
+  arrives_step s (Arrives.arrives at) = stays s
+
   -- ---- received operations
 
   pub receives_step : {n : NodeState} {ops : SetBy op_cmp} {result : Result ℕ Fault} {n' : NodeState}
@@ -315,7 +324,7 @@ module _ {known : Op → Type 0} where
       opens_step (holding n) n refl (λ op h. h) (λ op h. inl h) s.published None (λ op h. in_none op h) s h
 
   -- what is in doubt may be saved
-  doubts_step : (n : NodeState) {doubt : Option Batch} {k : Kept} {result : Result ℕ Fault} {n' : NodeState} {k' : Kept}
+  pub doubts_step : (n : NodeState) {doubt : Option Batch} {k : Kept} {result : Result ℕ Fault} {n' : NodeState} {k' : Kept}
       → IsSound known (holding n) → n.state ≡ Stopped doubt → OpensAgain n doubt k result n' k'
       → IsStep known (holding n) (holding n')
   doubts_step n {doubt} s is h =

@@ -10,6 +10,8 @@ use Rattle.fl_ops.specs.declared.op.Op.{Op}
 use Rattle.fl_ops.specs.declared.op.Body.{Body}
 use Rattle.fl_ops.specs.OpOrder.{op_cmp}
 use Rattle.fl_opset.specs.laws.Members.{member_listed}
+use Rattle.fl_wire.specs.declared.packet.Data.{Data}
+use Rattle.fl_jobs.specs.declared.answer.Reply.{Reply}
 use Rattle.fl_jobs.specs.declared.job.Job.{Job}
 use Rattle.fl_store.specs.Kept.{Kept}
 use Rattle.fl_system.specs.declared.answer.Answer.{Answer}
@@ -21,8 +23,9 @@ use Rattle.fl_system.specs.declared.state.State.TheVariants.{Running, Stopped}
 use Rattle.fl_system.specs.State.{NodeState, ops_of}
 use Rattle.fl_system.specs.Waiting.{IsRunning}
 use Rattle.fl_system.specs.Begins.{Begins}
-use Rattle.fl_system.specs.Jobs.{Jobs, worked}
+use Rattle.fl_system.specs.Jobs.{Jobs, Looks, looking, worked}
 use Rattle.fl_system.specs.Receives.{Receives}
+use Rattle.fl_system.specs.Arrives.{Arrives}
 use Rattle.fl_system.specs.Saves.{Saves}
 use Rattle.fl_system.specs.Publishes.{Publishes, Cancels}
 use Rattle.fl_system.specs.Openings.{Opens, OpensAgain, Restarts, Reopens, opened}
@@ -77,6 +80,16 @@ jobs_whole h (Jobs.sent look decided) = same_whole refl refl refl h
 jobs_whole {n} {desk} {upto} {job} h (Jobs.begun {v = v} {left = left} look decided begun) =
     begins_whole {n = worked n desk v job left} (same_whole refl refl refl h) begun
 jobs_whole h (Jobs.not_begun look decided begun) = same_whole refl refl refl h
+
+pub looks_whole : {n : NodeState} {desk upto v : ℕ} (seen : ℕ) → IsWhole n → Looks n desk upto v
+    → IsWhole (looking n desk seen)
+looks_whole seen h look = same_whole refl refl refl h
+
+pub arrives_whole : {n : NodeState} {d : Data} {result : Result Reply Fault} {n' : NodeState}
+    → IsWhole n → Arrives n d result n' → IsWhole n'
+arrives_whole h (Arrives.stopped why) = h
+arrives_whole h (Arrives.refused at) = same_whole refl refl refl h
+arrives_whole h (Arrives.arrives at) = same_whole refl refl refl h
 
 pub receives_whole : {n : NodeState} {ops : SetBy op_cmp} {result : Result ℕ Fault} {n' : NodeState}
     → IsWhole n → Receives n ops result n' → IsWhole n'
