@@ -24,7 +24,8 @@ abbrev pub Unasked : Registry
 Unasked op = ⊥
 
 -- at its receiver's bench the message has this result
-pub record ArrivesAt (n : NodeState) (d : Data) (result : Result Outcome Refusal) (left : BenchState) : Type 0 where
+pub record ArrivesAt (n : NodeState) (d : Data) (result : Result Outcome Refusal) (left : BenchState)
+    : Type 0 where
   pub running : IsRunning n.state
   pub bench : BenchState
   pub stands : item_at n.benches (place_of n (Arrive d)) ≡ Some bench

@@ -40,7 +40,8 @@ pub data TellAt (w : World) (number : ℕ) (s : KeptNode) : Reply → World → 
 -- A window comes to it, which it answers.
 pub data WindowAt (w : World) (number : ℕ) (s : KeptNode) (window : Intervals)
     : Reply → World → Type 0 where
-  stopped : {fault : Fault} → NotRunning s.node.state fault → WindowAt w number s window (Refused fault) w
+  stopped : {fault : Fault} → NotRunning s.node.state fault
+      → WindowAt w number s window (Refused fault) w
   no_room : IsRunning s.node.state → WindowAt w number s window (Refused (faults.Refused Memory)) w
   answers : {told : List AnyPacket} → IsRunning s.node.state → IsAnswer s.node.saved window told
       → WindowAt w number s window (HasSent (next_packet w) (length told)) (has_told w number told)
@@ -66,8 +67,8 @@ pub data MessageAt (w : World) (number : ℕ) (s : KeptNode) (sent : Sent) (d : 
   no_room : IsRunning s.node.state → MessageAt w number s sent d (Refused (faults.Refused Memory)) w
 
 -- A packet comes to it.
-pub data DeliverAt (w : World) (number : ℕ) (s : KeptNode) (sent : Sent) (reply : Reply) (w' : World)
-    : Type 0 where
+pub data DeliverAt (w : World) (number : ℕ) (s : KeptNode) (sent : Sent)
+    (reply : Reply) (w' : World) : Type 0 where
   have : {window : Intervals} → sent.packet ≡ packets.Have window
       → WindowAt w number s window reply w' → DeliverAt w number s sent reply w'
   ops : {batch : Batch} → (sent.packet ≡ packets.Full batch) ⊎ (sent.packet ≡ packets.Delta batch)

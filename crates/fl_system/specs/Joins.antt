@@ -65,10 +65,12 @@ pub data Joins (w : World) (number : ℕ) (k : Kept) : Reply → World → Type 
       → IsLeastName (IsClashAt w k.saved) name → Joins w number k (Refused (faults.Clash name)) w
   -- or else a node would not have saved what was made under its number
   impostor : {name : Name} → map.get w.nodes number ≡ None → IsOf number k
-      → ((other : Name) → ¬ IsClashAt w k.saved other) → IsLeastName (IsStray (joined w number k)) name
+      → ((other : Name) → ¬ IsClashAt w k.saved other)
+      → IsLeastName (IsStray (joined w number k)) name
       → Joins w number k (Refused (faults.Impostor name)) w
   joins : map.get w.nodes number ≡ None → IsOf number k → HasNamesOnce k.saved
-      → ((name : Name) → ¬ IsClashAt w k.saved name) → ((name : Name) → ¬ IsStray (joined w number k) name)
+      → ((name : Name) → ¬ IsClashAt w k.saved name)
+      → ((name : Name) → ¬ IsStray (joined w number k) name)
       → Joins w number k (Booted (k.boot + 1)) (joined w number k)
 
 -- The node of this number is opened again over what another keeper has kept.
@@ -77,9 +79,9 @@ pub data Reopening (w : World) (number : ℕ) (k : Kept) : Reply → World → T
   -- it runs, and keeps its own keeper
   running : {s : KeptNode} → IsAt w number s → IsRunning s.node.state
       → Reopening w number k (Refused (faults.Refused Busy)) w
-  booted : {s : KeptNode} {doubt : Option Batch} {boot : ℕ} {n : NodeState} {k' : Kept} → IsAt w number s
-      → s.node.state ≡ Stopped doubt → OpensAgain s.node doubt k (Ok boot) n k'
+  booted : {s : KeptNode} {doubt : Option Batch} {boot : ℕ} {n : NodeState} {k' : Kept}
+      → IsAt w number s → s.node.state ≡ Stopped doubt → OpensAgain s.node doubt k (Ok boot) n k'
       → Reopening w number k (Booted boot) (went w number n k' [] [])
-  refused : {s : KeptNode} {doubt : Option Batch} {fault : Fault} {n : NodeState} {k' : Kept} → IsAt w number s
-      → s.node.state ≡ Stopped doubt → OpensAgain s.node doubt k (Err fault) n k'
+  refused : {s : KeptNode} {doubt : Option Batch} {fault : Fault} {n : NodeState} {k' : Kept}
+      → IsAt w number s → s.node.state ≡ Stopped doubt → OpensAgain s.node doubt k (Err fault) n k'
       → Reopening w number k (Refused fault) (went w number n k' [] [])

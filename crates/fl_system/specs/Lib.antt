@@ -20,3 +20,5 @@ pub mod Deliveries
 pub mod WorldSteps
 pub mod Joins
 pub mod Runs
+pub mod Taint
+pub mod Whereabouts

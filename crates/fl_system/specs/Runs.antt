@@ -7,7 +7,7 @@ use Rattle.fl_system.specs.World.{World, empty_world}
 use Rattle.fl_system.specs.WorldSteps.{Step}
 use Rattle.fl_system.specs.Joins.{Joins, Reopening}
 
--- an event, a node of this number that joins over what is kept, or one that is opened again over what another keeper has
+-- an event; a node of this number that joins, over what is kept; or one that is opened over another keeper
 pub data Move : Type 0 where
   Happens : Event → Move
   Comes : ℕ → Kept → Move

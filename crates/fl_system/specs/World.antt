@@ -29,7 +29,7 @@ pub record World : Type 0 where
 abbrev pub empty_world : ℕ → World
 empty_world desks = record { desks = desks; nodes = map.empty; packets = []; audit = [] }
 
--- the node of this number, and what is kept of it, are now these; these packets were sent, and these things admitted
+-- with this node of this number, and what is kept of it, after these packets were sent and these things admitted
 abbrev pub went : World → ℕ → NodeState → Kept → List Sent → List Admission → World
 went w number node kept sent admitted =
     record w {

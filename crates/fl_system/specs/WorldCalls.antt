@@ -46,8 +46,10 @@ pub data CancelAt (w : World) (number : ℕ) (s : KeptNode) : Reply → World �
       → CancelAt w number s (Refused fault) (went w number n s.kept [] [])
 
 -- The node is restarted.
-pub data RestartAt (w : World) (number : ℕ) (s : KeptNode) (keeps : Bool) : Reply → World → Type 0 where
+pub data RestartAt (w : World) (number : ℕ) (s : KeptNode) (keeps : Bool)
+    : Reply → World → Type 0 where
   booted : {boot : ℕ} {n : NodeState} {k : Kept} → Restarts s.node s.kept keeps (Ok boot) n k
       → RestartAt w number s keeps (Booted boot) (went w number n k [] [])
-  refused : {fault : Fault} {n : NodeState} {k : Kept} → Restarts s.node s.kept keeps (Err fault) n k
+  refused : {fault : Fault} {n : NodeState} {k : Kept}
+      → Restarts s.node s.kept keeps (Err fault) n k
       → RestartAt w number s keeps (Refused fault) (went w number n k [] [])

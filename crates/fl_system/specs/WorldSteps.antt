@@ -45,8 +45,8 @@ pub data Step (w : World) : Event → Reply → World → Type 0 where
   no_packet : {packet number : ℕ} → item_at w.packets packet ≡ None
       → Step w (Deliver packet number) NoSuch w
   -- what is named is there
-  job : {number desk upto : ℕ} {job : AnyJob} {s : KeptNode} {reply : Reply} {w' : World} → IsAt w number s
-      → ¬ IsArrival job → JobAt w number s desk upto job reply w'
+  job : {number desk upto : ℕ} {job : AnyJob} {s : KeptNode} {reply : Reply} {w' : World}
+      → IsAt w number s → ¬ IsArrival job → JobAt w number s desk upto job reply w'
       → Step w (Job number desk upto job) reply w'
   save : {number : ℕ} {s : KeptNode} {reply : Reply} {w' : World} → IsAt w number s
       → SaveAt w number s reply w' → Step w (Save number) reply w'
@@ -54,8 +54,8 @@ pub data Step (w : World) : Event → Reply → World → Type 0 where
       → PublishAt w number s reply w' → Step w (Publish number) reply w'
   cancel : {number : ℕ} {s : KeptNode} {reply : Reply} {w' : World} → IsAt w number s
       → CancelAt w number s reply w' → Step w (Cancel number) reply w'
-  restart : {number : ℕ} {keeps : Bool} {s : KeptNode} {reply : Reply} {w' : World} → IsAt w number s
-      → RestartAt w number s keeps reply w' → Step w (Restart number keeps) reply w'
+  restart : {number : ℕ} {keeps : Bool} {s : KeptNode} {reply : Reply} {w' : World}
+      → IsAt w number s → RestartAt w number s keeps reply w' → Step w (Restart number keeps) reply w'
   tell : {number : ℕ} {s : KeptNode} {reply : Reply} {w' : World} → IsAt w number s
       → TellAt w number s reply w' → Step w (Tell number) reply w'
   deliver : {packet number : ℕ} {s : KeptNode} {sent : Sent} {reply : Reply} {w' : World}
