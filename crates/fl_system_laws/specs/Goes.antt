@@ -38,25 +38,29 @@ use Rattle.fl_system.specs.Joins.{joined}
 abbrev pub carried : Sent → List Op
 carried sent = gossip.ops_of sent.packet
 
--- One call at the node s of the world, which leaves the node and what is kept of it so. What it receives is what a
--- packet that was sent carries.
+-- One call at the node s of the world, which leaves the node and what is kept of it so. What it
+-- receives is what a packet that was sent carries.
 pub data Calls (w : World) (s : KeptNode) : NodeState → Kept → Type 0 where
   jobs : {desk upto : ℕ} {job : Job} {result : Result Answer Fault} {n : NodeState}
       → Jobs s.node desk upto job result n → Calls w s n s.kept
-  looks : {desk upto v : ℕ} (seen : ℕ) → Looks s.node desk upto v → Calls w s (looking s.node desk seen) s.kept
+  looks : {desk upto v : ℕ} (seen : ℕ) → Looks s.node desk upto v
+      → Calls w s (looking s.node desk seen) s.kept
   receives : {result : Result ℕ Fault} (sent : Sent) {n : NodeState} → Contains w.packets sent
       → Receives s.node (set.of_list (carried sent)) result n → Calls w s n s.kept
   arrives : {d : Data} {result : Result JobReply Fault} {n : NodeState} → Arrives s.node d result n
       → Calls w s n s.kept
-  saves : {result : Result (Unit {0}) Fault} {n : NodeState} {k : Kept} → Saves s.node s.kept result n k
+  saves : {result : Result (Unit {0}) Fault} {n : NodeState} {k : Kept}
+      → Saves s.node s.kept result n k
       → Calls w s n k
-  publishes : {result : Result ℕ Fault} {n : NodeState} → Publishes s.node result n → Calls w s n s.kept
+  publishes : {result : Result ℕ Fault} {n : NodeState} → Publishes s.node result n
+      → Calls w s n s.kept
   cancels : {result : Result (Unit {0}) Fault} {n : NodeState} → Cancels s.node result n
       → Calls w s n s.kept
   restarts : {keeps : Bool} {result : Result ℕ Fault} {n : NodeState} {k : Kept}
       → Restarts s.node s.kept keeps result n k → Calls w s n k
   -- over what another keeper has
-  reopens : {doubt : Option Batch} {other : Kept} {result : Result ℕ Fault} {n : NodeState} {k : Kept}
+  reopens : {doubt : Option Batch} {other : Kept} {result : Result ℕ Fault} {n : NodeState}
+      {k : Kept}
       → s.node.state ≡ Stopped doubt → OpensAgain s.node doubt other result n k → Calls w s n k
 
 -- packets of messages alone
@@ -75,12 +79,14 @@ pub record MayJoin (w : World) (number : ℕ) (k : Kept) : Type 0 where
   pub no_clash : (a b : Op) → In k.saved a → Union w b → a.name ≡ b.name → a ≡ b
   pub owned : (op : Op) → Union (joined w number k) op → IsOwned (joined w number k) op
 
--- the world is as before, a node told what it had saved, there was a call at a node, or a node joined
+-- the world is as before, a node told what it had saved, there was a call at a node, or a node
+-- joined
 pub data Goes (w : World) : World → Type 0 where
   stays : Goes w w
   tells : (number : ℕ) {s : KeptNode} (told : List AnyPacket) → IsAt w number s
       → ((p : AnyPacket) → Contains told p → Within (Contains (gossip.ops_of p)) (In s.node.saved))
       → Goes w (has_told w number told)
-  calls : (number : ℕ) {s : KeptNode} {n : NodeState} {k : Kept} (sent : List Sent) (admitted : List Admission)
+  calls : (number : ℕ) {s : KeptNode} {n : NodeState} {k : Kept} (sent : List Sent)
+      (admitted : List Admission)
       → IsAt w number s → Calls w s n k → BringNoOps sent → Goes w (went w number n k sent admitted)
   joins : (number : ℕ) {k : Kept} → MayJoin w number k → Goes w (joined w number k)

@@ -14,4 +14,5 @@ pub record IsKeptOwn (n : NodeState) (k : Kept) : Type 0 where
 
 -- a node that runs has published all that it saved, but for what is due
 pub record IsWhole (n : NodeState) : Type 0 where
-  pub whole : IsRunning n.state → (op : Op) → In n.saved op → Contains n.published op ⊎ IsDue n.state op
+  pub whole : IsRunning n.state → (op : Op) → In n.saved op
+      → Contains n.published op ⊎ IsDue n.state op

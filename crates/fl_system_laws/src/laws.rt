@@ -1,4 +1,5 @@
-//! Laws of one node: what it saves, publishes and has under way, what its keeper holds, and what a restart finds.
+//! Laws of one node: what it saves, publishes and has under way, what its keeper holds, and what a
+//! restart finds.
 ghost use Rattle.std.specs.Prelude.{◌≡◌, ◌≢◌, ◌+◌, ℕ, Bool, true, false, Option, Result, Ok, Err, length};
 ghost use Rattle.std.specs.List.{Contains};
 ghost use Rattle.fl_labels.specs.Found.{Within};
@@ -27,8 +28,8 @@ ghost use Rattle.fl_system.specs.Openings.{Restarts, Reopens, opened};
 ghost use Rattle.fl_system_laws.specs.Sound.{holding, IsSound, IsStep};
 ghost use Rattle.fl_system_laws.specs.Owned.{IsKeptOwn, IsWhole};
 
-/// What is saved stays saved: no job, publication or cancellation changes the saved set, and no saving, restart or reopening
-/// takes an operation out of it, refused or not.
+/// What is saved stays saved: no job, publication or cancellation changes the saved set, and no
+/// saving, restart or reopening takes an operation out of it, refused or not.
 pub fn law_saved_grows()
     ensures jobs { (n n' : NodeState) (desk upto : ℕ) (job : Job) (result : Result Answer Fault) →
         Jobs n desk upto job result n' → n'.saved ≡ n.saved }
@@ -38,14 +39,15 @@ pub fn law_saved_grows()
         Cancels n result n' → n'.saved ≡ n.saved }
     ensures saves { (n n' : NodeState) (k k' : Kept) (result : Result (Unit {0}) Fault) (op : Op) →
         Saves n k result n' k' → In n.saved op → In n'.saved op }
-    ensures restarts { (n n' : NodeState) (k k' : Kept) (keeps : Bool) (result : Result ℕ Fault) (op : Op) →
-        Restarts n k keeps result n' k' → In n.saved op → In n'.saved op }
+    ensures restarts { (n n' : NodeState) (k k' : Kept) (keeps : Bool) (result : Result ℕ Fault)
+        (op : Op) → Restarts n k keeps result n' k' → In n.saved op → In n'.saved op }
     ensures reopens { (n n' : NodeState) (k k' : Kept) (result : Result ℕ Fault) (op : Op) →
         Reopens n k result n' k' → In n.saved op → In n'.saved op }
 {}
 
-/// A restart of a running node, of which the keeper has what the node saved, finds that, or that with what was to be saved
-/// where this is kept; its boot is raised by one, and it is never refused as another node's.
+/// A restart of a running node, of which the keeper has what the node saved, finds that, or that
+/// with what was to be saved where this is kept; its boot is raised by one, and it is never refused
+/// as another node's.
 pub fn law_restart()
     ensures lost { (n n' : NodeState) (k' : Kept) (boot : ℕ) → IsRunning n.state →
         Restarts n (kept_of n) false (Ok boot) n' k' → n' ≡ opened (length n.views) (kept_of n) }
@@ -54,13 +56,14 @@ pub fn law_restart()
         n' ≡ opened (length n.views) (kept_of (stored n batch)) }
     ensures boot { (n n' : NodeState) (k' : Kept) (keeps : Bool) (boot : ℕ) → IsRunning n.state →
         Restarts n (kept_of n) keeps (Ok boot) n' k' → boot ≡ n.boot + 1 }
-    ensures own { (n n' : NodeState) (k' : Kept) (keeps : Bool) (fault : Fault) → IsRunning n.state →
+    ensures own { (n n' : NodeState) (k' : Kept) (keeps : Bool) (fault : Fault) →
+        IsRunning n.state →
         Restarts n (kept_of n) keeps (Err fault) n' k' → fault ≢ WrongNode }
 {}
 
-/// Each call of a node keeps it sound, with what it has saved then known too: what it saves is known or was its own new
-/// operation, what it publishes is saved, and no name is on the way twice. Received operations are known, each under a
-/// name of its own.
+/// Each call of a node keeps it sound, with what it has saved then known too: what it saves is
+/// known or was its own new operation, what it publishes is saved, and no name is on the way twice.
+/// Received operations are known, each under a name of its own.
 pub fn law_sound()
     ensures begins { (known : SetBy op_cmp) (n n' : NodeState) (body : Body) (maker : Option Pid)
         (desk : Option ℕ) (result : Result Name Fault) → IsSound (In known) (holding n) →
@@ -88,17 +91,17 @@ pub fn law_sound()
         Reopens n k result n' k' → IsStep (In known) (holding n) (holding n') }
 {}
 
-/// What a node that runs saved is what its keeper holds, under its number and boot: each call keeps this, and an
-/// opening makes it so.
+/// What a node that runs saved is what its keeper holds, under its number and boot: each call keeps
+/// this, and an opening makes it so.
 pub fn law_kept_own()
-    ensures begins { (n n' : NodeState) (k : Kept) (body : Body) (maker : Option Pid) (desk : Option ℕ)
-        (result : Result Name Fault) → IsKeptOwn n k → Begins n body maker desk result n' →
+    ensures begins { (n n' : NodeState) (k : Kept) (body : Body) (maker : Option Pid)
+        (desk : Option ℕ) (result : Result Name Fault) → IsKeptOwn n k → Begins n body maker desk result n' →
         IsKeptOwn n' k }
     ensures jobs { (n n' : NodeState) (k : Kept) (desk upto : ℕ) (job : Job)
         (result : Result Answer Fault) → IsKeptOwn n k → Jobs n desk upto job result n' →
         IsKeptOwn n' k }
-    ensures receives { (n n' : NodeState) (k : Kept) (ops : SetBy op_cmp) (result : Result ℕ Fault) →
-        IsKeptOwn n k → Receives n ops result n' → IsKeptOwn n' k }
+    ensures receives { (n n' : NodeState) (k : Kept) (ops : SetBy op_cmp)
+        (result : Result ℕ Fault) → IsKeptOwn n k → Receives n ops result n' → IsKeptOwn n' k }
     ensures saves { (n n' : NodeState) (k k' : Kept) (result : Result (Unit {0}) Fault) →
         IsKeptOwn n k → Saves n k result n' k' → IsKeptOwn n' k' }
     ensures publishes { (n n' : NodeState) (k : Kept) (result : Result ℕ Fault) →
@@ -111,8 +114,9 @@ pub fn law_kept_own()
         Reopens n k (Ok boot) n' k' → IsKeptOwn n' k' }
 {}
 
-/// A node that runs has published all that it saved, but for what is due: each call keeps this, and an opening makes it
-/// so. Where nothing is pending, what is saved and what is published are then the same.
+/// A node that runs has published all that it saved, but for what is due: each call keeps this, and
+/// an opening makes it so. Where nothing is pending, what is saved and what is published are then
+/// the same.
 pub fn law_whole()
     ensures begins { (n n' : NodeState) (body : Body) (maker : Option Pid) (desk : Option ℕ)
         (result : Result Name Fault) → IsWhole n → Begins n body maker desk result n' → IsWhole n' }

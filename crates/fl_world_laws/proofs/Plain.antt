@@ -1,8 +1,7 @@
 -- No event of a world that is reached is answered a clash or an impostor.
-use Rattle.std.proofs.Common.{◌≡◌, ℕ, Bool, List, Result, Ok, Err, Some, None, refl, sym, subst}
+use Rattle.std.proofs.Common.{◌≡◌, ℕ, Bool, List, Err, subst}
 use Rattle.std.specs.declared.option.Option.{Option}
 use Rattle.std.specs.List.{Contains}
-use Rattle.fl_labels.specs.declared.name.Name.{Name}
 use Rattle.fl_labels.specs.declared.pid.Pid.{Pid}
 use Rattle.fl_labels.specs.Found.{Within}
 use Rattle.fl_labels.specs.SetBy as set
@@ -10,11 +9,9 @@ use Rattle.fl_labels.specs.SetBy.{SetBy, In}
 use Rattle.fl_ops.specs.OpOrder.{op_cmp}
 use Rattle.fl_ops.specs.declared.op.Body.{Body}
 use Rattle.fl_ops.specs.declared.op.Op.{Op}
-use Rattle.fl_wire.specs.declared.batch.Batch.{Batch as PacketBatch}
 use Rattle.fl_wire.specs.declared.packet.Data.{Data}
 use Rattle.fl_opset.specs.declared.intervals.Intervals.{Intervals}
 use Rattle.fl_jobs.specs.declared.job.Job.{Job}
-use Rattle.fl_jobs.specs.declared.answer.Reply.{Reply as JobReply}
 use Rattle.fl_store.specs.Kept.{Kept}
 use Rattle.fl_system.specs.declared.answer.Fault.{Fault}
 use Rattle.fl_system.specs.declared.event.Event.{Event}

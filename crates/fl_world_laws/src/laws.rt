@@ -1,5 +1,5 @@
-//! Laws of each world that a run leads to: nodes that joined, events of any kind in any order, with packets lost, repeated
-//! and late, keepers that broke, and stopped nodes that were opened again.
+//! Laws of each world that a run leads to: nodes that joined, events of any kind in any order, with
+//! packets lost, repeated and late, keepers that broke, and stopped nodes that were opened again.
 ghost use Rattle.std.specs.Prelude.{◌≡◌, ◌↔◌, ℕ, Bool};
 ghost use Rattle.std.specs.List.{Contains};
 ghost use Rattle.fl_labels.specs.Found.{Within};
@@ -18,14 +18,16 @@ ghost use Rattle.fl_system.specs.Waiting.{IsRunning};
 ghost use Rattle.fl_system.specs.World.{World, KeptNode};
 ghost use Rattle.fl_system.specs.WorldSteps.{IsAt, Step};
 ghost use Rattle.fl_system.specs.Union.{Union};
+ghost use Rattle.fl_system.specs.Whereabouts.{IsAnywhere};
 ghost use Rattle.fl_system.specs.Runs.{IsReached};
 ghost use Rattle.fl_system_laws.specs.Goes.{carried};
-ghost use Rattle.fl_world_laws.specs.Places.{IsAnywhere, IsKnown, IsNameRefusal, IsSavedAt};
+ghost use Rattle.fl_world_laws.specs.Places.{IsKnown, IsNameRefusal, IsSavedAt};
 
-/// Of all that is saved, pending, in doubt or in packets, two operations of one name are equal. An operation of the
-/// number of a node, saved anywhere or in a packet, is in what that node has saved. What a node has published it has
-/// saved, and what a packet carries was saved by the node that sent it. No event is answered that two operations have
-/// one name, or that a node does not know an operation of its own.
+/// Of all that is saved, pending, in doubt or in packets, two operations of one name are equal. An
+/// operation of the number of a node, saved anywhere or in a packet, is in what that node has
+/// saved. What a node has published it has saved, and what a packet carries was saved by the node
+/// that sent it. No event is answered that two operations have one name, or that a node does not
+/// know an operation of its own.
 pub fn law_names()
     ensures one_operation { (w : World) (a b : Op) → IsReached w → IsAnywhere w a → IsAnywhere w b →
         a.name ≡ b.name → a ≡ b }
@@ -39,8 +41,8 @@ pub fn law_names()
         Step w event reply after → ¬ IsNameRefusal reply }
 {}
 
-/// What a running node saved is what its keeper holds, under its number and boot, so that no restart of it is refused as
-/// one over another node's.
+/// What a running node saved is what its keeper holds, under its number and boot, so that no
+/// restart of it is refused as one over another node's.
 pub fn law_kept()
     ensures own { (w : World) (number : ℕ) (s : KeptNode) → IsReached w → IsAt w number s →
         IsRunning s.node.state → s.kept ≡ kept_of s.node }

@@ -75,13 +75,16 @@ restart_loses n running (Restarts.stopped is h) = absurd (stopped_runs is runnin
 same_batch : {s : State} {a b : Batch} → s ≡ Running (Unsaved a) → s ≡ Running (Unsaved b) → a ≡ b
 same_batch p q = cc
 
-carried : (n : NodeState) (a b : Batch) → a ≡ b → {boot : ℕ} {n' : NodeState} → IsOpened (length n.views) (kept_of (stored n a)) boot n'
+carried : (n : NodeState) (a b : Batch) → a ≡ b → {boot : ℕ} {n' : NodeState}
+    → IsOpened (length n.views) (kept_of (stored n a)) boot n'
     → IsOpened (length n.views) (kept_of (stored n b)) boot n'
 carried n a b e {boot} {n'} h = subst (λ c. IsOpened (length n.views) (kept_of (stored n c)) boot n') e h
 
-pub restart_keeps : (n : NodeState) (batch : Batch) → n.state ≡ Running (Unsaved batch) → {boot : ℕ} {n' : NodeState} {k' : Kept}
+pub restart_keeps : (n : NodeState) (batch : Batch) → n.state ≡ Running (Unsaved batch)
+    → {boot : ℕ} {n' : NodeState} {k' : Kept}
     → Restarts n (kept_of n) true (Ok boot) n' k' → IsOpened (length n.views) (kept_of (stored n batch)) boot n'
-restart_keeps n batch pending (Restarts.saved kept is h) = carried n _ batch (same_batch is pending) (again_finds _ _ _ h)
+restart_keeps n batch pending (Restarts.saved kept is h) =
+    carried n _ batch (same_batch is pending) (again_finds _ _ _ h)
 restart_keeps n batch pending (Restarts.lost lost is h) = absurd (cc)
 restart_keeps n batch pending (Restarts.idle is h) = absurd (cc)
 restart_keeps n batch pending (Restarts.due is h) = absurd (cc)

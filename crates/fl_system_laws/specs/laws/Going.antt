@@ -106,7 +106,8 @@ module _ (w : World) where
   job_goes number at (JobAt.sends does) =
       Goes.calls number _ _ at (Calls.jobs does)
       (λ x h op i. in_none op (subst (λ y. Contains (carried y) op) (sym (only_one _ x h)) i))
-  job_goes number at (JobAt.no_room look seen noted) = Goes.calls number _ _ at (Calls.looks _ look) (λ x h. in_none x h)
+  job_goes number at (JobAt.no_room look seen noted) =
+      Goes.calls number _ _ at (Calls.looks _ look) (λ x h. in_none x h)
 
   save_goes : (number : ℕ) {s : KeptNode} {reply : Reply} {w' : World} → IsAt w number s
       → SaveAt w number s reply w' → Goes w w'
@@ -115,8 +116,10 @@ module _ (w : World) where
 
   publish_goes : (number : ℕ) {s : KeptNode} {reply : Reply} {w' : World} → IsAt w number s
       → PublishAt w number s reply w' → Goes w w'
-  publish_goes number at (PublishAt.ordered is does) = Goes.calls number _ _ at (Calls.publishes does) (λ x h. in_none x h)
-  publish_goes number at (PublishAt.received is does) = Goes.calls number _ _ at (Calls.publishes does) (λ x h. in_none x h)
+  publish_goes number at (PublishAt.ordered is does) =
+      Goes.calls number _ _ at (Calls.publishes does) (λ x h. in_none x h)
+  publish_goes number at (PublishAt.received is does) =
+      Goes.calls number _ _ at (Calls.publishes does) (λ x h. in_none x h)
   publish_goes number at (PublishAt.refused does) = Goes.calls number _ _ at (Calls.publishes does) (λ x h. in_none x h)
 
   cancel_goes : (number : ℕ) {s : KeptNode} {reply : Reply} {w' : World} → IsAt w number s
@@ -134,7 +137,8 @@ module _ (w : World) where
   tell_goes number at (TellAt.stopped why) = Goes.stays
   tell_goes number at (TellAt.no_room running) = Goes.stays
   tell_goes number at (TellAt.tells running (windows, are, told_is)) =
-      Goes.tells number _ at (λ p h op i. absurd (windows_bring_none windows p (subst (λ l. Contains l p) told_is h) op i))
+      Goes.tells number _ at
+      (λ p h op i. absurd (windows_bring_none windows p (subst (λ l. Contains l p) told_is h) op i))
 
   -- ---- deliveries
 
@@ -148,9 +152,12 @@ module _ (w : World) where
 
   batch_goes : (number : ℕ) {s : KeptNode} {reply : Reply} {w' : World} (sent : Sent) → Contains w.packets sent
       → IsAt w number s → BatchAt w number s (carried sent) reply w' → Goes w w'
-  batch_goes number sent there at (BatchAt.nothing_new does) = Goes.calls number _ _ at (Calls.receives sent there does) (λ x h. in_none x h)
-  batch_goes number sent there at (BatchAt.takes does some) = Goes.calls number _ _ at (Calls.receives sent there does) (λ x h. in_none x h)
-  batch_goes number sent there at (BatchAt.refused does) = Goes.calls number _ _ at (Calls.receives sent there does) (λ x h. in_none x h)
+  batch_goes number sent there at (BatchAt.nothing_new does) =
+      Goes.calls number _ _ at (Calls.receives sent there does) (λ x h. in_none x h)
+  batch_goes number sent there at (BatchAt.takes does some) =
+      Goes.calls number _ _ at (Calls.receives sent there does) (λ x h. in_none x h)
+  batch_goes number sent there at (BatchAt.refused does) =
+      Goes.calls number _ _ at (Calls.receives sent there does) (λ x h. in_none x h)
 
   message_goes : (number : ℕ) {s : KeptNode} {sent : Sent} {d : Data} {reply : Reply} {w' : World} → IsAt w number s
       → MessageAt w number s sent d reply w' → Goes w w'

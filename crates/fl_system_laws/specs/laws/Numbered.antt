@@ -74,7 +74,8 @@ module _ {A : Type 0} where
   added [] x (suc (suc k)) y e = absurd (cc)
   added (z ∷ xs) x zero y e = absurd (cc)
   added (z ∷ xs) x (suc zero) y e = inl e
-  added (z ∷ xs) x (suc (suc k)) y e = elim (added xs x (suc k) y e) [ inl at ↦ inl at | inr (at, is) ↦ inr (ap suc at, is) ]
+  added (z ∷ xs) x (suc (suc k)) y e =
+      elim (added xs x (suc k) y e) [ inl at ↦ inl at | inr (at, is) ↦ inr (ap suc at, is) ]
 
   pub record IsMade (last : ℕ) (item : ℕ → A) (k : ℕ) (y : A) : Type 0 where
     pub some : 0 < k
@@ -89,7 +90,8 @@ module _ {A : Type 0} where
       by_place (λ at. made_at last item k y at) (added (items_to last item) (item (suc last)) k y e)
     where
       by_place : (item_at (items_to last item) k ≡ Some y → IsMade last item k y)
-          → (item_at (items_to last item) k ≡ Some y) ⊎ ((k ≡ suc (length (items_to last item))) × (y ≡ item (suc last)))
+          → (item_at (items_to last item) k ≡ Some y)
+          ⊎ ((k ≡ suc (length (items_to last item))) × (y ≡ item (suc last)))
           → IsMade (suc last) item k y
       by_place before (inl at) =
           let m = before at in

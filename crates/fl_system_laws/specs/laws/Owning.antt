@@ -73,7 +73,8 @@ receives_own h (Receives.receives is can lacking some) = runs_on (runs_as is tt)
 -- what is stored is kept
 stored_own : (n : NodeState) (k : Kept) (batch : Batch) → IsRunning n.state → IsKeptOwn n k
     → IsKeptOwn (stored n batch) (with_batch k (ops_of batch))
-stored_own n k batch running h = record { own = λ still. ap (λ (x : Kept). with_batch x (ops_of batch)) (h.own running) }
+stored_own n k batch running h =
+    record { own = λ still. ap (λ (x : Kept). with_batch x (ops_of batch)) (h.own running) }
 
 -- a node that is stopped
 stops : {n : NodeState} {k : Kept} (doubt : Option Batch) → n.state ≡ Stopped doubt → IsKeptOwn n k

@@ -34,7 +34,8 @@ use Rattle.fl_system.specs.Arrives.{Arrives}
 use Rattle.fl_system.specs.Saves.{Saves, stored}
 use Rattle.fl_system.specs.Publishes.{Publishes, Cancels}
 use Rattle.fl_system.specs.Openings.{Opens, OpensAgain, IsOwn, Restarts, Reopens, opened}
-use Rattle.fl_system_laws.specs.Sound.{Holding, holding, OnTheWay, IsDue, IsNew, IsSound, KnownWith, IsStep}
+use Rattle.fl_system.specs.Whereabouts.{IsOnItsWay}
+use Rattle.fl_system_laws.specs.Sound.{Holding, holding, IsDue, IsNew, IsSound, KnownWith, IsStep}
 
 -- ---- sets of operations with those of a list
 
@@ -80,10 +81,10 @@ NamesOnce known = (a b : Op) → known a → known b → a.name ≡ b.name → a
 pub record MovesOn (n n' : Holding) : Type 0 where
   pub number : n'.number ≡ n.number
   pub kept : Within (In n.saved) (In n'.saved)
-  pub gained : (op : Op) → In n'.saved op → In n.saved op ⊎ OnTheWay n.state op
+  pub gained : (op : Op) → In n'.saved op → In n.saved op ⊎ IsOnItsWay n.state op
   pub published : Within (Contains n'.published) (In n'.saved)
   pub due : Within (IsDue n'.state) (In n'.saved)
-  pub on_the_way : (op : Op) → OnTheWay n'.state op → OnTheWay n.state op
+  pub on_the_way : (op : Op) → IsOnItsWay n'.state op → IsOnItsWay n.state op
 
 -- what is begun is new
 begun_new : (n : NodeState) (name : Name) (body : Body) → IsNextAfter n.saved n.number name
@@ -99,8 +100,8 @@ begun_new n name body next =
 
 -- the batch that a state has on the way
 on_its_way : {st : State} {batch : Batch} → st ≡ Running (Unsaved batch) → (op : Op) → Contains (ops_of batch) op
-    → OnTheWay st op
-on_its_way is op h = subst (λ (st : State). OnTheWay st op) (sym is) h
+    → IsOnItsWay st op
+on_its_way is op h = subst (λ (st : State). IsOnItsWay st op) (sym is) h
 
 -- what an opening finds, where this is in doubt
 module _ (m : NodeState) (doubt : Option Batch) (k : Kept) (own : IsOwn (kept_of m) doubt k) where
@@ -133,8 +134,8 @@ module _ {known : Op → Type 0} where
 
   -- something else is on the way
   pub turns : (n : Holding) (to : State) → ((op : Op) → ¬ IsDue to op)
-      → ((op : Op) → OnTheWay to op → known op ⊎ IsNew n op)
-      → ((a b : Op) → OnTheWay to a → OnTheWay to b → a.name ≡ b.name → a ≡ b)
+      → ((op : Op) → IsOnItsWay to op → known op ⊎ IsNew n op)
+      → ((a b : Op) → IsOnItsWay to a → IsOnItsWay to b → a.name ≡ b.name → a ≡ b)
       → IsSound known n → IsStep known n (record n { state = to })
   turns n to none on_the_way alone s =
       record {
@@ -154,12 +155,12 @@ module _ {known : Op → Type 0} where
       }
 
   module _ (n n' : Holding) (m : MovesOn n n') (s : IsSound known n) where
-    came : (op : Op) → OnTheWay n.state op → known op ⊎ IsNew n op
-        → known op ⊎ (OnTheWay n.state op × IsNew n op)
+    came : (op : Op) → IsOnItsWay n.state op → known op ⊎ IsNew n op
+        → known op ⊎ (IsOnItsWay n.state op × IsNew n op)
     came op way (inl k) = inl k
     came op way (inr new) = inr (way, new)
 
-    still_new : (op : Op) → OnTheWay n.state op → IsNew n op → set.contains n'.saved op ≡ false → IsNew n' op
+    still_new : (op : Op) → IsOnItsWay n.state op → IsNew n op → set.contains n'.saved op ≡ false → IsNew n' op
     still_new op way new lacks =
         record {
           own = new.own ∙ sym m.number;
@@ -169,7 +170,7 @@ module _ {known : Op → Type 0} where
           ];
         }
 
-    on_still : (op : Op) → OnTheWay n.state op → known op ⊎ IsNew n op
+    on_still : (op : Op) → IsOnItsWay n.state op → known op ⊎ IsNew n op
         → In n'.saved op ⊎ (set.contains n'.saved op ≡ false) → KnownWith known n' op ⊎ IsNew n' op
     on_still op way (inl k) is = inl (inl k)
     on_still op way (inr new) (inl i) = inl (inr i)
@@ -186,7 +187,8 @@ module _ {known : Op → Type 0} where
             published = m.published;
             due = m.due;
             on_the_way = λ op h.
-                on_still op (m.on_the_way op h) (s.on_the_way op (m.on_the_way op h)) (test_cases (set.contains n'.saved op));
+                on_still op (m.on_the_way op h) (s.on_the_way op (m.on_the_way op h))
+                (test_cases (set.contains n'.saved op));
             alone = λ a b h k e. s.alone a b (m.on_the_way a h) (m.on_the_way b k) e;
           };
         }
@@ -245,7 +247,10 @@ module _ {known : Op → Type 0} where
       moves (holding n) _ (record {
         number = refl;
         kept = with_ops_more n.saved (ops_of batch);
-        gained = λ op h. elim (with_ops_cases n.saved (ops_of batch) op h) [ inl i ↦ inl i | inr l ↦ inr (on_its_way is op l) ];
+        gained = λ op h. elim (with_ops_cases n.saved (ops_of batch) op h) [
+          | inl i ↦ inl i
+          | inr l ↦ inr (on_its_way is op l)
+        ];
         published = λ op h. with_ops_more n.saved (ops_of batch) op (s.published op h);
         due = with_ops_new n.saved (ops_of batch);
         on_the_way = λ op h. on_its_way is op h;
@@ -289,9 +294,9 @@ module _ {known : Op → Type 0} where
 
   -- An opening of a node m, that is n but that what was on the way may be saved.
   module _ (n : Holding) (m : NodeState) (number : m.number ≡ n.number) (more : Within (In n.saved) (In m.saved))
-      (gained : (op : Op) → In m.saved op → In n.saved op ⊎ OnTheWay n.state op)
+      (gained : (op : Op) → In m.saved op → In n.saved op ⊎ IsOnItsWay n.state op)
       (published : Within (Contains m.published) (In m.saved))
-      (doubt : Option Batch) (in_doubt : (op : Op) → Contains (ops_in doubt) op → OnTheWay n.state op) where
+      (doubt : Option Batch) (in_doubt : (op : Op) → Contains (ops_in doubt) op → IsOnItsWay n.state op) where
     opened_step : (k : Kept) → IsOwn (kept_of m) doubt k → (desks : ℕ) → IsSound known n
         → IsStep known n (holding (opened desks k))
     opened_step k own desks s =
@@ -324,12 +329,13 @@ module _ {known : Op → Type 0} where
       opens_step (holding n) n refl (λ op h. h) (λ op h. inl h) s.published None (λ op h. in_none op h) s h
 
   -- what is in doubt may be saved
-  pub doubts_step : (n : NodeState) {doubt : Option Batch} {k : Kept} {result : Result ℕ Fault} {n' : NodeState} {k' : Kept}
+  pub doubts_step : (n : NodeState) {doubt : Option Batch} {k : Kept} {result : Result ℕ Fault} {n' : NodeState}
+      {k' : Kept}
       → IsSound known (holding n) → n.state ≡ Stopped doubt → OpensAgain n doubt k result n' k'
       → IsStep known (holding n) (holding n')
   doubts_step n {doubt} s is h =
       opens_step (holding n) n refl (λ op h. h) (λ op h. inl h) s.published doubt
-      (λ op h. subst (λ (st : State). OnTheWay st op) (sym is) h) s h
+      (λ op h. subst (λ (st : State). IsOnItsWay st op) (sym is) h) s h
 
   pub restarts_step : {n : NodeState} {k : Kept} {keeps : Bool} {result : Result ℕ Fault} {n' : NodeState} {k' : Kept}
       → IsSound known (holding n) → Restarts n k keeps result n' k' → IsStep known (holding n) (holding n')

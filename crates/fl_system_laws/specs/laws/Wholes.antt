@@ -38,10 +38,11 @@ same_whole : {n n' : NodeState} → n.saved ≡ n'.saved → n.published ≡ n'.
     → IsWhole n → IsWhole n'
 same_whole {n} {n'} saved published state h =
     record {
-      whole = λ running op i. elim (h.whole (subst IsRunning (sym state) running) op (subst (λ s. In s op) (sym saved) i)) [
-        | inl p ↦ inl (subst (λ l. Contains l op) published p)
-        | inr d ↦ inr (subst (λ (s : State). IsDue s op) state d)
-      ];
+      whole =
+          λ running op i. elim (h.whole (subst IsRunning (sym state) running) op (subst (λ s. In s op) (sym saved) i)) [
+            | inl p ↦ inl (subst (λ l. Contains l op) published p)
+            | inr d ↦ inr (subst (λ (s : State). IsDue s op) state d)
+          ];
     }
 
 runs_as : {s t : State} → s ≡ t → IsRunning t → IsRunning s
@@ -138,7 +139,8 @@ cancels_whole h (Cancels.none why) = h
 pub opened_whole : (desks : ℕ) (k : Kept) → IsWhole (opened desks k)
 opened_whole desks k = record { whole = λ running op i. inl (member_listed k.saved op i) }
 
-pub again_whole : {n : NodeState} {doubt : Option Batch} {k : Kept} {result : Result ℕ Fault} {n' : NodeState} {k' : Kept}
+pub again_whole : {n : NodeState} {doubt : Option Batch} {k : Kept} {result : Result ℕ Fault} {n' : NodeState}
+    {k' : Kept}
     → OpensAgain n doubt k result n' k' → IsWhole n'
 again_whole {n} {k = k} (OpensAgain.opens (Opens.opens own)) = opened_whole (length n.views) k
 again_whole {doubt = doubt} (OpensAgain.stays h) = stops doubt refl

@@ -1,17 +1,13 @@
 -- What is kept of each node of a world that is reached, and what of its saved set is published.
-use Rattle.std.proofs.Common.{◌≡◌, ℕ, List, [], ◌∷◌, Some, None, refl, sym, subst}
-use Rattle.std.specs.declared.option.Option.{Option}
+use Rattle.std.proofs.Common.{ℕ, List, [], ◌∷◌, refl, subst}
 use Rattle.std.specs.FinMap as map
 use Rattle.std.specs.Ordering.{nat_cmp}
 use Rattle.fl_bench.specs.laws.Puts.{none_some}
 use Rattle.fl_store.specs.Kept.{Kept, raised}
-use Rattle.fl_system.specs.declared.admission.Admission.{Admission}
-use Rattle.fl_system.specs.declared.sent.Sent.{Sent}
 use Rattle.fl_system.specs.State.{NodeState}
 use Rattle.fl_system.specs.Openings.{opened}
-use Rattle.fl_system.specs.World.{World, KeptNode, went, empty_world}
+use Rattle.fl_system.specs.World.{World, KeptNode, empty_world}
 use Rattle.fl_system.specs.WorldSteps.{IsAt}
-use Rattle.fl_system.specs.Joins.{joined}
 use Rattle.fl_system.specs.Runs.{Moment, IsRun, end, IsReached}
 use Rattle.fl_system_laws.specs.Owned.{IsKeptOwn, IsWhole}
 use Rattle.fl_system_laws.specs.Goes.{Calls, Goes}

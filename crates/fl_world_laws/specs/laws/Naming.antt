@@ -1,6 +1,5 @@
 -- What is true of the names of each world that is reached.
-use Rattle.std.proofs.Common.{◌≡◌, ◌≢◌, ◌⊎◌, ◌∙◌, ◌++◌, inl, inr, ℕ, List, [], ◌∷◌, map as list_map, Some, None, refl, sym, ap, subst}
-use Rattle.std.specs.declared.option.Option.{Option}
+use Rattle.std.proofs.Common.{◌≡◌, ◌⊎◌, ◌∙◌, inl, inr, ℕ, List, [], ◌∷◌, Some, None, refl, sym, ap, subst}
 use Rattle.std.specs.FinMap as map
 use Rattle.std.specs.List.{Contains}
 use Rattle.std.specs.Ordering.{nat_cmp}
@@ -16,7 +15,6 @@ use Rattle.fl_gossip.specs.Taking as gossip
 use Rattle.fl_bench.specs.laws.Puts.{none_some, same_found}
 use Rattle.fl_store.specs.Kept.{Kept, raised}
 use Rattle.fl_system.specs.declared.admission.Admission.{Admission}
-use Rattle.fl_system.specs.declared.reply.Reply.{Reply}
 use Rattle.fl_system.specs.declared.sent.Sent.{Sent}
 use Rattle.fl_system.specs.State.{NodeState}
 use Rattle.fl_system.specs.Receives.{IsImpostor, IsClash}
@@ -27,8 +25,9 @@ use Rattle.fl_system.specs.WorldSteps.{IsAt}
 use Rattle.fl_system.specs.Union.{Union}
 use Rattle.fl_system.specs.Deliveries.{has_told}
 use Rattle.fl_system.specs.Joins.{joined}
-use Rattle.fl_system.specs.Runs.{Moves, Moment, IsRun, end, IsReached}
-use Rattle.fl_system_laws.specs.Sound.{Holding, holding, OnTheWay, IsNew, IsSound, KnownWith, IsStep}
+use Rattle.fl_system.specs.Runs.{Moment, IsRun, end, IsReached}
+use Rattle.fl_system.specs.Whereabouts.{IsOnItsWay}
+use Rattle.fl_system_laws.specs.Sound.{holding, IsNew, IsSound, KnownWith, IsStep}
 use Rattle.fl_system_laws.specs.Goes.{Calls, Goes, carried, BringNoOps, IsOwned, MayJoin}
 use Rattle.fl_system_laws.specs.laws.Steps.{NamesOnce, more_sound, opened_sound, stays, jobs_step}
 use Rattle.fl_system_laws.specs.laws.Steps.{receives_step, arrives_step, saves_step, publishes_step, cancels_step, restarts_step, doubts_step}
@@ -112,7 +111,7 @@ module _ (w : World) (number : ℕ) (s : KeptNode) (node : NodeState) (kept : Ke
 
     -- what is saved then was saved somewhere, or is the node's new operation
     origin : (op : Op) → Union after op
-        → Union w op ⊎ (OnTheWay s.node.state op × IsNew (holding s.node) op)
+        → Union w op ⊎ (IsOnItsWay s.node.state op × IsNew (holding s.node) op)
     origin op u = elim (union_cases op u) [ inl k ↦ inl k | inr h ↦ step.gained op h ]
 
     -- what was saved somewhere has not the name of a new operation
@@ -125,8 +124,8 @@ module _ (w : World) (number : ℕ) (s : KeptNode) (node : NodeState) (kept : Ke
     names_after : NamesOnce (Union after)
     names_after a b u v same = by_origin (origin a u) (origin b v)
       where
-        by_origin : Union w a ⊎ (OnTheWay s.node.state a × IsNew (holding s.node) a)
-            → Union w b ⊎ (OnTheWay s.node.state b × IsNew (holding s.node) b) → a ≡ b
+        by_origin : Union w a ⊎ (IsOnItsWay s.node.state a × IsNew (holding s.node) a)
+            → Union w b ⊎ (IsOnItsWay s.node.state b × IsNew (holding s.node) b) → a ≡ b
         by_origin (inl k) (inl l) = named.names a b k l same
         by_origin (inl k) (inr (way, is)) = apart a b k is same
         by_origin (inr (way, is)) (inl l) = apart b a l is (sym same)

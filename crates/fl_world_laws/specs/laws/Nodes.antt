@@ -1,20 +1,11 @@
 -- The nodes of a world after one of them was put there.
-use Rattle.std.proofs.Common.{◌≡◌, ◌≢◌, ◌⊎◌, ◌∙◌, inl, inr, ℕ, Bool, true, false, cond, Some, None, refl, sym, ap, subst}
-use Rattle.std.specs.declared.option.Option.{Option}
+use Rattle.std.proofs.Common.{◌≡◌, ◌≢◌, ◌∙◌, ℕ, Bool, true, false, cond, Some, refl, sym, ap, subst}
 use Rattle.std.specs.FinMap as map
 use Rattle.std.specs.FinMap.{nat_cmp-IsAntisymmetric}
 use Rattle.std.specs.Cmp.{nat_cmp_total, Equal-is}
 use Rattle.std.specs.Ordering.{nat_cmp, eq_by_cmp, is_eq}
 use Rattle.std.proofs.lemmas.Cmp.{tied_itself}
-use Rattle.fl_bench.specs.laws.Puts.{get_here, none_some, same_found}
-use Rattle.fl_labels.specs.SetBy.{In}
-use Rattle.fl_labels.specs.Found.{Within}
-use Rattle.fl_ops.specs.declared.op.Op.{Op}
-use Rattle.fl_store.specs.Kept.{Kept}
-use Rattle.fl_system.specs.State.{NodeState}
-use Rattle.fl_system.specs.World.{World, KeptNode}
-use Rattle.fl_system.specs.WorldSteps.{IsAt}
-use Rattle.fl_system.specs.Union.{Union}
+use Rattle.fl_bench.specs.laws.Puts.{get_here, same_found}
 
 module _ {A : Type 0} (m : map.FinMap nat_cmp A) (k : ℕ) (x : A) where
   -- what is there after a put: the new value at its key, or what was there at another
@@ -25,7 +16,8 @@ module _ {A : Type 0} (m : map.FinMap nat_cmp A) (k : ℕ) (x : A) where
   by_test : (q : ℕ) (y : A) (b : Bool) → eq_by_cmp nat_cmp q k ≡ b → cond b (Some x) (map.get m q) ≡ Some y → Now q y
   by_test q y true e f = is_new (nat_cmp-IsAntisymmetric q k ((Equal-is (nat_cmp q k)).0 e)) (same_found refl f)
   by_test q y false e f =
-      is_old (λ is. absurd (cc (e, subst (λ z. eq_by_cmp nat_cmp q z ≡ true) is (ap is_eq (tied_itself nat_cmp_total q))))) f
+      let itself = ap is_eq (tied_itself nat_cmp_total q) in
+      is_old (λ is. absurd (cc (e, subst (λ z. eq_by_cmp nat_cmp q z ≡ true) is itself))) f
 
   pub now : (q : ℕ) (y : A) → map.get (map.insert m k x) q ≡ Some y → Now q y
   now q y e = by_test q y (eq_by_cmp nat_cmp q k) refl (sym (map.get-insert nat_cmp_total m k x q) ∙ e)

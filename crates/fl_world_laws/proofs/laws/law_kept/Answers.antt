@@ -1,4 +1,4 @@
-use Rattle.std.proofs.Common.{◌≡◌, ℕ, Bool, Err, refl, sym, subst}
+use Rattle.std.proofs.Common.{◌≡◌, ℕ, Bool, Err, refl, subst}
 use Rattle.fl_bench.specs.laws.Puts.{same_found}
 use Rattle.fl_store.specs.Kept.{Kept}
 use Rattle.fl_system.specs.declared.answer.Fault.TheVariants.{WrongNode}
@@ -11,7 +11,7 @@ use Rattle.fl_system.specs.World.{World, KeptNode}
 use Rattle.fl_system.specs.WorldCalls.{RestartAt}
 use Rattle.fl_system.specs.WorldSteps.{IsAt, Step}
 use Rattle.fl_system_laws.specs.laws.Finding.{restarts_other}
-use Rattle.fl_world_laws.specs.laws.Keeping.{AllKept, reached_kept}
+use Rattle.fl_world_laws.specs.laws.Keeping.{reached_kept}
 use Rattle.fl_world_laws.proofs.laws.law_kept.Goals as goal
 
 -- the restart of a node over its own is not refused as another's
@@ -36,4 +36,4 @@ returns-clause-own c = λ w number s reached at running. ((reached_kept w reache
 
 pub returns-clause-restart : goal.returns-clause-restart
 returns-clause-restart c = λ w after number keeps s reached at running.
-  in_world w number keeps s at running (((reached_kept w reached).each number s at).own.own running)
+    in_world w number keeps s at running (((reached_kept w reached).each number s at).own.own running)

@@ -1,13 +1,13 @@
 use Rattle.std.proofs.Common.{◌≡◌, ◌∙◌, inl, inr, ℕ, sym, ap, subst, Some}
 use Rattle.std.specs.FinMap as map
-use Rattle.fl_labels.specs.SetBy.{In}
 use Rattle.fl_ops.specs.declared.op.Op.{Op}
 use Rattle.fl_bench.specs.laws.Puts.{same_found}
 use Rattle.fl_system.specs.World.{World, KeptNode}
 use Rattle.fl_system.specs.WorldSteps.{IsAt}
 use Rattle.fl_system.specs.Union.{Union}
-use Rattle.fl_system_laws.specs.Sound.{holding, OnTheWay, IsNew}
-use Rattle.fl_world_laws.specs.Places.{WasSent, IsOnTheWay, IsKnown, IsAnywhere}
+use Rattle.fl_system.specs.Whereabouts.{IsOnItsWay, IsOnItsWayIn, WasSent, IsAnywhere}
+use Rattle.fl_system_laws.specs.Sound.{holding, IsNew}
+use Rattle.fl_world_laws.specs.Places.{IsKnown}
 use Rattle.fl_world_laws.specs.laws.Naming.{IsNamed, reached_named}
 use Rattle.fl_world_laws.proofs.Plain.{step_plain}
 use Rattle.fl_world_laws.proofs.laws.law_names.Goals as goal
@@ -17,7 +17,7 @@ record IsNewAt (w : World) (op : Op) : Type 0 where
   pub number : ℕ
   pub s : KeptNode
   pub at : IsAt w number s
-  pub way : OnTheWay s.node.state op
+  pub way : IsOnItsWay s.node.state op
   pub is : IsNew (holding s.node) op
 
 -- saved somewhere, or new at its own node
@@ -27,21 +27,22 @@ data IsPlaced (w : World) (op : Op) : Type 0 where
 
 module _ (w : World) (law : IsNamed w) where
   sent_saved : (op : Op) → WasSent w op → Union w op
-  sent_saved op s = let i = law.packets s.sent s.there op s.carries in (s.sent.from, i.s, i.at, i.saved)
+  sent_saved op (sent, there, carries) =
+      let i = law.packets sent there op carries in (sent.from, i.s, i.at, i.saved)
 
   known_saved : (op : Op) → IsKnown w op → Union w op
-  known_saved op (IsKnown.saved u) = u
-  known_saved op (IsKnown.sent s) = sent_saved op s
+  known_saved op k = elim k [ inl u ↦ u | inr s ↦ sent_saved op s ]
 
-  on_the_way : (op : Op) → IsOnTheWay w op → IsPlaced w op
-  on_the_way op o = elim ((law.sound o.number o.s o.at).1.on_the_way op o.way) [
+  on_its_way : (op : Op) → IsOnItsWayIn w op → IsPlaced w op
+  on_its_way op (number, s, at, way) = elim ((law.sound number s at).1.on_the_way op way) [
     | inl k ↦ old k
-    | inr is ↦ new (record { number = o.number; s = o.s; at = o.at; way = o.way; is = is })
+    | inr is ↦ new (record { number = number; s = s; at = at; way = way; is = is })
   ]
 
   place : (op : Op) → IsAnywhere w op → IsPlaced w op
-  place op (IsAnywhere.known k) = old (known_saved op k)
-  place op (IsAnywhere.on_the_way o) = on_the_way op o
+  place op (inl u) = old u
+  place op (inr (inl o)) = on_its_way op o
+  place op (inr (inr s)) = old (sent_saved op s)
 
   number_of : {op : Op} (n : IsNewAt w op) → op.name.node ≡ n.number
   number_of n = n.is.own ∙ (law.sound n.number n.s n.at).0
@@ -56,7 +57,7 @@ module _ (w : World) (law : IsNamed w) where
       let numbers : n.number ≡ m.number = sym (number_of n) ∙ ap (λ x. x.node) same ∙ number_of m in
       let nodes : n.s ≡ m.s = same_found n.at (subst (λ k. map.get w.nodes k ≡ Some m.s) (sym numbers) m.at) in
       (law.sound n.number n.s n.at).1.alone a b n.way
-      (subst (λ (z : KeptNode). OnTheWay z.node.state b) (sym nodes) m.way) same
+      (subst (λ (z : KeptNode). IsOnItsWay z.node.state b) (sym nodes) m.way) same
 
   one : (a b : Op) → IsPlaced w a → IsPlaced w b → a.name ≡ b.name → a ≡ b
   one a b (old u) (old v) same = law.names a b u v same
@@ -66,11 +67,11 @@ module _ (w : World) (law : IsNamed w) where
 
 pub returns-clause-one_operation : goal.returns-clause-one_operation
 returns-clause-one_operation c = λ w a b reached h k.
-  let law = reached_named w reached in one w law a b (place w law a h) (place w law b k)
+    let law = reached_named w reached in one w law a b (place w law a h) (place w law b k)
 
 pub returns-clause-owned : goal.returns-clause-owned
 returns-clause-owned c = λ w op s reached k at.
-  let law = reached_named w reached in law.owned op (known_saved w law op k) s at
+    let law = reached_named w reached in law.owned op (known_saved w law op k) s at
 
 pub returns-clause-published : goal.returns-clause-published
 returns-clause-published c = λ w number s reached at. ((reached_named w reached).sound number s at).1.published
