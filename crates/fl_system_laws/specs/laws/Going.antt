@@ -14,10 +14,10 @@ use Rattle.fl_ops.specs.OpLaws.{op_total, op_exact}
 use Rattle.fl_ops.specs.declared.op.Op.{Op}
 use Rattle.fl_opset.specs.declared.intervals.Intervals.{Intervals}
 use Rattle.fl_opset.specs.laws.Members.{Contains-cons, lacking_member}
-use Rattle.fl_wire.specs.declared.packet.AnyPacket.{AnyPacket}
-use Rattle.fl_wire.specs.declared.packet.AnyPacket.TheVariants as packets
+use Rattle.fl_wire.specs.declared.packet.Packet.{Packet}
+use Rattle.fl_wire.specs.declared.packet.Packet.TheVariants as packets
 use Rattle.fl_wire.specs.declared.batch.Batch.{Batch}
-use Rattle.fl_wire.specs.declared.packet.Data.{Data}
+use Rattle.fl_message.specs.declared.message.Data.{Data}
 use Rattle.fl_gossip.specs.Taking as gossip
 use Rattle.fl_jobs.specs.declared.job.Job.{Job}
 use Rattle.fl_system.specs.declared.event.Event.{Event}
@@ -84,7 +84,7 @@ in_or_not s op = by_test (set.contains s op) refl
 
 -- ---- what is told was saved
 
-windows_bring_none : (windows : List Intervals) (p : AnyPacket) → Contains (list_map packets.Have windows) p
+windows_bring_none : (windows : List Intervals) (p : Packet) → Contains (list_map packets.Have windows) p
     → (op : Op) → ¬ Contains (gossip.ops_of p) op
 windows_bring_none windows p h op i =
     let m = in_mapped packets.Have windows p h in

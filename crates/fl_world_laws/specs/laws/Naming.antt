@@ -10,7 +10,7 @@ use Rattle.fl_labels.specs.SetBy.{In}
 use Rattle.fl_ops.specs.declared.op.Op.{Op}
 use Rattle.fl_ops.specs.OpOrder.{op_cmp}
 use Rattle.fl_opset.specs.laws.Members.{listed_in}
-use Rattle.fl_wire.specs.declared.packet.AnyPacket.{AnyPacket}
+use Rattle.fl_wire.specs.declared.packet.Packet.{Packet}
 use Rattle.fl_gossip.specs.Taking as gossip
 use Rattle.fl_bench.specs.laws.Puts.{none_some, same_found}
 use Rattle.fl_store.specs.Kept.{Kept, raised}
@@ -192,11 +192,11 @@ module _ (w : World) (named : IsNamed w) where
 
 -- ---- what is told
 
-abbrev sent_from : ℕ → AnyPacket → Sent
+abbrev sent_from : ℕ → Packet → Sent
 sent_from number p = record { from = number; packet = p; sender = None }
 
-told_there : (w : World) (number : ℕ) (s : KeptNode) (told : List AnyPacket) → IsAt w number s
-    → ((p : AnyPacket) → Contains told p → Within (Contains (gossip.ops_of p)) (In s.node.saved))
+told_there : (w : World) (number : ℕ) (s : KeptNode) (told : List Packet) → IsAt w number s
+    → ((p : Packet) → Contains told p → Within (Contains (gossip.ops_of p)) (In s.node.saved))
     → (x : Sent) → Contains (told_by number told) x → (op : Op) → Contains (carried x) op → IsSavedAt w x.from op
 told_there w number s told at saved x h op i =
     let m = in_mapped (sent_from number) told x h in
@@ -206,8 +206,8 @@ told_there w number s told at saved x h op i =
       saved = saved m.item m.there op (subst (λ (y : Sent). Contains (carried y) op) (sym m.is) i);
     }
 
-tells_named : (w : World) (number : ℕ) (s : KeptNode) (told : List AnyPacket) → IsAt w number s
-    → ((p : AnyPacket) → Contains told p → Within (Contains (gossip.ops_of p)) (In s.node.saved))
+tells_named : (w : World) (number : ℕ) (s : KeptNode) (told : List Packet) → IsAt w number s
+    → ((p : Packet) → Contains told p → Within (Contains (gossip.ops_of p)) (In s.node.saved))
     → IsNamed w → IsNamed (has_told w number told)
 tells_named w number s told at saved named =
     record {
