@@ -1,5 +1,5 @@
 -- What is saved stays saved.
-use Rattle.std.proofs.Common.{◌≡◌, ◌⊎◌, ◌∙◌, refl, sym, ap, subst, inl, inr, ℕ, Bool, List, Result, Ok, Err, None}
+use Rattle.std.proofs.Common.{◌≡◌, ◌∙◌, refl, sym, ap, subst, inl, inr, ℕ, Bool, List, Result}
 use Rattle.std.specs.Prelude.{◌||◌}
 use Rattle.std.specs.declared.option.Option.{Option}
 use Rattle.fl_labels.specs.declared.pid.Pid.{Pid}
@@ -17,7 +17,7 @@ use Rattle.fl_system.specs.declared.state.Batch.{Batch}
 use Rattle.fl_system.specs.State.{NodeState}
 use Rattle.fl_system.specs.Begins.{Begins}
 use Rattle.fl_system.specs.Jobs.{Jobs}
-use Rattle.fl_system.specs.Saves.{Saves, stored}
+use Rattle.fl_system.specs.Saves.{Saves}
 use Rattle.fl_system.specs.Publishes.{Publishes, Cancels}
 use Rattle.fl_system.specs.Openings.{Opens, OpensAgain, Restarts, Reopens}
 
@@ -25,7 +25,8 @@ in_more : (s : SetBy op_cmp) (ops : List Op) (op : Op) → In s op → In (with_
 in_more s ops op has =
     contains-union op_total s (of_list ops) op ∙ ap (λ b. b || contains (of_list {R = op_cmp} ops) op) has
 
-begins_same : (n : NodeState) (body : Body) (maker : Option Pid) (desk : Option ℕ) {result : Result Name Fault} {n' : NodeState}
+begins_same : (n : NodeState) (body : Body) (maker : Option Pid) (desk : Option ℕ)
+    {result : Result Name Fault} {n' : NodeState}
     → Begins n body maker desk result n' → n'.saved ≡ n.saved
 begins_same n body maker desk (Begins.begins idle next) = refl
 begins_same n body maker desk (Begins.taken why) = refl
@@ -41,12 +42,14 @@ jobs_same n desk upto job (Jobs.sent look decided) = refl
 jobs_same n desk upto job (Jobs.begun look decided begun) = begins_same _ _ _ _ begun
 jobs_same n desk upto job (Jobs.not_begun look decided begun) = refl
 
-pub publishes_same : (n : NodeState) {result : Result ℕ Fault} {n' : NodeState} → Publishes n result n' → n'.saved ≡ n.saved
+pub publishes_same : (n : NodeState) {result : Result ℕ Fault} {n' : NodeState} → Publishes n result n'
+    → n'.saved ≡ n.saved
 publishes_same n (Publishes.published is) = refl
 publishes_same n (Publishes.no_room is) = refl
 publishes_same n (Publishes.none why) = refl
 
-pub cancels_same : (n : NodeState) {result : Result (Unit {0}) Fault} {n' : NodeState} → Cancels n result n' → n'.saved ≡ n.saved
+pub cancels_same : (n : NodeState) {result : Result (Unit {0}) Fault} {n' : NodeState} → Cancels n result n'
+    → n'.saved ≡ n.saved
 cancels_same n (Cancels.given_up is) = refl
 cancels_same n (Cancels.none why) = refl
 

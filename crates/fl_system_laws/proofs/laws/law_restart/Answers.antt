@@ -1,4 +1,4 @@
-use Rattle.fl_system_laws.proofs.Finding.{restart_loses, restart_keeps, restart_boots, restarts_other}
+use Rattle.fl_system_laws.specs.laws.Finding.{restart_loses, restart_keeps, restart_boots, restarts_other}
 use Rattle.fl_system_laws.proofs.laws.law_restart.Goals as goal
 
 pub returns-clause-lost : goal.returns-clause-lost

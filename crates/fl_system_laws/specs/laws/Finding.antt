@@ -1,15 +1,14 @@
 -- What a restart finds.
-use Rattle.std.proofs.Common.{◌≡◌, ◌≢◌, ◌+◌, ◌∙◌, refl, sym, ap, subst, inl, ℕ, Bool, true, false, length, le_refl, Result, Ok, Err, None}
+use Rattle.std.proofs.Common.{◌≡◌, ◌+◌, refl, subst, inl, ℕ, Bool, true, false, length, le_refl, Ok, Err, None}
 use Rattle.std.specs.declared.option.Option.{Option}
-use Rattle.fl_jobs.specs.declared.answer.Refusal.TheVariants as refusal
-use Rattle.fl_store.specs.Kept.{Kept, with_batch}
+use Rattle.fl_store.specs.Kept.{Kept}
 use Rattle.fl_system.specs.declared.answer.Fault.{Fault}
-use Rattle.fl_system.specs.declared.answer.Fault.TheVariants.{Refused, KeeperFailed, WrongNode}
+use Rattle.fl_system.specs.declared.answer.Fault.TheVariants.{WrongNode}
 use Rattle.fl_system.specs.declared.state.Batch.{Batch}
 use Rattle.fl_system.specs.declared.state.Pending.TheVariants.{Nothing, Unsaved, Due}
 use Rattle.fl_system.specs.declared.state.State.{State}
 use Rattle.fl_system.specs.declared.state.State.TheVariants.{Running, Stopped}
-use Rattle.fl_system.specs.State.{NodeState, kept_of, ops_of}
+use Rattle.fl_system.specs.State.{NodeState, kept_of}
 use Rattle.fl_system.specs.Waiting.{IsRunning, NoneUnsaved}
 use Rattle.fl_system.specs.Saves.{Saves, stored}
 use Rattle.fl_system.specs.Openings.{Opens, FailsToOpen, IsOwn, OpensAgain, Restarts, opened}
@@ -76,13 +75,16 @@ restart_loses n running (Restarts.stopped is h) = absurd (stopped_runs is runnin
 same_batch : {s : State} {a b : Batch} → s ≡ Running (Unsaved a) → s ≡ Running (Unsaved b) → a ≡ b
 same_batch p q = cc
 
-carried : (n : NodeState) (a b : Batch) → a ≡ b → {boot : ℕ} {n' : NodeState} → IsOpened (length n.views) (kept_of (stored n a)) boot n'
+carried : (n : NodeState) (a b : Batch) → a ≡ b → {boot : ℕ} {n' : NodeState}
+    → IsOpened (length n.views) (kept_of (stored n a)) boot n'
     → IsOpened (length n.views) (kept_of (stored n b)) boot n'
 carried n a b e {boot} {n'} h = subst (λ c. IsOpened (length n.views) (kept_of (stored n c)) boot n') e h
 
-pub restart_keeps : (n : NodeState) (batch : Batch) → n.state ≡ Running (Unsaved batch) → {boot : ℕ} {n' : NodeState} {k' : Kept}
+pub restart_keeps : (n : NodeState) (batch : Batch) → n.state ≡ Running (Unsaved batch)
+    → {boot : ℕ} {n' : NodeState} {k' : Kept}
     → Restarts n (kept_of n) true (Ok boot) n' k' → IsOpened (length n.views) (kept_of (stored n batch)) boot n'
-restart_keeps n batch pending (Restarts.saved kept is h) = carried n _ batch (same_batch is pending) (again_finds _ _ _ h)
+restart_keeps n batch pending (Restarts.saved kept is h) =
+    carried n _ batch (same_batch is pending) (again_finds _ _ _ h)
 restart_keeps n batch pending (Restarts.lost lost is h) = absurd (cc)
 restart_keeps n batch pending (Restarts.idle is h) = absurd (cc)
 restart_keeps n batch pending (Restarts.due is h) = absurd (cc)

@@ -1,0 +1,4 @@
+pub mod Sound
+pub mod Owned
+pub mod Goes
+pub mod laws

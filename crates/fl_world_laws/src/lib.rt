@@ -1,0 +1,4 @@
+//! Laws of the runs of worlds.
+#![tactic(auto)]
+
+pub mod laws;
