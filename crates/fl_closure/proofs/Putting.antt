@@ -27,7 +27,7 @@ use Rattle.fl_closure.specs.parts.Rows.{or_empty, row_of, PutsInto, IsPut, IsInd
 
 -- ---- the map
 
-not_at : (group other : Name) (b : Bool) → is_at (name_cmp group) other ≡ b → other ≢ group → b ≡ false
+pub not_at : (group other : Name) (b : Bool) → is_at (name_cmp group) other ≡ b → other ≢ group → b ≡ false
 not_at group other false e differ = refl
 not_at group other true e differ =
     absurd (differ (sym (name_exact group other ((Equal-is (name_cmp group other)).0 e))))

@@ -87,11 +87,32 @@ impl Index {
         let Body::Put(group, cap) = op.body else {
             return Ok(());
         };
-        let put = self.rows.put(group, cap);
-        if put.is_err() {
-            self.ops.remove(op);
+        match self.rows.put(group, cap) {
+            Ok(_) => Ok(()),
+            Err(error) => {
+                self.ops.remove(op);
+                Err(error)
+            }
         }
-        put
+    }
+
+    /// Adds operations, all or none: an error says that there was not enough memory, and leaves the index.
+    ///
+    /// As `OpSet::merge` for the operations; for each put a search by order, and the capabilities above it in its group move.
+    pub fn absorb_all(&mut self, alloc: Global, ops: &OpSet) -> Result<(), AllocError>
+        ensures ok { OnOk result (self.new ≡ set.union self.old ops.now) }
+        ensures err { OnErr result (self.new ≡ self.old) }
+    {
+        let mut news = Vec::new(alloc);
+        if let Err(error) = self.rows.put_all(ops.as_slice(), &mut news) {
+            self.rows.take_all(&news);
+            return Err(error);
+        }
+        if let Err(error) = self.ops.merge(ops) {
+            self.rows.take_all(&news);
+            return Err(error);
+        }
+        Ok(())
     }
 
     /// Whether the owner of the one capability reaches the other: it is the same one, or was put into a group of which the owner

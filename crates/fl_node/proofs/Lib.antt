@@ -1,4 +1,3 @@
-pub mod KeptLemmas
 pub mod NodeLemmas
 pub mod FindLemmas
 pub mod OpenLemmas
@@ -7,3 +6,4 @@ pub mod Sounds
 pub mod SaveLemmas
 pub mod JobLemmas
 pub mod RecoverLemmas
+pub mod CauseLemmas

@@ -7,7 +7,7 @@ use Rattle.fl_ops.specs.declared.op.Op.{Op}
 use Rattle.fl_ops.specs.OpOrder.{op_cmp}
 use Rattle.fl_store.specs.Kept.{Kept, HasNamesOnce, with_ops, with_batch}
 use Rattle.fl_store.specs.Keeping.{Held, Follows, Stays}
-use Rattle.fl_node.proofs.KeptLemmas.{once-more}
+use Rattle.fl_store.specs.laws.KeptSets.{once-more}
 use Rattle.fl_system.specs.declared.state.Batch.{Batch}
 use Rattle.fl_system.specs.declared.state.Pending.{Pending}
 use Rattle.fl_system.specs.declared.state.Pending.TheVariants.{Nothing, Unsaved, Due}

@@ -1,3 +1,4 @@
 pub mod Over
+pub mod Causes
 pub mod Sound
 pub mod parts

@@ -1,7 +1,8 @@
 // What an opening finds at a keeper, and makes of it.
-ghost use Rattle.std.specs.Prelude.{◌≡◌, ◌⊎◌, ◌<◌, IsTrue, Err, IfOk, OnErr};
+ghost use Rattle.std.specs.Prelude.{◌≡◌, ◌<◌, IsTrue, Err, IfOk, IfErr};
 ghost use Rattle.fl_labels.specs.SetBy as set;
 ghost use Rattle.fl_store.specs.Kept.{HasNamesOnce};
+ghost use Rattle.fl_node.specs.Causes.{KeeperFails};
 ghost use Rattle.fl_node.specs.parts.Finding.{Finds, Raises, shown_as};
 
 use fl_closure::index::Index;
@@ -28,8 +29,11 @@ fn shown(fault: KeeperFault) -> Fault
 pub fn find<K: Keeper>(alloc: Global, keeper: &mut K, number: u16) -> Result<OpSet, Fault>
     ensures number { K.number keeper.new ≡ K.number keeper.old }
     ensures own { IfOk result (λ saved. K.number keeper.old ≡ number) }
-    ensures cause { result ≡ Err Fault.KeeperFailed
-        → IsTrue (K.is_broken keeper.new) ⊎ (K.is_honest keeper.new → K.has_bad_row keeper.old) }
+    ensures cause { let bad = K.has_bad_row keeper.old in
+        IfErr result (KeeperFails (K.is_broken keeper.new) (K.is_honest keeper.new) bad) }
+    ensures broken { IsTrue (K.is_broken keeper.old) → K.number keeper.old ≡ number
+        → result ≡ Err Fault.KeeperFailed }
+    ensures whole { IfOk result (λ saved. K.is_honest keeper.new → ¬ K.has_bad_row keeper.old) }
     ensures names { IfOk result HasNamesOnce }
     ensures held { K.is_honest keeper.new → K.is_honest keeper.old
         × Finds number (K.may_hold keeper.old) (K.may_hold keeper.new) result }
@@ -46,7 +50,8 @@ pub fn find<K: Keeper>(alloc: Global, keeper: &mut K, number: u16) -> Result<OpS
 /// The next boot.
 pub fn raise<K: Keeper>(keeper: &mut K) -> Result<u32, Fault>
     ensures number { K.number keeper.new ≡ K.number keeper.old }
-    ensures cause { result ≡ Err Fault.KeeperFailed → IsTrue (K.is_broken keeper.new) }
+    ensures cause { let honest = K.is_honest keeper.new in
+        IfErr result (KeeperFails (K.is_broken keeper.new) honest ⊥) }
     ensures positive { IfOk result (λ boot. 0 < boot) }
     ensures held { K.is_honest keeper.new → K.is_honest keeper.old
         × Raises (K.may_hold keeper.old) (K.may_hold keeper.new) result }
@@ -57,23 +62,13 @@ pub fn raise<K: Keeper>(keeper: &mut K) -> Result<u32, Fault>
     }
 }
 
-/// The index of these operations.
-pub fn index_of(alloc: Global, ops: &[Op]) -> Result<Index, AllocError>
-    ensures { IfOk result (λ index. index ≡ set.of_list ops.now) }
-{
-    let mut index = Index::new(alloc);
-    for op in ops {
-        index.absorb(op)?;
-    }
-    Ok(index)
-}
-
 /// The operations of a set, rising, and their index.
 pub fn listed(alloc: Global, saved: &OpSet) -> Result<(Vec<Op>, Index), AllocError>
     ensures list { IfOk result (λ found. found.0.items ≡ set.members saved.now) }
     ensures index { IfOk result (λ found. found.1 ≡ set.of_list (set.members saved.now)) }
 {
     let list = Vec::from_slice(alloc, saved.as_slice())?;
-    let index = index_of(alloc, saved.as_slice())?;
+    let mut index = Index::new(alloc);
+    index.absorb_all(alloc, saved)?;
     Ok((list, index))
 }

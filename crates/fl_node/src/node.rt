@@ -13,6 +13,7 @@ ghost use Rattle.fl_system.specs.Jobs.{Jobs};
 ghost use Rattle.fl_system.specs.Saves.{Saves};
 ghost use Rattle.fl_system.specs.Publishes.{Publishes, Cancels};
 ghost use Rattle.fl_system.specs.Openings.{Opens, IsOf, OpensAgain, Reopens, Restarts, doubt_of};
+ghost use Rattle.fl_node.specs.Causes.{KeeperFails, LoadsBadRow};
 ghost use Rattle.fl_node.specs.parts.Ordering.{Orders};
 
 use crate::beginning::next_name;
@@ -104,15 +105,19 @@ impl<K: Keeper> Node<K> {
     /// - `NamesSpent`: it was opened 4,294,967,295 times.
     /// - `Memory`: there was not enough.
     ///
-    /// A refused opening may have raised the boot. Loads what is saved once, copies it once, and indexes it: a search by order
-    /// for each operation.
+    /// A refused opening may have raised the boot. Loads what is saved, and copies it twice, into the list and into the index;
+    /// there each put costs a search by order.
     pub fn open(alloc: Global, mut keeper: K, number: u16) -> Result<Node<K>, (Fault, K)>
         requires { 0 < number }
         ensures ok { IfOk result (λ node. K.is_honest node.keeper → K.is_honest keeper
             × Follows (λ k k'. Opens 1 (IsOf number) k (Ok node.node) k')
             (K.may_hold keeper) (K.may_hold node.keeper)) }
-        ensures cause { IfErr result (λ e. e.0 ≡ Fault.KeeperFailed
-            → IsTrue (K.is_broken e.1) ⊎ (K.is_honest e.1 → K.has_bad_row keeper)) }
+        ensures cause { let bad = K.has_bad_row keeper in
+            IfErr result (λ e. KeeperFails (K.is_broken e.1) (K.is_honest e.1) bad e.0) }
+        ensures broken { IfErr result (λ e. IsTrue (K.is_broken keeper) → K.number keeper ≡ number
+            → e.0 ≡ Fault.KeeperFailed) }
+        ensures sound { IfOk result (λ node. ¬ IsTrue (K.is_broken keeper)) }
+        ensures whole { IfOk result (λ node. K.is_honest node.keeper → ¬ K.has_bad_row keeper) }
         ensures err { IfErr result (λ e. K.is_honest e.1 → K.is_honest keeper
             × Follows (λ k k'. Opens 1 (IsOf number) k (Err e.0) k')
             (K.may_hold keeper) (K.may_hold e.1)) }
@@ -270,6 +275,9 @@ impl<K: Keeper> Node<K> {
     /// - `Stopped`: the node is stopped.
     /// - `Busy`: nothing is due.
     /// - `Memory`: there was not enough; it stays due.
+    ///
+    /// Costs what the batch does, as `Index::absorb` and `Index::absorb_all` have it; nothing that was published is copied for it
+    /// but where these move it.
     pub fn publish(&mut self, alloc: Global) -> Result<u64, Fault>
         ensures publishes { Publishes self.old.node result self.new.node }
         ensures keeper { self.new.keeper ≡ self.old.keeper }
@@ -314,7 +322,13 @@ impl<K: Keeper> Node<K> {
 
     // Opens the node again over its keeper, or leaves it stopped.
     fn open_again(&mut self, alloc: Global) -> Result<u32, Fault>
-        ensures { K.is_honest self.new.keeper → K.is_honest self.old.keeper
+        ensures cause { let bad = K.has_bad_row self.old.keeper in IfErr result
+            (KeeperFails (K.is_broken self.new.keeper) (K.is_honest self.new.keeper) bad) }
+        ensures broken { IsTrue (K.is_broken self.old.keeper)
+            → K.number self.old.keeper ≡ self.old.node.number → result ≡ Err Fault.KeeperFailed }
+        ensures whole { IfOk result
+            (λ boot. K.is_honest self.new.keeper → ¬ K.has_bad_row self.old.keeper) }
+        ensures opens { K.is_honest self.new.keeper → K.is_honest self.old.keeper
             × Follows (λ k k'. OpensAgain self.old.node (doubt_of self.old.node.state) k
             result self.new.node k')
             (K.may_hold self.old.keeper) (K.may_hold self.new.keeper) }
@@ -349,7 +363,13 @@ impl<K: Keeper> Node<K> {
 
     // Saves what is to be saved where that is to be kept, and opens the node again.
     fn come_back(&mut self, alloc: Global, keeps: bool) -> Result<u32, Fault>
-        ensures { K.is_honest self.new.keeper → K.is_honest self.old.keeper
+        ensures cause { let node = self.old.node in
+            let bad = LoadsBadRow K.has_bad_row K.may_hold node.state self.old.keeper in
+            IfErr result
+            (KeeperFails (K.is_broken self.new.keeper) (K.is_honest self.new.keeper) bad) }
+        ensures broken { (¬ IsRunning self.old.node.state) → IsTrue (K.is_broken self.old.keeper)
+            → K.number self.old.keeper ≡ self.old.node.number → result ≡ Err Fault.KeeperFailed }
+        ensures restarts { K.is_honest self.new.keeper → K.is_honest self.old.keeper
             × Follows (λ k k'. Restarts self.old.node k keeps result self.new.node k')
             (K.may_hold self.old.keeper) (K.may_hold self.new.keeper) }
     {
@@ -369,10 +389,16 @@ impl<K: Keeper> Node<K> {
     /// by one, which is the answer. Where it is to be kept, what is pending is saved first; refused for memory, that leaves the
     /// node as it was. After any later refusal the node is stopped, with its saved operations.
     ///
-    /// As `open`; a node that was stopped answers `WrongNode` too where what is kept is neither what it had saved nor that with
-    /// what was in doubt, or was not opened as often.
+    /// As `open`; `WrongNode` is answered too where what is kept is neither what the node had saved nor that with what was in
+    /// doubt, or was not opened as often. A stopped node whose own keeper is still broken answers `KeeperFailed`; no node does so
+    /// unless its keeper is broken or has a bad row.
     pub fn restart(self, alloc: Global, keeps: bool) -> (Node<K>, Result<u32, Fault>)
-        ensures { K.is_honest result.0.keeper → K.is_honest self.keeper
+        ensures cause { let bad = LoadsBadRow K.has_bad_row K.may_hold self.node.state self.keeper in
+            let left = result.0.keeper in
+            IfErr result.1 (KeeperFails (K.is_broken left) (K.is_honest left) bad) }
+        ensures broken { (¬ IsRunning self.node.state) → IsTrue (K.is_broken self.keeper)
+            → K.number self.keeper ≡ self.node.number → result.1 ≡ Err Fault.KeeperFailed }
+        ensures restarts { K.is_honest result.0.keeper → K.is_honest self.keeper
             × Follows (λ k k'. Restarts self.node k keeps result.1 result.0.node k')
             (K.may_hold self.keeper) (K.may_hold result.0.keeper) }
     {
@@ -392,6 +418,13 @@ impl<K: Keeper> Node<K> {
             × (K.is_honest result.0.keeper → K.is_honest made
             × Follows (λ k k'. Reopens self.node k result.1 result.0.node k')
             (K.may_hold made) (K.may_hold result.0.keeper)) }
+        ensures cause { let left = result.0.keeper in
+            IfErr result.1 (λ fault. fault ≡ Fault.KeeperFailed
+            → (made : K) × F.post make self.keeper made
+            × (IsTrue (K.is_broken left) ⊎ (K.is_honest left → K.has_bad_row made))) }
+        ensures broken { (¬ IsRunning self.node.state) → (made : K) × F.post make self.keeper made
+            × (IsTrue (K.is_broken made) → K.number made ≡ self.node.number
+            → result.1 ≡ Err Fault.KeeperFailed) }
     {
         let Err(_) = running(&self.state) else {
             return (self, Err(Fault::Refused(Refusal::Busy)));

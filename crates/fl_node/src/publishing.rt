@@ -4,10 +4,10 @@ ghost use Rattle.fl_labels.specs.SetBy as set;
 ghost use Rattle.fl_system.specs.State.{ops_of};
 ghost use Rattle.fl_system.specs.Publishes.{given_to, released, told};
 
-use crate::finding::index_of;
 use fl_closure::index::Index;
 use fl_monitor::bench::Bench;
 use fl_ops::op::Op;
+use fl_opset::set::OpSet;
 use fl_system::state::Batch;
 use std::alloc::{AllocError, Global};
 
@@ -27,29 +27,29 @@ fn append_one(list: &mut Vec<Op>, index: &mut Index, op: &Op) -> Result<(), Allo
     absorbed
 }
 
-// Puts operations at the end of the list, and makes the index anew, since nothing can be taken out of one. An error leaves
-// both. As many steps as an opening.
+// Puts operations at the end of the list, and into the index. An error leaves both.
 fn append_all(
     alloc: Global,
     list: &mut Vec<Op>,
     index: &mut Index,
-    ops: &[Op],
+    ops: &OpSet,
 ) -> Result<(), AllocError>
-    ensures list { OnOk result (list.new.items ≡ list.old.items ++ ops.now) }
+    requires { index.old ≡ set.of_list list.old.items }
+    ensures list { OnOk result (list.new.items ≡ list.old.items ++ set.members ops.now) }
     ensures index { OnOk result (index.new ≡ set.of_list list.new.items) }
     ensures same_list { OnErr result (list.new.items ≡ list.old.items) }
     ensures same_index { OnErr result (index.new ≡ index.old) }
 {
-    let mut longer = Vec::from_slice(alloc, list)?;
-    longer.extend_from_slice(ops)?;
-    let next = index_of(alloc, &longer)?;
-    *list = longer;
-    *index = next;
-    Ok(())
+    let before = list.len();
+    list.extend_from_slice(ops.as_slice())?;
+    let absorbed = index.absorb_all(alloc, ops);
+    if absorbed.is_err() {
+        list.truncate(before);
+    }
+    absorbed
 }
 
-/// Puts a batch at the end of the list, and into the index. An error leaves both. An order's operation is put into the index
-/// as it is; for received ones the index is made anew.
+/// Puts a batch at the end of the list, and into the index. An error leaves both.
 pub fn append(
     alloc: Global,
     list: &mut Vec<Op>,
@@ -64,7 +64,7 @@ pub fn append(
 {
     match batch {
         Batch::Ordered(op, _, _) => append_one(list, index, op),
-        Batch::Received(ops) => append_all(alloc, list, index, ops.as_slice()),
+        Batch::Received(ops) => append_all(alloc, list, index, ops),
     }
 }
 

@@ -1,5 +1,5 @@
 // What a stopped or restarted node gets back from its keeper.
-ghost use Rattle.std.specs.Prelude.{◌≡◌, ◌⊎◌, ◌<◌, IfOk, IfErr, Ok, Err};
+ghost use Rattle.std.specs.Prelude.{◌≡◌, ◌⊎◌, ◌<◌, IsTrue, IfOk, IfErr, Ok, Err};
 ghost use Rattle.std.specs.Option.{option_copied};
 ghost use Rattle.fl_labels.specs.Found.{Tells};
 ghost use Rattle.fl_labels.specs.SetBy as set;
@@ -7,6 +7,7 @@ ghost use Rattle.fl_store.specs.Kept.{Kept, HasNamesOnce, with_ops};
 ghost use Rattle.fl_store.specs.Keeping.{Follows};
 ghost use Rattle.fl_system.specs.State.{ops_in};
 ghost use Rattle.fl_system.specs.Openings.{Opens, IsOwn, starting};
+ghost use Rattle.fl_node.specs.Causes.{KeeperFails};
 
 use crate::finding::{find, listed, raise};
 use crate::keeping::add_batch;
@@ -82,6 +83,11 @@ pub fn recover<K: Keeper>(
         IfErr result (λ fault. K.is_honest keeper.new → K.is_honest keeper.old
         × Follows (λ k k'. Opens 1 own k (Err fault) k')
         (K.may_hold keeper.old) (K.may_hold keeper.new)) }
+    ensures cause { let bad = K.has_bad_row keeper.old in
+        IfErr result (KeeperFails (K.is_broken keeper.new) (K.is_honest keeper.new) bad) }
+    ensures broken { IsTrue (K.is_broken keeper.old) → K.number keeper.old ≡ number
+        → result ≡ Err Fault.KeeperFailed }
+    ensures whole { IfOk result (λ r. K.is_honest keeper.new → ¬ K.has_bad_row keeper.old) }
 {
     let found = match find(alloc, keeper, number) {
         Ok(found) => found,

@@ -34,6 +34,15 @@ pub record PutsInto (old : Rows) (group : Name) (c : Cap) (new : Rows) : Type 0 
   pub here : row_of new group ≡ set.insert (row_of old group) c
   pub others : (other : Name) → other ≢ group → row_of new other ≡ row_of old other
 
+-- one row lost a capability
+pub record TakesFrom (old : Rows) (group : Name) (c : Cap) (new : Rows) : Type 0 where
+  pub here : row_of new group ≡ set.remove (row_of old group) c
+  pub others : (other : Name) → other ≢ group → row_of new other ≡ row_of old other
+
+-- each row is as it was
+pub record IsSameRows (old new : Rows) : Type 0 where
+  pub row : (group : Name) → row_of new group ≡ row_of old group
+
 -- some operation puts c into the group
 abbrev pub IsPut : Registry → Name → Caps
 IsPut U group c = (op : Op) × U op × Puts op.body group c

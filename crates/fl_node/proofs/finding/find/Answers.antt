@@ -1,6 +1,5 @@
 use Rattle.std.proofs.Common.{◌≡◌, ◌∙◌, sym}
 use Rattle.fl_node.specs.parts.Finding.{FailsToFind}
-use Rattle.fl_node.proofs.NodeLemmas.{err_same}
 use Rattle.fl_node.proofs.FindLemmas.{found, load_failed, not_loaded, other_node}
 use Rattle.fl_node.proofs.finding.find.Goals as goal
 
@@ -17,4 +16,4 @@ pub returns-in-Err-clause-held : goal.returns-in-Err-clause-held
 returns-in-Err-clause-held g c = rw c.shown.ensures (λ honest. let held = c.in-Err.ensures.held honest in (held.0, not_loaded _ _ _ _ held.1))
 
 pub returns-in-Err-clause-cause : goal.returns-in-Err-clause-cause
-returns-in-Err-clause-cause g c failed = load_failed _ _ _ c.in-Err.fault c.in-Err.ensures.cause (sym c.shown.ensures ∙ err_same failed)
+returns-in-Err-clause-cause g c failed = load_failed _ _ _ c.in-Err.fault c.in-Err.ensures.cause (sym c.shown.ensures ∙ failed)

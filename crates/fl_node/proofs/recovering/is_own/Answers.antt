@@ -2,7 +2,7 @@ use Rattle.std.proofs.Common.{◌≡◌, ◌∙◌, ap}
 use Rattle.fl_labels.specs.SetBy as set
 use Rattle.fl_ops.specs.OpLaws.{op_total, op_exact}
 use Rattle.fl_store.specs.Kept.{with_ops}
-use Rattle.fl_node.proofs.KeptLemmas.{union-nothing}
+use Rattle.fl_store.specs.laws.KeptSets.{union-nothing}
 use Rattle.fl_system.specs.State.{ops_of}
 use Rattle.fl_node.proofs.RecoverLemmas.{not_own, own_by}
 use Rattle.fl_node.proofs.recovering.is_own.Goals as goal

@@ -55,3 +55,9 @@ returns-clause-ok g c honest =
             saved = elim (c.in-Ok-is_own.ensures.holds c.if-not-own.false) [ inl e ↦ inl (sym saved_is ∙ e) | inr e ↦ inr (sym saved_is ∙ e) ];
           }) raised.1,
     )
+
+pub returns-in-Err-raise-clause-cause : goal.returns-in-Err-raise-clause-cause
+returns-in-Err-raise-clause-cause g c failed = elim (c.in-Err-raise.ensures.cause failed) [
+  | inl broken ↦ inl broken
+  | inr never ↦ inr (λ honest. absurd (never honest))
+]

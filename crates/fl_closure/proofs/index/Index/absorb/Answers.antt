@@ -1,7 +1,7 @@
 use Rattle.std.proofs.Common.{ap, ◌∙◌}
 use Rattle.fl_labels.specs.SetBy as set
 use Rattle.fl_closure.proofs.Members.{fresh, stale}
-use Rattle.fl_closure.proofs.Putting.{indexed_again, indexed_other, indexed_back, indexed_put, taken_back, no_puts, at_err, at_ok, on_err}
+use Rattle.fl_closure.proofs.Putting.{indexed_again, indexed_other, indexed_back, indexed_put, taken_back, no_puts}
 use Rattle.fl_closure.proofs.index.Index.absorb.Goals as goal
 
 pub invariant_of-self-then-not-branch : goal.invariant_of-self-then-not-branch
@@ -12,15 +12,14 @@ pub invariant_of-self-in_default : goal.invariant_of-self-in_default
 invariant_of-self-in_default c =
     indexed_other _ _ c.args.op.now _ c.self.invariant (no_puts _ c.in_default.not-Put) c.in_ok-add.ensures.ok
 
-pub invariant_of-self-then-is_err : goal.invariant_of-self-then-is_err
-invariant_of-self-then-is_err c =
-    indexed_back _ _ c.args.op.now _ c.self.invariant _ _ (fresh _ _ c.in_ok-add.ensures.new c.if-not-branch.false) c.in_ok-add.ensures.ok c.remove.ensures.after (at_err c.put-put.result _ c.is_err.ensures.value c.if-is_err.true c.put-put.ensures.err)
+pub invariant_of-self-in-Err : goal.invariant_of-self-in-Err
+invariant_of-self-in-Err c =
+    indexed_back _ _ c.args.op.now _ c.self.invariant _ _ (fresh _ _ c.in_ok-add.ensures.new c.if-not-branch.false) c.in_ok-add.ensures.ok c.remove.ensures.after c.in-Err.ensures.err.row
 
-pub invariant_of-self-else-is_err : goal.invariant_of-self-else-is_err
-invariant_of-self-else-is_err c =
-    indexed_put _ _ c.args.op.now _ c.self.invariant c.in-Put.group c.in-Put.cap c.in-Put.is _ (at_ok c.put-put.result _ c.is_err.ensures.value c.if-is_err.false c.put-put.ensures.ok) c.in_ok-add.ensures.ok
+pub invariant_of-self-in-Ok : goal.invariant_of-self-in-Ok
+invariant_of-self-in-Ok c =
+    indexed_put _ _ c.args.op.now _ c.self.invariant c.in-Put.group c.in-Put.cap c.in-Put.is _ c.in-Ok.ensures.ok c.in_ok-add.ensures.ok
 
-pub returns-then-is_err-clause-err : goal.returns-then-is_err-clause-err
-returns-then-is_err-clause-err c =
-    on_err c.put-put.result
-    (c.remove.ensures.after ∙ ap (λ t. set.remove t c.args.op.now) c.in_ok-add.ensures.ok ∙ taken_back _ c.args.op.now (fresh _ _ c.in_ok-add.ensures.new c.if-not-branch.false) ∙ c.self.view_is)
+pub returns-in-Err-clause-err : goal.returns-in-Err-clause-err
+returns-in-Err-clause-err c =
+    c.remove.ensures.after ∙ ap (λ t. set.remove t c.args.op.now) c.in_ok-add.ensures.ok ∙ taken_back _ c.args.op.now (fresh _ _ c.in_ok-add.ensures.new c.if-not-branch.false) ∙ c.self.view_is

@@ -1,4 +1,4 @@
-use Rattle.std.proofs.Common.{Err, length, ◌≡◌, ◌∙◌, refl, sym, ap}
+use Rattle.std.proofs.Common.{inl, inr, length, ◌≡◌, ◌∙◌, refl, sym, ap}
 use Rattle.fl_system.specs.Openings.{IsOf}
 use Rattle.fl_node.proofs.OpenLemmas.{not_found, found_no_room, not_raised, opens, kept_opened}
 use Rattle.fl_node.proofs.node.Node.open.Goals as goal
@@ -28,4 +28,10 @@ returns-clause-ok g c =
     (held.0, opens (IsOf c.args.number) c.args.number c.in-Ok.saved _ _ held.1 _ _ _ c.in-Ok-listed.ensures.list (λ k number boot saved. number) raised.1))
 
 pub returns-in-Err-clause-cause : goal.returns-in-Err-clause-cause
-returns-in-Err-clause-cause g c failed = c.in-Err.ensures.cause (λ i. Err (failed i))
+returns-in-Err-clause-cause g c failed = c.in-Err.ensures.cause failed
+
+pub returns-in-Err-raise-clause-cause : goal.returns-in-Err-raise-clause-cause
+returns-in-Err-raise-clause-cause g c failed = elim (c.in-Err-raise.ensures.cause failed) [
+  | inl broken ↦ inl broken
+  | inr never ↦ inr (λ honest. absurd (never honest))
+]

@@ -2,14 +2,17 @@ use Rattle.std.proofs.Common.{◌≡◌, ◌∙◌, length}
 use Rattle.fl_system.specs.Openings.{OpensAgain}
 use Rattle.fl_node.proofs.node.Node.open_again.Goals as goal
 
-pub returns-in-Ok : goal.returns-in-Ok
-returns-in-Ok g c =
+pub returns-in-Ok-clause-opens : goal.returns-in-Ok-clause-opens
+returns-in-Ok-clause-opens g c =
     let seen : c.len.result ≡ length c.in-Ok.recovered.published.items = c.len.ensures ∙ c.in-Ok.recovered.published.ok.0 in
     rw (c.new.ensures, seen, ← c.self.view_is, ← c.doubt-doubt.ensures) (λ honest.
     let held = c.in-Ok.ensures.ok honest in
     (held.0, λ after is. let b = held.1 after is in (b.0, b.1, OpensAgain.opens b.2)))
 
-pub returns-in-Err : goal.returns-in-Err
-returns-in-Err g c = rw (c.halt.ensures, ← c.self.view_is, ← c.doubt-doubt.ensures) (λ honest.
+pub returns-in-Err-clause-opens : goal.returns-in-Err-clause-opens
+returns-in-Err-clause-opens g c = rw (c.halt.ensures, ← c.self.view_is, ← c.doubt-doubt.ensures) (λ honest.
     let held = c.in-Err.ensures.err honest in
     (held.0, λ after is. let b = held.1 after is in (b.0, b.1, OpensAgain.stays b.2)))
+
+pub returns-in-Err-clause-cause : goal.returns-in-Err-clause-cause
+returns-in-Err-clause-cause g c = rw (← c.self.view_is) c.in-Err.ensures.cause

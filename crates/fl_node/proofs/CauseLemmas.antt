@@ -1,0 +1,59 @@
+-- Why a node says that its keeper failed, over the calls that an opening goes through.
+use Rattle.std.proofs.Common.{◌≡◌, ◌⊎◌, inl, inr, ◌∙◌, refl, sym, ap, Bool, Ok, Err, Result}
+use Rattle.std.specs.Prelude.{IfErr, IsTrue}
+use Rattle.fl_store.specs.Kept.{Kept, with_batch}
+use Rattle.fl_store.specs.Keeping.{Held, Follows}
+use Rattle.fl_system.specs.declared.answer.Fault.{Fault}
+use Rattle.fl_system.specs.declared.answer.Fault.TheVariants.{KeeperFailed}
+use Rattle.fl_system.specs.declared.state.Batch.{Batch}
+use Rattle.fl_system.specs.declared.state.Pending.TheVariants.{Unsaved}
+use Rattle.fl_system.specs.declared.state.State.{State}
+use Rattle.fl_system.specs.declared.state.State.TheVariants.{Running}
+use Rattle.fl_system.specs.State.{NodeState, ops_of}
+use Rattle.fl_system.specs.Saves.{Saves}
+use Rattle.fl_node.specs.Causes.{KeeperFails, IsStored, LoadsBadRow}
+
+module _ {K T : Type 0} (bad : K → Type 0) (may_hold : K → Held) (state : State) (keeper : K) (broken : Bool) (honest : Type 0) (r : Result T Fault) where
+  -- the keeper that the node had was loaded
+  pub loads_own : IfErr r (KeeperFails broken honest (bad keeper)) → IfErr r (KeeperFails broken honest (LoadsBadRow bad may_hold state keeper))
+  loads_own = by r
+    where
+      by : (r : Result T Fault) → IfErr r (KeeperFails broken honest (bad keeper)) → IfErr r (KeeperFails broken honest (LoadsBadRow bad may_hold state keeper))
+      by (Ok x) h = tt
+      by (Err fault) h = λ failed. elim (h failed) [
+        | inl is ↦ inl is
+        | inr row ↦ inr (λ is. record { loaded = keeper; bad = row is; left = inl refl })
+      ]
+
+  -- or that after the saving
+  pub loads_stored : (mid : K) → (honest → IsStored state (may_hold keeper) (may_hold mid))
+      → IfErr r (KeeperFails broken honest (bad mid)) → IfErr r (KeeperFails broken honest (LoadsBadRow bad may_hold state keeper))
+  loads_stored mid stored = by r
+    where
+      by : (r : Result T Fault) → IfErr r (KeeperFails broken honest (bad mid)) → IfErr r (KeeperFails broken honest (LoadsBadRow bad may_hold state keeper))
+      by (Ok x) h = tt
+      by (Err fault) h = λ failed. elim (h failed) [
+        | inl is ↦ inl is
+        | inr row ↦ inr (λ is. record { loaded = mid; bad = row is; left = inr (stored is) })
+      ]
+
+stored_of : (n : NodeState) (batch : Batch) (k : Kept) (n' : NodeState) (k' : Kept) → n.state ≡ Running (Unsaved batch)
+    → Saves n k (Ok tt) n' k' → k' ≡ with_batch k (ops_of batch)
+stored_of n batch k n' k' is (Saves.saved {batch = other} pending) =
+    ap (λ b. with_batch k (ops_of b)) (same (sym pending ∙ is))
+  where
+    same : Running (Unsaved other) ≡ Running (Unsaved batch) → other ≡ batch
+    same e = cc
+
+-- what was to be saved is kept after it was saved
+pub stored_then : (n : NodeState) (batch : Batch) (n' : NodeState) (old new : Held) → n.state ≡ Running (Unsaved batch)
+    → Follows (λ k k'. Saves n k (Ok tt) n' k') old new → IsStored n.state old new
+stored_then n batch n' old new is h =
+    (batch, is, λ after found. let b = h after found in (b.0, b.1, stored_of n batch b.0 n' after is b.2))
+
+-- the keeper that came back was loaded
+pub with_made : {K T : Type 0} (bad : K → Type 0) (gives : K → Type 0) (broken : Bool) (honest : Type 0) (r : Result T Fault) (made : K) → gives made
+    → IfErr r (KeeperFails broken honest (bad made))
+    → IfErr r (λ fault. fault ≡ KeeperFailed → (made : K) × gives made × (IsTrue broken ⊎ (honest → bad made)))
+with_made bad gives broken honest (Ok x) made given h = tt
+with_made bad gives broken honest (Err fault) made given h = λ failed. (made, given, h failed)

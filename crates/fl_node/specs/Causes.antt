@@ -1,0 +1,26 @@
+-- Why a node says that its keeper failed.
+use Rattle.std.specs.Prelude.{◌≡◌, ◌⊎◌, Bool, IsTrue}
+use Rattle.fl_store.specs.Kept.{with_batch}
+use Rattle.fl_store.specs.Keeping.{Held, Follows}
+use Rattle.fl_system.specs.declared.answer.Fault.{Fault}
+use Rattle.fl_system.specs.declared.answer.Fault.TheVariants.{KeeperFailed}
+use Rattle.fl_system.specs.declared.state.Batch.{Batch}
+use Rattle.fl_system.specs.declared.state.Pending.TheVariants.{Unsaved}
+use Rattle.fl_system.specs.declared.state.State.{State}
+use Rattle.fl_system.specs.declared.state.State.TheVariants.{Running}
+use Rattle.fl_system.specs.State.{ops_of}
+
+-- where it says so the keeper is broken, or, as far as it is honest, one of its rows is bad
+abbrev pub KeeperFails : Bool → Type 0 → Type 0 → Fault → Type 0
+KeeperFails broken honest bad fault = fault ≡ KeeperFailed → IsTrue broken ⊎ (honest → bad)
+
+-- what was to be saved is kept too
+abbrev pub IsStored : State → Held → Held → Type 0
+IsStored state old new =
+    (batch : Batch) × (state ≡ Running (Unsaved batch)) × Follows (λ k k'. k' ≡ with_batch k (ops_of batch)) old new
+
+-- a keeper with a bad row: the one that the node had, or that after what was to be saved was saved
+pub record LoadsBadRow {K : Type 0} (has_bad_row : K → Type 0) (may_hold : K → Held) (state : State) (keeper : K) : Type 0 where
+  pub loaded : K
+  pub bad : has_bad_row loaded
+  pub left : (loaded ≡ keeper) ⊎ IsStored state (may_hold keeper) (may_hold loaded)
