@@ -1,0 +1,42 @@
+//! The steps that are measured.
+
+/// What is measured.
+#[derive(Clone, Copy)]
+pub enum Step {
+    Have,
+    Lacking,
+    Reply,
+    Encode,
+    Decode,
+    Take,
+    TakeAndMerge,
+    Merge,
+}
+
+/// Each of them.
+pub const STEPS: [Step; 8] = [
+    Step::Have,
+    Step::Lacking,
+    Step::Reply,
+    Step::Encode,
+    Step::Decode,
+    Step::Take,
+    Step::TakeAndMerge,
+    Step::Merge,
+];
+
+impl Step {
+    /// What it makes.
+    pub fn made(self) -> &'static str {
+        match self {
+            Step::Have => "spans told",
+            Step::Lacking => "operations lacking between the spans",
+            Step::Reply => "deltas replied",
+            Step::Encode => "deltas written",
+            Step::Decode => "deltas read",
+            Step::Take => "operations taken",
+            Step::TakeAndMerge => "operations taken and merged",
+            Step::Merge => "operations merged between others",
+        }
+    }
+}
