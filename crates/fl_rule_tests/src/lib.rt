@@ -1,12 +1,6 @@
-//! Tests of what the monitor stands on: rules, mailboxes, and the index of who reaches what.
+//! Tests of the rules and of mailboxes.
 #![tactic(auto)]
 
-#[cfg(test)]
-mod graphs;
-#[cfg(test)]
-mod index;
-#[cfg(test)]
-mod made;
 #[cfg(test)]
 mod mailbox;
 #[cfg(test)]
