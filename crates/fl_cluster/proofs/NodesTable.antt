@@ -1,5 +1,5 @@
 -- Nodes by their numbers.
-use Rattle.std.proofs.Common.{◌≡◌, ◌∙◌, refl, sym, ap, subst, ℕ, List, Option, Some, None, is_some, cond, Bool, true, false, not, ◌||◌, ◌+◌, length, Result}
+use Rattle.std.proofs.Common.{◌≡◌, ◌∙◌, refl, sym, ap, subst, ℕ, List, Option, Some, None, is_some, cond, Bool, true, false, not, ◌||◌, ◌+◌, length, Result, []}
 use Rattle.std.specs.BTreeMap.{is_at}
 use Rattle.std.specs.Cmp.{Equal-is}
 use Rattle.std.specs.FinMap as map
@@ -9,10 +9,12 @@ use Rattle.std.specs.Ordering.{nat_cmp, eq_by_cmp}
 use Rattle.std.specs.Prelude.{IfOk, OnOk}
 use Rattle.std.specs.declared.alloc.AllocError.{AllocError}
 use Rattle.std.proofs.lemmas.Cmp.{nat_cmp_total}
+use Rattle.std.proofs.lemmas.List.{nil_from_length}
 use Rattle.fl_labels.specs.Pid.{pid_cmp}
 use Rattle.fl_labels.specs.SetBy as set
 use Rattle.fl_ops.specs.OpOrder.{op_cmp}
 use Rattle.fl_ops.specs.OpLaws.{op_total, op_exact}
+use Rattle.fl_ops.specs.declared.op.Op.{Op}
 use Rattle.fl_aliases.specs.Table.{Table}
 use Rattle.fl_message.specs.declared.message.Data.{Data}
 use Rattle.fl_jobs.specs.declared.job.Job.{Job}
@@ -121,6 +123,21 @@ or_false false = refl
 
 pub union-empty : (s : set.SetBy op_cmp) → set.union s set.empty ≡ s
 union-empty s = set.same_set op_total op_exact _ _ (λ q. set.contains-union op_total s set.empty q ∙ ap (λ b. set.contains s q || b) (set.contains-empty op_cmp q) ∙ or_false (set.contains s q))
+
+-- a set of no member adds none
+pub union-none : (s t : set.SetBy op_cmp) → set.len t ≡ 0 → set.union s t ≡ s
+union-none s t none =
+    let held : set.members t ≡ [] = nil_from_length _ (sym (set.len-members t) ∙ none) in
+    let is : t ≡ set.empty = sym (set.of_list-members op_total op_exact t) ∙ ap (λ (l : List Op). set.of_list {R = op_cmp} l) held in
+    ap (set.union s) is ∙ union-empty s
+
+-- a node that is closed once another was opened was closed before
+pub still_closed : (s : Cluster) (n m : ℕ) → is_open (with_open s n) m ≡ false → is_open s m ≡ false
+still_closed s n m closed = by_place (eq_by_cmp nat_cmp m n) (ap is_some (sym (map.get-insert nat_cmp_total s.nodes n (node_at s n) m)) ∙ closed)
+  where
+    by_place : (b : Bool) → is_some (cond b (Some (node_at s n)) (map.get s.nodes m)) ≡ false → is_some (map.get s.nodes m) ≡ false
+    by_place true e = absurd (cc)
+    by_place false e = e
 
 pub empty-union : (s : set.SetBy op_cmp) → set.union set.empty s ≡ s
 empty-union s = set.same_set op_total op_exact _ _ (λ q. set.contains-union op_total set.empty s q ∙ ap (λ b. b || set.contains s q) (set.contains-empty op_cmp q))

@@ -1,5 +1,6 @@
 -- When a line may want memory.
-use Rattle.std.specs.Prelude.{◌≡◌, ◌⊎◌, ℕ, List, Option, false}
+use Rattle.std.specs.Prelude.{◌≡◌, ◌<◌, ◌⊎◌, ℕ, List, Option, false}
+use Rattle.fl_labels.specs.SetBy as set
 use Rattle.fl_bench.specs.Jobs.{TakesMemory}
 use Rattle.fl_script.specs.declared.line.Line.{Line}
 use Rattle.fl_script.specs.declared.line.Line.TheVariants as line
@@ -9,14 +10,18 @@ use Rattle.fl_cluster.specs.Cluster.{Cluster, is_open, node_at}
 use Rattle.fl_cluster.specs.Session.{Session}
 use Rattle.fl_cluster.specs.NodeStep.{view_of}
 
--- what the line asks for takes memory: a node is opened that no line has named, the job takes memory, or two
--- registries are joined
+-- no line has named the node, or it has operations
+abbrev pub OpensOrCopies : Cluster → ℕ → Type 0
+OpensOrCopies old number = (is_open old number ≡ false) ⊎ (0 < set.len (node_at old number).registry)
+
+-- what the line asks for takes memory: a node is opened that no line has named, the job takes memory, or a registry
+-- that is not empty is joined
 abbrev pub LineTakesMemory : Cluster → Line → Type 0
 LineTakesMemory old (line.Job number job) =
     (is_open old number ≡ false) ⊎ TakesMemory (view_of (node_at old number)) (node_at old number).bench job
 LineTakesMemory old (line.Deliver number packet) = ⊥
 LineTakesMemory old (line.Text number) = is_open old number ≡ false
-LineTakesMemory old (line.Union first second) = Unit {0}
+LineTakesMemory old (line.Union first second) = OpensOrCopies old first ⊎ OpensOrCopies old second
 LineTakesMemory old line.Aliases = ⊥
 
 -- reading the bytes takes memory, or what they ask for does

@@ -1,12 +1,12 @@
 //! The nodes of a script and the packets between them, line by line.
-ghost use Rattle.std.specs.Prelude.{◌≡◌, ◌+◌, ◌<◌, All, IfOk, MatchOption, OnErr, OnOk, false, length, not};
+ghost use Rattle.std.specs.Prelude.{◌≡◌, ◌+◌, ◌<◌, ◌⊎◌, All, IfOk, MatchOption, OnErr, OnOk, false, length, not};
 ghost use Rattle.std.specs.FinMap as map;
 ghost use Rattle.fl_labels.specs.SetBy as set;
 ghost use Rattle.fl_opset.specs.RegistryText.{registry_text};
 ghost use Rattle.fl_sink.specs.Sink.{Puts};
 ghost use Rattle.fl_script.specs.Grammar.{nodes_of};
 ghost use Rattle.fl_cluster.specs.Cluster.{is_open, node_at, start, with_open, with_packet};
-ghost use Rattle.fl_cluster.specs.MayWant.{LineTakesMemory};
+ghost use Rattle.fl_cluster.specs.MayWant.{LineTakesMemory, OpensOrCopies};
 ghost use Rattle.fl_cluster.specs.parts.Responds.{Responds, RespondsAt};
 
 use crate::node::Node;
@@ -148,6 +148,7 @@ impl Nodes {
         requires second { 0 < second }
         ensures ok { IfOk result (λ response. Responds self.old (Line.Union first second) response self.new) }
         ensures err { OnErr result (self.new ≡ self.old) }
+        ensures wants { OnErr result (OpensOrCopies self.old first ⊎ OpensOrCopies self.old second) }
     {
         let mut all = OpSet::new(alloc);
         self.merge_into(&mut all, first)?;
@@ -156,14 +157,18 @@ impl Nodes {
         Ok(Response::Union(all))
     }
 
-    // Adds the operations of the node to a set.
+    // Adds the operations of the node to a set, where it has some.
     fn merge_into(&self, all: &mut OpSet, number: u16) -> Result<(), AllocError>
-        ensures { OnOk result (all.new ≡ set.union all.old (node_at self.now number).registry) }
+        ensures ok { OnOk result (all.new ≡ set.union all.old (node_at self.now number).registry) }
+        ensures wants { OnErr result (0 < set.len (node_at self.now number).registry) }
     {
-        match self.registry(number) {
-            Some(registry) => all.merge(registry),
-            None => Ok(()),
+        let Some(registry) = self.registry(number) else {
+            return Ok(());
+        };
+        if registry.len() == 0 {
+            return Ok(());
         }
+        all.merge(registry)
     }
 
     // The operations of the node, or none where it is not open.
@@ -181,6 +186,8 @@ impl Nodes {
         requires second { 0 < second }
         ensures ok { OnOk result (self.new ≡ with_open (with_open self.old first) second) }
         ensures err { OnErr result (self.new ≡ self.old) }
+        ensures wants { OnErr result (
+            (is_open self.old first ≡ false) ⊎ (is_open self.old second ≡ false)) }
     {
         let new = self.open(alloc, first)?;
         if let Err(error) = self.open(alloc, second) {
