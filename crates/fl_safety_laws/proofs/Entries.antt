@@ -205,6 +205,17 @@ module _ (n : NodeState) where
         lives = subst (λ (k : Data). map.get did.bench.processes k.sender ≡ Some s.process) same s.lived;
       }
 
+  by_of : {pid other : Pid} {act done : Act} → By pid act ≡ By other done → pid ≡ other
+  by_of e = cc
+
+  -- the process that asked for it
+  pub sender_is : (desk upto : ℕ) (pid : Pid) (act : Act) (d : Data) {n' : NodeState}
+      → Jobs n desk upto (By pid act) (Ok (answers.Out (messages.Data d))) n' → d.sender ≡ pid
+  sender_is desk upto pid act d (Jobs.sent {v} look did) =
+      let s = sending_at did.does in
+      let same : s.sent ≡ d = same_data (sym s.packet_is) in
+      sym (by_of s.asked ∙ ap (λ (k : Data). k.sender) same)
+
   pub sender_there : (desk upto : ℕ) (job : Job) (d : Data) {n' : NodeState}
       → Jobs n desk upto job (Ok (answers.Out (messages.Data d))) n'
       → (p : Process) × (process_of n d.sender ≡ Some p)

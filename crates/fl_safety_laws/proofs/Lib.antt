@@ -7,3 +7,6 @@ pub mod Turning
 pub mod Entries
 pub mod Worlds
 pub mod Moments
+pub mod Runs
+pub mod Living
+pub mod Confined

@@ -1,7 +1,7 @@
 -- What becomes of the processes of a node: who is there was there, under its pid, and keeps each tag whose minus it never
 -- has in effect, or is new under the next serial of its bench.
 use Rattle.std.proofs.Common.{◌≡◌, ◌⊎◌, ◌<◌, ◌≤◌, ◌+◌, ◌-◌, ◌%◌, ◌∙◌, inl, inr, refl, sym, ap, subst, arith, ℕ, suc}
-use Rattle.std.proofs.Common.{Bool, true, false, List, [], length, mod-eq_of_lt, Option, Some, None, Result, Ok, Err}
+use Rattle.std.proofs.Common.{Bool, true, false, List, [], length, mod-eq_of_lt, Option, Some, None, Result, Ok}
 use native.Mathlib.Nat.{add-mod_right}
 use Rattle.std.specs.FinMap as map
 use Rattle.fl_labels.specs.Found.{Within}
@@ -43,7 +43,7 @@ use Rattle.fl_system.specs.Openings.{Opens, OpensAgain, Restarts, opened}
 use Rattle.fl_system.specs.Publishes.{Publishes, Cancels, given_to, released}
 use Rattle.fl_system.specs.Receives.{Receives}
 use Rattle.fl_system.specs.Saves.{Saves, stored}
-use Rattle.fl_system.specs.State.{NodeState, first_ops}
+use Rattle.fl_system.specs.State.{NodeState}
 use Rattle.fl_system.specs.declared.answer.Answer.{Answer}
 use Rattle.fl_system.specs.declared.answer.Fault.{Fault}
 use Rattle.fl_system.specs.declared.state.Batch.{Batch}

@@ -541,11 +541,11 @@ reopening_guarded w g number k (Reopening.no_node none) = same_next w g
 reopening_guarded w g number k (Reopening.running at running) = same_next w g
 reopening_guarded w g number k (Reopening.booted {s} {doubt} {n = n} {k' = k'} at is again) =
     quietly w g number s at n k' (again_on s.node (g.shown number s at) doubt k again)
-      (again_turn (Union w) s.node s.node refl refl refl doubt k again)
+    (again_turn (Union w) s.node s.node refl refl refl doubt k again)
     (again_guarded (Union w) s.node doubt k again (g.nodes number s at))
 reopening_guarded w g number k (Reopening.refused {s} {doubt} {n = n} {k' = k'} at is again) =
     quietly w g number s at n k' (again_on s.node (g.shown number s at) doubt k again)
-      (again_turn (Union w) s.node s.node refl refl refl doubt k again)
+    (again_turn (Union w) s.node s.node refl refl refl doubt k again)
     (again_guarded (Union w) s.node doubt k again (g.nodes number s at))
 
 -- ---- runs
