@@ -19,7 +19,7 @@ use Rattle.fl_rules.specs.Safety.{SafeChange, SafeEmission}
 use Rattle.fl_rules.specs.declared.endpoint.Mode.{Mode}
 use Rattle.fl_rules.specs.declared.labels.Labels.{Labels}
 use Rattle.fl_rules.specs.laws.Endpoints.{crosses_safe, endpoint_more}
-use Rattle.fl_wire.specs.declared.packet.Message.{Message}
+use Rattle.fl_message.specs.declared.message.Message.{Message}
 use Rattle.fl_mailbox.specs.declared.endpoints.OpenEndpoint.{OpenEndpoint}
 use Rattle.fl_jobs.specs.Given.{labels_of}
 use Rattle.fl_jobs.specs.declared.job.GivenLabels.{GivenLabels}

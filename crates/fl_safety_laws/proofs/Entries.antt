@@ -21,8 +21,7 @@ use Rattle.fl_ops.specs.declared.op.Op.{Op}
 use Rattle.fl_rules.specs.Endpoint.{SafeEndpoint}
 use Rattle.fl_rules.specs.declared.endpoint.Mode.{Mode}
 use Rattle.fl_rules.specs.declared.labels.Labels.{Labels}
-use Rattle.fl_wire.specs.declared.packet.Data.{Data}
-use Rattle.fl_wire.specs.declared.packet.Packet.TheVariants as messages
+use Rattle.fl_message.specs.declared.message.Data.{Data}
 use Rattle.fl_mailbox.specs.declared.endpoints.OpenEndpoint.{OpenEndpoint}
 use Rattle.fl_jobs.specs.Given.{labels_of}
 use Rattle.fl_jobs.specs.declared.job.Act.{Act}
@@ -178,7 +177,7 @@ module _ {V U : Op → Type 0} (more : Within V U) {b after : BenchState} {x : O
 
 -- ---- who sends
 
-same_data : {d e : Data} → messages.Data d ≡ messages.Data e → d ≡ e
+same_data : {d e : Data} → d ≡ e → d ≡ e
 same_data e = cc
 
 at_bench : (o : Option BenchState) (b : BenchState) (pid : Pid) (p : Process) → o ≡ Some b
@@ -193,7 +192,7 @@ record Sends (n : NodeState) (b : BenchState) (d : Data) : Type 0 where
 
 module _ (n : NodeState) where
   sending : (v : ℕ) (job : Job) (d : Data) {left : BenchState}
-      → (did : Decides n v job (Ok (Outcome.Out (messages.Data d))) left) → Sends n did.bench d
+      → (did : Decides n v job (Ok (Outcome.Out d)) left) → Sends n did.bench d
   sending v job d did =
       let s = sending_at did.does in
       let same : s.sent ≡ d = same_data (sym s.packet_is) in
@@ -210,14 +209,14 @@ module _ (n : NodeState) where
 
   -- the process that asked for it
   pub sender_is : (desk upto : ℕ) (pid : Pid) (act : Act) (d : Data) {n' : NodeState}
-      → Jobs n desk upto (By pid act) (Ok (answers.Out (messages.Data d))) n' → d.sender ≡ pid
+      → Jobs n desk upto (By pid act) (Ok (answers.Out d)) n' → d.sender ≡ pid
   sender_is desk upto pid act d (Jobs.sent {v} look did) =
       let s = sending_at did.does in
       let same : s.sent ≡ d = same_data (sym s.packet_is) in
       sym (by_of s.asked ∙ ap (λ (k : Data). k.sender) same)
 
   pub sender_there : (desk upto : ℕ) (job : Job) (d : Data) {n' : NodeState}
-      → Jobs n desk upto job (Ok (answers.Out (messages.Data d))) n'
+      → Jobs n desk upto job (Ok (answers.Out d)) n'
       → (p : Process) × (process_of n d.sender ≡ Some p)
   sender_there desk upto job d (Jobs.sent {v} look did) =
       let s = sending v job d did in
@@ -249,7 +248,7 @@ module _ {U : Op → Type 0} (n : NodeState) (h : NodeGuarded U n) (view : Withi
   -- ---- what it sends
 
   pub sends_safe : (desk upto : ℕ) (job : Job) (d : Data) {n' : NodeState}
-      → Jobs n desk upto job (Ok (answers.Out (messages.Data d))) n' → (p : Process) → process_of n d.sender ≡ Some p
+      → Jobs n desk upto job (Ok (answers.Out d)) n' → (p : Process) → process_of n d.sender ≡ Some p
       → SafeEndpoint (effective U p) (sent_from d).mode p.labels (sent_from d).labels
   sends_safe desk upto job d (Jobs.sent {v} look did) p there =
       let s = sending n v job d did in

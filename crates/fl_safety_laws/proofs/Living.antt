@@ -11,8 +11,8 @@ use Rattle.fl_labels.specs.declared.pid.Pid.{Pid}
 use Rattle.fl_ops.specs.declared.op.Op.{Op}
 use Rattle.fl_opset.specs.declared.intervals.Intervals.{Intervals}
 use Rattle.fl_rules.specs.Message.{SafeMessage}
-use Rattle.fl_wire.specs.declared.packet.AnyPacket.TheVariants as packets
-use Rattle.fl_wire.specs.declared.packet.Data.{Data}
+use Rattle.fl_wire.specs.declared.packet.Packet.TheVariants as packets
+use Rattle.fl_message.specs.declared.message.Data.{Data}
 use Rattle.fl_jobs.specs.declared.answer.Outcome.{Outcome}
 use Rattle.fl_jobs.specs.declared.answer.Reply as jobs
 use Rattle.fl_jobs.specs.declared.answer.Reply.TheVariants.{Made, Arrived}

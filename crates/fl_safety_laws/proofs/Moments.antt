@@ -12,9 +12,9 @@ use Rattle.fl_ops.specs.declared.op.Op.{Op}
 use Rattle.fl_rules.specs.declared.endpoint.Mode.{Mode}
 use Rattle.fl_rules.specs.declared.labels.Labels.{Labels}
 use Rattle.fl_opset.specs.declared.intervals.Intervals.{Intervals}
-use Rattle.fl_wire.specs.declared.packet.AnyPacket.{AnyPacket}
-use Rattle.fl_wire.specs.declared.packet.AnyPacket.TheVariants as packets
-use Rattle.fl_wire.specs.declared.packet.Data.{Data}
+use Rattle.fl_wire.specs.declared.packet.Packet.{Packet}
+use Rattle.fl_wire.specs.declared.packet.Packet.TheVariants as packets
+use Rattle.fl_message.specs.declared.message.Data.{Data}
 use Rattle.fl_mailbox.specs.declared.endpoints.OpenEndpoint.{OpenEndpoint}
 use Rattle.fl_store.specs.Kept.{Kept}
 use Rattle.fl_jobs.specs.Given.{labels_of}
@@ -252,13 +252,13 @@ module _ (w : World) (number : ℕ) (s : KeptNode) (at : IsAt w number s) where
       { from_is = refl; sender_is = party_stands d.sender (process_of s.node d.sender) refl })
   message_sent d x (suc k, inside, is) = absurd (omega (arith, inside))
 
-  told_sent : (told : List AnyPacket) (x : Sent) → Contains (told_by number told) x → IsSentNow w number x
+  told_sent : (told : List Packet) (x : Sent) → Contains (told_by number told) x → IsSentNow w number x
   told_sent [] x (k, inside, is) = absurd (omega (arith, inside))
   told_sent (y ∷ ys) x (zero, inside, is) =
       subst (IsSentNow w number) is (record { from_is = refl; sender_is = λ p e. absurd (none_some refl e) })
   told_sent (y ∷ ys) x (suc k, inside, is) = told_sent ys x (k, omega (arith, inside), is)
 
-  has_told_sent : (told : List AnyPacket) → SentNow (has_told w number told)
+  has_told_sent : (told : List Packet) → SentNow (has_told w number told)
   has_told_sent told x h = elim (Contains-append_cases w.packets (told_by number told) x h) [
     | inl old ↦ inl old
     | inr new ↦ inr (told_sent told x new)

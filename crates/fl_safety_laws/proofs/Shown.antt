@@ -13,7 +13,7 @@ use Rattle.fl_ops.specs.OpLaws.{op_total}
 use Rattle.fl_opset.specs.laws.Members.{listed_in, listed_member}
 use Rattle.fl_opset.specs.laws.Unions.{union_upper}
 use Rattle.fl_jobs.specs.declared.job.Job.{Job}
-use Rattle.fl_wire.specs.declared.packet.Data.{Data}
+use Rattle.fl_message.specs.declared.message.Data.{Data}
 use Rattle.fl_jobs.specs.declared.answer.Reply.{Reply}
 use Rattle.fl_store.specs.Kept.{Kept, with_ops}
 use Rattle.fl_system.specs.declared.answer.Answer.{Answer}

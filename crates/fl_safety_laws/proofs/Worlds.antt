@@ -19,10 +19,9 @@ use Rattle.fl_rules.specs.Endpoint.{SafeEndpoint}
 use Rattle.fl_rules.specs.laws.Endpoints.{endpoint_more}
 use Rattle.fl_labels.specs.laws.Duals.{dual_more}
 use Rattle.fl_store.specs.Kept.{Kept, raised}
-use Rattle.fl_wire.specs.declared.packet.Data.{Data}
-use Rattle.fl_wire.specs.declared.packet.AnyPacket.{AnyPacket}
-use Rattle.fl_wire.specs.declared.packet.AnyPacket.TheVariants as packets
-use Rattle.fl_wire.specs.declared.packet.Packet.TheVariants as messages
+use Rattle.fl_message.specs.declared.message.Data.{Data}
+use Rattle.fl_wire.specs.declared.packet.Packet.{Packet}
+use Rattle.fl_wire.specs.declared.packet.Packet.TheVariants as packets
 use Rattle.fl_jobs.specs.declared.job.Job.{Job}
 use Rattle.fl_bench.specs.Guards.{sent_from}
 use Rattle.fl_bench.specs.declared.process.Process.{Process}
@@ -273,7 +272,7 @@ module _ (w : World) (g : Guarded w) (number : ℕ) (s : KeptNode) (at : IsAt w 
   data_in e = cc
 
   message_sent : (desk upto : ℕ) (job : Job) (d : Data) {n : NodeState}
-      → Jobs s.node desk upto job (Ok (answers.Out (messages.Data d))) n
+      → Jobs s.node desk upto job (Ok (answers.Out d)) n
       → MessageGuarded (Union w) (sent_message number s.node d)
   message_sent desk upto job d does e p is by =
       let found = its_party d.sender (process_of s.node d.sender) p by in
@@ -283,7 +282,7 @@ module _ (w : World) (g : Guarded w) (number : ℕ) (s : KeptNode) (at : IsAt w 
       (sym found.2) safe)
 
   sender_noted : (desk upto : ℕ) (job : Job) (d : Data) {n : NodeState}
-      → Jobs s.node desk upto job (Ok (answers.Out (messages.Data d))) n → HasSender (sent_message number s.node d)
+      → Jobs s.node desk upto job (Ok (answers.Out d)) n → HasSender (sent_message number s.node d)
   sender_noted desk upto job d does e is =
       let found = sender_there s.node desk upto job d does in
       (party d.sender found.0, ap (party_at d.sender) found.1)
@@ -363,7 +362,7 @@ module _ (w : World) (g : Guarded w) (number : ℕ) (s : KeptNode) (at : IsAt w 
   -- ---- what is told, and what comes
 
   -- no message is among these
-  has_told_guarded : (told : List AnyPacket) → ((d : Data) → ¬ Contains told (packets.Data d))
+  has_told_guarded : (told : List Packet) → ((d : Data) → ¬ Contains told (packets.Data d))
       → Guarded (has_told w number told)
   has_told_guarded told none = record {
     nodes = g.nodes;
@@ -380,14 +379,14 @@ module _ (w : World) (g : Guarded w) (number : ℕ) (s : KeptNode) (at : IsAt w 
     audit = g.audit;
   }
     where
-      told_packet : (told : List AnyPacket) (x : Sent) → Contains (told_by number told) x → Contains told x.packet
+      told_packet : (told : List Packet) (x : Sent) → Contains (told_by number told) x → Contains told x.packet
       told_packet [] x h = none_in x h
       told_packet (y ∷ ys) x (zero, inside, is) = (0, omega arith, ap (λ (z : Sent). z.packet) is)
       told_packet (y ∷ ys) x (suc j, inside, is) =
           let rest = told_packet ys x (j, omega (arith, inside), is) in
           (suc rest.0, omega (arith, rest.1), rest.2)
 
-  told_guarded : (told : List AnyPacket) → ((d : Data) → ¬ Contains told (packets.Data d))
+  told_guarded : (told : List Packet) → ((d : Data) → ¬ Contains told (packets.Data d))
       → Next w (has_told w number told)
   told_guarded told none =
       record {
@@ -404,7 +403,7 @@ module _ (w : World) (g : Guarded w) (number : ℕ) (s : KeptNode) (at : IsAt w 
   windows_only (y ∷ ys) d (zero, inside, is) = cc
   windows_only (y ∷ ys) d (suc j, inside, is) = windows_only ys d (j, omega (arith, inside), is)
 
-  delta_at : (told : List AnyPacket) → AreDeltas told → (x : AnyPacket) → Contains told x → IsDelta x
+  delta_at : (told : List Packet) → AreDeltas told → (x : Packet) → Contains told x → IsDelta x
   delta_at [] all x h = none_in x h
   delta_at (y ∷ []) all x (zero, inside, is) = subst IsDelta is all
   delta_at (y ∷ []) all x (suc j, inside, is) = absurd (omega (arith, inside))

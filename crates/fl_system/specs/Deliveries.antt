@@ -5,9 +5,9 @@ use Rattle.fl_labels.specs.SetBy as set
 use Rattle.fl_ops.specs.declared.op.Op.{Op}
 use Rattle.fl_opset.specs.declared.intervals.Intervals.{Intervals}
 use Rattle.fl_wire.specs.declared.batch.Batch.{Batch}
-use Rattle.fl_wire.specs.declared.packet.Data.{Data}
-use Rattle.fl_wire.specs.declared.packet.AnyPacket.{AnyPacket}
-use Rattle.fl_wire.specs.declared.packet.AnyPacket.TheVariants as packets
+use Rattle.fl_message.specs.declared.message.Data.{Data}
+use Rattle.fl_wire.specs.declared.packet.Packet.{Packet}
+use Rattle.fl_wire.specs.declared.packet.Packet.TheVariants as packets
 use Rattle.fl_jobs.specs.declared.answer.Reply as jobs
 use Rattle.fl_jobs.specs.declared.answer.Refusal.TheVariants.{Memory}
 use Rattle.fl_system.specs.declared.answer.Fault.{Fault}
@@ -27,14 +27,14 @@ use Rattle.fl_system.specs.World.{World, KeptNode, went}
 use Rattle.fl_system.specs.WorldJobs.{next_packet}
 
 -- these packets were sent by the node of this number, which is as before
-abbrev pub has_told : World → ℕ → List AnyPacket → World
+abbrev pub has_told : World → ℕ → List Packet → World
 has_told w number told = record w { packets = w.packets ++ told_by number told }
 
 -- The node s, of this number, sends the summary of what it has saved.
 pub data TellAt (w : World) (number : ℕ) (s : KeptNode) : Reply → World → Type 0 where
   stopped : {fault : Fault} → NotRunning s.node.state fault → TellAt w number s (Refused fault) w
   no_room : IsRunning s.node.state → TellAt w number s (Refused (faults.Refused Memory)) w
-  tells : {told : List AnyPacket} → IsRunning s.node.state → IsSummary s.node.saved told
+  tells : {told : List Packet} → IsRunning s.node.state → IsSummary s.node.saved told
       → TellAt w number s (HasSent (next_packet w) (length told)) (has_told w number told)
 
 -- A window comes to it, which it answers.
@@ -43,7 +43,7 @@ pub data WindowAt (w : World) (number : ℕ) (s : KeptNode) (window : Intervals)
   stopped : {fault : Fault} → NotRunning s.node.state fault
       → WindowAt w number s window (Refused fault) w
   no_room : IsRunning s.node.state → WindowAt w number s window (Refused (faults.Refused Memory)) w
-  answers : {told : List AnyPacket} → IsRunning s.node.state → IsAnswer s.node.saved window told
+  answers : {told : List Packet} → IsRunning s.node.state → IsAnswer s.node.saved window told
       → WindowAt w number s window (HasSent (next_packet w) (length told)) (has_told w number told)
 
 -- Operations come to it: those that are new are to be saved.

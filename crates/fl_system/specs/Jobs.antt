@@ -13,7 +13,7 @@ use Rattle.fl_jobs.specs.declared.answer.Refusal.{Refusal}
 use Rattle.fl_jobs.specs.declared.answer.Refusal.TheVariants.{Memory}
 use Rattle.fl_jobs.specs.declared.answer.Outcome.{Outcome}
 use Rattle.fl_jobs.specs.declared.answer.Outcome.TheVariants as outcome
-use Rattle.fl_wire.specs.declared.packet.Packet.{Packet}
+use Rattle.fl_message.specs.declared.message.Data.{Data}
 use Rattle.fl_bench.specs.Bench.{BenchState}
 use Rattle.fl_bench.specs.Jobs.{Does}
 use Rattle.fl_system.specs.declared.answer.Answer.{Answer}
@@ -95,7 +95,7 @@ pub data Jobs (n : NodeState) (desk upto : ℕ) (job : Job) : Result Answer Faul
       → Decides n v job (Ok (outcome.Reply reply)) left
       → Jobs n desk upto job (Ok (answer.Reply reply)) (worked n desk v job left)
   -- it sends
-  sent : {v : ℕ} {packet : Packet} {left : BenchState} → Looks n desk upto v
+  sent : {v : ℕ} {packet : Data} {left : BenchState} → Looks n desk upto v
       → Decides n v job (Ok (outcome.Out packet)) left
       → Jobs n desk upto job (Ok (answer.Out packet)) (worked n desk v job left)
   -- it is an order, whose operation is begun

@@ -8,7 +8,7 @@ use Rattle.fl_labels.specs.declared.cap.Cap.TheVariants.{Minus}
 use Rattle.fl_labels.specs.declared.endpoint.Endpoint.{Endpoint}
 use Rattle.fl_labels.specs.declared.name.Name.{Name}
 use Rattle.fl_labels.specs.declared.pid.Pid.{Pid}
-use Rattle.fl_wire.specs.declared.packet.Message.{Message}
+use Rattle.fl_message.specs.declared.message.Message.{Message}
 use Rattle.fl_jobs.specs.declared.job.Act.TheVariants.{Spawn, Emit, Mail}
 use Rattle.fl_jobs.specs.declared.job.Job.TheVariants.{By}
 use Rattle.fl_jobs.specs.declared.job.Mail.TheVariants.{Send}

@@ -6,9 +6,8 @@ use Rattle.std.specs.declared.option.Option.TheVariants.{None, Some}
 use Rattle.std.specs.declared.result.Result.TheVariants.{Ok, Err}
 use Rattle.fl_labels.specs.declared.name.Name.{Name}
 use Rattle.fl_labels.specs.declared.pid.Pid.{Pid}
-use Rattle.fl_wire.specs.declared.packet.Data.{Data}
-use Rattle.fl_wire.specs.declared.packet.AnyPacket.TheVariants as packets
-use Rattle.fl_wire.specs.declared.packet.Packet.TheVariants as messages
+use Rattle.fl_message.specs.declared.message.Data.{Data}
+use Rattle.fl_wire.specs.declared.packet.Packet.TheVariants as packets
 use Rattle.fl_jobs.specs.declared.job.Job.{Job}
 use Rattle.fl_jobs.specs.declared.answer.Reply as jobs
 use Rattle.fl_jobs.specs.declared.answer.Refusal.TheVariants.{Memory}
@@ -62,10 +61,10 @@ pub data JobAt (w : World) (number : ℕ) (s : KeptNode) (desk upto : ℕ) (job 
       → JobAt w number s desk upto job (Begun name)
       (went w number n s.kept [] (entries s.node job (answers.Begun name)))
   sends : {d : Data} {n : NodeState}
-      → Jobs s.node desk upto job (Ok (answers.Out (messages.Data d))) n
+      → Jobs s.node desk upto job (Ok (answers.Out d)) n
       → JobAt w number s desk upto job (HasSent (next_packet w) 1)
       (went w number n s.kept (sent_message number s.node d ∷ [])
-      (entries s.node job (answers.Out (messages.Data d))))
+      (entries s.node job (answers.Out d)))
   -- there is no room for what would be noted, or sent: the desk has looked, or has not
   no_room : {v seen : ℕ} (look : Looks s.node desk upto v) → (seen ≡ look.seen) ⊎ (seen ≡ v)
       → MayBeNoted s.node job
