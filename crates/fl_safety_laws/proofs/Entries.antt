@@ -198,6 +198,15 @@ module _ (n : NodeState) where
         lives = s.lived;
       }
 
+  by_of : {pid other : Pid} {act done : Act} → By pid act ≡ By other done → pid ≡ other
+  by_of e = cc
+
+  -- the process that asked for it
+  pub sender_is : (desk upto : ℕ) (pid : Pid) (act : Act) (d : Data) {n' : NodeState}
+      → Jobs n desk upto (By pid act) (Ok (answers.Out d)) n' → d.sender ≡ pid
+  sender_is desk upto pid act d (Jobs.sent {v} look did) =
+      sym (by_of (sending_at did.does).asked)
+
   pub sender_there : (desk upto : ℕ) (job : Job) (d : Data) {n' : NodeState}
       → Jobs n desk upto job (Ok (answers.Out d)) n'
       → (p : Process) × (process_of n d.sender ≡ Some p)

@@ -3,6 +3,10 @@ pub mod Admitted
 pub mod Numbers
 pub mod Nodes
 pub mod Shown
+pub mod Turning
 pub mod Entries
 pub mod Worlds
 pub mod Moments
+pub mod Runs
+pub mod Living
+pub mod Confined

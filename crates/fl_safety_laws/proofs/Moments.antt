@@ -336,17 +336,17 @@ same_receiver : {a b : Pid} → Outcome.Reply (Arrived a) ≡ Outcome.Reply (Arr
 same_receiver e = cc
 
 -- the receiver that is answered lived at its bench
-record Came (n : NodeState) (d : Data) (receiver : Pid) : Type 0 where
-  process : Process
-  stands : process_of n d.receiver ≡ Some process
-  is : receiver ≡ d.receiver
+pub record Came (n : NodeState) (d : Data) (receiver : Pid) : Type 0 where
+  pub process : Process
+  pub stands : process_of n d.receiver ≡ Some process
+  pub is : receiver ≡ d.receiver
 
 does_come : {V : Op → Type 0} {b after : BenchState} {d : Data} {receiver : Pid}
     → Does V b (Arrive d) (Ok (Outcome.Reply (Arrived receiver))) after
     → (q : Process) × (map.get b.processes d.receiver ≡ Some q) × (receiver ≡ d.receiver)
 does_come (passed s f) = (f.0, f.1, same_receiver f.2)
 
-comes : (n : NodeState) (d : Data) (receiver : Pid) {n' : NodeState} → Arrives n d (Ok (Arrived receiver)) n'
+pub comes : (n : NodeState) (d : Data) (receiver : Pid) {n' : NodeState} → Arrives n d (Ok (Arrived receiver)) n'
     → Came n d receiver
 comes n d receiver (Arrives.arrives at) =
     let did = does_come at.does in

@@ -55,6 +55,9 @@ use Rattle.fl_safety_laws.proofs.Nodes.{saves_guarded, publishes_guarded, cancel
 use Rattle.fl_safety_laws.proofs.Nodes.{restarts_guarded, starting_guarded}
 use Rattle.fl_safety_laws.proofs.Shown.{IsShown, GoesOn, jobs_on, looking_on, arrives_on, receives_on, saves_on}
 use Rattle.fl_safety_laws.proofs.Shown.{publishes_on, cancels_on, again_on, restarts_on, opened_shown}
+use Rattle.fl_safety_laws.proofs.Turning.{NodeOrderly, Turns, rests, jobs_turn, looking_turn, arrives_turn}
+use Rattle.fl_safety_laws.proofs.Turning.{receives_turn, saves_turn, publishes_turn, cancels_turn, again_turn}
+use Rattle.fl_safety_laws.proofs.Turning.{restarts_turn, opened_orderly, node_turn}
 use Rattle.fl_safety_laws.proofs.Entries.{EntriesSafe, no_entry, entries_safe, sends_safe, sender_there, message_safe}
 
 -- ---- more operations leave all safe
@@ -115,15 +118,70 @@ pub seen_in : {w : World} → Guarded w → (number : ℕ) (s : KeptNode) → Is
     → Within (Contains s.node.published) (Union w)
 seen_in g number s at op h = (number, s, at, (g.shown number s at).published op h)
 
+-- ---- what becomes of each node
+
+abbrev kept_node : NodeState → Kept → KeptNode
+kept_node n k = record { node = n; kept = k }
+
+-- a node that was there goes on, and one that was not is new
+pub record WorldTurn (w w' : World) : Type 0 where
+  pub old : (number : ℕ) (x : KeptNode) → IsAt w number x
+      → (y : KeptNode) × IsAt w' number y × Turns (Union w) x.node y.node
+  pub new : (number : ℕ) (y : KeptNode) → IsAt w' number y → map.get w.nodes number ≡ None → NodeOrderly y.node
+
+-- each node stays
+still_turn : (w w' : World) → w'.nodes ≡ w.nodes → WorldTurn w w'
+still_turn w w' same = record {
+  old = λ m x e. (x, ap (λ l. map.get l m) same ∙ e, rests (Union w) x.node x.node refl refl refl);
+  new = λ m y e f. absurd (none_some f (sym (ap (λ l. map.get l m) same) ∙ e));
+}
+
+went_turn : (w : World) (number : ℕ) (s : KeptNode) (n : NodeState) (k : Kept) (sent : List Sent)
+    (admitted : List Admission) → IsAt w number s → Turns (Union w) s.node n
+    → WorldTurn w (went w number n k sent admitted)
+went_turn w number s n k sent admitted at turn = record {
+  old = λ m x e. elim (get_put nat_cmp_total nat_cmp-IsAntisymmetric w.nodes number (kept_node n k) m) [
+    | inl same ↦ (
+      kept_node n k,
+      same.1,
+      subst (λ (y : KeptNode). Turns (Union w) y.node n) (same_found at (subst (λ j. IsAt w j x) same.0 e)) turn,
+    )
+    | inr still ↦ (x, still ∙ e, rests (Union w) x.node x.node refl refl refl)
+  ];
+  new = λ m y e f. elim (get_put nat_cmp_total nat_cmp-IsAntisymmetric w.nodes number (kept_node n k) m) [
+    | inl same ↦ absurd (none_some (subst (λ j. map.get w.nodes j ≡ None) same.0 f) at)
+    | inr still ↦ absurd (none_some f (sym still ∙ e))
+  ];
+}
+
+joined_turn : (w : World) (number : ℕ) (k : Kept) → map.get w.nodes number ≡ None → WorldTurn w (joined w number k)
+joined_turn w number k free = record {
+  old = λ m x e. elim (get_put nat_cmp_total nat_cmp-IsAntisymmetric w.nodes number (kept_node (opened w.desks k) (raised k)) m) [
+    | inl same ↦ absurd (none_some free (subst (λ j. IsAt w j x) same.0 e))
+    | inr still ↦ (x, still ∙ e, rests (Union w) x.node x.node refl refl refl)
+  ];
+  new = λ m y e f. elim (get_put nat_cmp_total nat_cmp-IsAntisymmetric w.nodes number (kept_node (opened w.desks k) (raised k)) m) [
+    | inl same ↦ subst (λ (z : KeptNode). NodeOrderly z.node) (same_found same.1 e) (opened_orderly w.desks k)
+    | inr still ↦ absurd (none_some f (sym still ∙ e))
+  ];
+}
+
 -- what comes next is guarded too, with no less saved, and further packets after those that were sent
 pub record Next (w w' : World) : Type 0 where
   pub guarded : Guarded w'
   pub union : Within (Union w) (Union w')
   pub sent : List Sent
   pub packets : w'.packets ≡ w.packets ++ sent
+  pub turn : WorldTurn w w'
 
 same_next : (w : World) → Guarded w → Next w w
-same_next w g = record { guarded = g; union = λ op h. h; sent = []; packets = sym (append-nil w.packets) }
+same_next w g = record {
+  guarded = g;
+  union = λ op h. h;
+  sent = [];
+  packets = sym (append-nil w.packets);
+  turn = still_turn w w refl;
+}
 
 -- one node goes on
 module _ (w : World) (number : ℕ) (s : KeptNode) (n : NodeState) (k : Kept) (sent : List Sent)
@@ -178,11 +236,16 @@ module _ (w : World) (g : Guarded w) (number : ℕ) (s : KeptNode) (at : IsAt w 
       ];
     }
 
-    went_guarded : NodeGuarded (Union w) n → ((x : Sent) → Contains sent x → MessageGuarded (Union w) x)
+    went_guarded : Turns (Union w) s.node n → NodeGuarded (Union w) n → ((x : Sent) → Contains sent x → MessageGuarded (Union w) x)
         → ((x : Sent) → Contains sent x → HasSender x) → EntriesSafe (Union w) admitted
         → Next w (went w number n k sent admitted)
-    went_guarded safe messages senders entries =
-        record { guarded = goes_guarded safe messages senders entries; union = grown; sent = sent; packets = refl }
+    went_guarded turn safe messages senders entries = record {
+      guarded = goes_guarded safe messages senders entries;
+      union = grown;
+      sent = sent;
+      packets = refl;
+      turn = went_turn w number s n k sent admitted at turn;
+    }
 
   its_shown : IsShown s.node
   its_shown = g.shown number s at
@@ -193,8 +256,10 @@ module _ (w : World) (g : Guarded w) (number : ℕ) (s : KeptNode) (at : IsAt w 
   its_view : Within (Contains s.node.published) (Union w)
   its_view = seen_in g number s at
 
-  quietly : (n : NodeState) (k : Kept) → GoesOn s.node n → NodeGuarded (Union w) n → Next w (went w number n k [] [])
-  quietly n k on safe = went_guarded n k [] [] on safe (λ x h. none_in x h) (λ x h. none_in x h) (no_entry (Union w))
+  quietly : (n : NodeState) (k : Kept) → GoesOn s.node n → Turns (Union w) s.node n → NodeGuarded (Union w) n
+      → Next w (went w number n k [] [])
+  quietly n k on turn safe =
+      went_guarded n k [] [] on turn safe (λ x h. none_in x h) (λ x h. none_in x h) (no_entry (Union w))
 
   -- ---- jobs
 
@@ -230,54 +295,68 @@ module _ (w : World) (g : Guarded w) (number : ℕ) (s : KeptNode) (at : IsAt w 
       → Next w w'
   job_guarded desk upto job (JobAt.refused {n = n} does) =
       quietly n s.kept (jobs_on s.node its_shown desk upto job does)
+      (jobs_turn (Union w) s.node its_view desk upto job does)
       (jobs_guarded (Union w) s.node its_guarded its_view desk upto job does)
   job_guarded desk upto job (JobAt.replied {n = n} does) =
       went_guarded n s.kept [] _ (jobs_on s.node its_shown desk upto job does)
+      (jobs_turn (Union w) s.node its_view desk upto job does)
       (jobs_guarded (Union w) s.node its_guarded its_view desk upto job does) (λ x h. none_in x h)
       (λ x h. none_in x h)
       (entries_safe s.node its_guarded its_view desk upto job does)
   job_guarded desk upto job (JobAt.begun {n = n} does) =
       went_guarded n s.kept [] _ (jobs_on s.node its_shown desk upto job does)
+      (jobs_turn (Union w) s.node its_view desk upto job does)
       (jobs_guarded (Union w) s.node its_guarded its_view desk upto job does) (λ x h. none_in x h)
       (λ x h. none_in x h)
       (entries_safe s.node its_guarded its_view desk upto job does)
   job_guarded desk upto job (JobAt.sends {d} {n} does) =
       went_guarded n s.kept _ _ (jobs_on s.node its_shown desk upto job does)
+      (jobs_turn (Union w) s.node its_view desk upto job does)
       (jobs_guarded (Union w) s.node its_guarded its_view desk upto job does)
       (one_sent (MessageGuarded (Union w)) _ (message_sent desk upto job d does))
       (one_sent HasSender _ (sender_noted desk upto job d does))
       (entries_safe s.node its_guarded its_view desk upto job does)
   job_guarded desk upto job (JobAt.no_room {seen = seen} look left noted) =
-      quietly _ s.kept (looking_on s.node its_shown desk seen) its_guarded
+      quietly _ s.kept (looking_on s.node its_shown desk seen)
+      (looking_turn (Union w) s.node desk seen) its_guarded
 
   -- ---- the registrar's calls
 
   save_guarded : {reply : Reply} {w' : World} → SaveAt w number s reply w' → Next w w'
   save_guarded (SaveAt.saved {n} {k} does) =
-      quietly n k (saves_on s.node its_shown s.kept does) (saves_guarded (Union w) s.node its_guarded s.kept does)
+      quietly n k (saves_on s.node its_shown s.kept does)
+      (saves_turn (Union w) s.node s.kept does) (saves_guarded (Union w) s.node its_guarded s.kept does)
   save_guarded (SaveAt.refused {n = n} {k = k} does) =
-      quietly n k (saves_on s.node its_shown s.kept does) (saves_guarded (Union w) s.node its_guarded s.kept does)
+      quietly n k (saves_on s.node its_shown s.kept does)
+      (saves_turn (Union w) s.node s.kept does) (saves_guarded (Union w) s.node its_guarded s.kept does)
 
   publish_guarded : {reply : Reply} {w' : World} → PublishAt w number s reply w' → Next w w'
   publish_guarded (PublishAt.ordered {n = n} is does) =
-      quietly n s.kept (publishes_on s.node its_shown does) (publishes_guarded (Union w) s.node its_guarded does)
+      quietly n s.kept (publishes_on s.node its_shown does)
+      (publishes_turn (Union w) s.node does) (publishes_guarded (Union w) s.node its_guarded does)
   publish_guarded (PublishAt.received {n = n} is does) =
-      quietly n s.kept (publishes_on s.node its_shown does) (publishes_guarded (Union w) s.node its_guarded does)
+      quietly n s.kept (publishes_on s.node its_shown does)
+      (publishes_turn (Union w) s.node does) (publishes_guarded (Union w) s.node its_guarded does)
   publish_guarded (PublishAt.refused {n = n} does) =
-      quietly n s.kept (publishes_on s.node its_shown does) (publishes_guarded (Union w) s.node its_guarded does)
+      quietly n s.kept (publishes_on s.node its_shown does)
+      (publishes_turn (Union w) s.node does) (publishes_guarded (Union w) s.node its_guarded does)
 
   cancel_guarded : {reply : Reply} {w' : World} → CancelAt w number s reply w' → Next w w'
   cancel_guarded (CancelAt.given_up {n} does) =
-      quietly n s.kept (cancels_on s.node its_shown does) (cancels_guarded (Union w) s.node its_guarded does)
+      quietly n s.kept (cancels_on s.node its_shown does)
+      (cancels_turn (Union w) s.node does) (cancels_guarded (Union w) s.node its_guarded does)
   cancel_guarded (CancelAt.refused {n = n} does) =
-      quietly n s.kept (cancels_on s.node its_shown does) (cancels_guarded (Union w) s.node its_guarded does)
+      quietly n s.kept (cancels_on s.node its_shown does)
+      (cancels_turn (Union w) s.node does) (cancels_guarded (Union w) s.node its_guarded does)
 
   restart_guarded : (keeps : Bool) {reply : Reply} {w' : World} → RestartAt w number s keeps reply w' → Next w w'
   restart_guarded keeps (RestartAt.booted {n = n} {k = k} does) =
       quietly n k (restarts_on s.node its_shown s.kept keeps does)
+      (restarts_turn (Union w) s.node s.kept keeps does)
       (restarts_guarded (Union w) s.node s.kept keeps does its_guarded)
   restart_guarded keeps (RestartAt.refused {n = n} {k = k} does) =
       quietly n k (restarts_on s.node its_shown s.kept keeps does)
+      (restarts_turn (Union w) s.node s.kept keeps does)
       (restarts_guarded (Union w) s.node s.kept keeps does its_guarded)
 
   -- ---- what is told, and what comes
@@ -310,7 +389,13 @@ module _ (w : World) (g : Guarded w) (number : ℕ) (s : KeptNode) (at : IsAt w 
   told_guarded : (told : List Packet) → ((d : Data) → ¬ Contains told (packets.Data d))
       → Next w (has_told w number told)
   told_guarded told none =
-      record { guarded = has_told_guarded told none; union = λ op h. h; sent = told_by number told; packets = refl }
+      record {
+        guarded = has_told_guarded told none;
+        union = λ op h. h;
+        sent = told_by number told;
+        packets = refl;
+        turn = still_turn w (has_told w number told) refl;
+      }
 
   -- windows and deltas are no messages
   windows_only : (windows : List Intervals) (d : Data) → ¬ Contains (list_map packets.Have windows) (packets.Data d)
@@ -339,20 +424,25 @@ module _ (w : World) (g : Guarded w) (number : ℕ) (s : KeptNode) (at : IsAt w 
 
   batch_guarded : (ops : List Op) {reply : Reply} {w' : World} → BatchAt w number s ops reply w' → Next w w'
   batch_guarded ops (BatchAt.nothing_new {n} does) =
-      quietly n s.kept (receives_on s.node its_shown _ does) (receives_guarded (Union w) s.node its_guarded _ does)
+      quietly n s.kept (receives_on s.node its_shown _ does)
+      (receives_turn (Union w) s.node _ does) (receives_guarded (Union w) s.node its_guarded _ does)
   batch_guarded ops (BatchAt.takes {n = n} does some) =
-      quietly n s.kept (receives_on s.node its_shown _ does) (receives_guarded (Union w) s.node its_guarded _ does)
+      quietly n s.kept (receives_on s.node its_shown _ does)
+      (receives_turn (Union w) s.node _ does) (receives_guarded (Union w) s.node its_guarded _ does)
   batch_guarded ops (BatchAt.refused {n = n} does) =
-      quietly n s.kept (receives_on s.node its_shown _ does) (receives_guarded (Union w) s.node its_guarded _ does)
+      quietly n s.kept (receives_on s.node its_shown _ does)
+      (receives_turn (Union w) s.node _ does) (receives_guarded (Union w) s.node its_guarded _ does)
 
   message_guarded : (x : Sent) → Contains w.packets x → (d : Data) → x.packet ≡ packets.Data d → {reply : Reply}
       {w' : World} → MessageAt w number s x d reply w' → Next w w'
   message_guarded x there d is (MessageAt.arrives {n = n} does) =
       went_guarded n s.kept [] _ (arrives_on s.node its_shown d does)
+      (arrives_turn (Union w) s.node d does)
       (arrives_guarded (Union w) s.node its_guarded d does) (λ x h. none_in x h) (λ x h. none_in x h)
       (message_safe s.node its_guarded its_view d x.sender (λ p by. g.messages x there d p is by) does)
   message_guarded x there d is (MessageAt.refused {n = n} does) =
-      quietly n s.kept (arrives_on s.node its_shown d does) (arrives_guarded (Union w) s.node its_guarded d does)
+      quietly n s.kept (arrives_on s.node its_shown d does)
+      (arrives_turn (Union w) s.node d does) (arrives_guarded (Union w) s.node its_guarded d does)
   message_guarded x there d is (MessageAt.no_room running) = same_next w g
 
   deliver_guarded : (x : Sent) → Contains w.packets x → {reply : Reply} {w' : World}
@@ -441,6 +531,7 @@ joins_guarded w g number k (Joins.joins free own once clashes strays) =
       union = union_joined w number k free;
       sent = [];
       packets = refl;
+      turn = joined_turn w number k free;
     }
 
 pub reopening_guarded : (w : World) → Guarded w → (number : ℕ) (k : Kept) {reply : Reply} {w' : World}
@@ -449,9 +540,11 @@ reopening_guarded w g number k (Reopening.no_node none) = same_next w g
 reopening_guarded w g number k (Reopening.running at running) = same_next w g
 reopening_guarded w g number k (Reopening.booted {s} {doubt} {n = n} {k' = k'} at is again) =
     quietly w g number s at n k' (again_on s.node (g.shown number s at) doubt k again)
+    (again_turn (Union w) s.node s.node refl refl refl doubt k again)
     (again_guarded (Union w) s.node doubt k again (g.nodes number s at))
 reopening_guarded w g number k (Reopening.refused {s} {doubt} {n = n} {k' = k'} at is again) =
     quietly w g number s at n k' (again_on s.node (g.shown number s at) doubt k again)
+    (again_turn (Union w) s.node s.node refl refl refl doubt k again)
     (again_guarded (Union w) s.node doubt k again (g.nodes number s at))
 
 -- ---- runs
@@ -474,3 +567,32 @@ run_union w (m ∷ ms) g h op u =
 pub reached_guarded : (w : World) → IsReached w → Guarded w
 reached_guarded w r =
     subst Guarded r.leads (run_guarded (empty_world r.desks) r.moments (empty_guarded r.desks) r.is_run)
+
+-- ---- benches stay orderly
+
+pub record Orderly (w : World) : Type 0 where
+  pub nodes : (number : ℕ) (s : KeptNode) → IsAt w number s → NodeOrderly s.node
+
+pub empty_orderly : (desks : ℕ) → Orderly (empty_world desks)
+empty_orderly desks = record { nodes = λ number s e. absurd (none_some (map.get-empty nat_cmp number) e) }
+
+pub world_orderly : {w w' : World} → Orderly w → WorldTurn w w' → Orderly w'
+world_orderly {w = w} {w' = w'} o turn = record { nodes = λ n y e. by_found n y e (map.get w.nodes n) refl }
+  where
+    by_found : (n : ℕ) (y : KeptNode) → IsAt w' n y → (was : Option KeptNode) → map.get w.nodes n ≡ was
+        → NodeOrderly y.node
+    by_found n y e None f = turn.new n y e f
+    by_found n y e (Some x) f =
+        let t = turn.old n x f in
+        subst (λ (z : KeptNode). NodeOrderly z.node) (same_found t.1 e) (node_turn (o.nodes n x f) t.2)
+
+pub run_orderly : (w : World) (ms : List Moment) → Guarded w → Orderly w → IsRun w ms → Orderly (end w ms)
+run_orderly w [] g o h = o
+run_orderly w (m ∷ ms) g o h =
+    let next = moves_guarded w m.move m.reply m.after g h.0 in
+    run_orderly m.after ms next.guarded (world_orderly o next.turn) h.1
+
+pub reached_orderly : (w : World) → IsReached w → Orderly w
+reached_orderly w r =
+    subst Orderly r.leads (run_orderly (empty_world r.desks) r.moments (empty_guarded r.desks)
+    (empty_orderly r.desks) r.is_run)

@@ -1,7 +1,7 @@
 //! Laws of what a job lets pass.
-ghost use Rattle.std.specs.Prelude.{◌≡◌, ◌⊎◌, List, ℕ, Result, Some, Ok};
+ghost use Rattle.std.specs.Prelude.{◌≡◌, ◌⊎◌, ◌≤◌, List, ℕ, Result, Some, Ok};
 ghost use Rattle.std.specs.FinMap as map;
-ghost use Rattle.std.specs.List.{Contains};
+ghost use Rattle.std.specs.List.{Contains, slice_get};
 ghost use Rattle.fl_labels.specs.Cap.{cap_cmp};
 ghost use Rattle.fl_labels.specs.Found.{Within};
 ghost use Rattle.fl_labels.specs.Name.{name_cmp};
@@ -42,6 +42,7 @@ ghost use Rattle.fl_bench.specs.declared.process.Process.{Process};
 ghost use Rattle.fl_system.specs.Audit.{SafeUnder};
 ghost use Rattle.fl_system.specs.Numbered.{item_at};
 ghost use Rattle.fl_system.specs.Runs.{Moment, IsRun, IsReached, end};
+ghost use Rattle.fl_system.specs.Taint.{world_at, Lives, IsEmission, IsPure};
 ghost use Rattle.fl_system.specs.Union.{Union};
 ghost use Rattle.fl_system.specs.World.{World, KeptNode};
 ghost use Rattle.fl_system.specs.WorldSteps.{Step, IsAt, node_of};
@@ -147,8 +148,8 @@ pub fn law_safe()
 
 /// Each entry of the audit is of the moment that added it: it has the labels and the owned
 /// capabilities of its process as that was just before, and of a message the sender's as they were
-/// when it was sent. Each message that arrives is noted, once. To join a world and to be opened over
-/// another keeper adds no entry.
+/// when it was sent. Each message that arrives is noted, once. To join a world and to be opened
+/// over another keeper adds no entry.
 pub fn law_noted()
     ensures moment { (w after : World) (event : Event) (reply : Reply) (entry : Admission) →
         Step w event reply after → Contains after.audit entry →
@@ -163,4 +164,17 @@ pub fn law_noted()
         Joins w number kept reply after → after.audit ≡ w.audit }
     ensures reopens { (w after : World) (number : ℕ) (kept : Kept) (reply : Reply) →
         Reopening w number kept reply after → after.audit ≡ w.audit }
+{}
+
+/// A tag that has reached a process stays in its label as long as it lives, and it emits nothing, where
+/// the tag came along processes, itself among them, that never have the tag's minus in effect, by all
+/// that is saved in the end: from one whose label has it, to each child, and with each message that
+/// arrives.
+pub fn law_confined()
+    ensures stays { (w : World) (moments : List Moment) (tag : Name) (i j : ℕ) (pid : Pid)
+        (p : Process) → IsReached w → IsRun w moments → IsPure w moments tag i pid → i ≤ j →
+        Lives (world_at w moments j) pid p → In p.labels.secrecy tag }
+    ensures silent { (w : World) (moments : List Moment) (tag : Name) (i j : ℕ) (pid : Pid)
+        (moment : Moment) → IsReached w → IsRun w moments → IsPure w moments tag i pid → i ≤ j →
+        slice_get moments j ≡ Some moment → ¬ IsEmission moment pid }
 {}
