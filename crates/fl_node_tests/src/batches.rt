@@ -1,0 +1,50 @@
+//! Tests of an index that takes in a set of operations at once.
+use fl_closure::index::Index;
+use fl_labels::cap::Cap;
+use fl_labels::name::Name;
+use fl_ops::op::{Body, Op};
+use fl_opset::set::OpSet;
+use std::alloc::{AllocError, Global};
+use std::test::Fail;
+
+const GROUP: Name = Name { node: 1, seq: 1 };
+
+const TAG: Name = Name { node: 1, seq: 9 };
+
+const MADE: Op = Op {
+    name: GROUP,
+    body: Body::MakeGroup,
+};
+
+const PUT: Op = Op {
+    name: Name { node: 1, seq: 2 },
+    body: Body::Put(GROUP, Cap::Plus(TAG)),
+};
+
+const PUT_AGAIN: Op = Op {
+    name: Name { node: 2, seq: 1 },
+    body: Body::Put(GROUP, Cap::Plus(TAG)),
+};
+
+// The group, and two puts of one capability.
+fn three(alloc: Global) -> Result<OpSet, AllocError> {
+    let mut ops = OpSet::new(alloc);
+    for op in [MADE, PUT, PUT_AGAIN] {
+        ops.add(op)?;
+    }
+    Ok(ops)
+}
+
+#[test]
+fn index_takes_in_a_set(rt: HostRuntime) -> Result<(), Fail> {
+    let alloc = rt.alloc();
+    let ops = three(alloc)?;
+    let mut index = Index::new(alloc);
+    index.absorb(&PUT)?;
+    index.absorb_all(alloc, &ops)?;
+    index.absorb_all(alloc, &ops)?;
+    assert!(rt; index.ops().as_slice() == [MADE, PUT, PUT_AGAIN].as_slice());
+    assert!(rt; index.reaches(alloc, Cap::Use(GROUP), Cap::Plus(TAG))?);
+    assert!(rt; !index.reaches(alloc, Cap::Use(GROUP), Cap::Minus(TAG))?);
+    Ok(())
+}
