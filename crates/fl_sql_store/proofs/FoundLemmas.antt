@@ -9,14 +9,15 @@ use Rattle.sqlite_trees.specs.Objects.{catalog_tree}
 use Rattle.sqlite_catalog.specs.Listing.{AreListed, IsTableRow, IsIndexRow, IsViewRow, is_table_row, is_index_row, is_view_row}
 use Rattle.sqlite.specs.Effect.{Database, IsDatabase}
 use Rattle.sqlite.specs.State.{State, HasCleanDisk, IsLive, IsUnchanged, Survives}
-use Rattle.fl_sql_store.specs.Tables.{keeper_schema, no_schema}
+use Rattle.fl_sql_tables.specs.Tables.{keeper_schema, no_schema}
 use Rattle.fl_store.specs.Kept.{Kept}
-use Rattle.fl_sql_store.specs.Stored.{IsListed, if_listed, nothing_kept, kept_by, kept_in, ops_in, boot_in, self_row}
+use Rattle.fl_sql_tables.specs.Stored.{IsListed, if_listed, nothing_kept, kept_by, kept_in, ops_in, boot_in, self_row}
 use Rattle.fl_store.specs.Keeping.{Stays}
-use Rattle.fl_sql_store.specs.SqlKeeping.{IsReady, held_in}
-use Rattle.fl_sql_store.specs.Founding.{IsFounded, Founds, FoundsTo, IsSettled}
+use Rattle.fl_sql_tables.specs.Serving.{IsReady}
+use Rattle.fl_sql_store.specs.SqlKeeping.{held_in}
+use Rattle.fl_sql_tables.specs.Founding.{IsFounded, Founds, FoundsTo, IsSettled}
 use Rattle.fl_sql_store.proofs.KeepLemmas.{kept_listed}
-use Rattle.fl_sql_store.proofs.Creates.{listed_if_sound}
+use Rattle.fl_sql_tables.specs.laws.Listed.{listed_if_sound}
 
 head_kept : (p : Row → Bool) (r : Row) (rows : List Row) → p r ≡ true → filter p (r ∷ rows) ≡ r ∷ filter p rows
 head_kept p r rows h = rw h
@@ -53,13 +54,10 @@ module _ (number : ℕ) (old : State) (blank : old.now.schema ≡ no_schema) (li
       let is : after ≡ nothing_kept number = it.2 ∙ ap (kept_in number) (only it.0 h.shown.is_open it.1 ∙ ap (λ d. d.trees) h.shown.committed_is) ∙ kept_founded number new.now h.founded in
       (after, nothing_held h.shown.was_open after is, refl)
 
-  pub held_or_founded : (mid new : State) → HasCleanDisk new → Survives old mid (FoundsTo number old) → Survives mid new (λ _. ⊥) → Stays (held_in number old) (held_in number new)
-  held_or_founded mid new clean s t after it = elim (t.crash clean it.0 it.1) [
-    | inl before ↦ elim (s.crash (omega (arith, t.clean)) it.0 before) [
-      | inl first ↦ (kept_in number it.0, (it.0, first, refl), it.2)
-      | inr made ↦ (after, nothing_held made.0 after (it.2 ∙ ap (kept_in number) made.3 ∙ kept_founded number made.1 made.2), refl)
-    ]
-    | inr none ↦ absurd none
+  pub held_or_founded : (new : State) → HasCleanDisk new → Survives old new (FoundsTo number old) → Stays (held_in number old) (held_in number new)
+  held_or_founded new clean s after it = elim (s.crash clean it.0 it.1) [
+    | inl first ↦ (kept_in number it.0, (it.0, first, refl), it.2)
+    | inr made ↦ (after, nothing_held made.0 after (it.2 ∙ ap (kept_in number) made.3 ∙ kept_founded number made.1 made.2), refl)
   ]
 
 pub ready_found : (number boot : ℕ) (old new : State) → old.now.schema ≡ keeper_schema → IsLive old → IsSettled old → IsUnchanged old new → old.now.trees 0 ≡ self_row number boot ∷ [] → IsReady number new

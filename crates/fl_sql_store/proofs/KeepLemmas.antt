@@ -1,20 +1,24 @@
 -- What the calls of a keeper over a database leave to the next opening.
 use Rattle.std.proofs.Common.{◌≡◌, ◌⊎◌, inl, inr, ℕ, ◌+◌, ◌-◌, ◌^◌, pos, List, [], ◌∷◌, Bool, true, false, IsTrue, Ok, Err, Result, OnOk, IfOk, IfErr, refl, sym, ap, subst, ◌∙◌, arith}
-use Rattle.fl_labels.specs.SetBy.{SetBy}
+use Rattle.fl_labels.specs.SetBy.{SetBy, empty, contains, same_set, contains-empty, contains-union}
+use Rattle.std.specs.Prelude.{◌||◌}
+use Rattle.fl_ops.specs.OpLaws.{op_total, op_exact}
+use Rattle.sqlite.proofs.StateLemmas.{survives_then}
 use Rattle.fl_ops.specs.OpOrder.{op_cmp}
 use Rattle.sqlite.specs.Tree.{Trees}
 use Rattle.sqlite.specs.State.{State, HasCleanDisk, IsUnchanged, Survives}
 use Rattle.fl_ops.specs.declared.op.Op.{Op}
 use Rattle.fl_store.specs.declared.keeper.KeeperFault.{KeeperFault}
 use Rattle.fl_store.specs.declared.keeper.KeeperFault.TheVariants.{Memory, Broken, WrongNode, BadRow, NamesSpent}
-use Rattle.fl_sql_store.specs.Stored.{AddsOps, Saves, AddsTo, ops_in, boot_in, kept_in, self_row, IsOurs, IsListed, if_listed, nothing_kept, kept_by}
+use Rattle.fl_sql_tables.specs.Stored.{AddsOps, Saves, AddsTo, ops_in, boot_in, kept_in, self_row, IsOurs, IsListed, if_listed, nothing_kept, kept_by}
 use Rattle.sqlite_trees.specs.Objects.{catalog_tree}
 use Rattle.sqlite.specs.Effect.{Database}
 use Rattle.fl_store.specs.Kept.{Kept, with_ops, with_batch, raised}
 use Rattle.fl_store.specs.Keeping.{Follows, Stays}
 use Rattle.std.proofs.lemmas.Bool.{cases_Bool}
 use Rattle.sqlite_trees.proofs.Doubt.{no_doubt}
-use Rattle.fl_sql_store.specs.SqlKeeping.{IsReady, IsServing, IsAsCommitted, HasBoot, Raises, RaisesTo, held_in}
+use Rattle.fl_sql_tables.specs.Serving.{IsReady, IsServing, HasBoot, Raises, RaisesTo}
+use Rattle.fl_sql_store.specs.SqlKeeping.{IsAsCommitted, held_in}
 
 pub listed_by : (old new : Trees) → IsListed old → new catalog_tree ≡ old catalog_tree → IsListed new
 listed_by old new it same = (it.0, it.1, same ∙ it.2)
@@ -149,3 +153,17 @@ ours_if_serving number s dirty serving is_open = elim (cases_Bool s.is_clean) [
   | inl clean ↦ (serving (no_doubt s.is_clean clean)).schema
   | inr not_clean ↦ absurd (let shut : false ≡ true = subst IsTrue (dirty not_clean) is_open in cc)
 ]
+
+pub survives_on : (a b c : State) → Survives a b (λ _. ⊥) → Survives b c (λ _. ⊥) → Survives a c (λ _. ⊥)
+survives_on a b c = survives_then a b c _ _ (λ _. ⊥) (λ _ db none. none) (λ _ db none. none)
+
+pub clean_before : (a b : State) (P : Trees → Type 0) → Survives a b P → HasCleanDisk b → HasCleanDisk a
+clean_before a b P s clean = omega (arith, s.clean)
+
+-- a set with no more operations
+pub with_none : (saved : SetBy op_cmp) → with_ops saved [] ≡ saved
+with_none saved = same_set op_total op_exact _ _ (λ q. contains-union op_total saved empty q ∙ ap (λ b. contains saved q || b) (contains-empty op_cmp q) ∙ or_none (contains saved q))
+  where
+    or_none : (a : Bool) → (a || false) ≡ a
+    or_none true = refl
+    or_none false = refl

@@ -1,5 +1,2 @@
-pub mod Tables
-pub mod Spelling
-pub mod Stored
 pub mod SqlKeeping
-pub mod Founding
+pub mod Opening

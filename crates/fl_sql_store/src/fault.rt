@@ -3,12 +3,13 @@ ghost use Rattle.std.specs.Prelude.{◌≡◌, ◌<◌, ◌≤◌, ◌⊎◌, �
 ghost use Rattle.sqlite.specs.Held.{state};
 ghost use Rattle.sqlite.specs.State.{HasCleanDisk, IsUnchanged, Survives};
 ghost use Rattle.sqlite.specs.View.{doubt};
-ghost use Rattle.fl_sql_store.specs.Stored.{IsOurs, Saves, AddsTo, self_row};
-ghost use Rattle.fl_sql_store.specs.SqlKeeping.{IsServing, IsAsCommitted, Raises, RaisesTo};
+ghost use Rattle.fl_sql_tables.specs.Stored.{IsOurs, Saves, AddsTo, self_row};
+ghost use Rattle.fl_sql_tables.specs.Serving.{IsServing, Raises, RaisesTo};
+ghost use Rattle.fl_sql_store.specs.SqlKeeping.{IsAsCommitted};
 
-use crate::boot::{raise_boot, read_boot};
-use crate::put::save_ops;
 use fl_ops::op::Op;
+use fl_sql_tables::boot::{raise_boot, read_boot};
+use fl_sql_tables::put::save_ops;
 use fl_store::keeper::KeeperFault;
 use sqlite::{Alter, Connection, Error, ErrorCode};
 use std::alloc::Global;

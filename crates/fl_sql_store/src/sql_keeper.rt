@@ -1,17 +1,18 @@
 //! A keeper over a database.
 ghost use Rattle.std.specs.Prelude.{◌≡◌, ◌<◌, true, false, not, IfOk, IfErr};
 ghost use Rattle.sqlite.specs.Held.{state};
-ghost use Rattle.sqlite.specs.State.{HasCleanDisk, IsUnchanged};
+ghost use Rattle.sqlite.specs.State.{HasCleanDisk};
 ghost use Rattle.std.proofs.Common.{ap, ◌∙◌};
 ghost use Rattle.fl_store.specs.Kept.{Kept};
-ghost use Rattle.fl_sql_store.specs.Stored.{HasBadRow};
+ghost use Rattle.fl_sql_tables.specs.Stored.{HasBadRow};
 ghost use Rattle.fl_sql_store.specs.SqlKeeping.{held_in, something_held, kept_number};
+ghost use Rattle.fl_sql_store.specs.Opening.{OpensAs, RefusesToOpen};
 
 use crate::fault::{boot_on, fault_of, save_on};
-use crate::load::{LoadFault, load_ops};
 use crate::open::check;
 use fl_ops::op::Op;
 use fl_opset::set::OpSet;
+use fl_sql_tables::load::{LoadFault, load_ops};
 use fl_store::keeper::{Keeper, KeeperFault};
 use sqlite::{Alter, Connection};
 use std::alloc::Global;
@@ -29,7 +30,8 @@ pub struct SqlKeeper<S: Alter> {
 impl<S: Alter> Model for SqlKeeper<S> {
     ghost use Rattle.std.specs.Prelude.{◌≡◌, ◌<◌, false, IsTrue};
     ghost use Rattle.sqlite.specs.Held.{state};
-    ghost use Rattle.fl_sql_store.specs.SqlKeeping.{SqlKept, sql_code, IsServing};
+    ghost use Rattle.fl_sql_tables.specs.Serving.{IsServing};
+    ghost use Rattle.fl_sql_store.specs.SqlKeeping.{SqlKept, sql_code};
 
     ghost Value = { SqlKept S };
 
@@ -56,7 +58,8 @@ impl<S: Alter + Drop> Drop for SqlKeeper<S> {
 
 impl<S: Alter> SqlKeeper<S> {
     ghost use Rattle.fl_store.specs.Keeping.{Stays};
-    ghost use Rattle.fl_sql_store.specs.SqlKeeping.{held_in, IsServing};
+    ghost use Rattle.fl_sql_tables.specs.Serving.{IsServing};
+    ghost use Rattle.fl_sql_store.specs.SqlKeeping.{held_in};
 
     // A keeper over a database that is this node's.
     fn over(alloc: Global, conn: Connection<S>, number: u16) -> SqlKeeper<S>
@@ -73,10 +76,13 @@ impl<S: Alter> SqlKeeper<S> {
         }
     }
 
-    /// Opens a keeper of this node over a database. Tables and a row of the node are made in a database that has no tables.
+    /// Opens a keeper of this node over a database, which stays as it was; one that has no tables gets them, and the row of the
+    /// node with boot 0, in one transaction.
     ///
-    /// It hands the database back where it refuses: `WrongNode` where its row is another node's, and nothing was written;
-    /// `BadRow` where it has other tables than a keeper's, no row of the node, or another format; want of memory; or `Broken`.
+    /// It hands the database back where it refuses: `WrongNode` where its one row of `self` is another node's; `BadRow` where it
+    /// has other tables than a keeper's, or not one row of `self` that a keeper writes, as one of another format; `Memory`; and
+    /// `Broken` where a transaction is under way, or where the database fails for another cause than memory. What an opening
+    /// finds in it is then as before. Rows of `ops` are not read before `load`.
     pub fn open(
         alloc: Global,
         conn: Connection<S>,
@@ -84,13 +90,14 @@ impl<S: Alter> SqlKeeper<S> {
     ) -> Result<SqlKeeper<S>, (KeeperFault, Connection<S>)>
         ensures number { IfOk result (λ k. (k.number ≡ number) × (k.failures ≡ 0)
             × (k.is_broken ≡ false)) }
+        ensures opens { IfOk result (λ k. HasCleanDisk (state S.Store k.conn)
+            → OpensAs number (state S.Store conn) (state S.Store k.conn)) }
         ensures held { IfOk result (λ k. HasCleanDisk (state S.Store k.conn)
             → Stays (held_in number (state S.Store conn)) (held_in number (state S.Store k.conn))) }
-        ensures refused { IfErr result (λ e. HasCleanDisk (state S.Store e.1)
+        ensures refuses { IfErr result (λ e. HasCleanDisk (state S.Store e.1)
+            → RefusesToOpen number (state S.Store conn) (state S.Store e.1) e.0) }
+        ensures stays { IfErr result (λ e. HasCleanDisk (state S.Store e.1)
             → Stays (held_in number (state S.Store conn)) (held_in number (state S.Store e.1))) }
-        ensures wrong { IfErr result (λ e. HasCleanDisk (state S.Store e.1)
-            → e.0 ≡ KeeperFault.WrongNode
-            → IsUnchanged (state S.Store conn) (state S.Store e.1)) }
     {
         let mut conn = conn;
         match check(&mut conn, number) {

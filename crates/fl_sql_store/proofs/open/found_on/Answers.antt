@@ -10,4 +10,4 @@ returns-in-Ok-clause-held g c clean =
 pub returns-in-Err-clause-held : goal.returns-in-Err-clause-held
 returns-in-Err-clause-held g c clean =
     held_or_founded c.args.number (state g.S.Store c.args.conn.now) c.requires.blank c.requires.live c.requires.settled (g.met.S.Store.stays c.args.conn.now.store) (state g.S.Store c.found.new.conn)
-    (state g.S.Store c.fault_of.new.conn) clean c.found.ensures.survives c.fault_of.ensures.survives
+    clean c.found.ensures.survives

@@ -2,9 +2,9 @@ use Rattle.sqlite.specs.Held.{state}
 use Rattle.fl_sql_store.proofs.FoundLemmas.{ready_found}
 use Rattle.fl_sql_store.proofs.open.itself_on.Goals as goal
 
-pub returns-in-Ok-Own-clause-ok : goal.returns-in-Ok-Own-clause-ok
-returns-in-Ok-Own-clause-ok g c clean =
+pub returns-in-Ok-Own-clause-ready : goal.returns-in-Ok-Own-clause-ready
+returns-in-Ok-Own-clause-ready g c clean =
     let old = state g.S.Store c.args.conn.now in
     let new = state g.S.Store c.read_itself.new.conn in
     let one = rw c.in-Ok-Own.field-0-is at (c.in-Ok-Own.ensures.ok clean) in
-    ready_found c.args.number one.0 old new c.requires.ours c.requires.live c.requires.settled (c.in-Ok-Own.ensures.same clean) one.1
+    ready_found c.args.number one.0 old new c.requires.ours c.requires.live c.requires.settled (c.in-Ok-Own.ensures.same clean) one.2

@@ -4,9 +4,8 @@ use Rattle.sqlite.specs.State.{State, HasCleanDisk}
 use Rattle.fl_store.specs.declared.keeper.KeeperFault.TheVariants.{Memory, Broken, BadRow}
 use Rattle.fl_store.specs.Keeping.{AfterLoad}
 use Rattle.fl_sql_store.specs.SqlKeeping.{SqlKept, held_in}
-use Rattle.fl_sql_store.specs.Stored.{HasBadRow}
-use Rattle.fl_sql_store.proofs.StateLemmas.{clean_before, survives_on}
-use Rattle.fl_sql_store.proofs.KeepLemmas.{held_unchanged, after_load_ok, stays_quiet}
+use Rattle.fl_sql_tables.specs.Stored.{HasBadRow}
+use Rattle.fl_sql_store.proofs.KeepLemmas.{clean_before, survives_on, held_unchanged, after_load_ok, stays_quiet}
 use Rattle.fl_sql_store.proofs.sql_keeper.SqlKeeperKeeper.load.Goals as goal
 
 pub returns-in-Ok-clause-held : goal.returns-in-Ok-clause-held

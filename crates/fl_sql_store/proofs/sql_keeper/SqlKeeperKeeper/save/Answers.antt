@@ -5,9 +5,8 @@ use Rattle.fl_ops.specs.declared.op.Op.{Op}
 use Rattle.fl_store.specs.declared.keeper.KeeperFault.TheVariants.{Memory, Broken}
 use Rattle.fl_store.specs.Kept.{with_batch}
 use Rattle.fl_store.specs.Keeping.{AfterSave}
-use Rattle.fl_sql_store.proofs.SetLemmas.{with_none}
 use Rattle.fl_sql_store.specs.SqlKeeping.{SqlKept, held_in}
-use Rattle.fl_sql_store.proofs.KeepLemmas.{ready_saved, ready_as_committed, held_saved, held_unchanged, held_either, ours_if_serving}
+use Rattle.fl_sql_store.proofs.KeepLemmas.{with_none, ready_saved, ready_as_committed, held_saved, held_unchanged, held_either, ours_if_serving}
 use Rattle.fl_sql_store.proofs.sql_keeper.SqlKeeperKeeper.save.Goals as goal
 
 pub returns-then-self-clause-held : goal.returns-then-self-clause-held

@@ -1,9 +1,0 @@
-use Rattle.std.proofs.Common.{rules, ◌≡◌, [], ◌∷◌, IsTrue}
-use Rattle.sqlite.specs.Held.{state}
-use Rattle.fl_sql_store.proofs.OpLemmas.{puts_one}
-use Rattle.fl_sql_store.proofs.put.put_op.Goals as goal
-
-pub returns-clause-ok : goal.returns-clause-ok
-returns-clause-ok g c clean inside ours =
-    let ran = c.in_ok-execute.ensures.runs clean inside in
-    puts_one (state g.S.Store c.args.tx.now.conn.now) (state g.S.Store c.execute.new.self.conn.now) c.args.op.now c.in_ok-execute.field-0 ours (rw (c.params-to_sql.ensures, c.params-to_sql-2.ensures, c.params-to_sql-3.ensures, c.from.ensures, c.as_slice.ensures.value, c.in_ok-bytes.ensures) at ran)

@@ -1,0 +1,70 @@
+-- How a query of a keeper ends, where it is plain.
+use Rattle.std.proofs.Common.{◌≡◌, ◌⊎◌, inl, inr, ℕ, List, [], ◌∷◌, Bool, true, false, Some, None, Ok, Err, Result, OnOk, OnErr, refl, sym, ap, subst, ◌∙◌, arith}
+use Rattle.sqlite.specs.Order.{Row}
+use Rattle.sqlite.specs.Tree.{Trees}
+use Rattle.sqlite.specs.declared.error.Error.{Error}
+use Rattle.sqlite.specs.Listing.{understood}
+use Rattle.sqlite.specs.Given.{IsPlain}
+use Rattle.sqlite.specs.State.{State, HasCleanDisk, IsUnchanged, IsRolledBack, IsNotRun, FailsToQuery, QueriesRow, Shown, ShowsRows, FailsToShow, Survives, CommitsShowing}
+use Rattle.sqlite.proofs.StateLemmas.{survives_weaker}
+use Rattle.sqlite.proofs.Callers.{never_commits}
+use Rattle.fl_sql_tables.specs.Tables.{keeper_schema}
+use Rattle.fl_sql_tables.specs.Stored.{IsUndone}
+use Rattle.fl_sql_tables.specs.Serving.{IsReady, IsServing}
+
+pub undone_same : (old new : State) → old.now ≡ old.committed → IsUnchanged old new → IsUndone old new
+undone_same old new settled h = record { was_open = λ _. h.0.was_open; now_is = λ _. h.0.now_is ∙ settled; committed_is = λ _. h.0.committed_is }
+
+pub undone_back : (old new : State) → IsRolledBack old new → IsUndone old new
+undone_back old new h = record { was_open = h.was_open; now_is = λ is_open. (h.undone is_open).0; committed_is = λ is_open. (h.undone is_open).1 }
+
+pub undone_not_run : (old new : State) (sql : List ℕ) (params : Row) (e : Error) → old.now ≡ old.committed → IsNotRun old new sql params e → IsUndone old new
+unfolding IsNotRun
+undone_not_run old new sql params e settled (inl h) = undone_same old new settled h.1
+undone_not_run old new sql params e settled (inr h) = undone_back old new h.3
+
+module _ (sql : List ℕ) (params : Row) (old new : State) (has : old.now.schema ≡ keeper_schema) (plain : IsPlain (understood keeper_schema sql)) where
+  pub plain_here : IsPlain (understood old.now.schema sql)
+  plain_here = subst (λ s. IsPlain (understood s sql)) (sym has) plain
+
+  pub shown_same : (rows : List Row) → Shown sql params old new rows → IsUnchanged old new
+  unfolding Shown
+  shown_same rows h =
+      let bare = subst IsPlain h.1.is plain_here in
+      (rw bare.0 at h.2).3
+
+  pub row_same : (row : Row) → QueriesRow sql params old new (Ok row) → IsUnchanged old new
+  unfolding QueriesRow
+  row_same row (inl h) = h.1
+  row_same row (inr h) = shown_same h.0 h.1
+
+  pub undone_query : (e : Error) → old.now ≡ old.committed → FailsToQuery sql params old new e → IsUndone old new
+  unfolding FailsToQuery
+  undone_query e settled (inl h) = undone_not_run old new sql params e settled h
+  undone_query e settled (inr h) =
+      let bare = subst IsPlain h.1.is plain_here in
+      undone_same old new settled (rw bare.0 at h.2).3
+
+  pub undone_row : (e : Error) → old.now ≡ old.committed → QueriesRow sql params old new (Err e) → IsUndone old new
+  unfolding QueriesRow
+  undone_row e settled (inl h) = undone_query e settled h
+  undone_row e settled (inr h) = undone_same old new settled (shown_same [] h.1)
+
+-- a plain query commits nothing
+pub quiet_query : (sql : List ℕ) (params : Row) (old new : State) (number : ℕ) → IsServing number old → IsPlain (understood keeper_schema sql) → Survives old new (CommitsShowing sql params old)
+    → Survives old new (λ _. ⊥)
+quiet_query sql params old new number serving plain s =
+    survives_weaker old new _ _ (λ clean db. never_commits sql params old db (plain_here sql params old new (serving (omega (arith, s.clean))).schema plain)) s
+
+pub on_ok : {T E : Type 0} (r : Result T E) {P : Type 0} → P → OnOk r P
+on_ok (Ok x) p = p
+on_ok (Err e) p = tt
+
+pub on_err : {T E : Type 0} (r : Result T E) {P : Type 0} → P → OnErr r P
+on_err (Ok x) p = tt
+on_err (Err e) p = p
+
+-- the same, where the schema is known
+pub quiet_known : (sql : List ℕ) (params : Row) (old new : State) → old.now.schema ≡ keeper_schema → IsPlain (understood keeper_schema sql) → Survives old new (CommitsShowing sql params old)
+    → Survives old new (λ _. ⊥)
+quiet_known sql params old new has plain s = survives_weaker old new _ _ (λ clean db. never_commits sql params old db (plain_here sql params old new has plain)) s

@@ -1,0 +1,116 @@
+use Rattle.std.proofs.Common.{◌≡◌, [], refl, sym, subst, rules, ◌∙◌}
+use Rattle.std.proofs.lemmas.List.{map-append}
+use Rattle.std.specs.List.Sorted.{IsPermutation}
+use Rattle.sqlite.specs.Held.{state}
+use Rattle.sqlite.specs.Given.{HasGiven, IsRefused}
+use Rattle.sqlite.specs.State.{HasCleanDisk, Survives, FailsToQuery, CommitsShowing, Shown, IsUnchanged}
+use Rattle.sqlite.proofs.Callers.{begun_plain, unchanged_then}
+use Rattle.fl_sql_tables.specs.Tables.{select_ops_text}
+use Rattle.fl_sql_tables.specs.Stored.{shown_op, ops_in}
+use Rattle.fl_sql_tables.proofs.Texts.{plain_3}
+use Rattle.fl_sql_tables.proofs.StateLemmas.{clean_before, survives_on}
+use Rattle.fl_sql_tables.proofs.QueryLemmas.{quiet_query, undone_query, plain_here}
+use Rattle.fl_sql_tables.proofs.Selects.{selects_ops}
+use Rattle.fl_store.specs.Kept.{HasNamesOnce}
+use Rattle.fl_sql_tables.proofs.OpLemmas.{loaded}
+use Rattle.fl_sql_tables.proofs.SetLemmas.{once-empty}
+use Rattle.fl_sql_tables.proofs.LoadLemmas.{given_none, given_more, once_with, none_then, some_then, ok_then, ends_whole, bad_step, clash_step}
+use Rattle.fl_labels.specs.SetBy.{insert}
+use Rattle.fl_sql_tables.proofs.load.load_ops.Goals as goal
+
+pub returns-in-Err-clause-survives : goal.returns-in-Err-clause-survives
+returns-in-Err-clause-survives g c =
+    let old = state g.S.Store c.args.conn.now in
+    let new = state g.S.Store c.query.follows.lender-at-none in
+    let held = c.query.follows.holds-at-none in
+    let kept : Survives old new (CommitsShowing select_ops_text [] old) = search rules in
+    quiet_query _ _ old new c.args.number c.requires.serving plain_3 kept
+
+pub returns-in-Err-clause-err : goal.returns-in-Err-clause-err
+returns-in-Err-clause-err g c clean =
+    let old = state g.S.Store c.args.conn.now in
+    let new = state g.S.Store c.query.follows.lender-at-none in
+    let held = c.query.follows.holds-at-none in
+    let kept : Survives old new (CommitsShowing select_ops_text [] old) = search rules in
+    let ready = c.requires.serving (clean_before old new _ kept clean) in
+    let refused : IsRefused g.S.Store select_ops_text [] c.args.conn.now c.query.result c.query.follows.lender-at-none = search rules in
+    let failed : FailsToQuery select_ops_text [] old new c.in-Err.error = rw c.in-Err.is at (refused.err clean) in
+    undone_query _ _ old new ready.schema plain_3 _ ready.settled failed
+
+pub rows-init : goal.rows-init
+rows-init g c =
+    let old = state g.S.Store c.args.conn.now in
+    let new = state g.S.Store c.in-Ok.rows.conn.now in
+    let quiet : Survives old new (λ _. ⊥) = quiet_query select_ops_text [] old new c.args.number c.requires.serving plain_3 c.in-Ok.ensures.survives in
+    let begun = λ (clean : HasCleanDisk new).
+    let ready = c.requires.serving (clean_before old new (λ _. ⊥) quiet clean) in
+    begun_plain g.S.Store select_ops_text [] c.args.conn.now c.in-Ok.rows.conn.now (plain_here select_ops_text [] old new ready.schema plain_3) (c.in-Ok.ensures.begun clean) in
+    record {
+      same_reference = refl;
+      mode = c.in-Ok.ensures.mode c.requires.idle;
+      survives = quiet;
+      same = λ clean. (begun clean).1;
+      names = subst HasNamesOnce (sym c.new-ops.ensures) once-empty;
+      given = λ clean. given_none g.S.Store c.in-Ok.rows.conn.now c.new-ops.result (begun clean).0 c.new-ops.ensures;
+    }
+
+pub rows-preserved : goal.rows-preserved
+rows-preserved g c =
+    let old = state g.S.Store c.args.conn.now in
+    let mid = state g.S.Store c.rows.rows.conn.now in
+    let new = state g.S.Store c.next_op.new.rows.conn.now in
+    let before = λ (late : HasCleanDisk new). clean_before mid new _ c.next_op.ensures.survives late in
+    let added : c.add.new.self ≡ insert c.rows.ops c.in-Ok-Found.op = ok_then c.add.result _ (sym c.is_err.ensures.value ∙ c.if-is_err.false) c.add.ensures.ok in
+    record {
+      same_reference = c.next_op.ensures.same_reference ∙ c.rows.invariant.same_reference;
+      mode = c.next_op.ensures.mode c.rows.invariant.mode;
+      survives = survives_on old mid new c.rows.invariant.survives c.next_op.ensures.survives;
+      same = λ late. unchanged_then old mid new (c.rows.invariant.same (before late)) (c.in-Ok-Found.ensures.same late);
+      names = once_with c.rows.ops _ c.in-Ok-Found.op c.rows.invariant.names (none_then c.clash.result _ (sym c.is_some.ensures ∙ c.if-is_some.false) c.clash.ensures.none) added;
+      given = λ late. given_more g.S.Store c.rows.rows.conn.now c.next_op.new.rows.conn.now c.rows.ops _ c.in-Ok-Found.op (c.rows.invariant.given (before late)) (rw c.in-Ok-Found.field-0-is at (c.in-Ok-Found.ensures.ok late)) added;
+    }
+
+pub returns-in-Ok-End-clause-ok : goal.returns-in-Ok-End-clause-ok
+returns-in-Ok-End-clause-ok g c clean =
+    let old = state g.S.Store c.args.conn.now in
+    let mid = state g.S.Store c.rows.rows.conn.now in
+    let new = state g.S.Store c.next_op.new.rows.conn.now in
+    let late : HasCleanDisk new = search rules in
+    let before = clean_before mid new _ c.next_op.ensures.survives late in
+    let ready = c.requires.serving (clean_before old mid _ c.rows.invariant.survives before) in
+    (ends_whole g.S.Store old c.rows.rows.conn.now c.next_op.new.rows.conn.now c.rows.ops ready.schema (c.rows.invariant.same before) (c.rows.invariant.given before) c.rows.invariant.names
+    (rw c.in-Ok-End.field-0-is at (c.in-Ok-End.ensures.ok late))).0
+
+pub returns-in-Ok-End-clause-good : goal.returns-in-Ok-End-clause-good
+returns-in-Ok-End-clause-good g c clean =
+    let old = state g.S.Store c.args.conn.now in
+    let mid = state g.S.Store c.rows.rows.conn.now in
+    let new = state g.S.Store c.next_op.new.rows.conn.now in
+    let late : HasCleanDisk new = search rules in
+    let before = clean_before mid new _ c.next_op.ensures.survives late in
+    let ready = c.requires.serving (clean_before old mid _ c.rows.invariant.survives before) in
+    (ends_whole g.S.Store old c.rows.rows.conn.now c.next_op.new.rows.conn.now c.rows.ops ready.schema (c.rows.invariant.same before) (c.rows.invariant.given before) c.rows.invariant.names
+    (rw c.in-Ok-End.field-0-is at (c.in-Ok-End.ensures.ok late))).1
+
+pub returns-in-Ok-Bad-clause-bad : goal.returns-in-Ok-Bad-clause-bad
+returns-in-Ok-Bad-clause-bad g c clean is =
+    let old = state g.S.Store c.args.conn.now in
+    let mid = state g.S.Store c.rows.rows.conn.now in
+    let new = state g.S.Store c.next_op.new.rows.conn.now in
+    let late : HasCleanDisk new = search rules in
+    let before = clean_before mid new _ c.next_op.ensures.survives late in
+    let ready = c.requires.serving (clean_before old mid _ c.rows.invariant.survives before) in
+    let bad = rw c.in-Ok-Bad.field-0-is at (c.in-Ok-Bad.ensures.ok late) in
+    bad_step g.S.Store old c.rows.rows.conn.now c.next_op.new.rows.conn.now c.rows.ops ready.schema (c.rows.invariant.same before) (c.rows.invariant.given before) (c.in-Ok-Bad.ensures.same late) bad.0 bad.1 bad.2
+
+pub returns-then-is_some-clause-bad : goal.returns-then-is_some-clause-bad
+returns-then-is_some-clause-bad g c clean is =
+    let old = state g.S.Store c.args.conn.now in
+    let mid = state g.S.Store c.rows.rows.conn.now in
+    let new = state g.S.Store c.next_op.new.rows.conn.now in
+    let late : HasCleanDisk new = search rules in
+    let before = clean_before mid new _ c.next_op.ensures.survives late in
+    let ready = c.requires.serving (clean_before old mid _ c.rows.invariant.survives before) in
+    let found = some_then c.clash.result _ (sym c.is_some.ensures ∙ c.if-is_some.true) c.clash.ensures.some in
+    clash_step g.S.Store old c.rows.rows.conn.now c.next_op.new.rows.conn.now c.rows.ops ready.schema (c.rows.invariant.same before) (c.rows.invariant.given before) (c.in-Ok-Found.ensures.same late)
+    c.in-Ok-Found.op found.1.1.0 (rw c.in-Ok-Found.field-0-is at (c.in-Ok-Found.ensures.ok late)) found.1.1.1 (found.1.1.2 ∙ found.1.0) found.1.1.3

@@ -1,0 +1,7 @@
+pub mod OwnCheck
+pub mod Tables
+pub mod Spelling
+pub mod Stored
+pub mod Serving
+pub mod Founding
+pub mod laws

@@ -1,0 +1,61 @@
+//! The boot of a database.
+ghost use Rattle.std.specs.Prelude.{◌≡◌, ◌⊎◌, [], ◌∷◌, true, false, IsTrue, IfOk, OnOk, OnErr, IfErr, Err};
+ghost use Rattle.sqlite.specs.Held.{state};
+ghost use Rattle.sqlite.specs.State.{HasCleanDisk, IsUnchanged, KeepsCommit, Survives};
+ghost use Rattle.fl_sql_tables.specs.Stored.{IsUndone, self_row};
+ghost use Rattle.fl_sql_tables.specs.Serving.{IsServing, SetsBoot, Raises, RaisesTo};
+
+use sqlite::{Alter, Connection, Error, Transaction, params};
+
+/// The boot of the node itself.
+pub fn read_boot<S: Alter>(conn: &mut Connection<S>, number: u16) -> Result<u32, Error>
+    requires idle { conn.old.in_transaction ≡ false }
+    requires serving { IsServing number (state S.Store conn.old) }
+    ensures idle { conn.new.in_transaction ≡ false }
+    ensures ok { HasCleanDisk (state S.Store conn.new) → IfOk result (λ boot.
+        (state S.Store conn.old).now.trees 0 ≡ self_row number boot ∷ []) }
+    ensures same { HasCleanDisk (state S.Store conn.new) → OnOk result (IsUnchanged
+        (state S.Store conn.old) (state S.Store conn.new)) }
+    ensures err { HasCleanDisk (state S.Store conn.new) → OnErr result (IsUndone
+        (state S.Store conn.old) (state S.Store conn.new)) }
+    ensures survives { Survives (state S.Store conn.old) (state S.Store conn.new) (λ _. ⊥) }
+{
+    match conn.query_row("SELECT node, boot, format FROM self", &[]) {
+        Ok(row) => row.get(1),
+        Err(error) => Err(error),
+    }
+}
+
+// Sets the boot in a transaction.
+fn set_boot<S: Alter>(tx: &mut Transaction<'_, S>, number: u16, boot: u32) -> Result<(), Error>
+    requires { IsServing number (state S.Store tx.old.conn.now) }
+    ensures same_reference { tx.new.conn.ghost_name ≡ tx.old.conn.ghost_name }
+    ensures ok { HasCleanDisk (state S.Store tx.new.conn.now) → IsTrue
+        (state S.Store tx.old.conn.now).in_transaction
+        → OnOk result (SetsBoot number boot (state S.Store tx.old.conn.now)
+        (state S.Store tx.new.conn.now)) }
+    ensures kept { HasCleanDisk (state S.Store tx.new.conn.now) → KeepsCommit
+        (state S.Store tx.old.conn.now) (state S.Store tx.new.conn.now) }
+    ensures survives { Survives (state S.Store tx.old.conn.now)
+        (state S.Store tx.new.conn.now) (λ _. ⊥) }
+{
+    tx.execute("UPDATE self SET boot = ?1", params![boot])?;
+    Ok(())
+}
+
+/// Sets the boot.
+pub fn raise_boot<S: Alter>(conn: &mut Connection<S>, number: u16, boot: u32) -> Result<(), Error>
+    requires idle { conn.old.in_transaction ≡ false }
+    requires serving { IsServing number (state S.Store conn.old) }
+    ensures idle { conn.new.in_transaction ≡ false }
+    ensures ok { HasCleanDisk (state S.Store conn.new) → OnOk result (Raises number boot
+        (state S.Store conn.old) (state S.Store conn.new)) }
+    ensures err { HasCleanDisk (state S.Store conn.new) → OnErr result (IsUndone
+        (state S.Store conn.old) (state S.Store conn.new)) }
+    ensures survives { Survives (state S.Store conn.old)
+        (state S.Store conn.new) (RaisesTo number boot (state S.Store conn.old).now) }
+{
+    let mut tx = conn.transaction();
+    set_boot(&mut tx, number, boot)?;
+    tx.commit()
+}

@@ -1,0 +1,73 @@
+//! Adding operations.
+ghost use Rattle.std.specs.Prelude.{◌≡◌, ◌<◌, ◌≤◌, [], ◌∷◌, length, IsTrue, OnOk, OnErr, false};
+ghost use Rattle.sqlite.specs.Held.{state};
+ghost use Rattle.sqlite.specs.State.{HasCleanDisk, KeepsCommit, Survives};
+ghost use Rattle.sqlite.specs.View.{doubt};
+ghost use Rattle.fl_sql_tables.specs.Stored.{IsOurs, PutsIn, Saves, IsUndone, AddsTo};
+
+use fl_ops::op::Op;
+use fl_ops::writing::encode;
+use sqlite::{Alter, Connection, Error, Transaction, params};
+use std::alloc::Global;
+
+// Adds one operation in a transaction.
+fn put_op<S: Alter>(alloc: Global, tx: &mut Transaction<'_, S>, op: &Op) -> Result<(), Error>
+    ensures same_reference { tx.new.conn.ghost_name ≡ tx.old.conn.ghost_name }
+    ensures ok { HasCleanDisk (state S.Store tx.new.conn.now) → IsTrue
+        (state S.Store tx.old.conn.now).in_transaction → IsOurs (state S.Store tx.old.conn.now)
+        → OnOk result (PutsIn (op.now ∷ []) (state S.Store tx.old.conn.now)
+        (state S.Store tx.new.conn.now)) }
+    ensures kept { HasCleanDisk (state S.Store tx.new.conn.now) → KeepsCommit
+        (state S.Store tx.old.conn.now) (state S.Store tx.new.conn.now) }
+    ensures survives { Survives (state S.Store tx.old.conn.now)
+        (state S.Store tx.new.conn.now) (λ _. ⊥) }
+{
+    let bytes = encode(alloc, op)?;
+    tx.execute(
+        "INSERT INTO ops (node, seq, bytes) VALUES (?1, ?2, ?3)",
+        params![u32::from(op.name.node), op.name.seq, bytes.as_slice()],
+    )?;
+    Ok(())
+}
+
+// Adds the operations in a transaction.
+fn put_ops<S: Alter>(
+    alloc: Global,
+    tx: &mut Transaction<'_, S>,
+    ops: &[Op],
+) -> Result<(), Error>
+    ensures same_reference { tx.new.conn.ghost_name ≡ tx.old.conn.ghost_name }
+    ensures ok { HasCleanDisk (state S.Store tx.new.conn.now) → IsTrue
+        (state S.Store tx.old.conn.now).in_transaction → IsOurs (state S.Store tx.old.conn.now)
+        → 0 < length ops.now
+        → OnOk result (PutsIn ops.now (state S.Store tx.old.conn.now)
+        (state S.Store tx.new.conn.now)) }
+    ensures kept { HasCleanDisk (state S.Store tx.new.conn.now) → KeepsCommit
+        (state S.Store tx.old.conn.now) (state S.Store tx.new.conn.now) }
+    ensures survives { Survives (state S.Store tx.old.conn.now)
+        (state S.Store tx.new.conn.now) (λ _. ⊥) }
+{
+    'ops: for op in ops {
+        put_op(alloc, tx, op)?;
+    }
+    Ok(())
+}
+
+/// Adds the operations in one transaction.
+pub fn save_ops<S: Alter>(alloc: Global, conn: &mut Connection<S>, ops: &[Op]) -> Result<(), Error>
+    requires idle { conn.old.in_transaction ≡ false }
+    requires some { 0 < length ops.now }
+    ensures clean { doubt (state S.Store conn.old).is_clean ≤ doubt
+        (state S.Store conn.new).is_clean }
+    ensures ended { conn.new.in_transaction ≡ false }
+    ensures ok { HasCleanDisk (state S.Store conn.new) → IsOurs (state S.Store conn.old)
+        → OnOk result (Saves ops.now (state S.Store conn.old) (state S.Store conn.new)) }
+    ensures err { HasCleanDisk (state S.Store conn.new) → IsOurs (state S.Store conn.old)
+        → OnErr result (IsUndone (state S.Store conn.old) (state S.Store conn.new)) }
+    ensures survives { IsOurs (state S.Store conn.old) → Survives (state S.Store conn.old)
+        (state S.Store conn.new) (AddsTo ops.now (state S.Store conn.old).now) }
+{
+    let mut tx = conn.transaction();
+    put_ops(alloc, &mut tx, ops)?;
+    tx.commit()
+}
