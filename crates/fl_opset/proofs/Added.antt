@@ -1,15 +1,13 @@
 -- The names of operations are added to spans, one after another.
-use Rattle.std.proofs.Common.{◌≡◌, ◌⊎◌, inl, inr, ℕ, ◌+◌, ◌<◌, ◌≤◌, true, false, List, [], ◌∷◌, ◌++◌, length, get_or, take, refl, sym, ap, subst, ◌∙◌, arith}
+use Rattle.std.proofs.Common.{◌≡◌, inl, inr, ℕ, ◌+◌, ◌<◌, ◌≤◌, true, List, [], ◌∷◌, ◌++◌, length, get_or, take, sym, ap, subst, ◌∙◌, arith}
 use Rattle.std.proofs.lemmas.Bool.{cases_eq}
 use Rattle.std.proofs.lemmas.List.{take_more, take_all}
 use Rattle.std.proofs.lemmas.List.Elements.{Contains-push, Contains-push_cases, Contains-append_left}
 use Rattle.fl_labels.specs.declared.name.Name.{Name}
 use Rattle.fl_ops.specs.declared.op.Op.{Op}
-use Rattle.fl_ops.specs.Registry.{Listed}
 use Rattle.fl_opset.specs.declared.span.Span.{Span}
 use Rattle.fl_opset.specs.Rank.{name_rank, op_rank, least_rank, greatest_rank}
 use Rattle.fl_opset.specs.Spans.{fit}
-use Rattle.fl_opset.specs.Windows.{IsName}
 use Rattle.fl_opset.specs.parts.Kept.{has_rank, ChangeAt, AddNames}
 use Rattle.fl_opset.specs.laws.ByRank.{rank_exact}
 

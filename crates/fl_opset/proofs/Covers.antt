@@ -6,7 +6,7 @@ use Rattle.std.proofs.lemmas.List.Sums.{sum_by-cons}
 use Rattle.fl_labels.specs.declared.name.Name.{Name}
 use Rattle.fl_opset.specs.declared.intervals.Intervals.{Intervals}
 use Rattle.fl_opset.specs.Rank.{name_rank}
-use Rattle.fl_opset.specs.Windows.{AreCut, IsLeastName, IsNextName, in_window}
+use Rattle.fl_opset.specs.Windows.{AreCut, IsNextName, in_window}
 use Rattle.fl_opset.specs.laws.Fits.{within, too_low, too_high}
 
 -- how many of the windows have the name

@@ -1,5 +1,5 @@
 -- The logins of a name among operations that rise.
-use Rattle.std.specs.Prelude.{◌≡◌, ◌↔◌, ◌≢◌, ℕ, ◌+◌, ◌-◌, ◌<◌, ◌≤◌, List, length, get_or, take, drop, true, false, refl}
+use Rattle.std.specs.Prelude.{◌≡◌, ◌≢◌, ℕ, ◌+◌, ◌-◌, ◌<◌, ◌≤◌, List, length, get_or, take, drop, true, false, refl}
 use Rattle.std.proofs.Common.{inl, inr, sym, ap, subst, ◌∙◌, arith}
 use Rattle.std.specs.declared.cmp.Ordering.{Ordering}
 use Rattle.std.specs.declared.cmp.Ordering.TheVariants.{Less, Equal, Greater}
@@ -19,7 +19,7 @@ use Rattle.fl_ops.specs.declared.op.Body.TheVariants.{MakeTag, MakeGroup, Put, M
 use Rattle.fl_ops.specs.declared.op.Op.{Op}
 use Rattle.fl_ops.specs.Bytes.{kind_byte}
 use Rattle.fl_ops.specs.OpOrder.{op_cmp, body_key}
-use Rattle.fl_ops.specs.OpLaws.{op_total, op_exact}
+use Rattle.fl_ops.specs.OpLaws.{op_total}
 use Rattle.fl_ops.specs.Registry.{Listed, login_op}
 use Rattle.fl_ops.specs.Logins.{IsFirstLogin, HasNoLogin}
 use Rattle.fl_opset.specs.parts.LoginPlace.{login_place}

@@ -1,7 +1,6 @@
 -- The spans that are kept beside a set, as it changes.
-use Rattle.std.proofs.Common.{◌≡◌, ◌≢◌, ◌⊎◌, inl, inr, ℕ, ◌+◌, ◌<◌, ◌≤◌, Bool, true, false, ◌&&◌, ◌||◌, not, List, [], ◌∷◌, ◌++◌, length, get_or, take, drop, refl, sym, ap, subst, ◌∙◌, arith, leb, Result, Ok, Err, OnOk, OnErr, is_ok, Equal}
+use Rattle.std.proofs.Common.{◌≡◌, ◌≢◌, ◌⊎◌, inl, inr, Bool, true, false, ◌&&◌, ◌||◌, not, List, [], refl, sym, ap, subst, ◌∙◌, leb, Result, Ok, Err, OnOk, OnErr, is_ok}
 use Rattle.std.specs.Cmp.{Equal-is, tied_itself}
-use Rattle.std.specs.List.{All, Any, Contains, list_any}
 use Rattle.std.specs.List.Sorted.{IsStrictlySortedBy}
 use Rattle.std.specs.Ordering.{eq_by_cmp, is_eq}
 use Rattle.std.proofs.lemmas.Bool.{cases_eq, false≢true, or_cases}
@@ -9,11 +8,10 @@ use Rattle.std.proofs.lemmas.List.Folds.{list_any_at, Any-from_list_any}
 use Rattle.fl_labels.specs.declared.name.Name.{Name}
 use Rattle.fl_labels.specs.SetBy.{SetBy, In, of_list, contains, contains-empty, contains-insert, contains-remove, contains-union}
 use Rattle.fl_labels.specs.SetBy as set
-use Rattle.fl_labels.specs.laws.SortedVec.{Lists, every_member, item_member}
+use Rattle.fl_labels.specs.laws.SortedVec.{Lists}
 use Rattle.fl_ops.specs.declared.op.Op.{Op}
 use Rattle.fl_ops.specs.OpLaws.{op_total, op_exact}
 use Rattle.fl_ops.specs.OpOrder.{op_cmp}
-use Rattle.fl_ops.specs.Registry.{Listed}
 use Rattle.fl_opset.specs.declared.span.Span.{Span}
 use Rattle.fl_opset.specs.Rank.{name_rank, op_rank, last_rank, least_rank, greatest_rank}
 use Rattle.fl_opset.specs.Spans.{fit}
@@ -21,7 +19,7 @@ use Rattle.fl_opset.specs.Windows.{IsName, AreSpans}
 use Rattle.fl_opset.specs.parts.Kept.{has_rank, ChangeAt, HaveNames, AddNames, AreKept}
 use Rattle.fl_opset.specs.laws.ByRank.{rank_exact}
 use Rattle.fl_opset.specs.laws.Members.{listed_in}
-use Rattle.fl_opset.proofs.Walk.{Holds, are_spans}
+use Rattle.fl_opset.proofs.Walk.{are_spans}
 
 -- ---- sets
 

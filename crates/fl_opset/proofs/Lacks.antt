@@ -1,8 +1,10 @@
 -- What is lacking between spans.
-use Rattle.std.proofs.Common.{◌≡◌, ℕ, ◌+◌, ◌-◌, ◌<◌, ◌≤◌, Bool, true, false, ◌&&◌, ◌||◌, not, List, [], ◌∷◌, ◌++◌, length, get_or, take, drop, refl, sym, ap, subst, ◌∙◌, arith, ltb, cond, append_assoc}
+use Rattle.std.proofs.Common.{◌≡◌, inl, inr, ℕ, ◌+◌, ◌-◌, ◌<◌, ◌≤◌, Bool, true, false, ◌&&◌, ◌||◌, not, List, [], ◌∷◌, ◌++◌, length, get_or, take, drop, refl, sym, ap, subst, ◌∙◌, arith, ltb, cond, append_assoc}
 use Rattle.std.specs.List.{All, AllWithin, AllByRecursion, filter, list_any}
+use Rattle.std.specs.List.Sorted.{IsNonDecreasingBy}
+use Rattle.std.proofs.lemmas.Bool.{cases_lt}
 use Rattle.std.proofs.lemmas.Bool.Decides.{nat_tests}
-use Rattle.std.proofs.lemmas.List.{append-nil, drop_more, drop_all, length-take-le, get_or-take, get_or-drop, length-drop}
+use Rattle.std.proofs.lemmas.List.{append-nil, drop_more, drop_all, length-take-le, get_or-take, get_or-drop, get_or_default, length-drop}
 use Rattle.std.proofs.lemmas.List.Elements.{recursion_from_All, filter-append}
 use Rattle.fl_ops.specs.declared.op.Op.{Op}
 use Rattle.fl_opset.specs.declared.span.Span.{Span}
@@ -33,6 +35,47 @@ module _ {X : Type 0} (n : X → ℕ) (xs : List X) (place low : ℕ) (bound : p
       let here : place + k < length xs = omega (arith, long) in
       let e : get_or ys k d ≡ get_or xs (place + k) d = ap (λ l. get_or l k d) is ∙ get_or-drop place xs k d in
       omega (arith, ap n e, above_false (n (get_or xs (place + k) d)) low (at (place + k) d (omega arith) here))
+
+-- what a search in the front of a list tells of all of it
+module _ {X : Type 0} (n : X → ℕ) (xs ys : List X) (near place low : ℕ) (inside : near ≤ length xs) (front : ys ≡ take near xs) (bound : place ≤ length ys) where
+  front_item : (k : ℕ) (d : X) → k < near → get_or ys k d ≡ get_or xs k d
+  front_item k d here = ap (λ l. get_or l k d) front ∙ get_or-take near xs k d here
+
+  front_long : length ys ≡ near
+  front_long = ap length front ∙ length-take-le near xs inside
+
+  pub all_bound : place ≤ length xs
+  all_bound = omega (arith, front_long)
+
+  pub all_below : AllWithin (λ y. ltb (n y) low ≡ true) ys 0 place → AllWithin (λ y. ltb (n y) low ≡ true) xs 0 place
+  all_below at k d least most = ap (λ y. ltb (n y) low) (sym (front_item k d (omega (arith, front_long)))) ∙ at k d least most
+
+  not_below : (a b : ℕ) → b ≤ a → ltb a b ≡ false
+  not_below a b h = grind (arith, nat_tests)
+
+  pub all_above : AllWithin (λ y. ltb (n y) low ≡ false) ys place (length ys) → All (λ x. low ≤ n x) (drop near xs)
+      → AllWithin (λ y. ltb (n y) low ≡ false) xs place (length xs)
+  all_above at past k d least most = elim (cases_lt k near) [
+    | inl here ↦ ap (λ y. ltb (n y) low) (sym (front_item k d here)) ∙ at k d least (omega (arith, front_long))
+    | inr after ↦
+        let there : k - near < length (drop near xs) = omega (arith, length-drop near xs) in
+        let e : get_or (drop near xs) (k - near) d ≡ get_or xs k d = get_or-drop near xs (k - near) d ∙ ap (λ i. get_or xs i d) (omega arith) in
+        not_below (n (get_or xs k d)) low (omega (arith, past (k - near) d there, ap n e))
+  ]
+
+-- the front of a list that does not fall
+pub front_rises : {X : Type 0} (n : X → ℕ) (xs ys : List X) (near : ℕ) → near ≤ length xs → ys ≡ take near xs → IsNonDecreasingBy n xs → IsNonDecreasingBy n ys
+front_rises n xs ys near inside front up i j d order within =
+    let long : length ys ≡ near = ap length front ∙ length-take-le near xs inside in
+    let at : (k : ℕ) → k < near → get_or ys k d ≡ get_or xs k d = λ k here. ap (λ l. get_or l k d) front ∙ get_or-take near xs k d here in
+    omega (arith, up i j d order (omega (arith, long)), ap n (at i (omega (arith, long))), ap n (at j (omega (arith, long))))
+
+-- none behind an item of a list that does not fall is below it
+pub rest_above : {X : Type 0} (n : X → ℕ) (xs : List X) (place low : ℕ) (x : X) → IsNonDecreasingBy n xs → place < length xs → x ≡ get_or xs place x → low ≤ n x → All (λ y. low ≤ n y) (drop place xs)
+rest_above n xs place low x up here is le k d within =
+    let there : place + k < length xs = omega (arith, length-drop place xs) in
+    let first : x ≡ get_or xs place d = is ∙ get_or_default xs place x d here in
+    omega (arith, up place (place + k) d (omega arith) there, ap n first, ap n (get_or-drop place xs k d))
 
 -- tests that agree keep the same
 same_kept : {X : Type 0} (p q : X → Bool) (xs : List X) → AllByRecursion (λ x. p x ≡ q x) xs → filter p xs ≡ filter q xs

@@ -10,6 +10,7 @@ pub mod CutSteps
 pub mod Walk
 pub mod Changes
 pub mod Places
+pub mod Ends
 pub mod Added
 pub mod Kept
 pub mod Whole

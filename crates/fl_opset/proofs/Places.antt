@@ -1,17 +1,17 @@
 -- A name comes or goes at a place of the spans.
-use Rattle.std.proofs.Common.{◌≡◌, ◌≢◌, ℕ, zero, suc, ◌+◌, ◌-◌, ◌<◌, ◌≤◌, Bool, true, false, List, [], ◌∷◌, ◌++◌, length, get_or, take, drop, set, refl, sym, ap, subst, ◌∙◌, arith, add-one}
+use Rattle.std.proofs.Common.{◌≡◌, ◌≢◌, ℕ, zero, suc, ◌+◌, ◌-◌, ◌<◌, ◌≤◌, Bool, true, false, List, [], ◌∷◌, ◌++◌, length, get_or, take, drop, set, refl, sym, ap, subst, ◌∙◌, arith}
 use Rattle.std.specs.List.{All, AllByRecursion, insert, remove}
 use Rattle.std.proofs.Math.Seq.{drop-cons}
-use Rattle.std.proofs.lemmas.List.{take-append-drop, length-drop, length-take-le, get_or-drop, get_or_default, drop_all, take-take, take-append-le, drop_at, set_split}
+use Rattle.std.proofs.lemmas.List.{take-append-drop, length-drop, get_or-drop, get_or_default, drop_all, set_split}
 use Rattle.std.proofs.lemmas.List.Elements.{recursion_from_All}
 use Rattle.fl_labels.specs.declared.name.Name.{Name}
 use Rattle.fl_opset.specs.declared.span.Span.{Span}
 use Rattle.fl_opset.specs.Rank.{name_rank, last_rank, least_rank, greatest_rank}
 use Rattle.fl_opset.specs.Spans.{fit}
 use Rattle.fl_opset.specs.parts.Kept.{ChangeAt}
-use Rattle.fl_opset.specs.laws.Fits.{ends_above, fit_at}
+use Rattle.fl_opset.specs.laws.Fits.{fit_at}
 use Rattle.fl_opset.specs.laws.ByRank.{parts_next}
-use Rattle.fl_opset.proofs.Changes.{past, past_low, fit_behind, splice, Local, Starts, starts_low, same, one_more, there_already, grown_down, grown_up, two_joined, one_less, cut_below, cut_above, in_two}
+use Rattle.fl_opset.proofs.Changes.{past, past_low, fit_behind, splice, Local, Starts, same, one_more, there_already, grown_down, grown_up, two_joined, one_less, cut_below, cut_above, in_two}
 
 -- ---- nodes
 

@@ -1,19 +1,17 @@
 -- The spans of names that are met in their order.
-use Rattle.std.proofs.Common.{◌≡◌, ◌⊎◌, inl, inr, ℕ, zero, suc, ◌+◌, ◌-◌, ◌<◌, ◌≤◌, true, List, [], ◌∷◌, ◌++◌, length, get_or, refl, sym, ap, subst, ◌∙◌, arith, append_assoc, Less}
+use Rattle.std.proofs.Common.{◌≡◌, ◌⊎◌, inl, inr, ℕ, zero, suc, ◌+◌, ◌-◌, ◌<◌, ◌≤◌, true, List, [], ◌∷◌, ◌++◌, length, get_or, refl, sym, ap, subst, ◌∙◌, arith, Less}
 use Rattle.std.specs.List.{Contains, AllByRecursion}
 use Rattle.std.specs.List.Sorted.{IsStrictlySortedBy, IsNonDecreasingBy}
 use Rattle.std.proofs.lemmas.List.{get_or_default}
 use Rattle.std.proofs.lemmas.Bool.{cases_lt}
-use Rattle.std.proofs.lemmas.List.Elements.{Contains-push, Contains-push_cases, Contains-append_left}
 use Rattle.fl_labels.specs.declared.name.Name.{Name}
 use Rattle.fl_ops.specs.declared.op.Op.{Op}
-use Rattle.fl_ops.specs.Registry.{Listed}
 use Rattle.fl_opset.specs.declared.span.Span.{Span}
-use Rattle.fl_opset.specs.Rank.{name_rank, op_rank, last_rank, least_rank, greatest_rank}
+use Rattle.fl_opset.specs.Rank.{name_rank, last_rank, least_rank, greatest_rank}
 use Rattle.fl_opset.specs.Spans.{in_span, fit}
 use Rattle.fl_opset.specs.Windows.{IsName, IsSpan, AreSpans, span_cmp}
 use Rattle.fl_opset.specs.laws.Fits.{within, bounds, ends_above, fit_at, at_fit}
-use Rattle.fl_opset.specs.laws.ByRank.{rank_exact, rank_less, same_span, name_at}
+use Rattle.fl_opset.specs.laws.ByRank.{rank_less, same_span, name_at}
 
 -- spans that fit, with others in place of the last
 fit_instead : (from to upto : ℕ) (ss : List Span) (r : Span) (ts : List Span) → fit from to (ss ++ r ∷ []) ≡ true → to ≤ upto → ((low : ℕ) → low ≤ name_rank r.first → fit low upto ts ≡ true) → fit from upto (ss ++ ts) ≡ true
@@ -171,3 +169,14 @@ ends_rise from to (s ∷ ss) h (suc i) (suc j) d order inside =
 
 pub lasts_rise : (from to : ℕ) (ss : List Span) → fit from to ss ≡ true → IsNonDecreasingBy last_rank ss
 lasts_rise from to ss h i j d order inside = ends_rise from to ss h i j d order inside
+
+-- and each begins above the earlier ones
+pub gaps_rise : (from to : ℕ) (ss : List Span) → fit from to ss ≡ true → (i j : ℕ) (d : Span) → i < j → j < length ss
+    → last_rank (get_or ss i d) + 2 ≤ name_rank (get_or ss j d).first
+gaps_rise from to [] h i j d order inside = absurd (omega arith)
+gaps_rise from to (s ∷ ss) h zero zero d order inside = absurd (omega arith)
+gaps_rise from to (s ∷ ss) h zero (suc j) d order inside =
+    low_in (last_rank s + 2) to ss j (get_or ss j d) (fit_at from to s ss h).rest (omega arith) (get_or_default ss j (get_or ss j d) d (omega arith))
+gaps_rise from to (s ∷ ss) h (suc i) zero d order inside = absurd (omega arith)
+gaps_rise from to (s ∷ ss) h (suc i) (suc j) d order inside =
+    gaps_rise (last_rank s + 2) to ss (fit_at from to s ss h).rest i j d (omega arith) (omega arith)

@@ -1,5 +1,5 @@
 //! What a window lacks, among operations that rise.
-ghost use Rattle.std.specs.Prelude.{◌≡◌, ◌<◌, ◌≤◌, ◌++◌, IfOk};
+ghost use Rattle.std.specs.Prelude.{◌≡◌, ◌<◌, ◌≤◌, ◌++◌, IfOk, length, drop};
 ghost use Rattle.std.specs.List.{All, filter};
 ghost use Rattle.std.specs.List.Sorted.{IsNonDecreasingBy};
 ghost use Rattle.fl_opset.specs.Rank.{op_rank};
@@ -10,7 +10,23 @@ use crate::rank::{last_rank_of, rank};
 use fl_ops::op::Op;
 use std::alloc::{AllocError, Global};
 
-// The operations below a rank, and the others. A binary search.
+// A place with none behind it that is below the rank, at most twice as far as the first of the others.
+fn bound(ops: &[Op], low: u64) -> usize
+    requires { IsNonDecreasingBy op_rank ops.now }
+    ensures inside { result ≤ length ops.now }
+    ensures above { All (λ op. low ≤ op_rank op) (drop result ops.now) }
+{
+    let mut bound = 1;
+    while bound < ops.len() {
+        if low <= rank(ops[bound].name) {
+            return bound;
+        }
+        bound += bound.min(ops.len() - bound);
+    }
+    ops.len()
+}
+
+// The operations below a rank, and the others. A search in steps that double, so that it costs little where there are few below.
 fn cut(ops: &[Op], low: u64) -> (&[Op], &[Op])
     requires { IsNonDecreasingBy op_rank ops.now }
     ensures whole { ops.now ≡ result.0.now ++ result.1.now }
@@ -19,10 +35,12 @@ fn cut(ops: &[Op], low: u64) -> (&[Op], &[Op])
     ensures first { IsNonDecreasingBy op_rank result.0.now }
     ensures second { IsNonDecreasingBy op_rank result.1.now }
 {
-    ops.split_at(ops.partition_point(|op| rank(op.name) < low))
+    let (near, _) = ops.split_at(bound(ops, low));
+    ops.split_at(near.partition_point(|op| rank(op.name) < low))
 }
 
-/// Those of the operations that the window lacks. Two binary searches a span, and then linear in what is lacking.
+/// Those of the operations that the window lacks. Two searches a span, each in steps that double from where the one before
+/// ended, and then linear in what is lacking.
 pub fn lacking_of(alloc: Global, ops: &[Op], window: &Intervals) -> Result<Vec<Op>, AllocError>
     requires { IsNonDecreasingBy op_rank ops.now }
     ensures { IfOk result (λ lacking. lacking.items ≡ filter (is_lacking window.now) ops.now) }

@@ -132,8 +132,8 @@ impl OpSet {
     /// Adds an operation, and answers whether it is new. Only a new one can fail; an error leaves the set.
     ///
     /// One above all members costs one comparison, and none of them moves; else a binary search, and those above it move. The
-    /// spans of the names are kept by one binary search among them. That never fails: where there is no memory for one, they
-    /// are not known until the next merge.
+    /// spans of the names are kept at the cost of a binary search among them, or of a comparison where the last one grows. That
+    /// never fails: where there is no memory for one, they are not known until the next merge.
     pub fn add(&mut self, op: Op) -> Result<bool, AllocError>
         ensures ok { OnOk result (self.new ≡ set.insert self.old op) }
         ensures new { IfOk result (λ new. new ≡ not (set.contains self.old op)) }
@@ -216,8 +216,9 @@ impl OpSet {
         windows_of(alloc, &spans)
     }
 
-    /// The members whose name is in the window and in none of its spans, rising. Two binary searches a span, and then linear in
-    /// what is lacking. An error says that there was no memory for it.
+    /// The members whose name is in the window and in none of its spans, rising. Finds the window by searches in steps that
+    /// double, walks no further than it, searches twice for each span, by the logarithm of the members in it, and is then linear
+    /// in what is lacking. An error says that there was no memory for it.
     pub fn lacking(&self, alloc: Global, window: &Intervals) -> Result<Vec<Op>, AllocError>
         ensures { IfOk result (λ ops. ops.items ≡ lacking self.now window.now) }
     {

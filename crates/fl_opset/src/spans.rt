@@ -35,13 +35,23 @@ fn joined(span: Span, next: Span) -> Span
     }
 }
 
-// How many of the spans end below a rank. A binary search.
+// How many of the spans end below a rank. The last span is asked first, since most names come at the end; else a binary search.
 fn count_below(spans: &[Span], low: u64) -> usize
     requires { fit least_rank greatest_rank spans.now ≡ true }
     ensures bound { result ≤ length spans.now }
     ensures below { All (λ s. last_rank s < low) (take result spans.now) }
     ensures above { All (λ s. low ≤ last_rank s) (drop result spans.now) }
 {
+    let count = spans.len();
+    if count > 0 {
+        let last = spans[count - 1];
+        if last_rank_of(&last) < low {
+            return count;
+        }
+        if rank(last.first) <= low {
+            return count - 1;
+        }
+    }
     spans.partition_point(|span| last_rank_of(span) < low)
 }
 

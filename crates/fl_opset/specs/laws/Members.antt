@@ -1,5 +1,5 @@
 -- Members of a set and of what a window lacks of it.
-use Rattle.std.proofs.Common.{◌≡◌, ◌↔◌, ℕ, zero, suc, get_or, Bool, true, false, List, [], ◌∷◌, refl, sym, ap, subst, ◌∙◌, arith, cond}
+use Rattle.std.proofs.Common.{◌≡◌, ◌↔◌, zero, suc, get_or, Bool, true, false, List, [], ◌∷◌, sym, ap, subst, ◌∙◌, arith, cond}
 use Rattle.std.specs.List.{Contains, filter}
 use Rattle.std.proofs.lemmas.List.{get_or_default}
 use Rattle.fl_labels.specs.SetBy.{SetBy, In, of_list, members, of_list-members}

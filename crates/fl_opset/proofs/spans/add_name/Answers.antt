@@ -1,10 +1,10 @@
-use Rattle.std.proofs.Common.{◌≡◌, ◌≢◌, ℕ, List, ◌+◌, ◌-◌, ◌<◌, ◌≤◌, suc, length, get_or, drop, refl, sym, ap, ◌∙◌, arith, add-one}
+use Rattle.std.proofs.Common.{◌≡◌, ◌+◌, ◌-◌, ◌<◌, ◌≤◌, suc, length, get_or, drop, refl, sym, ap, ◌∙◌, arith, add-one}
 use Rattle.std.specs.List.{remove}
 use Rattle.fl_labels.specs.declared.name.Name.{Name}
 use Rattle.fl_opset.specs.declared.span.Span.{Span}
 use Rattle.fl_opset.specs.Rank.{name_rank, last_rank}
 use Rattle.fl_opset.proofs.Changes.{Starts}
-use Rattle.fl_opset.proofs.Places.{same_node, next_node, least, add_place, one_item, ends_here, starts_past, starts_here, starts_next, inserted, kept, down, up, both}
+use Rattle.fl_opset.proofs.Places.{same_node, next_node, least, add_place, one_item, ends_here, starts_past, starts_here, starts_next, inserted, down, up, both}
 use Rattle.fl_opset.proofs.spans.add_name.Goals as goal
 use Rattle.fl_opset.proofs.spans.add_name.Goals.{then-place-len-via-then-place-len, then-place-len-via-else-place-len+then-at-rank, then-place-len-2+else-rank-at, else-place-len-2}
 

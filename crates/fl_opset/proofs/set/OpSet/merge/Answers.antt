@@ -1,4 +1,4 @@
-use Rattle.std.proofs.Common.{sym, ap, ◌∙◌, subst, refl}
+use Rattle.std.proofs.Common.{ap, ◌∙◌, refl}
 use Rattle.fl_ops.specs.OpLaws.{op_total, op_exact}
 use Rattle.fl_labels.specs.SetBy.{of_list}
 use Rattle.fl_opset.proofs.Kept.{kept_same, kept_union, kept_lost}
