@@ -70,7 +70,8 @@ module _ (old new : Rows) (group : Name) (c : Cap) where
             λ h. elim h [ inl m ↦ is ∙ or_later (eq_by_cmp cap_cmp x c) m | inr e ↦ is ∙ or_first _ (cap_tied x c e.1) ],
           )
 
-      by_group : (b : Bool) → is_at (name_cmp group) g ≡ b → In (row_of new g) x ↔ (In (row_of old g) x ⊎ ((group ≡ g) × (c ≡ x)))
+      by_group : (b : Bool) → is_at (name_cmp group) g ≡ b
+          → In (row_of new g) x ↔ (In (row_of old g) x ⊎ ((group ≡ g) × (c ≡ x)))
       by_group true e =
           subst (λ k. In (row_of new k) x ↔ (In (row_of old k) x ⊎ ((group ≡ k) × (c ≡ x)))) (name_exact group g ((Equal-is (name_cmp group g)).0 e)) here
       by_group false e =
@@ -154,7 +155,8 @@ module _ (old mid new : Rows) (news : List Put) (gains : Gains old news mid) whe
     fresh = λ g x h there. by_fresh g x (Contains-push_cases news (put_of group c) _ h) there;
   }
     where
-      on : (g : Name) (x : Cap) → In (row_of old g) x ⊎ Into news g x → In (row_of old g) x ⊎ Into (news ++ put_of group c ∷ []) g x
+      on : (g : Name) (x : Cap) → In (row_of old g) x ⊎ Into news g x
+          → In (row_of old g) x ⊎ Into (news ++ put_of group c ∷ []) g x
       on g x (inl m) = inl m
       on g x (inr m) = inr (Contains-append_left news (put_of group c ∷ []) _ m)
 
@@ -188,7 +190,8 @@ module _ (old mid new : Rows) (news : List Put) (gains : Gains old news mid) whe
 pub loses_none : (rows : Rows) → Loses rows [] rows
 loses_none rows = record { has = λ g x. (λ h. (h, λ p. none _ p), λ h. h.0) }
 
-loses_one : (old mid new : Rows) (puts : List Put) (put : Put) → Loses old puts mid → TakesFrom mid put.group put.cap new
+loses_one : (old mid new : Rows) (puts : List Put) (put : Put) → Loses old puts mid
+    → TakesFrom mid put.group put.cap new
     → Loses old (puts ++ put ∷ []) new
 loses_one old mid new puts put loses taken = record {
   has = λ g x. (λ h. to g x ((takes_has mid new put.group put.cap taken g x).0 h), λ h. (takes_has mid new put.group put.cap taken g x).1 (from g x h));
@@ -234,7 +237,8 @@ taken_back old mid new news gains loses = record {
 
 -- ---- as the loops have it
 
-module _ (ops : List Op) (i : ℕ) (op : Op) (old mid new : Rows) (within : i < length ops) (at : op ≡ get_or ops i op) (adds : AddsPuts (Listed (take i ops)) old mid) where
+module _ (ops : List Op) (i : ℕ) (op : Op) (old mid new : Rows) (within : i < length ops)
+    (at : op ≡ get_or ops i op) (adds : AddsPuts (Listed (take i ops)) old mid) where
   pub adds_at : ((g : Name) (x : Cap) → In (row_of new g) x ↔ (In (row_of mid g) x ⊎ Puts op.body g x))
       → AddsPuts (Listed (take (i + 1) ops)) old new
   adds_at step =
@@ -253,7 +257,8 @@ loses_at puts i put old mid new within at loses taken =
 
 -- ---- the index
 
-pub indexed_all : (s more : SetBy op_cmp) (ops : List Op) (old new : Rows) → ops ≡ members more → IsIndexed s old → AddsPuts (Listed ops) old new
+pub indexed_all : (s more : SetBy op_cmp) (ops : List Op) (old new : Rows) → ops ≡ members more → IsIndexed s old
+    → AddsPuts (Listed ops) old new
     → IsIndexed (set.union s more) new
 indexed_all s more ops old new same indexed adds = record {
   row = λ g x. (λ h. to g x ((adds.has g x).0 h), λ p. (adds.has g x).1 (from g x p));
@@ -281,7 +286,8 @@ indexed_same s old new indexed same = record {
 }
 
 -- a put as its operation has it, and what puts nothing
-pub put_steps : (mid new : Rows) (group : Name) (c : Cap) (op : Op) → op.body ≡ Put_it group c → PutsInto mid group c new
+pub put_steps : (mid new : Rows) (group : Name) (c : Cap) (op : Op) → op.body ≡ Put_it group c
+    → PutsInto mid group c new
     → (g : Name) (x : Cap) → In (row_of new g) x ↔ (In (row_of mid g) x ⊎ Puts op.body g x)
 put_steps mid new group c op is put g x =
     subst (λ b. In (row_of new g) x ↔ (In (row_of mid g) x ⊎ Puts b g x)) (sym is) (puts_has mid new group c put g x)
@@ -291,7 +297,8 @@ pub other_steps : (mid : Rows) (op : Op) → ((group : Name) (c : Cap) → Puts 
 other_steps mid op never g x = (λ h. inl h, λ h. elim h [ inl m ↦ m | inr p ↦ absurd (never g x p) ])
 
 -- a put that was there already, and one that was not
-pub gains_again : (old mid new : Rows) (news : List Put) (group : Name) (c : Cap) → Gains old news mid → PutsInto mid group c new
+pub gains_again : (old mid new : Rows) (news : List Put) (group : Name) (c : Cap) → Gains old news mid
+    → PutsInto mid group c new
     → set.contains (row_of mid group) c ≡ true → Gains old news new
 gains_again old mid new news group c gains put there =
     gains_same old mid new news gains (λ g x. (λ h. back g x ((puts_has mid new group c put g x).0 h), λ m. (puts_has mid new group c put g x).1 (inl m)))
@@ -300,7 +307,8 @@ gains_again old mid new news group c gains put there =
     back g x (inl m) = m
     back g x (inr e) = subst (λ k. In (row_of mid k) x) e.0 (subst (In (row_of mid group)) e.1 there)
 
-pub gains_more : (old mid new : Rows) (news : List Put) (group : Name) (c : Cap) → Gains old news mid → PutsInto mid group c new
+pub gains_more : (old mid new : Rows) (news : List Put) (group : Name) (c : Cap) → Gains old news mid
+    → PutsInto mid group c new
     → set.contains (row_of mid group) c ≡ false → Gains old (news ++ put_of group c ∷ []) new
 gains_more old mid new news group c gains put absent = gains_one old mid new news gains group c put absent
 

@@ -49,8 +49,8 @@ impl Rows {
         self.rows.get(&group)
     }
 
-    /// Puts a capability into a group, and answers whether it is new there. A search by order, and the capabilities above it in the
-    /// group move. An error leaves the rows.
+    /// Puts a capability into a group, and answers whether it is new there. A search by order, and the capabilities above it
+    /// in the group move. An error leaves the rows.
     pub fn put(&mut self, group: Name, cap: Cap) -> Result<bool, AllocError>
         ensures ok { OnOk result (PutsInto self.old group cap self.new) }
         ensures new { IfOk result (λ new. new ≡ not (set.contains (row_of self.old group) cap)) }

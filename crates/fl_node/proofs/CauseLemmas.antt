@@ -13,12 +13,15 @@ use Rattle.fl_system.specs.State.{NodeState, ops_of}
 use Rattle.fl_system.specs.Saves.{Saves}
 use Rattle.fl_node.specs.Causes.{KeeperFails, IsStored, LoadsBadRow}
 
-module _ {K T : Type 0} (bad : K → Type 0) (may_hold : K → Held) (state : State) (keeper : K) (broken : Bool) (honest : Type 0) (r : Result T Fault) where
+module _ {K T : Type 0} (bad : K → Type 0) (may_hold : K → Held) (state : State) (keeper : K) (broken : Bool)
+    (honest : Type 0) (r : Result T Fault) where
   -- the keeper that the node had was loaded
-  pub loads_own : IfErr r (KeeperFails broken honest (bad keeper)) → IfErr r (KeeperFails broken honest (LoadsBadRow bad may_hold state keeper))
+  pub loads_own : IfErr r (KeeperFails broken honest (bad keeper))
+      → IfErr r (KeeperFails broken honest (LoadsBadRow bad may_hold state keeper))
   loads_own = by r
     where
-      by : (r : Result T Fault) → IfErr r (KeeperFails broken honest (bad keeper)) → IfErr r (KeeperFails broken honest (LoadsBadRow bad may_hold state keeper))
+      by : (r : Result T Fault) → IfErr r (KeeperFails broken honest (bad keeper))
+          → IfErr r (KeeperFails broken honest (LoadsBadRow bad may_hold state keeper))
       by (Ok x) h = tt
       by (Err fault) h = λ failed. elim (h failed) [
         | inl is ↦ inl is
@@ -27,10 +30,12 @@ module _ {K T : Type 0} (bad : K → Type 0) (may_hold : K → Held) (state : St
 
   -- or that after the saving
   pub loads_stored : (mid : K) → (honest → IsStored state (may_hold keeper) (may_hold mid))
-      → IfErr r (KeeperFails broken honest (bad mid)) → IfErr r (KeeperFails broken honest (LoadsBadRow bad may_hold state keeper))
+      → IfErr r (KeeperFails broken honest (bad mid))
+      → IfErr r (KeeperFails broken honest (LoadsBadRow bad may_hold state keeper))
   loads_stored mid stored = by r
     where
-      by : (r : Result T Fault) → IfErr r (KeeperFails broken honest (bad mid)) → IfErr r (KeeperFails broken honest (LoadsBadRow bad may_hold state keeper))
+      by : (r : Result T Fault) → IfErr r (KeeperFails broken honest (bad mid))
+          → IfErr r (KeeperFails broken honest (LoadsBadRow bad may_hold state keeper))
       by (Ok x) h = tt
       by (Err fault) h = λ failed. elim (h failed) [
         | inl is ↦ inl is
@@ -52,7 +57,8 @@ stored_then n batch n' old new is h =
     (batch, is, λ after found. let b = h after found in (b.0, b.1, stored_of n batch b.0 n' after is b.2))
 
 -- the keeper that came back was loaded
-pub with_made : {K T : Type 0} (bad : K → Type 0) (gives : K → Type 0) (broken : Bool) (honest : Type 0) (r : Result T Fault) (made : K) → gives made
+pub with_made : {K T : Type 0} (bad : K → Type 0) (gives : K
+    → Type 0) (broken : Bool) (honest : Type 0) (r : Result T Fault) (made : K) → gives made
     → IfErr r (KeeperFails broken honest (bad made))
     → IfErr r (λ fault. fault ≡ KeeperFailed → (made : K) × gives made × (IsTrue broken ⊎ (honest → bad made)))
 with_made bad gives broken honest (Ok x) made given h = tt

@@ -17,10 +17,12 @@ KeeperFails broken honest bad fault = fault ≡ KeeperFailed → IsTrue broken �
 -- what was to be saved is kept too
 abbrev pub IsStored : State → Held → Held → Type 0
 IsStored state old new =
-    (batch : Batch) × (state ≡ Running (Unsaved batch)) × Follows (λ k k'. k' ≡ with_batch k (ops_of batch)) old new
+    (batch : Batch) × (state ≡ Running (Unsaved batch))
+    × Follows (λ k k'. k' ≡ with_batch k (ops_of batch)) old new
 
 -- a keeper with a bad row: the one that the node had, or that after what was to be saved was saved
-pub record LoadsBadRow {K : Type 0} (has_bad_row : K → Type 0) (may_hold : K → Held) (state : State) (keeper : K) : Type 0 where
+pub record LoadsBadRow {K : Type 0} (has_bad_row : K → Type 0) (may_hold : K → Held) (state : State)
+    (keeper : K) : Type 0 where
   pub loaded : K
   pub bad : has_bad_row loaded
   pub left : (loaded ≡ keeper) ⊎ IsStored state (may_hold keeper) (may_hold loaded)

@@ -393,8 +393,8 @@ impl<K: Keeper> Node<K> {
     /// doubt, or was not opened as often. A stopped node whose own keeper is still broken answers `KeeperFailed`; no node does so
     /// unless its keeper is broken or has a bad row.
     pub fn restart(self, alloc: Global, keeps: bool) -> (Node<K>, Result<u32, Fault>)
-        ensures cause { let bad = LoadsBadRow K.has_bad_row K.may_hold self.node.state self.keeper in
-            let left = result.0.keeper in
+        ensures cause { let state = self.node.state in let left = result.0.keeper in
+            let bad = LoadsBadRow K.has_bad_row K.may_hold state self.keeper in
             IfErr result.1 (KeeperFails (K.is_broken left) (K.is_honest left) bad) }
         ensures broken { (¬ IsRunning self.node.state) → IsTrue (K.is_broken self.keeper)
             → K.number self.keeper ≡ self.node.number → result.1 ≡ Err Fault.KeeperFailed }
