@@ -220,8 +220,8 @@ fn put_unsafe<W: Writer>(
     sink: &mut Sink,
     output: &mut W,
 ) -> Result<(), WriteFault>
-    ensures puts {
-        let text = codes "F4 " ++ (endpoint_text endpoint ++ (codes " " ++ name_text tag)) in
+    ensures puts { let named = endpoint_text endpoint ++ (codes " " ++ name_text tag) in
+        let text = codes "F4 " ++ named in
         Puts (W.contents output.old) (W.contents output.new) sink.old text sink.new result }
     ensures cause { OnErr result (W.has_failed output.new) }
 {

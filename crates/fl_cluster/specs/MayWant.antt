@@ -12,7 +12,7 @@ use Rattle.fl_cluster.specs.NodeStep.{view_of}
 
 -- no line has named the node, or it has operations
 abbrev pub OpensOrCopies : Cluster → ℕ → Type 0
-OpensOrCopies old number = (is_open old number ≡ false) ⊎ (0 < set.len (node_at old number).registry)
+OpensOrCopies old n = (is_open old n ≡ false) ⊎ (0 < set.len (node_at old n).registry)
 
 -- what the line asks for takes memory: a node is opened that no line has named, the job takes memory, or a registry
 -- that is not empty is joined

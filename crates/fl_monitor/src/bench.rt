@@ -198,8 +198,8 @@ impl Bench {
 
 // The reply to whether the capability is reached from the root.
 fn member<V: View>(alloc: Global, view: &mut V, root: Cap, cap: Cap) -> Result<Outcome, Refusal>
-    ensures replies {
-        Replies (Reach (Listed (V.list view.old)) (From root) cap) (SearchesFrom root cap) result }
+    ensures replies { let registry = Listed (V.list view.old) in
+        Replies (Reach registry (From root) cap) (SearchesFrom root cap) result }
     ensures same { V.list view.new ≡ V.list view.old }
 {
     let Ok(yes) = view.reaches(alloc, root, cap) else {

@@ -78,8 +78,8 @@ impl Sink {
     /// the sink may not be used again.
     #[tactic(auto, using(crate::proofs::SinkLemmas::passes))]
     pub fn put<W: Writer>(&mut self, output: &mut W, bytes: &[u8]) -> Result<(), WriteFault>
-        ensures puts {
-            Puts (W.contents output.old) (W.contents output.new) self.old bytes.now self.new result }
+        ensures puts { let text = bytes.now in
+            Puts (W.contents output.old) (W.contents output.new) self.old text self.new result }
         ensures cause { OnErr result (W.has_failed output.new) }
     {
         if self.hold(bytes) {

@@ -19,7 +19,7 @@ pub trait Writer {
     fn write_some(&mut self, bytes: &[u8]) -> Result<usize>
         ensures bound { WritesAtMost result bytes.now }
         ensures bytes { WriteAppends (contents self.old) (contents self.new) result bytes.now }
-        ensures none { IfOk result (λ count. count ≡ 0 → 0 < length bytes.now → has_failed self.new) }
+        ensures none { IfOk result (λ n. n ≡ 0 → 0 < length bytes.now → has_failed self.new) }
         ensures failed { OnErr result (has_failed self.new) };
 }
 
