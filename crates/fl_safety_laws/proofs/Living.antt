@@ -1,4 +1,5 @@
--- Who lives in a world: a process whose pid was given lived before, and a process that bears, sends, takes or emits lives.
+-- Who lives in a world: a process whose pid was given lived before, and a process that bears, sends, takes or emits
+-- lives.
 use Rattle.std.proofs.Common.{◌≡◌, ◌⊎◌, ◌<◌, ◌≤◌, ◌∙◌, inl, inr, refl, sym, ap, subst, arith, ℕ, List, [], ◌∷◌, length}
 use Rattle.std.proofs.Common.{Option, Some, None, Ok}
 use Rattle.std.specs.FinMap as map
@@ -178,8 +179,9 @@ does_by : {V : Op → Type 0} {b : BenchState} {pid : Pid} {act : Act} {x : Outc
     → (p : Process) × (map.get b.processes pid ≡ Some p) × checks_of V p act None × Performs V b pid p act x after
 does_by {V} {b} {pid} {act} (passed s f) = (f.0, f.1, (passed_by V b pid act f.0 f.1 s).1, f.2)
 
-did_at : {w : World} {number : ℕ} {s : KeptNode} {desk upto : ℕ} {pid : Pid} {act : Act} {r : jobs.Reply} {after : World}
-    → IsAt w number s → JobAt w number s desk upto (By pid act) (Answered r) after → Did w number pid act r after
+did_at : {w : World} {number : ℕ} {s : KeptNode} {desk upto : ℕ} {pid : Pid} {act : Act} {r : jobs.Reply}
+    {after : World} → IsAt w number s → JobAt w number s desk upto (By pid act) (Answered r) after
+    → Did w number pid act r after
 did_at {w} {number} {s} at (JobAt.replied {n = n} (Jobs.replied {v} {left = left} look d)) =
     let it = does_by d.does in
     record {

@@ -1,5 +1,5 @@
--- What becomes of the processes of a node: who is there was there, under its pid, and keeps each tag whose minus it never
--- has in effect, or is new under the next serial of its bench.
+-- What becomes of the processes of a node: who is there was there, under its pid, and keeps each tag whose minus it
+-- never has in effect, or is new under the next serial of its bench.
 use Rattle.std.proofs.Common.{◌≡◌, ◌⊎◌, ◌<◌, ◌≤◌, ◌+◌, ◌-◌, ◌%◌, ◌∙◌, inl, inr, refl, sym, ap, subst, arith, ℕ, suc}
 use Rattle.std.proofs.Common.{Bool, true, false, List, [], length, mod-eq_of_lt, Option, Some, None, Result, Ok}
 use native.Mathlib.Nat.{add-mod_right}
@@ -136,7 +136,8 @@ module _ {U : Op → Type 0} where
   keeps_turn more b b' (turns pid old new there follows is) =
       subst (BenchTurn U b) (sym is) (put_turn b pid old new there (follows_tags more old new follows))
 
-  changes_turn : {V : Op → Type 0} → Within V U → (b b' : BenchState) {job : Job} → Changes V b job b' → BenchTurn U b b'
+  changes_turn : {V : Op → Type 0} → Within V U → (b b' : BenchState) {job : Job} → Changes V b job b'
+      → BenchTurn U b b'
   changes_turn more b b' (keeps k) = keeps_turn more b b' k
   changes_turn more b b' (bears pid child birth is) =
       subst (BenchTurn U b) (sym is) (born_turn b pid child birth.next)
@@ -261,7 +262,8 @@ module _ (U : Op → Type 0) where
     came_turn : (d : Data) {r : Result Outcome Refusal} {left : BenchState} → ArrivesAt n d r left → (b : BenchState)
         → item_at n.benches (place_of n (Arrive d)) ≡ Some b → BenchTurn U b left
     came_turn d {left = left} at b there =
-        subst (λ z. BenchTurn U z left) (same_found at.stands there) (does_turn {V = Unasked} (λ op m. absurd m) at.does)
+        subst (λ z. BenchTurn U z left) (same_found at.stands there)
+        (does_turn {V = Unasked} (λ op m. absurd m) at.does)
 
     pub arrives_turn : (d : Data) {result : Result Reply Fault} {n' : NodeState} → Arrives n d result n' → Turns U n n'
     arrives_turn d (Arrives.stopped why) = rests n n refl refl refl

@@ -156,14 +156,16 @@ went_turn w number s n k sent admitted at turn = record {
 
 joined_turn : (w : World) (number : ℕ) (k : Kept) → map.get w.nodes number ≡ None → WorldTurn w (joined w number k)
 joined_turn w number k free = record {
-  old = λ m x e. elim (get_put nat_cmp_total nat_cmp-IsAntisymmetric w.nodes number (kept_node (opened w.desks k) (raised k)) m) [
-    | inl same ↦ absurd (none_some free (subst (λ j. IsAt w j x) same.0 e))
-    | inr still ↦ (x, still ∙ e, rests (Union w) x.node x.node refl refl refl)
-  ];
-  new = λ m y e f. elim (get_put nat_cmp_total nat_cmp-IsAntisymmetric w.nodes number (kept_node (opened w.desks k) (raised k)) m) [
-    | inl same ↦ subst (λ (z : KeptNode). NodeOrderly z.node) (same_found same.1 e) (opened_orderly w.desks k)
-    | inr still ↦ absurd (none_some f (sym still ∙ e))
-  ];
+  old = λ m x e. elim (get_put nat_cmp_total nat_cmp-IsAntisymmetric w.nodes number
+      (kept_node (opened w.desks k) (raised k)) m) [
+        | inl same ↦ absurd (none_some free (subst (λ j. IsAt w j x) same.0 e))
+        | inr still ↦ (x, still ∙ e, rests (Union w) x.node x.node refl refl refl)
+      ];
+  new = λ m y e f. elim (get_put nat_cmp_total nat_cmp-IsAntisymmetric w.nodes number
+      (kept_node (opened w.desks k) (raised k)) m) [
+        | inl same ↦ subst (λ (z : KeptNode). NodeOrderly z.node) (same_found same.1 e) (opened_orderly w.desks k)
+        | inr still ↦ absurd (none_some f (sym still ∙ e))
+      ];
 }
 
 -- what comes next is guarded too, with no less saved, and further packets after those that were sent
@@ -236,7 +238,8 @@ module _ (w : World) (g : Guarded w) (number : ℕ) (s : KeptNode) (at : IsAt w 
       ];
     }
 
-    went_guarded : Turns (Union w) s.node n → NodeGuarded (Union w) n → ((x : Sent) → Contains sent x → MessageGuarded (Union w) x)
+    went_guarded : Turns (Union w) s.node n → NodeGuarded (Union w) n
+        → ((x : Sent) → Contains sent x → MessageGuarded (Union w) x)
         → ((x : Sent) → Contains sent x → HasSender x) → EntriesSafe (Union w) admitted
         → Next w (went w number n k sent admitted)
     went_guarded turn safe messages senders entries = record {

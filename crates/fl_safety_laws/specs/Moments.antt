@@ -36,8 +36,8 @@ pub record IsOfBoot (w : World) (number node boot : ℕ) : Type 0 where
   pub node_is : node ≡ its.node.number
   pub boot_is : boot ≡ its.node.boot
 
--- the entry is of something at the node of this number in this world; of a message, it has the sender
--- that was noted
+-- the entry is of something at the node of this number in this world; of a message, it has the
+-- sender that was noted
 abbrev pub IsOfNow : World → ℕ → Admission → Type 0
 IsOfNow w number (Change p side label) = Stands w number p
 IsOfNow w number (Endpoint p mode labels) = Stands w number p

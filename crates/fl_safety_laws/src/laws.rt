@@ -1,4 +1,4 @@
-//! Laws of what a job lets pass.
+//! Laws of what a job lets pass, and of what stays safe in worlds.
 ghost use Rattle.std.specs.Prelude.{◌≡◌, ◌⊎◌, ◌≤◌, List, ℕ, Result, Some, Ok};
 ghost use Rattle.std.specs.FinMap as map;
 ghost use Rattle.std.specs.List.{Contains, slice_get};
@@ -166,10 +166,10 @@ pub fn law_noted()
         Reopening w number kept reply after → after.audit ≡ w.audit }
 {}
 
-/// A tag that has reached a process stays in its label as long as it lives, and it emits nothing, where
-/// the tag came along processes, itself among them, that never have the tag's minus in effect, by all
-/// that is saved in the end: from one whose label has it, to each child, and with each message that
-/// arrives.
+/// A tag that has reached a process stays in its label as long as it lives, and it emits nothing,
+/// where the tag came along processes, itself among them, that never have the tag's minus in
+/// effect, by all that is saved in the end: from one whose label has it, to each child, and with
+/// each message that arrives.
 pub fn law_confined()
     ensures stays { (w : World) (moments : List Moment) (tag : Name) (i j : ℕ) (pid : Pid)
         (p : Process) → IsReached w → IsRun w moments → IsPure w moments tag i pid → i ≤ j →
