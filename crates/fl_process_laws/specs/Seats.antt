@@ -44,6 +44,12 @@ pub record WasGivenIn (w : World) (pid : Pid) : Type 0 where
   pub at : IsAt w pid.node s
   pub given : WasGiven (seats s.node) pid
 
+-- what is true of the pid of a process of a node
+pub record IsOfNode (w : World) (number : ℕ) (s : KeptNode) (pid : Pid) : Type 0 where
+  pub node_is : pid.node ≡ number
+  pub boot_is : pid.boot ≡ s.node.boot
+  pub given : WasGivenIn w pid
+
 -- the answer that a process of this pid was made
 abbrev pub made : Pid → Reply
 made pid = Job (Made pid)

@@ -7,12 +7,11 @@ ghost use Rattle.fl_system.specs.Processes.{process_of};
 ghost use Rattle.fl_system.specs.Runs.{IsReached, IsRun, Moment, end};
 ghost use Rattle.fl_system.specs.World.{World, KeptNode};
 ghost use Rattle.fl_system.specs.WorldSteps.{IsAt, Step};
-ghost use Rattle.fl_process_laws.specs.Seats.{WasGivenIn, made};
-ghost use Rattle.fl_process_laws.specs.laws.Pids.{IsOfNode};
+ghost use Rattle.fl_process_laws.specs.Seats.{IsOfNode, WasGivenIn, made};
 
-/// No pid is given twice, by any node of a world, in any boot: a process is made under a pid that was not given before,
-/// which is given from then on, whatever happens, and so is never that of another process that is made. A process of a
-/// node has the number of the node and its boot.
+/// No pid is given twice, by any node of a world, in any boot: a process is made under a pid that
+/// was not given before, which is given from then on, whatever happens, and so is never that of
+/// another process that is made. A process of a node has the number of the node and its boot.
 pub fn law_pids()
     ensures new { (w after : World) (event : Event) (pid : Pid) → IsReached w →
         Step w event (made pid) after → ¬ WasGivenIn w pid }

@@ -1,7 +1,6 @@
 -- No pid is given twice.
-use Rattle.std.proofs.Common.{◌≡◌, ◌≢◌, ◌⊎◌, ◌∙◌, ◌<◌, ◌≤◌, ◌%◌, inl, inr, ℕ, List, [], ◌∷◌, length, Ok, Some, None, refl, sym, ap, subst, arith, mod-eq_of_lt, eq-or-lt_of_le}
+use Rattle.std.proofs.Common.{◌≡◌, ◌≢◌, ◌⊎◌, ◌∙◌, ◌<◌, ◌≤◌, ◌%◌, inl, inr, ℕ, length, Some, sym, ap, subst, arith, mod-eq_of_lt, eq-or-lt_of_le}
 use native.Mathlib.Nat.{mod_self}
-use Rattle.std.specs.declared.option.Option.{Option}
 use Rattle.fl_labels.specs.declared.pid.Pid.{Pid}
 use Rattle.fl_bench.specs.Bench.{BenchState, IsNext}
 use Rattle.fl_bench.specs.Orderly.{IsGiven}
@@ -60,7 +59,8 @@ module _ (s : Seats) (tidy : IsTidy s) (k : ℕ) (b : BenchState) (stands : item
 
 -- and is given once the bench gave it
 pub gives_given : (s : Seats) (k : ℕ) (b after : BenchState) (pid : Pid) → 0 < b.stride → Gives b after pid
-    → after.node ≡ b.node → after.boot ≡ b.boot → after.next % after.stride ≡ b.next % b.stride → after.stride ≡ b.stride
+    → after.node ≡ b.node → after.boot ≡ b.boot → after.next % after.stride ≡ b.next % b.stride
+    → after.stride ≡ b.stride
     → item_at s.benches k ≡ Some after → WasGiven s pid
 gives_given s k b after pid forward gives node boot residue stride e =
     let own = next_own gives.next in

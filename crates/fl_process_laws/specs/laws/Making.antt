@@ -1,5 +1,5 @@
 -- A job is answered that it made a process only with the next pid of its bench.
-use Rattle.std.proofs.Common.{◌≡◌, ◌+◌, inl, inr, ℕ, ap, subst, sym, Option, Some, None, Ok, Err, refl}
+use Rattle.std.proofs.Common.{◌≡◌, ◌+◌, inl, inr, ap, subst, Option, Some, None, Ok, Err}
 use Rattle.fl_labels.specs.declared.pid.Pid.{Pid}
 use Rattle.fl_ops.specs.declared.op.Op.{Op}
 use Rattle.fl_jobs.specs.declared.job.Act.{Act}
@@ -47,7 +47,8 @@ module _ (V : Op → Type 0) (b : BenchState) (pid : Pid) (after : BenchState) w
   act_made asker p (Order order) (said, is) = absurd (cc)
   act_made asker p (Relabel side (Err e)) h = absurd h
   act_made asker p (Relabel side (Ok label)) (said, is) = absurd (cc)
-  act_made asker p (Ask c) (said, is) = elim said [ inl yes_is ↦ absurd (cc (yes_is.0)) | inr no_is ↦ absurd (cc (no_is.0)) ]
+  act_made asker p (Ask c) (said, is) =
+      elim said [ inl yes_is ↦ absurd (cc (yes_is.0)) | inr no_is ↦ absurd (cc (no_is.0)) ]
   act_made asker p (Spawn caps) (child, next, said, is) = bears b pid child _ after next said is
   act_made asker p Exit (said, is) = absurd (cc)
   act_made asker p (Drop c) (said, is) = absurd (cc)
@@ -58,7 +59,8 @@ module _ (V : Op → Type 0) (b : BenchState) (pid : Pid) (after : BenchState) w
   effect_made : (job : Job) → Effect V b job (Outcome.Reply (Made pid)) after → Gives b after pid
   effect_made Proc (child, next, said, is) = bears b pid child _ after next said is
   effect_made (By asker act) (p, there, does) = act_made asker p act does
-  effect_made (Member root c) (said, is) = elim said [ inl yes_is ↦ absurd (cc (yes_is.0)) | inr no_is ↦ absurd (cc (no_is.0)) ]
+  effect_made (Member root c) (said, is) =
+      elim said [ inl yes_is ↦ absurd (cc (yes_is.0)) | inr no_is ↦ absurd (cc (no_is.0)) ]
   effect_made (Arrive d) (q, there, said, is) = absurd (cc)
 
   pub does_made : (job : Job) → Does V b job (Ok (Outcome.Reply (Made pid))) after → Gives b after pid

@@ -1,5 +1,5 @@
 -- No pid is given twice in a world that is reached.
-use Rattle.std.proofs.Common.{◌≡◌, ◌∙◌, ◌<◌, ℕ, List, [], ◌∷◌, length, Ok, Some, None, refl, sym, ap, subst, arith}
+use Rattle.std.proofs.Common.{◌≡◌, ◌∙◌, ℕ, List, [], ◌∷◌, length, Ok, Some, None, refl, sym, subst}
 use Rattle.std.specs.declared.option.Option.{Option}
 use Rattle.std.specs.FinMap as map
 use Rattle.std.specs.Ordering.{nat_cmp}
@@ -11,11 +11,9 @@ use Rattle.fl_wire.specs.declared.packet.Data.{Data}
 use Rattle.fl_bench.specs.Bench.{BenchState}
 use Rattle.fl_bench.specs.declared.process.Process.{Process}
 use Rattle.fl_bench.specs.laws.Puts.{none_some, same_found}
-use Rattle.fl_store.specs.Kept.{Kept, raised}
-use Rattle.fl_system.specs.declared.admission.Admission.{Admission}
+use Rattle.fl_store.specs.Kept.{raised}
 use Rattle.fl_system.specs.declared.answer.Answer.TheVariants as answers
 use Rattle.fl_system.specs.declared.event.Event.{Event}
-use Rattle.fl_system.specs.declared.reply.Reply.{Reply}
 use Rattle.fl_system.specs.declared.sent.Sent.{Sent}
 use Rattle.fl_system.specs.Numbered.{item_at}
 use Rattle.fl_system.specs.Processes.{process_at, process_of}
@@ -23,18 +21,18 @@ use Rattle.fl_system.specs.State.{NodeState}
 use Rattle.fl_system.specs.Jobs.{Jobs, place_of, bench_of}
 use Rattle.fl_system.specs.Arrives.{Arrives}
 use Rattle.fl_system.specs.Openings.{opened}
-use Rattle.fl_system.specs.World.{World, KeptNode, went, empty_world}
+use Rattle.fl_system.specs.World.{World, KeptNode, empty_world}
 use Rattle.fl_system.specs.WorldSteps.{IsAt, Step}
 use Rattle.fl_system.specs.WorldJobs.{JobAt}
 use Rattle.fl_system.specs.Deliveries.{MessageAt, DeliverAt}
 use Rattle.fl_system.specs.Runs.{Moment, IsRun, end, IsReached}
-use Rattle.fl_system_laws.specs.Goes.{Calls, Goes}
+use Rattle.fl_system_laws.specs.Goes.{Goes}
 use Rattle.fl_system_laws.specs.laws.Going.{moves_goes}
 use Rattle.fl_system_laws.specs.laws.Numbered.{changed_at}
 use Rattle.fl_world_laws.specs.laws.Nodes.{Now, is_new, is_old, at_key, Stays, is_replaced, is_still, stays_there}
 use Rattle.fl_world_laws.specs.laws.Nodes as nodes
 use Rattle.fl_world_laws.specs.laws.Naming.{IsNamed}
-use Rattle.fl_process_laws.specs.Seats.{Seats, seats, IsPlaced, IsTidy, WasGiven, WasGivenIn, made, now}
+use Rattle.fl_process_laws.specs.Seats.{Seats, seats, IsTidy, WasGiven, WasGivenIn, IsOfNode, made, now}
 use Rattle.fl_process_laws.specs.laws.Making.{Gives, does_made}
 use Rattle.fl_process_laws.specs.laws.Turning.{Turns, does_turns, calls_turn, turn_tidy, turn_given, opened_tidy}
 use Rattle.fl_process_laws.specs.laws.Giving.{next_new, gives_given}
@@ -58,8 +56,10 @@ goes_tidy {w} h (Goes.calls number {s = s} {n = n} {k = k} sent admitted at does
     record { each = λ m x e. put_tidy w number new h its m x (nodes.now w.nodes number new m x e) }
 goes_tidy {w} h (Goes.joins number {k = k} may) =
     let new : KeptNode = record { node = opened w.desks k; kept = raised k } in
-    record { each = λ m x e.
-      put_tidy w number new h (opened_tidy w.desks k) m x (nodes.now w.nodes number new m x e) }
+    record {
+      each = λ m x e.
+          put_tidy w number new h (opened_tidy w.desks k) m x (nodes.now w.nodes number new m x e);
+    }
 
 pub run_tidy : (w : World) (ms : List Moment) → AllTidy w → IsRun w ms → AllTidy (end w ms)
 run_tidy w [] h run = h
@@ -81,8 +81,7 @@ module _ {w : World} {pid : Pid} (g : WasGivenIn w pid) where
       → Stays w.nodes number new pid.node g.s
       → (x : KeptNode) × (map.get (map.insert w.nodes number new) pid.node ≡ Some x) × WasGiven (seats x.node) pid
   put_given number s new at turns (is_replaced is) =
-      let same : s ≡ g.s = same_found at (subst (λ m. map.get w.nodes m ≡ Some g.s) is g.at) in
-      (
+      let same : s ≡ g.s = same_found at (subst (λ m. map.get w.nodes m ≡ Some g.s) is g.at) in (
         new,
         subst (λ m. map.get (map.insert w.nodes number new) m ≡ Some new) (sym is) (at_key w.nodes number new),
         turns (subst (λ (x : KeptNode). WasGiven (seats x.node) pid) (sym same) g.given),
@@ -225,17 +224,11 @@ module _ (w : World) (named : IsNamed w) (tidy : AllTidy w) {w' : World} {pid : 
         s = g.new;
         at = subst (λ m. map.get w'.nodes m ≡ Some g.new) (sym node_is) g.at_after;
         given = gives_given (seats g.new.node) g.gives.place g.gives.bench g.gives.left pid
-        ((tidy.each g.number g.s g.at).each g.gives.place g.gives.bench g.gives.stands).orderly.forward g.gives.gives
-        on.node_is on.boot_is on.residue_is on.stride_is g.gives.stands_after;
+            ((tidy.each g.number g.s g.at).each g.gives.place g.gives.bench g.gives.stands).orderly.forward g.gives.gives
+            on.node_is on.boot_is on.residue_is on.stride_is g.gives.stands_after;
       }
 
 -- ---- who is there
-
--- what is true of the pid of a process of a node
-pub record IsOfNode (w : World) (number : ℕ) (s : KeptNode) (pid : Pid) : Type 0 where
-  pub node_is : pid.node ≡ number
-  pub boot_is : pid.boot ≡ s.node.boot
-  pub given : WasGivenIn w pid
 
 pub lives_own : (w : World) (number : ℕ) (s : KeptNode) (pid : Pid) (p : Process) → IsNamed w → AllTidy w
     → IsAt w number s → process_of s.node pid ≡ Some p → IsOfNode w number s pid

@@ -1,12 +1,10 @@
 -- What each call of a node does to its benches.
-use Rattle.std.proofs.Common.{◌≡◌, ◌⊎◌, ◌∙◌, ◌+◌, ◌<◌, ◌≤◌, ◌%◌, inl, inr, ℕ, zero, suc, Bool, List, [], length, Result, Ok, Err, Some, None, refl, sym, ap, subst, arith}
+use Rattle.std.proofs.Common.{◌≡◌, ◌⊎◌, ◌∙◌, ◌+◌, ◌<◌, ◌%◌, inl, inr, ℕ, zero, suc, Bool, List, [], length, Result, Some, None, refl, sym, ap, subst, arith}
 use Rattle.std.specs.declared.option.Option.{Option}
 use Rattle.fl_labels.specs.declared.cap.Cap.{Cap}
-use Rattle.fl_labels.specs.declared.name.Name.{Name}
 use Rattle.fl_labels.specs.declared.pid.Pid.{Pid}
 use Rattle.fl_labels.specs.SetBy.{SetBy}
 use Rattle.fl_ops.specs.OpOrder.{op_cmp}
-use Rattle.fl_ops.specs.declared.op.Body.{Body}
 use Rattle.fl_ops.specs.declared.op.Op.{Op}
 use Rattle.fl_wire.specs.declared.packet.Data.{Data}
 use Rattle.fl_jobs.specs.declared.job.Job.{Job}
@@ -28,10 +26,10 @@ use Rattle.fl_system.specs.declared.answer.Answer.{Answer}
 use Rattle.fl_system.specs.declared.answer.Fault.{Fault}
 use Rattle.fl_system.specs.declared.state.Batch.{Batch}
 use Rattle.fl_system.specs.declared.state.Batch.TheVariants.{Ordered, Received}
-use Rattle.fl_system.specs.Numbered.{item_at, change_item, items_to}
+use Rattle.fl_system.specs.Numbered.{item_at, change_item}
 use Rattle.fl_system.specs.State.{NodeState}
 use Rattle.fl_system.specs.Begins.{Begins}
-use Rattle.fl_system.specs.Jobs.{Jobs, worked, place_of, bench_of}
+use Rattle.fl_system.specs.Jobs.{Jobs, place_of, bench_of}
 use Rattle.fl_system.specs.Receives.{Receives}
 use Rattle.fl_system.specs.Arrives.{Arrives}
 use Rattle.fl_system.specs.Saves.{Saves}
@@ -82,9 +80,12 @@ module _ (s : Seats) (k : ℕ) (change : BenchState → BenchState)
       by_place : (j ≡ k) ⊎ (¬ (j ≡ k))
           → (after : BenchState) × (item_at (change_item change s.benches k) j ≡ Some after) × Turns b after
       by_place (inl is) =
-          let at_k : item_at s.benches k ≡ Some b = subst (λ i. item_at s.benches i ≡ Some b) is e in
-          (change b, subst (λ i. item_at (change_item change s.benches k) i ≡ Some (change b)) (sym is)
-          (changed_at change s.benches k b at_k), turn b at_k)
+          let at_k : item_at s.benches k ≡ Some b = subst (λ i. item_at s.benches i ≡ Some b) is e in (
+            change b,
+            subst (λ i. item_at (change_item change s.benches k) i ≡ Some (change b)) (sym is)
+                (changed_at change s.benches k b at_k),
+            turn b at_k,
+          )
       by_place (inr other) = (b, others_stay change s.benches k j other ∙ e, turns_same b)
 
   back : (j : ℕ) (after : BenchState) → item_at (change_item change s.benches k) j ≡ Some after
@@ -99,7 +100,7 @@ module _ (s : Seats) (k : ℕ) (change : BenchState → BenchState)
           was.before,
           was.there,
           subst (Turns was.before) (sym is)
-          (turn was.before (subst (λ i. item_at s.benches i ≡ Some was.before) at was.there)),
+              (turn was.before (subst (λ i. item_at s.benches i ≡ Some was.before) at was.there)),
         )
       ]
 
@@ -107,7 +108,8 @@ module _ (s : Seats) (k : ℕ) (change : BenchState → BenchState)
   one_turns = works refl refl (length-change change s.benches k) ahead back
 
 -- a job at a bench
-pub does_turns : {V : Op → Type 0} {b after : BenchState} {job : Job} {r : Result Outcome Refusal} → Does V b job r after
+pub does_turns : {V : Op → Type 0} {b after : BenchState} {job : Job} {r : Result Outcome Refusal}
+    → Does V b job r after
     → Turns b after
 does_turns {V} {b} d = record { on = does_going V b d; orderly = λ h. does_orderly h d }
 
@@ -202,7 +204,7 @@ opened_tidy desks k = record { each = λ j b e. at_place j b e }
           stride_is = ap (λ (x : BenchState). x.stride) m.is ∙ sym count;
           residue_is = ap (λ (x : BenchState). x.next % length (opened desks k).benches) m.is;
           orderly = subst IsOrderly (sym m.is)
-          (opened_orderly k.number (k.boot + 1) j desks m.some (omega (arith, m.some, m.within)));
+              (opened_orderly k.number (k.boot + 1) j desks m.some (omega (arith, m.some, m.within)));
         }
 
 again_turn : {n : NodeState} {doubt : Option Batch} {k : Kept} {result : Result ℕ Fault} {n' : NodeState} {k' : Kept}

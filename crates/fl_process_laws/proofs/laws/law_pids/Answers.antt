@@ -1,7 +1,7 @@
 use Rattle.std.proofs.Common.{List}
 use Rattle.fl_labels.specs.declared.pid.Pid.{Pid}
 use Rattle.fl_system.specs.declared.event.Event.{Event}
-use Rattle.fl_system.specs.Runs.{Happens, IsReached, IsRun, Moment, end}
+use Rattle.fl_system.specs.Runs.{Happens, IsRun, Moment, end}
 use Rattle.fl_system.specs.World.{World}
 use Rattle.fl_system.specs.WorldSteps.{Step}
 use Rattle.fl_system_laws.specs.laws.Going.{moves_goes}
@@ -22,19 +22,19 @@ once w after last event later ms pid named tidy step run again =
 
 pub returns-clause-new : goal.returns-clause-new
 returns-clause-new c = λ w after event pid reached step.
-  made_new w (reached_named w reached) (reached_tidy w reached) (step_makes w pid step)
+    made_new w (reached_named w reached) (reached_tidy w reached) (step_makes w pid step)
 
 pub returns-clause-given : goal.returns-clause-given
 returns-clause-given c = λ w after event pid reached step.
-  made_given w (reached_named w reached) (reached_tidy w reached) (step_makes w pid step)
+    made_given w (reached_named w reached) (reached_tidy w reached) (step_makes w pid step)
 
 pub returns-clause-for_good : goal.returns-clause-for_good
 returns-clause-for_good c = λ w ms pid reached run given. run_given w ms (reached_tidy w reached) run given
 
 pub returns-clause-once : goal.returns-clause-once
 returns-clause-once c = λ w after last event later ms pid reached step run.
-  once w after last event later ms pid (reached_named w reached) (reached_tidy w reached) step run
+    once w after last event later ms pid (reached_named w reached) (reached_tidy w reached) step run
 
 pub returns-clause-there : goal.returns-clause-there
 returns-clause-there c = λ w number s pid process reached at there.
-  lives_own w number s pid process (reached_named w reached) (reached_tidy w reached) at there
+    lives_own w number s pid process (reached_named w reached) (reached_tidy w reached) at there
