@@ -1,0 +1,4 @@
+//! Laws of the processes of a world.
+#![tactic(auto)]
+
+pub mod laws;
