@@ -10,6 +10,7 @@ use Rattle.fl_labels.specs.SetBy as set
 use Rattle.fl_labels.specs.SetBy.{In}
 use Rattle.fl_ops.specs.declared.op.Op.{Op}
 use Rattle.fl_message.specs.declared.message.Data.{Data}
+use Rattle.fl_wire.specs.declared.packet.Packet.{Packet}
 use Rattle.fl_gossip.specs.Taking as gossip
 use Rattle.fl_jobs.specs.declared.job.Job.{Job}
 use Rattle.fl_jobs.specs.declared.answer.Reply.{Reply as JobReply}
@@ -82,8 +83,8 @@ pub record MayJoin (w : World) (number : ℕ) (k : Kept) : Type 0 where
 -- joined
 pub data Goes (w : World) : World → Type 0 where
   stays : Goes w w
-  tells : (number : ℕ) {s : KeptNode} (told : List Data) → IsAt w number s
-      → ((p : Data) → Contains told p → Within (Contains (gossip.ops_of p)) (In s.node.saved))
+  tells : (number : ℕ) {s : KeptNode} (told : List Packet) → IsAt w number s
+      → ((p : Packet) → Contains told p → Within (Contains (gossip.ops_of p)) (In s.node.saved))
       → Goes w (has_told w number told)
   calls : (number : ℕ) {s : KeptNode} {n : NodeState} {k : Kept} (sent : List Sent)
       (admitted : List Admission)
