@@ -1,5 +1,5 @@
 -- What becomes of a world at a move, whatever it was: the laws of worlds go by these cases.
-use Rattle.std.specs.Prelude.{◌≡◌, ℕ, Bool, List}
+use Rattle.std.specs.Prelude.{◌≡◌, ◌⊎◌, ℕ, Bool, List}
 use Rattle.std.specs.FinMap as map
 use Rattle.std.specs.List.{Contains}
 use Rattle.std.specs.declared.option.Option.{Option}
@@ -43,8 +43,8 @@ carried sent = gossip.ops_of sent.packet
 pub data Calls (w : World) (s : KeptNode) : NodeState → Kept → Type 0 where
   jobs : {desk upto : ℕ} {job : Job} {result : Result Answer Fault} {n : NodeState}
       → Jobs s.node desk upto job result n → Calls w s n s.kept
-  looks : {desk upto v : ℕ} (seen : ℕ) → Looks s.node desk upto v
-      → Calls w s (looking s.node desk seen) s.kept
+  looks : {desk upto v : ℕ} (seen : ℕ) (look : Looks s.node desk upto v)
+      → (seen ≡ look.seen) ⊎ (seen ≡ v) → Calls w s (looking s.node desk seen) s.kept
   receives : {result : Result ℕ Fault} (sent : Sent) {n : NodeState} → Contains w.packets sent
       → Receives s.node (set.of_list (carried sent)) result n → Calls w s n s.kept
   arrives : {d : Data} {result : Result JobReply Fault} {n : NodeState} → Arrives s.node d result n

@@ -107,7 +107,7 @@ module _ (w : World) where
       Goes.calls number _ _ at (Calls.jobs does)
       (λ x h op i. in_none op (subst (λ y. Contains (carried y) op) (sym (only_one _ x h)) i))
   job_goes number at (JobAt.no_room look seen noted) =
-      Goes.calls number _ _ at (Calls.looks _ look) (λ x h. in_none x h)
+      Goes.calls number _ _ at (Calls.looks _ look seen) (λ x h. in_none x h)
 
   save_goes : (number : ℕ) {s : KeptNode} {reply : Reply} {w' : World} → IsAt w number s
       → SaveAt w number s reply w' → Goes w w'
