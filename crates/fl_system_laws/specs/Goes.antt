@@ -1,5 +1,5 @@
 -- What becomes of a world at a move, whatever it was: the laws of worlds go by these cases.
-use Rattle.std.specs.Prelude.{◌≡◌, ℕ, Bool, List}
+use Rattle.std.specs.Prelude.{◌≡◌, ◌⊎◌, ℕ, Bool, List}
 use Rattle.std.specs.FinMap as map
 use Rattle.std.specs.List.{Contains}
 use Rattle.std.specs.declared.option.Option.{Option}
@@ -10,6 +10,7 @@ use Rattle.fl_labels.specs.SetBy as set
 use Rattle.fl_labels.specs.SetBy.{In}
 use Rattle.fl_ops.specs.declared.op.Op.{Op}
 use Rattle.fl_message.specs.declared.message.Data.{Data}
+use Rattle.fl_wire.specs.declared.packet.Packet.{Packet}
 use Rattle.fl_gossip.specs.Taking as gossip
 use Rattle.fl_jobs.specs.declared.job.Job.{Job}
 use Rattle.fl_jobs.specs.declared.answer.Reply.{Reply as JobReply}
@@ -42,8 +43,8 @@ carried sent = gossip.ops_of sent.packet
 pub data Calls (w : World) (s : KeptNode) : NodeState → Kept → Type 0 where
   jobs : {desk upto : ℕ} {job : Job} {result : Result Answer Fault} {n : NodeState}
       → Jobs s.node desk upto job result n → Calls w s n s.kept
-  looks : {desk upto v : ℕ} (seen : ℕ) → Looks s.node desk upto v
-      → Calls w s (looking s.node desk seen) s.kept
+  looks : {desk upto v : ℕ} (seen : ℕ) (look : Looks s.node desk upto v)
+      → (seen ≡ look.seen) ⊎ (seen ≡ v) → Calls w s (looking s.node desk seen) s.kept
   receives : {result : Result ℕ Fault} (sent : Sent) {n : NodeState} → Contains w.packets sent
       → Receives s.node (set.of_list (carried sent)) result n → Calls w s n s.kept
   arrives : {d : Data} {result : Result JobReply Fault} {n : NodeState} → Arrives s.node d result n
@@ -82,8 +83,8 @@ pub record MayJoin (w : World) (number : ℕ) (k : Kept) : Type 0 where
 -- joined
 pub data Goes (w : World) : World → Type 0 where
   stays : Goes w w
-  tells : (number : ℕ) {s : KeptNode} (told : List Data) → IsAt w number s
-      → ((p : Data) → Contains told p → Within (Contains (gossip.ops_of p)) (In s.node.saved))
+  tells : (number : ℕ) {s : KeptNode} (told : List Packet) → IsAt w number s
+      → ((p : Packet) → Contains told p → Within (Contains (gossip.ops_of p)) (In s.node.saved))
       → Goes w (has_told w number told)
   calls : (number : ℕ) {s : KeptNode} {n : NodeState} {k : Kept} (sent : List Sent)
       (admitted : List Admission)

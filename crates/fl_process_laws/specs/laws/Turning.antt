@@ -225,7 +225,7 @@ restarts_turn (Restarts.stopped is h) = again_turn h
 pub calls_turn : {w : World} {s : KeptNode} {n : NodeState} {k : Kept} → Calls w s n k
     → SeatsTurn (seats s.node) (seats n)
 calls_turn (Calls.jobs does) = jobs_turn does
-calls_turn {s = s} (Calls.looks seen look) = rests (seats s.node)
+calls_turn {s = s} (Calls.looks seen look is) = rests (seats s.node)
 calls_turn (Calls.receives sent there does) = receives_turn does
 calls_turn (Calls.arrives does) = arrives_turn does
 calls_turn (Calls.saves does) = saves_turn does

@@ -15,6 +15,8 @@ use Rattle.fl_ops.specs.declared.op.Op.{Op}
 use Rattle.fl_opset.specs.declared.intervals.Intervals.{Intervals}
 use Rattle.fl_opset.specs.laws.Members.{Contains-cons, lacking_member}
 use Rattle.fl_wire.specs.declared.batch.Batch.{Batch}
+use Rattle.fl_wire.specs.declared.packet.Packet.{Packet}
+use Rattle.fl_wire.specs.declared.packet.Packet.TheVariants as packets
 use Rattle.fl_message.specs.declared.message.Data.{Data}
 use Rattle.fl_gossip.specs.Taking as gossip
 use Rattle.fl_jobs.specs.declared.job.Job.{Job}
@@ -82,7 +84,7 @@ in_or_not s op = by_test (set.contains s op) refl
 
 -- ---- what is told was saved
 
-windows_bring_none : (windows : List Intervals) (p : Data) → Contains (list_map packets.Have windows) p
+windows_bring_none : (windows : List Intervals) (p : Packet) → Contains (list_map packets.Have windows) p
     → (op : Op) → ¬ Contains (gossip.ops_of p) op
 windows_bring_none windows p h op i =
     let m = in_mapped packets.Have windows p h in
@@ -105,7 +107,7 @@ module _ (w : World) where
       Goes.calls number _ _ at (Calls.jobs does)
       (λ x h op i. in_none op (subst (λ y. Contains (carried y) op) (sym (only_one _ x h)) i))
   job_goes number at (JobAt.no_room look seen noted) =
-      Goes.calls number _ _ at (Calls.looks _ look) (λ x h. in_none x h)
+      Goes.calls number _ _ at (Calls.looks _ look seen) (λ x h. in_none x h)
 
   save_goes : (number : ℕ) {s : KeptNode} {reply : Reply} {w' : World} → IsAt w number s
       → SaveAt w number s reply w' → Goes w w'

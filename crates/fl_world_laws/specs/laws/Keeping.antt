@@ -24,7 +24,7 @@ pub record IsKept (s : KeptNode) : Type 0 where
 calls_own : {w : World} {s : KeptNode} {n : NodeState} {k : Kept} → IsKeptOwn s.node s.kept → Calls w s n k
     → IsKeptOwn n k
 calls_own h (Calls.jobs does) = owning.jobs_own h does
-calls_own h (Calls.looks seen look) = owning.looks_own seen h look
+calls_own h (Calls.looks seen look is) = owning.looks_own seen h look
 calls_own h (Calls.receives sent there does) = owning.receives_own h does
 calls_own h (Calls.arrives does) = owning.arrives_own h does
 calls_own h (Calls.saves does) = owning.saves_own h does
@@ -35,7 +35,7 @@ calls_own h (Calls.reopens is does) = owning.again_own does
 
 calls_whole : {w : World} {s : KeptNode} {n : NodeState} {k : Kept} → IsWhole s.node → Calls w s n k → IsWhole n
 calls_whole h (Calls.jobs does) = wholes.jobs_whole h does
-calls_whole h (Calls.looks seen look) = wholes.looks_whole seen h look
+calls_whole h (Calls.looks seen look is) = wholes.looks_whole seen h look
 calls_whole h (Calls.receives sent there does) = wholes.receives_whole h does
 calls_whole h (Calls.arrives does) = wholes.arrives_whole h does
 calls_whole h (Calls.saves does) = wholes.saves_whole h does

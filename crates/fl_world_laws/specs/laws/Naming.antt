@@ -180,7 +180,7 @@ module _ (w : World) (named : IsNamed w) where
 
     pub calls_step : {n : NodeState} {k : Kept} → Calls w s n k → IsStep (Union w) (holding s.node) (holding n)
     calls_step (Calls.jobs does) = jobs_step its_sound does
-    calls_step (Calls.looks seen look) = stays its_sound
+    calls_step (Calls.looks seen look is) = stays its_sound
     calls_step (Calls.receives sent there does) =
         receives_step named.names (carried_known sent there) its_sound does
     calls_step (Calls.arrives does) = arrives_step its_sound does

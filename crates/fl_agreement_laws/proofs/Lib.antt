@@ -1,0 +1,4 @@
+pub mod Fronts
+pub mod Follows
+pub mod Answering
+pub mod Alike

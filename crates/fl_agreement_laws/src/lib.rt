@@ -1,0 +1,4 @@
+//! Laws of what the nodes of a world answer and publish.
+#![tactic(auto)]
+
+pub mod laws;
