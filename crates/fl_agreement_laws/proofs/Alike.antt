@@ -1,5 +1,5 @@
 -- What published the same is the same, and what sees the same answers alike.
-use Rattle.std.proofs.Common.{◌≡◌, ◌⊎◌, ◌↔◌, ◌∙◌, inl, inr, ℕ, List, Some, refl, sym, ap, subst}
+use Rattle.std.proofs.Common.{◌≡◌, ◌⊎◌, ◌↔◌, ◌∙◌, inl, inr, ℕ, List, Some, refl, sym, subst}
 use Rattle.std.specs.List.{Contains}
 use Rattle.fl_labels.specs.Found.{Within}
 use Rattle.fl_labels.specs.SetBy as set

@@ -1,8 +1,6 @@
 -- What was answered, under what a desk sees.
-use Rattle.std.proofs.Common.{◌≡◌, ◌⊎◌, ◌∙◌, ◌≤◌, ◌++◌, inl, inr, ℕ, List, length, Ok, Some, refl, sym, ap, subst, arith}
+use Rattle.std.proofs.Common.{◌≡◌, ◌⊎◌, ◌∙◌, ◌≤◌, ◌++◌, inl, inr, ℕ, List, Ok, Some, refl, sym, ap, subst, arith}
 use Rattle.std.specs.FinMap as map
-use Rattle.std.specs.List.{Contains}
-use Rattle.std.specs.Ordering.{nat_cmp}
 use Rattle.fl_labels.specs.Found.{Within}
 use Rattle.fl_labels.specs.SetBy.{In}
 use Rattle.fl_labels.specs.declared.cap.Cap.{Cap}
@@ -22,7 +20,6 @@ use Rattle.fl_bench.specs.Jobs.{Does, passed}
 use Rattle.fl_bench.specs.Process.{owns, effective}
 use Rattle.fl_bench.specs.declared.process.Process.{Process}
 use Rattle.fl_bench.specs.laws.Puts.{same_found}
-use Rattle.fl_system.specs.declared.event.Event.{Event}
 use Rattle.fl_system.specs.declared.event.Event.TheVariants.{Job}
 use Rattle.fl_system.specs.declared.reply.Reply.{Reply}
 use Rattle.fl_system.specs.declared.reply.Reply.TheVariants.{Job as Answered}

@@ -23,7 +23,7 @@ use Rattle.fl_system.specs.declared.answer.Answer.{Answer}
 use Rattle.fl_system.specs.declared.answer.Fault.{Fault}
 use Rattle.fl_system.specs.declared.state.Batch.{Batch}
 use Rattle.fl_system.specs.declared.state.Batch.TheVariants.{Ordered, Received}
-use Rattle.fl_system.specs.Numbered.{item_at, with_item, items_to}
+use Rattle.fl_system.specs.Numbered.{item_at, with_item}
 use Rattle.fl_system.specs.State.{NodeState, first_ops, kept_of, ops_in, ops_of}
 use Rattle.fl_system.specs.Begins.{Begins}
 use Rattle.fl_system.specs.Jobs.{Jobs, Looks}
@@ -186,7 +186,7 @@ again_follow n m boot list views published {doubt} {k} (OpensAgain.opens (Opens.
   where
     there : Within (Contains n.published) (Contains (opened (length m.views) k).published)
     there op h = member_listed k.saved op (found m own op (published op h))
-again_follow n m boot list views published (OpensAgain.stays refused) = unseen n _ boot list views
+again_follow n m boot list views published (OpensAgain.stays why) = unseen n _ boot list views
 
 restarts_follow : {n : NodeState} {k : Kept} {keeps : Bool} {result : Result ℕ Fault} {n' : NodeState} {k' : Kept}
     → Within (Contains n.published) (In n.saved) → Restarts n k keeps result n' k' → Follows n n'
@@ -299,7 +299,7 @@ module _ (w : World) (number : ℕ) (new : KeptNode) (m : ℕ) (x : KeptNode)
   put_follows (is_still at) w' same =
       record { later = x; at = subst (λ l. map.get l m ≡ Some x) (sym same) at; follows = itself x.node }
 
-goes_follows : {w w' : World} → IsNamed w → Goes w w' → FollowsIn w w'
+pub goes_follows : {w w' : World} → IsNamed w → Goes w w' → FollowsIn w w'
 goes_follows {w} named Goes.stays = as_it_was w w refl
 goes_follows {w} named (Goes.tells number told at saved) = as_it_was w _ refl
 goes_follows {w} named (Goes.calls number {s = s} {n = n} {k = k} sent admitted at does none) =

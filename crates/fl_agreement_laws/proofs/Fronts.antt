@@ -1,5 +1,5 @@
 -- The first operations of a list, and of one that goes on.
-use Rattle.std.proofs.Common.{◌≡◌, ◌⊎◌, ◌≤◌, inl, inr, ℕ, zero, suc, List, [], ◌∷◌, ◌++◌, length, take, refl, subst, arith}
+use Rattle.std.proofs.Common.{◌≤◌, ℕ, zero, suc, List, [], ◌∷◌, ◌++◌, length, take, refl, arith}
 use Rattle.std.specs.List.{Contains}
 use Rattle.fl_labels.specs.Found.{Within}
 use Rattle.fl_labels.specs.SetBy as set

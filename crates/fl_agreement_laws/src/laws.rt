@@ -1,5 +1,5 @@
 //! Laws of what the nodes of a world answer and publish.
-ghost use Rattle.std.specs.Prelude.{◌≡◌, ◌↔◌, ℕ, List};
+ghost use Rattle.std.specs.Prelude.{◌≡◌, ◌⊎◌, ◌↔◌, ◌++◌, ℕ, List};
 ghost use Rattle.std.specs.List.{Contains};
 ghost use Rattle.fl_labels.specs.Found.{Within};
 ghost use Rattle.fl_labels.specs.SetBy as set;
@@ -19,8 +19,10 @@ ghost use Rattle.fl_system.specs.declared.reply.Reply.{Reply};
 ghost use Rattle.fl_system.specs.declared.reply.Reply.TheVariants.{Job as Answered};
 ghost use Rattle.fl_system.specs.Runs.{IsReached, IsRun, Moment, end};
 ghost use Rattle.fl_system.specs.State.{NodeState};
-ghost use Rattle.fl_system.specs.World.{World};
-ghost use Rattle.fl_system.specs.WorldSteps.{Step};
+ghost use Rattle.fl_system.specs.Whereabouts.{IsOnItsWay};
+ghost use Rattle.fl_system.specs.World.{World, KeptNode};
+ghost use Rattle.fl_system.specs.WorldSteps.{IsAt, Step};
+ghost use Rattle.fl_agreement_laws.specs.Gains.{IsBegunIn, gains};
 ghost use Rattle.fl_agreement_laws.specs.Knowledge.{HasProcess, IsAnswer, KnowsNoLess, Sees};
 
 /// No yes is withdrawn. Where a desk of a node answered that one capability is reached from
@@ -47,6 +49,11 @@ pub fn law_yes()
 /// Nodes that published the same operations, in whatever order, have the same registry and the same
 /// text of it. Desks that see the same operations, of whatever nodes and at whatever moments of
 /// whatever worlds, answer alike whether one capability is reached from another.
+///
+/// While a node stays in one boot, its published list goes on by what its own publications added,
+/// in their order, and so its registry is the union of what it was and of these. Each of them was
+/// on its way there before, or was begun since: as an order of one of the node's processes, or out
+/// of a packet that came to it.
 pub fn law_equal()
     ensures registry { (x y : NodeState) →
         ((op : Op) → Contains x.published op ↔ Contains y.published op) →
@@ -60,4 +67,14 @@ pub fn law_equal()
         IsAnswer reply → IsAnswer reply' →
         Step w (Job number desk upto (Member root c)) reply after →
         Step v (Job other_number other upto' (Member root c)) reply' later → reply ≡ reply' }
+    ensures made { (w : World) (ms : List Moment) (number : ℕ) (s s' : KeptNode) → IsReached w →
+        IsRun w ms → IsAt w number s → IsAt (end w ms) number s' → s'.node.boot ≡ s.node.boot →
+        s'.node.published ≡ s.node.published ++ gains number w ms }
+    ensures join { (w : World) (ms : List Moment) (number : ℕ) (s s' : KeptNode) → IsReached w →
+        IsRun w ms → IsAt w number s → IsAt (end w ms) number s' → s'.node.boot ≡ s.node.boot →
+        set.of_list {R = op_cmp} s'.node.published ≡
+        set.union (set.of_list s.node.published) (set.of_list (gains number w ms)) }
+    ensures from_its_own { (w : World) (ms : List Moment) (number : ℕ) (s : KeptNode) (op : Op) →
+        IsReached w → IsRun w ms → IsAt w number s → Contains (gains number w ms) op →
+        IsOnItsWay s.node.state op ⊎ IsBegunIn number op w ms }
 {}

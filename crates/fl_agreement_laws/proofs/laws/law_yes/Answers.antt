@@ -1,5 +1,4 @@
 use Rattle.std.proofs.Common.{inl, inr, subst}
-use Rattle.fl_labels.specs.declared.cap.Cap.{Cap}
 use Rattle.fl_jobs.specs.declared.job.Act.TheVariants.{Ask}
 use Rattle.fl_jobs.specs.declared.job.Job.TheVariants.{By, Member}
 use Rattle.fl_system.specs.declared.event.Event.TheVariants.{Job}
