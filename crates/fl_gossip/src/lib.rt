@@ -2,5 +2,6 @@
 #![tactic(auto)]
 
 pub mod fault;
+pub mod meeting;
 pub mod replying;
 pub mod taking;
