@@ -1,0 +1,111 @@
+-- What would be noted may be noted.
+use Rattle.std.proofs.Common.{◌≡◌, ◌∙◌, refl, sym, subst, arith, ℕ, zero, List, [], ◌∷◌, Bool, true, false, is_some}
+use Rattle.std.proofs.Common.{Option, Some, None, Result, Ok, Err, OnErr}
+use Rattle.std.proofs.lemmas.Bool.{false≢true}
+use Rattle.std.proofs.lemmas.Result.{on_err_weaker}
+use Rattle.std.specs.FinMap as map
+use Rattle.std.specs.List.{Contains}
+use Rattle.fl_labels.specs.declared.cap.Cap.{Cap}
+use Rattle.fl_labels.specs.declared.cap.Cap.TheVariants.{Use}
+use Rattle.fl_labels.specs.declared.name.Name.{Name}
+use Rattle.fl_labels.specs.declared.pid.Pid.{Pid}
+use Rattle.fl_rules.specs.declared.endpoint.Mode.{Mode}
+use Rattle.fl_rules.specs.declared.labels.Labels.{Labels}
+use Rattle.fl_mailbox.specs.declared.endpoints.OpenEndpoint.{OpenEndpoint}
+use Rattle.fl_mailbox.specs.declared.mailbox.Mailbox.{Mailbox}
+use Rattle.fl_jobs.specs.Given.{labels_of}
+use Rattle.fl_jobs.specs.declared.job.Act.{Act}
+use Rattle.fl_jobs.specs.declared.job.Act.TheVariants.{Order, Relabel, Ask, Spawn, Exit}
+use Rattle.fl_jobs.specs.declared.job.Act.TheVariants.{Drop, Enter, Emit, Mail}
+use Rattle.fl_jobs.specs.declared.job.GivenLabels.{GivenLabels}
+use Rattle.fl_jobs.specs.declared.job.Job.{Job}
+use Rattle.fl_jobs.specs.declared.job.Job.TheVariants.{By}
+use Rattle.fl_jobs.specs.declared.job.Mail as mails
+use Rattle.fl_jobs.specs.declared.job.Mail.TheVariants.{Open, Tune, Close, Send, Take}
+use Rattle.fl_jobs.specs.declared.job.Order as orders
+use Rattle.fl_jobs.specs.declared.job.Order.TheVariants.{Tag, Group, Put, MakeLogin}
+use Rattle.fl_jobs.specs.declared.answer.Reply.TheVariants as replies
+use Rattle.fl_bench.specs.declared.process.Process.{Process}
+use Rattle.fl_system.specs.Audit.{party, order_entries, endpoint_entries, tuned_entries}
+use Rattle.fl_system.specs.Audit.{mail_entries, act_entries, entries_by}
+use Rattle.fl_system.specs.Processes.{process_of}
+use Rattle.fl_system.specs.State.{NodeState}
+use Rattle.fl_system.specs.WorldJobs.{MayBeNoted}
+use Rattle.fl_system.specs.declared.admission.Admission.{Admission}
+use Rattle.fl_system.specs.declared.admission.Party.{Party}
+use Rattle.fl_system.specs.declared.answer.Answer.{Answer}
+use Rattle.fl_system.specs.declared.answer.Answer.TheVariants as answers
+use Rattle.fl_audit.specs.Drafts.{IsAskedAt}
+use Rattle.fl_audit.specs.parts.Noted.{order_noted, tuned_noted, mail_noted, act_noted}
+
+pub on_err : {T E P : Type 0} (r : Result T E) → P → OnErr r P
+on_err (Ok x) h = tt
+on_err (Err e) h = h
+
+-- there is an answer with an entry
+pub record SomeNoted (entries : Answer → List Admission) : Type 0 where
+  pub answer : Answer
+  pub entry : Admission
+  pub noted : Contains (entries answer) entry
+
+done : Answer
+done = answers.Reply replies.Done
+
+first : (e : Admission) → Contains (e ∷ []) e
+first e = (zero, omega arith, refl)
+
+always : (e : Admission) → SomeNoted (λ a. e ∷ [])
+always e = record { answer = done; entry = e; noted = first e }
+
+order_some : (p : Party) (order : orders.Order) → order_noted order ≡ true
+    → SomeNoted (λ a. order_entries p order)
+order_some p (Tag policy) h = absurd (false≢true h)
+order_some p Group h = absurd (false≢true h)
+order_some p (Put group c) h = always _
+order_some p (MakeLogin c secret) h = always _
+
+endpoint_some : (p : Party) (mode : Mode) (labels : Option Labels) → is_some labels ≡ true
+    → SomeNoted (λ a. endpoint_entries p mode labels)
+endpoint_some p mode None h = absurd (false≢true h)
+endpoint_some p mode (Some labels) h = always _
+
+tuned_some : (p : Party) (there : Option OpenEndpoint) (given : GivenLabels) → tuned_noted there given ≡ true
+    → SomeNoted (λ a. tuned_entries p there given)
+tuned_some p None given h = absurd (false≢true h)
+tuned_some p (Some opened) given h = endpoint_some p opened.mode (labels_of given) h
+
+mail_some : (p : Party) (ch : Mailbox) (mail : mails.Mail) → mail_noted ch mail ≡ true
+    → SomeNoted (λ a. mail_entries p ch mail)
+mail_some p ch (Open mode given) h = endpoint_some p mode (labels_of given) h
+mail_some p ch (Tune e given) h = tuned_some p (map.get ch.endpoints e) given h
+mail_some p ch (Close e) h = absurd (false≢true h)
+mail_some p ch (Send from receiver to message) h = always _
+mail_some p ch Take h = absurd (false≢true h)
+
+act_some : (pid : Pid) (p : Process) (act : Act) → act_noted p act ≡ true → SomeNoted (act_entries pid p act)
+act_some pid p (Order order) h = order_some (party pid p) order h
+act_some pid p (Relabel side (Ok label)) h = always _
+act_some pid p (Relabel side (Err long)) h = absurd (false≢true h)
+act_some pid p (Ask c) h = record { answer = answers.Reply replies.Yes; entry = _; noted = first _ }
+act_some pid p (Spawn caps) h = always _
+act_some pid p Exit h = absurd (false≢true h)
+act_some pid p (Drop c) h = absurd (false≢true h)
+act_some pid p (Enter login secret) h =
+    record { answer = answers.Reply (replies.Entered (Use login)); entry = _; noted = first _ }
+act_some pid p (Emit bytes) h = always _
+act_some pid p (Mail c) h = mail_some (party pid p) p.mailbox c h
+
+pub may_be : (n : NodeState) (pid : Pid) (p : Process) (act : Act) → process_of n pid ≡ Some p
+    → act_noted p act ≡ true → MayBeNoted n (By pid act)
+may_be n pid p act there h =
+    let P : Option Process → Type 0 = λ o. SomeNoted (entries_by o pid act) in
+    let some = subst P (sym there) (act_some pid p act h) in
+    record { answer = some.answer; entry = some.entry; noted = some.noted }
+
+-- the same of a job that is known to be an act of this process
+pub may_be_asked : {T E : Type 0} (r : Result T E) (number boot : ℕ) (asker : Option Process) (job : Job)
+    (pid : Pid) (p : Process) (act : Act) → job ≡ By pid act → asker ≡ Some p → OnErr r (act_noted p act ≡ true)
+    → OnErr r ((n : NodeState) → IsAskedAt number boot asker job n → MayBeNoted n job)
+may_be_asked r number boot asker job pid p act is there h =
+    let P : Job → Type 0 = λ j. OnErr r ((n : NodeState) → IsAskedAt number boot asker j n → MayBeNoted n j) in
+    subst P (sym is) (on_err_weaker r (λ noted n asked. may_be n pid p act (asked.asker_is ∙ there) noted) h)

@@ -1,0 +1,48 @@
+-- Which acts are noted where their answer is the right one.
+use Rattle.std.specs.Prelude.{Bool, true, false, is_some}
+use Rattle.std.specs.FinMap as map
+use Rattle.std.specs.declared.option.Option.{Option}
+use Rattle.std.specs.declared.option.Option.TheVariants.{None, Some}
+use Rattle.std.specs.declared.result.Result.TheVariants.{Ok, Err}
+use Rattle.fl_mailbox.specs.declared.endpoints.OpenEndpoint.{OpenEndpoint}
+use Rattle.fl_mailbox.specs.declared.mailbox.Mailbox.{Mailbox}
+use Rattle.fl_jobs.specs.Given.{labels_of}
+use Rattle.fl_jobs.specs.declared.job.Act.{Act}
+use Rattle.fl_jobs.specs.declared.job.Act.TheVariants.{Order, Relabel, Ask, Spawn, Exit}
+use Rattle.fl_jobs.specs.declared.job.Act.TheVariants.{Drop, Enter, Emit, Mail}
+use Rattle.fl_jobs.specs.declared.job.GivenLabels.{GivenLabels}
+use Rattle.fl_jobs.specs.declared.job.Mail as mails
+use Rattle.fl_jobs.specs.declared.job.Mail.TheVariants.{Open, Tune, Close, Send, Take}
+use Rattle.fl_jobs.specs.declared.job.Order as orders
+use Rattle.fl_jobs.specs.declared.job.Order.TheVariants.{Tag, Group, Put, MakeLogin}
+use Rattle.fl_bench.specs.declared.process.Process.{Process}
+
+abbrev pub order_noted : orders.Order → Bool
+order_noted (Tag policy) = false
+order_noted Group = false
+order_noted (Put group c) = true
+order_noted (MakeLogin c secret) = true
+
+abbrev pub tuned_noted : Option OpenEndpoint → GivenLabels → Bool
+tuned_noted None given = false
+tuned_noted (Some opened) given = is_some (labels_of given)
+
+abbrev pub mail_noted : Mailbox → mails.Mail → Bool
+mail_noted ch (Open mode given) = is_some (labels_of given)
+mail_noted ch (Tune e given) = tuned_noted (map.get ch.endpoints e) given
+mail_noted ch (Close e) = false
+mail_noted ch (Send from receiver to message) = true
+mail_noted ch Take = false
+
+-- of an act of this process
+abbrev pub act_noted : Process → Act → Bool
+act_noted p (Order order) = order_noted order
+act_noted p (Relabel side (Ok label)) = true
+act_noted p (Relabel side (Err long)) = false
+act_noted p (Ask c) = true
+act_noted p (Spawn caps) = true
+act_noted p Exit = false
+act_noted p (Drop c) = false
+act_noted p (Enter login secret) = true
+act_noted p (Emit bytes) = true
+act_noted p (Mail c) = mail_noted p.mailbox c

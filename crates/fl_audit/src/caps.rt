@@ -1,0 +1,43 @@
+//! Copies of what processes own and of what jobs name.
+ghost use Rattle.std.specs.Prelude.{◌≡◌, true, is_some, IfOk, OnErr};
+ghost use Rattle.fl_labels.specs.SetBy as set;
+ghost use Rattle.fl_bench.specs.Process.{owns};
+ghost use Rattle.fl_jobs.specs.Given.{labels_of};
+
+use fl_bench::process::{Holding, Process};
+use fl_jobs::job::GivenLabels;
+use fl_labels::cap::Cap;
+use fl_labels::cap_set::CapSet;
+use fl_rules::labels::Labels;
+use std::alloc::{AllocError, Global};
+
+/// The set of these capabilities. Fails only where there is not enough memory.
+pub(crate) fn set_of(alloc: Global, caps: &[Cap]) -> Result<CapSet, AllocError>
+    ensures { IfOk result (λ made. made ≡ set.of_list caps.now) }
+{
+    Ok(CapSet::from_vec(Vec::from_slice(alloc, caps)?))
+}
+
+/// What the process owns, again. Fails only where there is not enough memory.
+pub(crate) fn owned(alloc: Global, process: &Process) -> Result<CapSet, AllocError>
+    ensures { IfOk result (λ made. made ≡ owns process.now) }
+{
+    match &process.owned {
+        Holding::Idle(caps) => caps.copy(alloc),
+        Holding::Ordering(caps) => set_of(alloc, caps.as_slice()),
+    }
+}
+
+/// Both labels again, where neither is too long. Wants memory only where that is so.
+pub(crate) fn given(alloc: Global, labels: &GivenLabels) -> Result<Option<Labels>, AllocError>
+    ensures ok { IfOk result (λ made. made ≡ labels_of labels.now) }
+    ensures err { OnErr result (is_some (labels_of labels.now) ≡ true) }
+{
+    match (&labels.secrecy, &labels.integrity) {
+        (Ok(secrecy), Ok(integrity)) => Ok(Some(Labels {
+            secrecy: secrecy.copy(alloc)?,
+            integrity: integrity.copy(alloc)?,
+        })),
+        _ => Ok(None),
+    }
+}

@@ -1,0 +1,212 @@
+//! What would be noted of a job, made before the job is done.
+ghost use Rattle.std.specs.Option.{option_copied};
+ghost use Rattle.std.specs.Prelude.{◌≡◌, true, is_some, IfOk, OnErr};
+ghost use Rattle.fl_jobs.specs.Given.{labels_of};
+ghost use Rattle.fl_bench.specs.Secrets.{digest_of};
+ghost use Rattle.fl_system.specs.Audit.{party, entries};
+ghost use Rattle.fl_system.specs.Audit.{order_entries, endpoint_entries, mail_entries, act_entries};
+ghost use Rattle.fl_system.specs.State.{NodeState};
+ghost use Rattle.fl_system.specs.WorldJobs.{MayBeNoted};
+ghost use Rattle.fl_system.specs.declared.answer.Answer.{Answer};
+ghost use Rattle.fl_audit.specs.Drafts.{drafted, listed, IsAskedAt};
+ghost use Rattle.fl_audit.specs.parts.Noted.{order_noted, mail_noted, act_noted};
+
+use crate::caps::{given, set_of};
+use crate::party::party;
+use fl_bench::process::Process;
+use fl_jobs::answer::Reply;
+use fl_jobs::job::{Act, GivenLabels, Job, Mail, Order};
+use fl_jobs::secret::Secret;
+use fl_labels::cap::Cap;
+use fl_labels::cap_set::CapSet;
+use fl_labels::name::Name;
+use fl_labels::pid::Pid;
+use fl_ops::digest::Digest;
+use fl_rules::endpoint::Mode;
+use fl_system::admission::{Admission, Party};
+use fl_system::answer::Answer;
+use sha2::{Digest as Hasher, Sha256};
+use std::alloc::{AllocError, Global};
+
+/// What is noted of a job if it is admitted, but for what hangs on its answer.
+#[derive(Debug, Drop)]
+pub enum Draft {
+    /// Nothing, whatever the answer is.
+    Nothing,
+    /// This, whatever the answer is.
+    Always(Admission),
+    /// This, where the answer is yes.
+    IfYes(Admission),
+    /// That this process entered the login of this name by this secret, where the answer is the login's capability.
+    IfEntered(Party, Name, Secret),
+}
+
+// What is kept of a secret: its digest by SHA-256.
+fn digest_of_secret(secret: Secret) -> Digest
+    ensures { result ≡ digest_of secret }
+{
+    Digest {
+        bytes: Sha256::digest(secret.bytes),
+    }
+}
+
+// That the process hands these capabilities on.
+fn draft_grant(
+    alloc: Global,
+    pid: Pid,
+    process: &Process,
+    caps: CapSet,
+) -> Result<Draft, AllocError>
+    ensures { IfOk result (λ draft.
+        draft ≡ Draft.Always (Admission.Grant (party pid process.now) caps)) }
+{
+    Ok(Draft::Always(Admission::Grant(party(alloc, pid, process)?, caps)))
+}
+
+// What is noted of an order.
+fn draft_order(
+    alloc: Global,
+    pid: Pid,
+    process: &Process,
+    order: Order,
+) -> Result<Draft, AllocError>
+    ensures ok { IfOk result (λ draft. (a : Answer) →
+        drafted draft a ≡ order_entries (party pid process.now) order) }
+    ensures err { OnErr result (order_noted order ≡ true) }
+{
+    match order {
+        Order::Tag(_) | Order::Group => Ok(Draft::Nothing),
+        Order::Put(group, cap) => {
+            let caps = set_of(alloc, &[Cap::Grow(group), cap])?;
+            draft_grant(alloc, pid, process, caps)
+        }
+        Order::MakeLogin(cap, _) => {
+            let caps = set_of(alloc, &[cap])?;
+            draft_grant(alloc, pid, process, caps)
+        }
+    }
+}
+
+// What is noted of an endpoint of this mode that gets these labels.
+fn draft_endpoint(
+    alloc: Global,
+    pid: Pid,
+    process: &Process,
+    mode: Mode,
+    labels: &GivenLabels,
+) -> Result<Draft, AllocError>
+    ensures ok { IfOk result (λ draft. (a : Answer) →
+        drafted draft a ≡ endpoint_entries (party pid process.now) mode (labels_of labels.now)) }
+    ensures err { OnErr result (is_some (labels_of labels.now) ≡ true) }
+{
+    match given(alloc, labels)? {
+        None => Ok(Draft::Nothing),
+        Some(labels) => Ok(Draft::Always(Admission::Endpoint(
+            party(alloc, pid, process)?,
+            mode,
+            labels,
+        ))),
+    }
+}
+
+// What is noted of what a process does with its endpoints and messages.
+fn draft_mail(alloc: Global, pid: Pid, process: &Process, mail: &Mail) -> Result<Draft, AllocError>
+    ensures ok { IfOk result (λ draft. (a : Answer) →
+        drafted draft a ≡ mail_entries (party pid process.now) process.now.mailbox mail.now) }
+    ensures err { OnErr result (mail_noted process.now.mailbox mail.now ≡ true) }
+{
+    match mail {
+        Mail::Open(mode, labels) => draft_endpoint(alloc, pid, process, *mode, labels),
+        Mail::Tune(endpoint, labels) => match process.mailbox.endpoints.get(*endpoint) {
+            None => Ok(Draft::Nothing),
+            Some(opened) => draft_endpoint(alloc, pid, process, opened.mode, labels),
+        },
+        Mail::Send { message, .. } => {
+            let caps = message.caps.copy(alloc)?;
+            draft_grant(alloc, pid, process, caps)
+        }
+        Mail::Close(_) | Mail::Take => Ok(Draft::Nothing),
+    }
+}
+
+// What is noted of an act of the process, which stands as this pid.
+fn draft_act(alloc: Global, pid: Pid, process: &Process, act: &Act) -> Result<Draft, AllocError>
+    ensures ok { IfOk result (λ draft. (a : Answer) →
+        drafted draft a ≡ act_entries pid process.now act.now a) }
+    ensures err { OnErr result (act_noted process.now act.now ≡ true) }
+{
+    match act {
+        Act::Order(order) => draft_order(alloc, pid, process, *order),
+        Act::Relabel(side, Ok(label)) => Ok(Draft::Always(Admission::Change(
+            party(alloc, pid, process)?,
+            *side,
+            label.copy(alloc)?,
+        ))),
+        Act::Ask(cap) => Ok(Draft::IfYes(Admission::Yes(party(alloc, pid, process)?, *cap))),
+        Act::Spawn(caps) => {
+            let caps = caps.copy(alloc)?;
+            draft_grant(alloc, pid, process, caps)
+        }
+        Act::Enter(login, secret) => Ok(Draft::IfEntered(
+            party(alloc, pid, process)?,
+            *login,
+            *secret,
+        )),
+        Act::Emit(_) => Ok(Draft::Always(Admission::Emission(party(alloc, pid, process)?))),
+        Act::Mail(mail) => draft_mail(alloc, pid, process, mail),
+        Act::Relabel(_, Err(_)) | Act::Exit | Act::Drop(_) => Ok(Draft::Nothing),
+    }
+}
+
+impl Draft {
+    /// What is noted of the job if it is admitted at a node of this number and boot: the job is asked for by this process, or by
+    /// none that is there. Nothing is copied where nothing would be noted, and memory is wanted only where something may be: then
+    /// at most the labels and the owned capabilities of the process, and the label or the capabilities that the job names.
+    pub fn new(
+        alloc: Global,
+        number: u16,
+        boot: u32,
+        asker: Option<&Process>,
+        job: &Job,
+    ) -> Result<Draft, AllocError>
+        ensures ok { IfOk result (λ draft. (n : NodeState) →
+            IsAskedAt number boot (option_copied asker.entry) job.now n → (a : Answer) →
+            drafted draft a ≡ entries n job.now a) }
+        ensures err { OnErr result ((n : NodeState) →
+            IsAskedAt number boot (option_copied asker.entry) job.now n → MayBeNoted n job.now) }
+    {
+        match job {
+            Job::By(pid, act) => match asker {
+                None => Ok(Draft::Nothing),
+                Some(process) => draft_act(alloc, *pid, process, act),
+            },
+            Job::Member(root, cap) => Ok(Draft::IfYes(Admission::Reached(
+                number, boot, *root, *cap,
+            ))),
+            Job::Proc | Job::Arrive(_) => Ok(Draft::Nothing),
+        }
+    }
+
+    /// What is noted of the job that was answered so. Takes no memory.
+    pub fn entry(self, answer: &Answer) -> Option<Admission>
+        ensures { listed result ≡ drafted self answer.now }
+    {
+        match self {
+            Draft::Nothing => None,
+            Draft::Always(entry) => Some(entry),
+            Draft::IfYes(entry) => match answer {
+                Answer::Reply(Reply::Yes) => Some(entry),
+                _ => None,
+            },
+            Draft::IfEntered(party, login, secret) => match answer {
+                Answer::Reply(Reply::Entered(cap)) => Some(Admission::Entry(
+                    party,
+                    login,
+                    *cap,
+                    digest_of_secret(secret),
+                )),
+                _ => None,
+            },
+        }
+    }
+}

@@ -1,0 +1,7 @@
+//! What is noted of jobs and messages, made before they are done.
+#![tactic(auto)]
+
+mod caps;
+pub mod draft;
+pub mod message;
+pub mod party;

@@ -1,0 +1,4 @@
+pub mod Over
+pub mod Goes
+pub mod Texts
+pub mod parts

@@ -1,0 +1,167 @@
+//! The nodes of a world, call by call.
+ghost use Rattle.std.specs.Prelude.{◌≡◌};
+ghost use Rattle.std.specs.FinMap as map;
+ghost use Rattle.std.specs.Option.{option_copied};
+ghost use Rattle.fl_system.specs.declared.event.Event.TheVariants as event;
+ghost use Rattle.fl_system.specs.WorldSteps.{Step};
+ghost use Rattle.fl_nodes.specs.Over.{empty_over};
+ghost use Rattle.fl_nodes.specs.Goes.{Goes};
+ghost use Rattle.fl_nodes.specs.Texts.{TextAt};
+ghost use Rattle.fl_nodes.specs.parts.Published.{published_reply};
+
+use fl_node::node::Node;
+use fl_sink::sink::WriteFault;
+use fl_store::keeper::Keeper;
+use fl_system::admission::Admission;
+use fl_system::answer::Fault;
+use fl_system::reply::Reply;
+use fl_system::sent::Sent;
+use fl_system::state::{Batch, Pending, State};
+use std::alloc::Global;
+use std::collections::BTreeMap;
+use std::io::Write;
+use std::marker::Model;
+
+// What is answered once what is due is published.
+fn once_published(state: &State) -> Reply
+    ensures { result ≡ published_reply state.now }
+{
+    match state {
+        State::Running(Pending::Due(Batch::Ordered(op, _, _))) => Reply::Published(op.name),
+        State::Running(Pending::Due(Batch::Received(ops))) => Reply::Took(ops.len() as u64),
+        // Nothing is due.
+        _ => Reply::Took(0),
+    }
+}
+
+/// Nodes by their numbers, each of one desk over a keeper of its own; every packet that they sent; and what they admitted.
+///
+/// A contract of a call says which step of the world it is: where the keepers are honest, what the next openings may find
+/// comes by that step from what they might have found before.
+pub struct Nodes<K: Keeper> {
+    all: BTreeMap<u16, Node<K>>,
+    sent: Vec<Sent>,
+    audit: Vec<Admission>,
+}
+
+impl<K: Keeper> Model for Nodes<K> {
+    ghost use Rattle.std.specs.FinMap as map;
+    ghost use Rattle.fl_nodes.specs.Over.{WorldOver, coded_world_over};
+
+    ghost Value = { WorldOver K };
+
+    ghost coded = { coded_world_over K.code };
+
+    ghost view = { λ n. record {
+      desks = 1;
+      nodes = map.from_entries n.all.entries;
+      packets = n.sent.items;
+      audit = n.audit.items;
+    } };
+}
+
+impl<K: Keeper> Nodes<K> {
+    /// No node and no packet. Takes no memory.
+    pub fn new(alloc: Global) -> Nodes<K>
+        ensures { result ≡ empty_over 1 }
+    {
+        Nodes {
+            all: BTreeMap::new(alloc),
+            sent: Vec::new(alloc),
+            audit: Vec::new(alloc),
+        }
+    }
+
+    /// The node of this number, or none where it is not there.
+    pub fn node(&self, number: u16) -> Option<&Node<K>>
+        ensures { option_copied result ≡ map.get self.now.nodes number }
+    {
+        self.all.get(&number)
+    }
+
+    /// The packets that were sent, in their order. They are numbered from 1.
+    pub fn packets(&self) -> &[Sent]
+        ensures { result.now ≡ self.now.packets }
+    {
+        &self.sent
+    }
+
+    /// What was admitted, in the order of the run.
+    pub fn audit(&self) -> &[Admission]
+        ensures { result.now ≡ self.now.audit }
+    {
+        &self.audit
+    }
+
+    /// Saves what is to be saved at the node, as `Node::save` has it, and answers `Done`, or why not: `NoSuch` where the node is
+    /// not there.
+    pub fn save(&mut self, number: u16) -> Reply
+        ensures { Goes K.is_honest K.may_hold self.old self.new
+            (λ w w'. Step w (event.Save number) result w') }
+    {
+        let Some(node) = self.all.get_mut(&number) else {
+            return Reply::NoSuch;
+        };
+        match node.save() {
+            Ok(()) => Reply::Done,
+            Err(fault) => Reply::Refused(fault),
+        }
+    }
+
+    /// Gives up what is to be saved at the node, as `Node::cancel` has it, and answers `Done`, or why not. Takes no memory.
+    pub fn cancel(&mut self, number: u16) -> Reply
+        ensures { Goes K.is_honest K.may_hold self.old self.new
+            (λ w w'. Step w (event.Cancel number) result w') }
+    {
+        let Some(node) = self.all.get_mut(&number) else {
+            return Reply::NoSuch;
+        };
+        match node.cancel() {
+            Ok(()) => Reply::Done,
+            Err(fault) => Reply::Refused(fault),
+        }
+    }
+
+    /// Publishes what is due at the node, as `Node::publish` has it, and answers the name of an order, or how many operations
+    /// were received, or why not.
+    pub fn publish(&mut self, alloc: Global, number: u16) -> Reply
+        ensures { Goes K.is_honest K.may_hold self.old self.new
+            (λ w w'. Step w (event.Publish number) result w') }
+    {
+        let Some(node) = self.all.get_mut(&number) else {
+            return Reply::NoSuch;
+        };
+        let reply = once_published(node.state());
+        match node.publish(alloc) {
+            Ok(_) => reply,
+            Err(fault) => Reply::Refused(fault),
+        }
+    }
+
+    /// Restarts the node, as `Node::restart` has it, and answers its boot, or why not.
+    pub fn restart(&mut self, alloc: Global, number: u16, keeps: bool) -> Reply
+        ensures { Goes K.is_honest K.may_hold self.old self.new
+            (λ w w'. Step w (event.Restart number keeps) result w') }
+    {
+        let Some(node) = self.all.get_mut(&number) else {
+            return Reply::NoSuch;
+        };
+        match node.come_back(alloc, keeps) {
+            Ok(boot) => Reply::Booted(boot),
+            Err(fault) => Reply::Refused(fault),
+        }
+    }
+
+    /// Writes the text of the node's published operations, as `Node::text` has it, or nothing where it is not there.
+    pub fn text<W: Write>(
+        &self,
+        number: u16,
+        output: &mut W,
+    ) -> Option<Result<Result<(), WriteFault>, Fault>>
+        ensures { TextAt (W.contents output.old) (W.contents output.new)
+            (map.get self.now.nodes number) result }
+    {
+        let node = self.all.get(&number)?;
+        Some(node.text(output))
+    }
+}
