@@ -1,0 +1,83 @@
+//! Notes a yes of one process so many times, and prints how many entries that makes. The first word says how many, at most a million, and
+//! 20,000 where it is none; the second how many capabilities the process owns, likewise, and 8 where it is none.
+#![tactic(auto)]
+
+ghost use Rattle.std.specs.Prelude.{◌≤◌, IfOk};
+
+use fl_audit::draft::Draft;
+use fl_bench::process::{Holding, Process};
+use fl_jobs::answer::Reply;
+use fl_jobs::job::{Act, Job};
+use fl_labels::cap::Cap;
+use fl_labels::cap_set::CapSet;
+use fl_labels::name::Name;
+use fl_labels::pid::Pid;
+use fl_system::admission::Admission;
+use fl_system::answer::Answer;
+use std::alloc::{AllocError, Global};
+use std::env;
+use std::test::Fail;
+
+/// The most entries that there may be here.
+const MOST: u32 = 1_000_000;
+
+/// The process that asks.
+const PID: Pid = Pid {
+    node: 1,
+    boot: 1,
+    serial: 1,
+};
+
+/// What it asks for.
+const CAP: Cap = Cap::Plus(Name { node: 1, seq: 1 });
+
+// The word at this place as a number, at most the most entries.
+fn read_count(rt: &HostRuntime, place: usize, other: u32) -> Result<u32, Fail>
+    ensures { IfOk result (λ count. count ≤ 1000000) }
+{
+    let words: Vec<String> = env::args(rt)?.collect(rt.alloc())?;
+    let count = match words.get(place) {
+        Some(word) => word.parse().unwrap_or(other),
+        None => other,
+    };
+    Ok(if count < MOST { count } else { MOST })
+}
+
+// So many capabilities, rising.
+fn caps(alloc: Global, count: u32) -> Result<CapSet, AllocError>
+    requires { count ≤ 1000000 }
+{
+    let mut caps = Vec::new(alloc);
+    for number in 0..count {
+        caps.push(Cap::Plus(Name {
+            node: 1,
+            seq: number + 1,
+        }))?;
+    }
+    Ok(CapSet::from_vec(caps))
+}
+
+// What is noted of so many questions that are answered yes.
+fn note_all(alloc: Global, process: &Process, count: u32) -> Result<Vec<Admission>, AllocError> {
+    let job = Job::By(PID, Act::Ask(CAP));
+    let answer = Answer::Reply(Reply::Yes);
+    let mut audit = Vec::new(alloc);
+    for _ in 0..count {
+        let draft = Draft::new(alloc, 1, 1, Some(process), &job)?;
+        if let Some(entry) = draft.entry(&answer) {
+            audit.push(entry)?;
+        }
+    }
+    Ok(audit)
+}
+
+fn main(rt: HostRuntime) -> Result<(), Fail> {
+    let alloc = rt.alloc();
+    let count = read_count(&rt, 1, 20_000)?;
+    let owned = read_count(&rt, 2, 8)?;
+    let mut process = Process::new(alloc);
+    process.owned = Holding::Idle(caps(alloc, owned)?);
+    let audit = note_all(alloc, &process, count)?;
+    println!(rt; "{} entries", audit.len())?;
+    Ok(())
+}
