@@ -63,7 +63,7 @@ module _ (xs : List Op) (place bound : ℕ) (inside : place ≤ length xs) where
 
 -- ---- the first one found has the least name
 
-first_part : (p q : Ordering) → ordering_then p q ≡ Less → is_gt p ≡ false
+pub first_part : (p q : Ordering) → ordering_then p q ≡ Less → is_gt p ≡ false
 first_part Less q e = refl
 first_part Equal q e = refl
 first_part Greater q e = absurd (cc)
