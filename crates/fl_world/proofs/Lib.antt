@@ -1,0 +1,2 @@
+pub mod Headlines
+pub mod Reaching

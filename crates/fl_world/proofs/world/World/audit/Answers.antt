@@ -1,0 +1,7 @@
+use Rattle.fl_world.specs.Headline.{IsSafeWorld, HasSafeAudit}
+use Rattle.fl_world.proofs.Reaching.{each_has}
+use Rattle.fl_world.proofs.world.World.audit.Goals as goal
+
+pub returns-clause-safe : goal.returns-clause-safe
+returns-clause-safe g c =
+    each_has g.K.Keeper.is_honest g.K.Keeper.may_hold _ IsSafeWorld HasSafeAudit (λ w safe. safe.audit) c.law_safe.ensures
