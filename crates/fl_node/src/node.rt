@@ -38,19 +38,20 @@ use fl_system::state::{Batch, Pending, State};
 use std::alloc::Global;
 use std::io::Write;
 use std::marker::Model;
+use std::mem::replace;
 
 /// A node of one desk and one bench: its keeper, what is saved and published of it, how much of that the desk sees, what is on
 /// its way, and its processes.
 pub struct Node<K: Keeper> {
-    keeper: K,
-    number: u16,
-    boot: u32,
-    saved: OpSet,
-    published: Vec<Op>,
-    index: Index,
-    seen: u64,
-    state: State,
-    bench: Bench,
+    pub(crate) keeper: K,
+    pub(crate) number: u16,
+    pub(crate) boot: u32,
+    pub(crate) saved: OpSet,
+    pub(crate) published: Vec<Op>,
+    pub(crate) index: Index,
+    pub(crate) seen: u64,
+    pub(crate) state: State,
+    pub(crate) bench: Bench,
 }
 
 impl<K: Keeper> Model for Node<K> {
@@ -109,6 +110,7 @@ impl<K: Keeper> Node<K> {
     /// there each put costs a search by order.
     pub fn open(alloc: Global, mut keeper: K, number: u16) -> Result<Node<K>, (Fault, K)>
         requires { 0 < number }
+        ensures number { IfOk result (λ node. node.node.number ≡ number) }
         ensures ok { IfOk result (λ node. K.is_honest node.keeper → K.is_honest keeper
             × Follows (λ k k'. Opens 1 (IsOf number) k (Ok node.node) k')
             (K.may_hold keeper) (K.may_hold node.keeper)) }
@@ -145,6 +147,24 @@ impl<K: Keeper> Node<K> {
             state: State::Running(Pending::Nothing),
             bench: Bench::new(alloc, number, boot, 1, 1),
         })
+    }
+
+    /// The keeper, without the node: what is on its way and each process are forgotten.
+    pub fn into_keeper(self) -> K
+        ensures { result ≡ self.keeper }
+    {
+        let Node {
+            keeper,
+            number: _,
+            boot: _,
+            saved: _,
+            published: _,
+            index: _,
+            seen: _,
+            state: _,
+            bench: _,
+        } = self;
+        keeper
     }
 
     /// The saved operations, whose names differ. A stopped node lends them too.
@@ -301,6 +321,7 @@ impl<K: Keeper> Node<K> {
     /// - `KeeperFailed`: the keeper broke. The node is stopped, its saved operations are as before, and at the next opening the
     ///   keeper has those, or those with what was to be saved.
     pub fn save(&mut self) -> Result<(), Fault>
+        ensures number { self.new.node.number ≡ self.old.node.number }
         ensures cause { result ≡ Err Fault.KeeperFailed → IsTrue (K.is_broken self.new.keeper) }
         ensures saves { K.is_honest self.new.keeper → K.is_honest self.old.keeper
             × Follows (λ k k'. Saves self.old.node k result self.new.node k')
@@ -322,6 +343,7 @@ impl<K: Keeper> Node<K> {
 
     // Opens the node again over its keeper, or leaves it stopped.
     fn open_again(&mut self, alloc: Global) -> Result<u32, Fault>
+        ensures number { self.new.node.number ≡ self.old.node.number }
         ensures cause { let bad = K.has_bad_row self.old.keeper in IfErr result
             (KeeperFails (K.is_broken self.new.keeper) (K.is_honest self.new.keeper) bad) }
         ensures broken { IsTrue (K.is_broken self.old.keeper)
@@ -361,8 +383,15 @@ impl<K: Keeper> Node<K> {
         }
     }
 
-    // Saves what is to be saved where that is to be kept, and opens the node again.
-    fn come_back(&mut self, alloc: Global, keeps: bool) -> Result<u32, Fault>
+    /// Restarts the node in place: processes and what is pending are forgotten, what is saved is loaded and published, and the
+    /// boot raised by one, which is the answer. Where it is to be kept, what is pending is saved first; refused for memory, that
+    /// leaves the node as it was. After any later refusal the node is stopped, with its saved operations.
+    ///
+    /// As `open`; `WrongNode` is answered too where what is kept is neither what the node had saved nor that with what was in
+    /// doubt, or was not opened as often. A stopped node whose own keeper is still broken answers `KeeperFailed`; no node does so
+    /// unless its keeper is broken or has a bad row.
+    pub fn come_back(&mut self, alloc: Global, keeps: bool) -> Result<u32, Fault>
+        ensures number { self.new.node.number ≡ self.old.node.number }
         ensures cause { let node = self.old.node in
             let bad = LoadsBadRow K.has_bad_row K.may_hold node.state self.old.keeper in
             IfErr result
@@ -385,14 +414,9 @@ impl<K: Keeper> Node<K> {
         self.open_again(alloc)
     }
 
-    /// Restarts the node: processes and what is pending are forgotten, what is saved is loaded and published, and the boot raised
-    /// by one, which is the answer. Where it is to be kept, what is pending is saved first; refused for memory, that leaves the
-    /// node as it was. After any later refusal the node is stopped, with its saved operations.
-    ///
-    /// As `open`; `WrongNode` is answered too where what is kept is neither what the node had saved nor that with what was in
-    /// doubt, or was not opened as often. A stopped node whose own keeper is still broken answers `KeeperFailed`; no node does so
-    /// unless its keeper is broken or has a bad row.
+    /// Restarts the node, as [`Node::come_back`] does.
     pub fn restart(self, alloc: Global, keeps: bool) -> (Node<K>, Result<u32, Fault>)
+        ensures number { result.0.node.number ≡ self.node.number }
         ensures cause { let state = self.node.state in let left = result.0.keeper in
             let bad = LoadsBadRow K.has_bad_row K.may_hold state self.keeper in
             IfErr result.1 (KeeperFails (K.is_broken left) (K.is_honest left) bad) }
@@ -407,10 +431,35 @@ impl<K: Keeper> Node<K> {
         (node, result)
     }
 
+    /// Opens a stopped node again over another keeper, as `come_back` does, and gives the one that it had. A node that runs
+    /// answers `Busy` and is left as it is, and the other keeper comes back.
+    pub fn reopen_over(&mut self, alloc: Global, keeper: K) -> (Result<u32, Fault>, K)
+        ensures running { IsRunning self.old.node.state → (self.new ≡ self.old)
+            × (result.0 ≡ Err (Fault.Refused Refusal.Busy)) × (result.1 ≡ keeper) }
+        ensures given { (¬ IsRunning self.old.node.state) → result.1 ≡ self.old.keeper }
+        ensures stopped { (¬ IsRunning self.old.node.state)
+            → K.is_honest self.new.keeper → K.is_honest keeper
+            × Follows (λ k k'. Reopens self.old.node k result.0 self.new.node k')
+            (K.may_hold keeper) (K.may_hold self.new.keeper) }
+        ensures number { self.new.node.number ≡ self.old.node.number }
+        ensures cause { let bad = K.has_bad_row keeper in let left = self.new.keeper in
+            IfErr result.0 (KeeperFails (K.is_broken left) (K.is_honest left) bad) }
+        ensures broken { (¬ IsRunning self.old.node.state) → IsTrue (K.is_broken keeper)
+            → K.number keeper ≡ self.old.node.number → result.0 ≡ Err Fault.KeeperFailed }
+    {
+        let Err(_) = running(&self.state) else {
+            return (Err(Fault::Refused(Refusal::Busy)), keeper);
+        };
+        let old = replace(&mut self.keeper, keeper);
+        let result = self.open_again(alloc);
+        (result, old)
+    }
+
     /// Gives the keeper of a stopped node away, and opens the node again over the one that comes back, as `restart` does. A node
     /// that runs answers `Busy`, and is left as it is.
     pub fn reopen<F: FnOnce(K) -> K>(self, alloc: Global, make: F) -> (Node<K>, Result<u32, Fault>)
         requires { F.IsAlwaysCallable make }
+        ensures number { result.0.node.number ≡ self.node.number }
         ensures running { IsRunning self.node.state
             → (result.0 ≡ self) × (result.1 ≡ Err (Fault.Refused Refusal.Busy)) }
         ensures stopped { (IsRunning self.node.state → ⊥)
