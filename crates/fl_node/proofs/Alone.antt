@@ -7,7 +7,7 @@ use Rattle.fl_labels.specs.declared.pid.Pid.{Pid}
 use Rattle.fl_ops.specs.declared.op.Op.{Op}
 use Rattle.fl_ops.specs.declared.op.Body.{Body}
 use Rattle.fl_ops.specs.OpOrder.{op_cmp}
-use Rattle.fl_ops.specs.Registry.{Listed}
+use Rattle.fl_ops.specs.Registry.{Registry, Listed}
 use Rattle.fl_jobs.specs.declared.job.Job.{Job}
 use Rattle.fl_jobs.specs.declared.job.Job.TheVariants.{Proc, By, Member, Arrive}
 use Rattle.fl_jobs.specs.declared.answer.Refusal.{Refusal}
@@ -31,6 +31,7 @@ use Rattle.fl_system.specs.Waiting.{IsRunning}
 use Rattle.fl_system.specs.Publishes.{told}
 use Rattle.fl_system.specs.Begins.{Begins}
 use Rattle.fl_system.specs.Jobs.{Looks, Decides, Jobs, bench_of, bench_for, procs_after, looking, worked}
+use Rattle.fl_system.specs.Arrives.{Arrives, ArrivesAt, Unasked, delivered}
 use Rattle.fl_node.specs.parts.Ordering.{Orders}
 
 pub rest_of_one : (k : ℕ) → k % 1 ≡ 0
@@ -131,3 +132,43 @@ module _ (number boot : ℕ) (saved : SetBy op_cmp) (published : List Op) (seen 
         subst (λ m. Jobs (alone number boot saved published seen state b) 1 (length published) job (Err fault) m)
         (sym (h.1 ∙ ap (alone number boot saved published (length published) state) (cancel_back does)))
         (Jobs.not_begun looks (decides does) (subst (λ n. Begins n body (Some pid) (Some 1) (Err fault) (alone number boot saved published (length published) state left)) (sym (worked_alone (length published))) h.0))
+
+-- an arrival asks nothing of the registry
+unasked : {V : Registry} {b b' : BenchState} {d : Data} {result : Result Outcome Refusal} → Does V b (Arrive d) result b' → Does Unasked b (Arrive d) result b'
+unasked (Does.passed checks effect) = Does.passed checks effect
+unasked (Does.failed checks) = Does.failed checks
+unasked (Does.no_room takes) = Does.no_room takes
+
+-- it sends nothing
+pub arrival_sends_nothing : {V : Registry} {b b' : BenchState} {d packet : Data} → Does V b (Arrive d) (Ok (outcome.Out packet)) b' → ⊥
+arrival_sends_nothing (Does.passed checks effect) = let is = effect.2 in cc
+
+-- it is no order
+pub arrival_orders_nothing : {V : Registry} {b b' : BenchState} {d : Data} {body : Body} {pid : Pid} → Does V b (Arrive d) (Ok (outcome.Order body pid)) b' → ⊥
+arrival_orders_nothing (Does.passed checks effect) = let is = effect.2 in cc
+
+module _ (number boot : ℕ) (saved : SetBy op_cmp) (published : List Op) (seen : ℕ) (state : State) (b left : BenchState) (d : Data) where
+  delivered_alone : delivered (alone number boot saved published seen state b) d left ≡ alone number boot saved published seen state left
+  delivered_alone = λ i. record {
+    number = number;
+    boot = boot;
+    saved = saved;
+    published = published;
+    views = seen ∷ [];
+    state = state;
+    procs = 0;
+    benches = with_item (b ∷ []) ((place_one (Arrive d)) i) left;
+  }
+
+  module _ {V : Registry} (running : IsRunning state) where
+    arrives_at : {result : Result Outcome Refusal} → Does V b (Arrive d) result left → ArrivesAt (alone number boot saved published seen state b) d result left
+    arrives_at does = record { running = running; bench = b; stands = ap (item_at (b ∷ [])) (place_one (Arrive d)); does = unasked does }
+
+    pub arrives_alone : {reply : Reply} → Does V b (Arrive d) (Ok (outcome.Reply reply)) left
+        → Arrives (alone number boot saved published seen state b) d (Ok reply) (alone number boot saved published seen state left)
+    arrives_alone {reply} does = subst (λ n. Arrives (alone number boot saved published seen state b) d (Ok reply) n) delivered_alone (Arrives.arrives (arrives_at does))
+
+    pub not_arrived_alone : {refusal : Refusal} → Does V b (Arrive d) (Err refusal) left
+        → Arrives (alone number boot saved published seen state b) d (Err (Refused refusal)) (alone number boot saved published seen state left)
+    not_arrived_alone {refusal} does =
+        subst (λ n. Arrives (alone number boot saved published seen state b) d (Err (Refused refusal)) n) delivered_alone (Arrives.refused (arrives_at does))

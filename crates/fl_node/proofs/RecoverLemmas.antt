@@ -25,7 +25,7 @@ use Rattle.fl_system.specs.declared.state.State.TheVariants.{Running, Stopped}
 use Rattle.fl_system.specs.State.{NodeState, kept_of}
 use Rattle.fl_system.specs.Saves.{Saves}
 use Rattle.fl_system.specs.Waiting.{NoneUnsaved, NotRunning}
-use Rattle.fl_system.specs.Openings.{Opens, IsOwn, OpensAgain, Restarts, doubt_of}
+use Rattle.fl_system.specs.Openings.{Opens, IsOwn, OpensAgain, Reopens, Restarts, doubt_of}
 use Rattle.fl_node.proofs.NodeLemmas.{same_registry}
 
 is_equal : (o : Ordering) → is_eq o ≡ true → o ≡ Equal
@@ -90,3 +90,13 @@ saved_first n keeps k n₁ k₁ result n' k' kept (Saves.saved pending) h = Rest
 pub is_stopped : (s : State) (fault : Fault) → NotRunning s fault → s ≡ Stopped (doubt_of s)
 is_stopped (Running pending) fault h = absurd h
 is_stopped (Stopped doubt) fault h = refl
+
+-- over another keeper
+pub reopens_over : {K : Type 0} (is_honest : K → Type 0) (may_hold : K → Held) (made keeper left : K) (n : NodeState) (result : Result ℕ Fault) (n' : NodeState)
+    → made ≡ keeper → n.state ≡ Stopped (doubt_of n.state)
+    → (is_honest left → is_honest made × Follows (λ k k'. OpensAgain n (doubt_of n.state) k result n' k') (may_hold made) (may_hold left))
+    → is_honest left → is_honest keeper × Follows (λ k k'. Reopens n k result n' k') (may_hold keeper) (may_hold left)
+reopens_over is_honest may_hold made keeper left n result n' same stopped h honest =
+    let held = h honest in
+    subst (λ x. is_honest x × Follows (λ k k'. Reopens n k result n' k') (may_hold x) (may_hold left)) same
+    (held.0, λ after is. let b = held.1 after is in (b.0, b.1, Reopens.reopens stopped b.2))

@@ -75,3 +75,9 @@ module _ {honest : Type 0} {held : Held} {number boot : ℕ} {saved : SetBy op_c
   pub looks_on : (s : State) → seen' ≡ length published → index' ≡ index → IsSound honest held number boot saved published seen s index
       → IsSound honest held number boot saved published seen' s index'
   looks_on s seen_is index_is h = record { numbered = h.numbered; booted = h.booted; sees = omega arith; indexed = index_is ∙ h.indexed; once = h.once; fresh = h.fresh; kept = h.kept }
+
+module _ {honest : Type 0} {held : Held} {number boot : ℕ} {saved : SetBy op_cmp} {published : List Op} {seen : ℕ} {index index' : SetBy op_cmp} where
+  -- its index was asked, and has the same members
+  pub asks_on : (s : State) → index' ≡ index → IsSound honest held number boot saved published seen s index
+      → IsSound honest held number boot saved published seen s index'
+  asks_on s index_is h = record { numbered = h.numbered; booted = h.booted; sees = h.sees; indexed = index_is ∙ h.indexed; once = h.once; fresh = h.fresh; kept = h.kept }

@@ -1,4 +1,5 @@
 pub mod Over
 pub mod Causes
 pub mod Sound
+pub mod Telling
 pub mod parts

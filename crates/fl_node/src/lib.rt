@@ -1,10 +1,13 @@
 //! One node: its keeper, its registry and its bench, step by step.
 #![tactic(auto)]
 
+pub mod arriving;
 mod beginning;
 mod finding;
 mod keeping;
+pub mod lending;
 pub mod node;
 mod publishing;
 mod recovering;
 mod state;
+pub mod telling;

@@ -38,6 +38,7 @@ use fl_system::state::{Batch, Pending, State};
 use std::alloc::Global;
 use std::io::Write;
 use std::marker::Model;
+use std::mem::replace;
 
 /// A node of one desk and one bench: its keeper, what is saved and published of it, how much of that the desk sees, what is on
 /// its way, and its processes.
@@ -146,29 +147,6 @@ impl<K: Keeper> Node<K> {
             state: State::Running(Pending::Nothing),
             bench: Bench::new(alloc, number, boot, 1, 1),
         })
-    }
-
-    /// The node's number, which is not 0. A stopped node has it too.
-    pub fn number(&self) -> u16
-        ensures number { result ≡ self.now.node.number }
-        ensures positive { 0 < result }
-    {
-        self.number
-    }
-
-    /// How often the node was opened, this time too. A stopped node has it too.
-    pub fn boot(&self) -> u32
-        ensures boot { result ≡ self.now.node.boot }
-        ensures positive { 0 < result }
-    {
-        self.boot
-    }
-
-    /// Whether the node runs, and what is on its way.
-    pub fn state(&self) -> &State
-        ensures { result.now ≡ self.now.node.state }
-    {
-        &self.state
     }
 
     /// The keeper, without the node: what is on its way and each process are forgotten.
@@ -451,6 +429,30 @@ impl<K: Keeper> Node<K> {
         let mut node = self;
         let result = node.come_back(alloc, keeps);
         (node, result)
+    }
+
+    /// Opens a stopped node again over another keeper, as `come_back` does, and gives the one that it had. A node that runs
+    /// answers `Busy` and is left as it is, and the other keeper comes back.
+    pub fn reopen_over(&mut self, alloc: Global, keeper: K) -> (Result<u32, Fault>, K)
+        ensures running { IsRunning self.old.node.state → (self.new ≡ self.old)
+            × (result.0 ≡ Err (Fault.Refused Refusal.Busy)) × (result.1 ≡ keeper) }
+        ensures given { (¬ IsRunning self.old.node.state) → result.1 ≡ self.old.keeper }
+        ensures stopped { (¬ IsRunning self.old.node.state)
+            → K.is_honest self.new.keeper → K.is_honest keeper
+            × Follows (λ k k'. Reopens self.old.node k result.0 self.new.node k')
+            (K.may_hold keeper) (K.may_hold self.new.keeper) }
+        ensures number { self.new.node.number ≡ self.old.node.number }
+        ensures cause { let bad = K.has_bad_row keeper in let left = self.new.keeper in
+            IfErr result.0 (KeeperFails (K.is_broken left) (K.is_honest left) bad) }
+        ensures broken { (¬ IsRunning self.old.node.state) → IsTrue (K.is_broken keeper)
+            → K.number keeper ≡ self.old.node.number → result.0 ≡ Err Fault.KeeperFailed }
+    {
+        let Err(_) = running(&self.state) else {
+            return (Err(Fault::Refused(Refusal::Busy)), keeper);
+        };
+        let old = replace(&mut self.keeper, keeper);
+        let result = self.open_again(alloc);
+        (result, old)
     }
 
     /// Gives the keeper of a stopped node away, and opens the node again over the one that comes back, as `restart` does. A node
