@@ -1,0 +1,11 @@
+use Rattle.fl_world_laws.specs.laws.Naming.{reached_named}
+use Rattle.fl_process_laws.specs.laws.Pids.{reached_tidy}
+use Rattle.fl_life_laws.specs.laws.Sending.{move_outgo, outgo_adds, was_sent}
+use Rattle.fl_life_laws.proofs.laws.law_sent.Goals as goal
+
+pub returns-clause-added : goal.returns-clause-added
+returns-clause-added c = λ w after move reply reached moves.
+    outgo_adds (move_outgo w (reached_named w reached) (reached_tidy w reached) move moves)
+
+pub returns-clause-sent : goal.returns-clause-sent
+returns-clause-sent c = λ desks k ms sent message run there of. was_sent of desks ms run there
