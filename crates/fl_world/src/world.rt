@@ -6,17 +6,21 @@ ghost use Rattle.fl_system.specs.declared.event.Event.TheVariants as event;
 ghost use Rattle.fl_system.specs.WorldSteps.{Step};
 ghost use Rattle.fl_nodes.specs.Over.{empty_over};
 ghost use Rattle.fl_nodes.specs.Goes.{Goes};
+ghost use Rattle.fl_nodes.specs.Texts.{TextAt};
 ghost use Rattle.fl_world.specs.Reached.{InEach};
 ghost use Rattle.fl_world.specs.Headline.{HasSafeAudit, IsSafeWorld};
 
 use crate::laws::law_headline;
 use fl_node::node::Node;
 use fl_nodes::nodes::Nodes;
+use fl_sink::sink::WriteFault;
 use fl_store::keeper::Keeper;
 use fl_system::admission::Admission;
+use fl_system::answer::Fault;
 use fl_system::reply::Reply;
 use fl_system::sent::Sent;
 use std::alloc::Global;
+use std::io::Write;
 use std::marker::Model;
 
 /// A world that a run led to: nodes joined, and events happened, of any kind, in any order.
@@ -30,6 +34,7 @@ pub struct World<K: Keeper> {
 impl<K: Keeper> Model for World<K> {
     ghost use Rattle.fl_system.specs.Runs.{IsReached};
     ghost use Rattle.fl_nodes.specs.Over.{WorldOver, coded_world_over};
+    ghost use Rattle.fl_nodes.specs.Texts.{TextAt};
     ghost use Rattle.fl_world.specs.Reached.{InEach};
 
     ghost Value = { WorldOver K };
@@ -113,5 +118,17 @@ impl<K: Keeper> World<K> {
             (λ w w'. Step w (event.Restart number keeps) result w') }
     {
         self.nodes.restart(alloc, number, keeps)
+    }
+
+    /// Writes the text of the node's published operations, as `Nodes::text` has it, or nothing where it is not there.
+    pub fn text<W: Write>(
+        &self,
+        number: u16,
+        output: &mut W,
+    ) -> Option<Result<Result<(), WriteFault>, Fault>>
+        ensures { TextAt (W.contents output.old) (W.contents output.new)
+            (map.get self.now.nodes number) result }
+    {
+        self.nodes.text(number, output)
     }
 }
