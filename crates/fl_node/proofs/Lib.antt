@@ -7,3 +7,4 @@ pub mod SaveLemmas
 pub mod JobLemmas
 pub mod RecoverLemmas
 pub mod CauseLemmas
+pub mod ReceiveLemmas

@@ -3,3 +3,4 @@ pub mod Causes
 pub mod Sound
 pub mod Telling
 pub mod parts
+pub mod Checking

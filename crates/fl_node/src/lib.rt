@@ -8,6 +8,7 @@ mod keeping;
 pub mod lending;
 pub mod node;
 mod publishing;
+pub mod receiving;
 mod recovering;
 mod state;
 pub mod telling;
