@@ -1,13 +1,11 @@
 -- What would be noted may be noted.
-use Rattle.std.proofs.Common.{◌≡◌, ◌∙◌, refl, sym, subst, arith, ℕ, zero, List, [], ◌∷◌, Bool, true, false, is_some}
+use Rattle.std.proofs.Common.{◌≡◌, ◌∙◌, refl, sym, subst, arith, ℕ, zero, List, [], ◌∷◌, true, is_some}
 use Rattle.std.proofs.Common.{Option, Some, None, Result, Ok, Err, OnErr}
 use Rattle.std.proofs.lemmas.Bool.{false≢true}
 use Rattle.std.proofs.lemmas.Result.{on_err_weaker}
 use Rattle.std.specs.FinMap as map
 use Rattle.std.specs.List.{Contains}
-use Rattle.fl_labels.specs.declared.cap.Cap.{Cap}
 use Rattle.fl_labels.specs.declared.cap.Cap.TheVariants.{Use}
-use Rattle.fl_labels.specs.declared.name.Name.{Name}
 use Rattle.fl_labels.specs.declared.pid.Pid.{Pid}
 use Rattle.fl_rules.specs.declared.endpoint.Mode.{Mode}
 use Rattle.fl_rules.specs.declared.labels.Labels.{Labels}

@@ -1,3 +1,4 @@
 pub mod Drafts
 pub mod Senders
+pub mod laws
 pub mod parts

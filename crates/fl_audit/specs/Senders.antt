@@ -1,10 +1,7 @@
 -- Who sends a message by a job.
 use Rattle.std.specs.declared.option.Option.{Option}
 use Rattle.std.specs.declared.option.Option.TheVariants.{None}
-use Rattle.fl_labels.specs.declared.pid.Pid.{Pid}
-use Rattle.fl_jobs.specs.declared.job.Act.{Act}
 use Rattle.fl_jobs.specs.declared.job.Act.TheVariants.{Mail}
-use Rattle.fl_jobs.specs.declared.job.Mail as mails
 use Rattle.fl_jobs.specs.declared.job.Mail.TheVariants.{Send}
 use Rattle.fl_jobs.specs.declared.job.Job.{Job}
 use Rattle.fl_jobs.specs.declared.job.Job.TheVariants.{By}

@@ -3,5 +3,6 @@
 
 mod caps;
 pub mod draft;
+pub mod laws;
 pub mod message;
 pub mod party;
