@@ -1,10 +1,7 @@
--- Proved laws of the lives of processes, that the crates above cite.
-pub mod Members
+-- Proved laws of who lives in a world, that the crates above cite.
 pub mod Fates
 pub mod Places
 pub mod Stories
 pub mod Living
-pub mod Owning
-pub mod Changing
-pub mod Sending
-pub mod Keeping
+pub mod Returning
+pub mod Telling

@@ -1,4 +1,4 @@
-//! Laws of the lives of processes in a world, and of the messages that they send.
+//! Laws of who comes to live in a world, and who goes.
 #![tactic(auto)]
 
 pub mod laws;

@@ -448,7 +448,7 @@ module _ (w : World) (tidy : AllTidy w) (pid : Pid) where
     save_story (SaveAt.refused {n = n} {k} does) = benches_story number s n k at (saved_benches does)
 
     -- it is opened again, and nobody stands there
-    again_none : {m : NodeState} {doubt : Option Batch} {k : Kept} {boot : ℕ} {n : NodeState} {k' : Kept}
+    pub again_none : {m : NodeState} {doubt : Option Batch} {k : Kept} {boot : ℕ} {n : NodeState} {k' : Kept}
         → OpensAgain m doubt k (Ok boot) n k' → process_of n pid ≡ None
     again_none {m} {k = k} (OpensAgain.opens (Opens.opens own)) = opened_none (length m.views) k pid
 
@@ -456,7 +456,7 @@ module _ (w : World) (tidy : AllTidy w) (pid : Pid) where
         → OpensAgain m doubt k (Err fault) n k' → n.benches ≡ m.benches
     again_benches (OpensAgain.stays why) = refl
 
-    restarted_none : {k : Kept} {keeps : Bool} {boot : ℕ} {n : NodeState} {k' : Kept}
+    pub restarted_none : {k : Kept} {keeps : Bool} {boot : ℕ} {n : NodeState} {k' : Kept}
         → Restarts s.node k keeps (Ok boot) n k' → process_of n pid ≡ None
     restarted_none (Restarts.saved keeps is again) = again_none again
     restarted_none (Restarts.lost keeps is again) = again_none again

@@ -5,9 +5,10 @@ use Rattle.fl_bench.specs.declared.process.Process.{Process}
 use Rattle.fl_bench.specs.laws.Puts.{same_found}
 use Rattle.fl_world_laws.specs.laws.Naming.{reached_named}
 use Rattle.fl_process_laws.specs.laws.Pids.{reached_tidy}
-use Rattle.fl_life_laws.specs.laws.Keeping.{kept, kept_out, lives_given}
+use Rattle.fl_deed_laws.specs.laws.Keeping.{kept, kept_out}
+use Rattle.fl_life_laws.specs.laws.Returning.{lives_given}
 use Rattle.fl_life_laws.specs.laws.Living.{lives_living}
-use Rattle.fl_life_laws.proofs.laws.law_kept_tags.Goals as goal
+use Rattle.fl_deed_laws.proofs.laws.law_kept_tags.Goals as goal
 
 pub returns-clause-kept : goal.returns-clause-kept
 returns-clause-kept c = λ w ms pid side tag old new reached run lives here still.

@@ -1,7 +1,7 @@
 use Rattle.fl_process_laws.specs.laws.Pids.{reached_tidy}
 use Rattle.fl_life_laws.specs.laws.Living.{altered}
-use Rattle.fl_life_laws.specs.laws.Owning.{alters_loses, move_gains, was_given}
-use Rattle.fl_life_laws.proofs.laws.law_owned.Goals as goal
+use Rattle.fl_deed_laws.specs.laws.Owning.{alters_loses, move_gains, was_given}
+use Rattle.fl_deed_laws.proofs.laws.law_owned.Goals as goal
 
 pub returns-clause-gained : goal.returns-clause-gained
 returns-clause-gained c = λ w after move reply pid cap reached moves o.

@@ -21,10 +21,10 @@ use Rattle.fl_system.specs.declared.reply.Reply.TheVariants.{Job as Answered}
 use Rattle.fl_system.specs.Runs.{Move}
 use Rattle.fl_system.specs.World.{World}
 use Rattle.fl_life_laws.specs.Doing.{IsAnswered, IsDone, seen}
-use Rattle.fl_life_laws.specs.Endpoints.{Retunes, closes, opens, tunes}
-use Rattle.fl_life_laws.specs.Endpoints as endpoints
-use Rattle.fl_life_laws.specs.Labels.{Relabels, Sets, sets}
-use Rattle.fl_life_laws.specs.Labels as labels
+use Rattle.fl_deed_laws.specs.Endpoints.{Retunes, closes, opens, tunes}
+use Rattle.fl_deed_laws.specs.Endpoints as endpoints
+use Rattle.fl_deed_laws.specs.Labels.{Relabels, Sets, sets}
+use Rattle.fl_deed_laws.specs.Labels as labels
 use Rattle.fl_life_laws.specs.laws.Fates.{Turns}
 use Rattle.fl_life_laws.specs.laws.Stories.{Alters}
 

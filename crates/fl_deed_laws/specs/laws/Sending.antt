@@ -37,7 +37,7 @@ use Rattle.fl_system_laws.specs.laws.Going.{in_mapped, item_there, moves_goes}
 use Rattle.fl_world_laws.specs.laws.Naming.{IsNamed, goes_named, empty_named}
 use Rattle.fl_process_laws.specs.laws.Pids.{AllTidy, goes_tidy}
 use Rattle.fl_life_laws.specs.Doing.{IsDone, seen}
-use Rattle.fl_life_laws.specs.Sent.{Adds, Sends, WasSent}
+use Rattle.fl_deed_laws.specs.Sent.{Adds, Sends, WasSent}
 use Rattle.fl_life_laws.specs.laws.Living.{empty_tidy}
 
 -- no message is among these

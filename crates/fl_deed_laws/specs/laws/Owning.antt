@@ -27,10 +27,10 @@ use Rattle.fl_system_laws.specs.laws.Going.{moves_goes}
 use Rattle.fl_process_laws.specs.laws.Pids.{AllTidy, goes_tidy}
 use Rattle.fl_life_laws.specs.Doing.{IsAnswered, IsDone, seen}
 use Rattle.fl_life_laws.specs.Lives.{IsBorn}
-use Rattle.fl_life_laws.specs.Owned.{Gains, GivesUp, Owns, WasGiven, arrived, born_with, entered, made_it}
+use Rattle.fl_deed_laws.specs.Owned.{Gains, GivesUp, Owns, WasGiven, arrived, born_with, entered, made_it}
 use Rattle.fl_life_laws.specs.laws.Fates.{Turns, rested}
 use Rattle.fl_life_laws.specs.laws.Living.{empty_tidy, living_lives, lives_living}
-use Rattle.fl_life_laws.specs.laws.Members.{all_in, joined_in, left_in, left_or_out, none_in_empty, put_in, still_all, still_joined, still_put}
+use Rattle.fl_deed_laws.specs.laws.Members.{all_in, joined_in, left_in, left_or_out, none_in_empty, put_in, still_all, still_joined, still_put}
 use Rattle.fl_life_laws.specs.laws.Stories.{Alters, Story, living, move_story}
 
 -- a process whose operation is over owns no more than it did and what that gave, and no less

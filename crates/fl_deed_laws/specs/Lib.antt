@@ -1,0 +1,5 @@
+pub mod Owned
+pub mod Endpoints
+pub mod Labels
+pub mod Sent
+pub mod laws
