@@ -1,0 +1,5 @@
+use Rattle.fl_store_tests.proofs.NewLemmas.{once_one}
+use Rattle.fl_store_tests.proofs.memory.keeper_with.Goals as goal
+
+pub with-requires : goal.with-requires
+with-requires c = once_one c.args.op
