@@ -1,8 +1,8 @@
 -- Batches of new names.
-use Rattle.std.proofs.Common.{◌≡◌, ◌≢◌, ◌⊎◌, ◌∙◌, sym, subst, inl, inr, Bool, true, false, List, [], ◌∷◌}
+use Rattle.std.proofs.Common.{◌≡◌, ◌≢◌, ◌⊎◌, ◌∙◌, sym, subst, inl, inr, List, [], ◌∷◌}
 use Rattle.std.specs.Cmp.{Equal-is}
 use Rattle.std.proofs.lemmas.Bool.{or_cases, false≢true}
-use Rattle.fl_labels.specs.SetBy.{SetBy, In, of_list, empty, contains-insert, contains-empty}
+use Rattle.fl_labels.specs.SetBy.{SetBy, In, of_list, contains-insert, contains-empty}
 use Rattle.fl_ops.specs.declared.op.Op.{Op}
 use Rattle.fl_ops.specs.OpOrder.{op_cmp}
 use Rattle.fl_ops.specs.OpLaws.{op_total, op_exact}
