@@ -113,7 +113,10 @@ impl Bench {
 
     // Each packet is let go before the next is read.
     fn decode(&self) -> Result<usize, Fail> {
-        let read = self.bytes.iter().filter(|bytes| decode(self.alloc, bytes).is_ok());
+        let read = self
+            .bytes
+            .iter()
+            .filter(|bytes| decode(self.alloc, bytes).is_ok());
         Ok(read.count())
     }
 
