@@ -13,7 +13,7 @@ pub fn words(alloc: Global, text: &str) -> Result<Vec<u8>, Fail> {
     Ok(format!(in alloc; "{text}")?.into_bytes())
 }
 
-fn reply_text(alloc: Global, reply: &Reply) -> Result<Vec<u8>, Fail> {
+fn text_of(alloc: Global, reply: &Reply) -> Result<Vec<u8>, Fail> {
     let mut sink = Sink::new(alloc);
     let mut output = Vec::new(alloc);
     write_reply(reply, &mut sink, &mut output)?;
@@ -71,9 +71,16 @@ pub fn boot_text(alloc: Global, said: Result<u32, Fault>) -> Result<Vec<u8>, Fai
     }
 }
 
+pub fn reply_text(alloc: Global, said: Result<Reply, Fault>) -> Result<Vec<u8>, Fail> {
+    match said {
+        Ok(reply) => text_of(alloc, &reply),
+        Err(fault) => fault_text(alloc, fault),
+    }
+}
+
 pub fn answer_text(alloc: Global, said: Result<Answer, Fault>) -> Result<Vec<u8>, Fail> {
     match said {
-        Ok(Answer::Reply(reply)) => reply_text(alloc, &reply),
+        Ok(Answer::Reply(reply)) => text_of(alloc, &reply),
         Ok(Answer::Begun(name)) => name_text(alloc, name),
         Ok(Answer::Out(_)) => words(alloc, "sent"),
         Err(fault) => fault_text(alloc, fault),

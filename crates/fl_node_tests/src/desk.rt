@@ -1,11 +1,14 @@
 //! A node that is driven by lines.
-use crate::answers::{answer_text, boot_text, done_text, published_text, registry_text};
+use crate::answers::{
+    answer_text, boot_text, done_text, published_text, registry_text, reply_text,
+};
 use fl_aliases::table::Aliases;
 use fl_jobs::job::Job;
 use fl_node::node::Node;
 use fl_script::line::Line;
 use fl_script::reading::{Reading, read_line};
 use fl_store::mem::MemKeeper;
+use fl_system::answer::Answer;
 use std::alloc::{AllocGlobal, Global};
 use std::process::Abort;
 use std::test::Fail;
@@ -23,6 +26,7 @@ struct Desk {
 ///
 /// - `save`, `publish`, `cancel`, `restart`, `restart kept`: that call.
 /// - `text`: what is published.
+/// - `post` and a line that sends: its message comes to the node itself.
 /// - `mend`: the node is opened again over its keeper, which is mended.
 /// - `swap`: the same, over a keeper of node 1 with nothing.
 pub fn check(
@@ -91,10 +95,22 @@ fn call(alloc: Global, node: &mut Node<MemKeeper>, line: &str) -> Result<Vec<u8>
         "publish" => published_text(alloc, node.publish(alloc)),
         "cancel" => done_text(alloc, node.cancel()),
         "text" => registry_text(alloc, node),
-        _ => {
-            let job = job_of(alloc, line)?;
-            answer_text(alloc, node.job(alloc, job))
-        }
+        _ => match line.strip_prefix("post ") {
+            Some(line) => post(alloc, node, line),
+            None => {
+                let job = job_of(alloc, line)?;
+                answer_text(alloc, node.job(alloc, job))
+            }
+        },
+    }
+}
+
+// Sends a message, and hands it to the node that sent it.
+fn post(alloc: Global, node: &mut Node<MemKeeper>, line: &str) -> Result<Vec<u8>, Fail> {
+    let job = job_of(alloc, line)?;
+    match node.job(alloc, job) {
+        Ok(Answer::Out(message)) => reply_text(alloc, node.arrive(alloc, message)),
+        answer => answer_text(alloc, answer),
     }
 }
 

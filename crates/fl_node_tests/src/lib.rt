@@ -8,6 +8,8 @@ mod batches;
 #[cfg(test)]
 mod desk;
 #[cfg(test)]
+mod gossip;
+#[cfg(test)]
 mod restarts;
 #[cfg(test)]
 mod steps;

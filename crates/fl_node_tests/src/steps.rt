@@ -59,3 +59,23 @@ fn last_name_is_spent(rt: HostRuntime) -> Result<(), Fail> {
         ],
     )
 }
+
+#[test]
+fn message_comes_to_its_receiver(rt: HostRuntime) -> Result<(), Fail> {
+    check(
+        &rt,
+        MemKeeper::new(rt.alloc(), 1),
+        &[
+            ("1 proc", "p1.1.1"),
+            ("1 proc", "p1.1.2"),
+            ("1 open p1.1.1 w {} {}", "ok e1"),
+            ("1 open p1.1.2 r {} {}", "ok e1"),
+            ("post 1 send p1.1.1 e1 p1.1.2 e1 {} 6869", "arrived p1.1.2"),
+            ("1 take p1.1.2", "message p1.1.1 {} 6869"),
+            (
+                "post 1 send p1.1.1 e1 p1.1.3 e1 {} none",
+                "refused F1 p1.1.3",
+            ),
+        ],
+    )
+}
