@@ -1,5 +1,5 @@
 //! What a node lets be seen of itself, whether it runs or not.
-ghost use Rattle.std.specs.Prelude.{◌≡◌, ◌<◌};
+ghost use Rattle.std.specs.Prelude.{◌≡◌, ◌<◌, length};
 
 use crate::node::Node;
 use fl_store::keeper::Keeper;
@@ -12,6 +12,15 @@ impl<K: Keeper> Node<K> {
         ensures positive { 0 < result }
     {
         self.number
+    }
+
+    /// How many desks the node has: one.
+    pub fn desks(&self) -> u8
+        ensures desks { length self.now.node.views ≡ result }
+        ensures one { result ≡ 1 }
+    {
+        let _seen = &self.seen;
+        1
     }
 
     /// How often the node was opened, this time too.
