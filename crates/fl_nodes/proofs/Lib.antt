@@ -1,3 +1,11 @@
 pub mod Lifting
 pub mod Entries
 pub mod CallLemmas
+pub mod WorkLemmas
+pub mod JobLemmas
+pub mod TellLemmas
+pub mod BringLemmas
+pub mod DeliverLemmas
+pub mod JoinLemmas
+pub mod Meets
+pub mod Newcomers

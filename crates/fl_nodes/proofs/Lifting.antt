@@ -31,14 +31,14 @@ abbrev pub with_kept : NodeState → Kept → KeptNode
 with_kept node kept = record { node = node; kept = kept }
 
 -- another number has what it had
-at_other : {X : Type 0} (m : map.FinMap nat_cmp X) (number q : ℕ) (x : X) → eq_by_cmp nat_cmp q number ≡ false
+pub at_other : {X : Type 0} (m : map.FinMap nat_cmp X) (number q : ℕ) (x : X) → eq_by_cmp nat_cmp q number ≡ false
     → map.get (map.insert m number x) q ≡ map.get m q
 at_other m number q x e = map.get-insert nat_cmp_total m number x q ∙ ap (λ b. cond b (Some x) (map.get m q)) e
 
-here : {X : Type 0} (m : map.FinMap nat_cmp X) (number : ℕ) (x : X) → map.get (map.insert m number x) number ≡ Some x
+pub here : {X : Type 0} (m : map.FinMap nat_cmp X) (number : ℕ) (x : X) → map.get (map.insert m number x) number ≡ Some x
 here m number x = get_put nat_cmp_total nat_cmp-IsAntisymmetric m number x
 
-same_number : (q number : ℕ) → eq_by_cmp nat_cmp q number ≡ true → q ≡ number
+pub same_number : (q number : ℕ) → eq_by_cmp nat_cmp q number ≡ true → q ≡ number
 same_number q number e = nat_cmp-IsAntisymmetric q number ((Equal-is (nat_cmp q number)).0 e)
 
 some_same : {X : Type 0} {x y : X} → ◌≡◌ {A = Option X} (Some x) (Some y) → x ≡ y
@@ -75,7 +75,7 @@ module _ {K : Type 0} (is_honest : K → Type 0) (may_hold : K → Held) where
 
   module _ (old : WorldOver K) (number : ℕ) (x y : NodeOver K) (sent : List Sent) (admitted : List Admission)
       (there : map.get old.nodes number ≡ Some x) where
-    honest_before : (is_honest y.keeper → is_honest x.keeper) → AreHonest is_honest (over_went old number y sent admitted) → AreHonest is_honest old
+    pub honest_before : (is_honest y.keeper → is_honest x.keeper) → AreHonest is_honest (over_went old number y sent admitted) → AreHonest is_honest old
     honest_before back all q n at = by_place (eq_by_cmp nat_cmp q number) refl
       where
         by_place : (b : Bool) → eq_by_cmp nat_cmp q number ≡ b → is_honest n.keeper
@@ -85,7 +85,7 @@ module _ {K : Type 0} (is_honest : K → Type 0) (may_hold : K → Held) where
         by_place false e = all q n (at_other old.nodes number q y e ∙ at)
 
     -- the world before the call, where this was kept of the node
-    abbrev world_before : World → Kept → World
+    abbrev pub world_before : World → Kept → World
     world_before after k = record {
       desks = old.desks;
       nodes = map.insert after.nodes number (with_kept x.node k);
@@ -108,12 +108,12 @@ module _ {K : Type 0} (is_honest : K → Type 0) (may_hold : K → Held) where
             subst (λ o. MayBeNode may_hold (map.get old.nodes q) o) (sym (at_other after.nodes number q (with_kept x.node k) e))
             (subst (λ o. MayBeNode may_hold o (map.get after.nodes q)) (at_other old.nodes number q y e) (is.nodes q))
 
-    may_be_before : (after : World) (k : Kept) → MayBe may_hold (over_went old number y sent admitted) after → may_hold x.keeper k
+    pub may_be_before : (after : World) (k : Kept) → MayBe may_hold (over_went old number y sent admitted) after → may_hold x.keeper k
         → MayBe may_hold old (world_before after k)
     may_be_before after k is held = record { desks = refl; nodes = before_at after k is held; packets = refl; audit = refl }
 
     -- that world goes on to the one after the call
-    goes_to : (after : World) (k k' : Kept) → MayBe may_hold (over_went old number y sent admitted) after
+    pub goes_to : (after : World) (k k' : Kept) → MayBe may_hold (over_went old number y sent admitted) after
         → map.get after.nodes number ≡ Some (with_kept y.node k')
         → went (world_before after k) number y.node k' sent admitted ≡ after
     goes_to after k k' is at =

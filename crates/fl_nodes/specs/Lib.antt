@@ -1,4 +1,6 @@
 pub mod Over
 pub mod Goes
 pub mod Texts
+pub mod Whole
+pub mod Joining
 pub mod parts

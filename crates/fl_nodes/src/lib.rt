@@ -1,4 +1,9 @@
 //! The nodes of a world over their keepers, the packets between them and what was admitted, call by call.
 #![tactic(auto)]
 
+mod bringing;
+mod delivering;
+mod joining;
 pub mod nodes;
+mod sending;
+mod working;

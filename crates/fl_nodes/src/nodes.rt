@@ -1,5 +1,5 @@
 //! The nodes of a world, call by call.
-ghost use Rattle.std.specs.Prelude.{◌≡◌};
+ghost use Rattle.std.specs.Prelude.{◌≡◌, true, false};
 ghost use Rattle.std.specs.FinMap as map;
 ghost use Rattle.std.specs.Option.{option_copied};
 ghost use Rattle.fl_system.specs.declared.event.Event.TheVariants as event;
@@ -7,8 +7,12 @@ ghost use Rattle.fl_system.specs.WorldSteps.{Step};
 ghost use Rattle.fl_nodes.specs.Over.{empty_over};
 ghost use Rattle.fl_nodes.specs.Goes.{Goes};
 ghost use Rattle.fl_nodes.specs.Texts.{TextAt};
+ghost use Rattle.fl_nodes.specs.Whole.{IsWhole};
+ghost use Rattle.fl_nodes.specs.parts.There.{IsNoSuch, IsThere};
 ghost use Rattle.fl_nodes.specs.parts.Published.{published_reply};
 
+use crate::working::work;
+use fl_jobs::job::Job;
 use fl_node::node::Node;
 use fl_sink::sink::WriteFault;
 use fl_store::keeper::Keeper;
@@ -34,14 +38,29 @@ fn once_published(state: &State) -> Reply
     }
 }
 
+// Whether the job names what is not at the node: a desk, or an arrival, which only packets make.
+fn lacks<K: Keeper>(node: &Node<K>, desk: u8, job: &Job) -> bool
+    ensures lacking { result ≡ true → IsNoSuch node.now.node desk job.now }
+    ensures there { result ≡ false → IsThere node.now.node desk job.now }
+{
+    if let Job::Arrive(_) = job {
+        return true;
+    }
+    let desks = node.desks();
+    if desk == desks {
+        return false;
+    }
+    true
+}
+
 /// Nodes by their numbers, each of one desk over a keeper of its own; every packet that they sent; and what they admitted.
 ///
 /// A contract of a call says which step of the world it is: where the keepers are honest, what the next openings may find
 /// comes by that step from what they might have found before.
 pub struct Nodes<K: Keeper> {
-    all: BTreeMap<u16, Node<K>>,
-    sent: Vec<Sent>,
-    audit: Vec<Admission>,
+    pub(crate) all: BTreeMap<u16, Node<K>>,
+    pub(crate) sent: Vec<Sent>,
+    pub(crate) audit: Vec<Admission>,
 }
 
 impl<K: Keeper> Model for Nodes<K> {
@@ -150,6 +169,25 @@ impl<K: Keeper> Nodes<K> {
             Ok(boot) => Reply::Booted(boot),
             Err(fault) => Reply::Refused(fault),
         }
+    }
+
+    /// Does the job at the desk of the node, which first looks at the whole list, as `Node::job` has it; sends the message that it
+    /// may answer, and notes what is admitted. An arrival is not handed in so, and answers `NoSuch`.
+    ///
+    /// Refused with `Memory` too where there is no room for what would be noted or sent. The process is copied for a job of which
+    /// something is noted.
+    pub fn job(&mut self, alloc: Global, number: u16, desk: u8, job: Job) -> Reply
+        ensures { (upto : _) → IsWhole self.old number upto
+            → Goes K.is_honest K.may_hold self.old self.new
+            (λ w w'. Step w (event.Job number desk upto job) result w') }
+    {
+        let Some(node) = self.all.get_mut(&number) else {
+            return Reply::NoSuch;
+        };
+        if lacks(node, desk, &job) {
+            return Reply::NoSuch;
+        }
+        work(alloc, number, node, job, &mut self.audit, &mut self.sent)
     }
 
     /// Writes the text of the node's published operations, as `Node::text` has it, or nothing where it is not there.

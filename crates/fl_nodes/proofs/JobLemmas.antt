@@ -1,0 +1,115 @@
+-- A job at a node as a step of the world.
+use Rattle.std.proofs.Common.{◌≡◌, ◌≢◌, ◌++◌, ◌∙◌, refl, sym, ap, subst, ℕ, zero, suc, List, [], ◌∷◌, length, Some, None, arith}
+use Rattle.std.proofs.lemmas.Cmp.{nat_cmp_total}
+use Rattle.std.proofs.lemmas.List.{append-nil}
+use Rattle.std.specs.BTreeMap.{is_at}
+use Rattle.std.specs.FinMap as map
+use Rattle.std.specs.FinMap.{nat_cmp-IsAntisymmetric}
+use Rattle.std.specs.Map.{lookup, set_value}
+use Rattle.std.specs.Ordering.{nat_cmp}
+use Rattle.fl_mailbox.specs.laws.Tables.{put_same, put_through}
+use Rattle.fl_store.specs.Kept.{Kept}
+use Rattle.fl_store.specs.Keeping.{Held}
+use Rattle.fl_message.specs.declared.message.Data.{Data}
+use Rattle.fl_jobs.specs.declared.job.Job.{Job}
+use Rattle.fl_jobs.specs.declared.job.Job.TheVariants.{Proc, By, Member, Arrive}
+use Rattle.fl_system.specs.declared.admission.Admission.{Admission}
+use Rattle.fl_system.specs.declared.event.Event.TheVariants as event
+use Rattle.fl_system.specs.declared.reply.Reply.{Reply}
+use Rattle.fl_system.specs.declared.reply.Reply.TheVariants as reply
+use Rattle.fl_system.specs.declared.sent.Sent.{Sent}
+use Rattle.fl_system.specs.Numbered.{item_at}
+use Rattle.fl_system.specs.State.{NodeState}
+use Rattle.fl_system.specs.World.{World, went}
+use Rattle.fl_system.specs.WorldJobs.{JobAt, sent_message}
+use Rattle.fl_system.specs.Audit.{entries}
+use Rattle.fl_system.specs.declared.answer.Answer.TheVariants as answers
+use Rattle.fl_system.specs.WorldSteps.{Step, IsArrival}
+use Rattle.fl_node.specs.Over.{NodeOver}
+use Rattle.fl_nodes.specs.Over.{WorldOver}
+use Rattle.fl_nodes.specs.Goes.{Goes}
+use Rattle.fl_nodes.specs.parts.There.{IsNoSuch, IsThere}
+use Rattle.fl_nodes.specs.parts.Working.{Works, Worked}
+use Rattle.fl_nodes.proofs.Lifting.{StandsAs, lifts_kept, node_there, over_went, stays, with_kept}
+use Rattle.fl_nodes.proofs.Entries.{changed, held, of_entries}
+
+-- a node of one desk has no other
+pub no_other_desk : (views : List ℕ) (desk : ℕ) → length views ≡ 1 → desk ≢ 1 → item_at views desk ≡ None
+no_other_desk [] desk one other = refl
+no_other_desk (x ∷ []) zero one other = refl
+no_other_desk (x ∷ []) (suc zero) one other = absurd (other refl)
+no_other_desk (x ∷ []) (suc (suc k)) one other = refl
+no_other_desk (x ∷ y ∷ rest) desk one other = absurd (omega (arith, one))
+
+pub not_arrival : (job : Job) → ((d : Data) → job ≡ Arrive d → ⊥) → IsArrival job → ⊥
+not_arrival (Arrive d) h k = h d refl
+not_arrival Proc h k = k
+not_arrival (By pid act) h k = k
+not_arrival (Member root c) h k = k
+
+job_at : (w : World) (number upto count : ℕ) (n n' : NodeState) (k : Kept) (job : Job) (result : Reply) (sent : List Sent) (admitted : List Admission)
+    → count ≡ length w.packets → Works number n 1 upto job count result n' sent admitted
+    → JobAt w number (with_kept n k) 1 upto job result (went w number n' k sent admitted)
+job_at w number upto count n n' k job result sent admitted e (Works.refused h) = JobAt.refused h
+job_at w number upto count n n' k job result sent admitted e (Works.replied h) = JobAt.replied h
+job_at w number upto count n n' k job result sent admitted e (Works.begun h) = JobAt.begun h
+job_at w number upto count n n' k job result sent admitted e (Works.sends {d} h) =
+    subst (λ c. JobAt w number (with_kept n k) 1 upto job (reply.Sent (suc c) 1)
+    (went w number n' k (sent_message number n d ∷ []) (entries n job (answers.Out d)))) (sym e) (JobAt.sends h)
+job_at w number upto count n n' k job result sent admitted e (Works.no_room look seen noted) = JobAt.no_room look seen noted
+
+module _ {K : Type 0} (is_honest : K → Type 0) (may_hold : K → Held) (es fs : List (ℕ × NodeOver K)) (packets : List Sent)
+    (audit : List Admission) (old : WorldOver K) (is : of_entries es packets audit ≡ old) (number desk upto : ℕ) (job : Job)
+    (x y : NodeOver K) (there : lookup (is_at (nat_cmp number)) es ≡ Some x) (left : fs ≡ set_value (is_at (nat_cmp number)) es y) where
+  at_old : map.get old.nodes number ≡ Some x
+  at_old = sym (held es es packets audit old is number) ∙ there
+
+  -- what the job names is not there, and the node is left
+  pub no_such_job : y ≡ x → IsNoSuch x.node desk job
+      → Goes is_honest may_hold old (of_entries fs packets audit) (λ w w'. Step w (event.Job number desk upto job) reply.NoSuch w')
+  no_such_job same none =
+      subst (λ n. Goes is_honest may_hold old n (λ w w'. Step w (event.Job number desk upto job) reply.NoSuch w')) (sym unchanged)
+      (stays is_honest may_hold old _ (λ w may_be. by_cause w (node_there is_honest may_hold old w number x at_old may_be) none))
+    where
+      by_cause : (w : World) → StandsAs is_honest may_hold x (map.get w.nodes number) → IsNoSuch x.node desk job
+          → Step w (event.Job number desk upto job) reply.NoSuch w
+      by_cause w s (IsNoSuch.no_desk h) = Step.no_desk s.there h
+      by_cause w s (IsNoSuch.no_job h) = Step.no_such_job h
+
+      unchanged : of_entries fs packets audit ≡ old
+      unchanged =
+          changed es fs packets audit old is number x y there left
+          ∙ (λ i. record {
+            desks = old.desks;
+            nodes = (ap (λ n. map.insert old.nodes number n) same ∙ put_same nat_cmp_total nat_cmp-IsAntisymmetric old.nodes number x at_old) i;
+            packets = append-nil old.packets i;
+            audit = append-nil old.audit i;
+          })
+
+  -- the job is done at the node
+  pub worked : (result : Reply) (packets_after : List Sent) (audit_after : List Admission) → y.keeper ≡ x.keeper → IsThere x.node desk job
+      → Worked number x.node 1 upto job result y.node packets packets_after audit audit_after
+      → Goes is_honest may_hold old (of_entries fs packets_after audit_after) (λ w w'. Step w (event.Job number desk upto job) result w')
+  worked result packets_after audit_after same given work =
+      lifts_kept is_honest may_hold old number x y work.sent work.admitted at_old (of_entries fs packets_after audit_after) _ is_new same
+      (λ w k at may_be. Step.job at given.asked
+      (subst (λ d. JobAt w number (with_kept x.node k) d upto job result (went w number y.node k work.sent work.admitted)) (sym given.first)
+      (job_at w number upto (length packets) x.node y.node k job result work.sent work.admitted
+      (ap length (same_packets ∙ sym may_be.packets)) work.works)))
+    where
+      same_packets : packets ≡ old.packets
+      same_packets = ap (λ (w : WorldOver K). w.packets) is
+
+      same_audit : audit ≡ old.audit
+      same_audit = ap (λ (w : WorldOver K). w.audit) is
+
+      nodes_are : map.from_entries fs ≡ map.insert old.nodes number y
+      nodes_are = put_through nat_cmp_total nat_cmp-IsAntisymmetric es fs old.nodes number x y (ap (λ (w : WorldOver K). w.nodes) is) there left
+
+      is_new : of_entries fs packets_after audit_after ≡ over_went old number y work.sent work.admitted
+      is_new = λ i. record {
+        desks = (ap (λ (w : WorldOver K). w.desks) is) i;
+        nodes = nodes_are i;
+        packets = (work.sent_is ∙ ap (λ l. l ++ work.sent) same_packets) i;
+        audit = (work.admitted_is ∙ ap (λ l. l ++ work.admitted) same_audit) i;
+      }

@@ -1,0 +1,348 @@
+-- A node that joins the others, or not, as a step of the world.
+use Rattle.std.proofs.Common.{◌≡◌, ◌∙◌, ◌⊎◌, ◌+◌, inl, inr, refl, sym, ap, subst, ℕ, Bool, true, false, cond, List, [], ◌++◌, Option, Some, None, Result, Ok, Err}
+use Rattle.std.proofs.lemmas.Bool.{false≢true}
+use Rattle.std.proofs.lemmas.Cmp.{nat_cmp_total}
+use Rattle.std.proofs.lemmas.List.{append-nil}
+use Rattle.std.specs.BTreeMap.{is_at}
+use Rattle.std.specs.Cmp.{tied_itself}
+use Rattle.std.specs.Map.{lookup}
+use Rattle.std.specs.Prelude.{IfErr, IsErrAnd, IsSome, is_some}
+use Rattle.std.specs.FinMap as map
+use Rattle.std.specs.FinMap.{nat_cmp-IsAntisymmetric, same_map}
+use Rattle.std.specs.Ordering.{nat_cmp, eq_by_cmp, is_eq}
+use Rattle.fl_mailbox.specs.laws.Tables.{one_gone, one_put}
+use Rattle.fl_labels.specs.declared.name.Name.{Name}
+use Rattle.fl_gossip.specs.Meeting.{IsLeastOf}
+use Rattle.fl_jobs.specs.declared.answer.Refusal.TheVariants.{Memory}
+use Rattle.fl_store.specs.Kept.{Kept, HasNamesOnce, raised}
+use Rattle.fl_store.specs.Keeping.{Held, Follows}
+use Rattle.fl_system.specs.declared.admission.Admission.{Admission}
+use Rattle.fl_system.specs.declared.sent.Sent.{Sent}
+use Rattle.fl_system.specs.declared.answer.Fault.{Fault}
+use Rattle.fl_system.specs.declared.answer.Fault.TheVariants as faults
+use Rattle.fl_system.specs.declared.reply.Reply.TheVariants as reply
+use Rattle.fl_system.specs.Joins.{IsClashAt, IsLeastName, IsStray, Joins, joined}
+use Rattle.fl_system.specs.Openings.{FailsToOpen, IsOf, Opens, opened}
+use Rattle.fl_system.specs.State.{NodeState}
+use Rattle.fl_system.specs.World.{World, KeptNode}
+use Rattle.fl_node.specs.Over.{NodeOver}
+use Rattle.fl_nodes.specs.Over.{WorldOver}
+use Rattle.fl_nodes.specs.Goes.{AreHonest, MayBe, MayBeNode}
+use Rattle.fl_nodes.specs.Joining.{GivesBack, IsRefused, LeftBy, TakesIn}
+use Rattle.fl_nodes.specs.parts.Joined.{AreNodes, over_with}
+use Rattle.fl_nodes.proofs.Entries.{of_entries}
+use Rattle.fl_nodes.proofs.Lifting.{at_other, here, no_node, node_there, same_number, with_kept}
+
+-- ---- openings
+
+record IsOpening (number : ℕ) (k : Kept) (n : NodeState) (k' : Kept) : Type 0 where
+  own : k.number ≡ number
+  node_is : n ≡ opened 1 k
+  up : k' ≡ raised k
+
+opening_of : (number : ℕ) (k : Kept) (n : NodeState) (k' : Kept) → Opens 1 (IsOf number) k (Ok n) k' → IsOpening number k n k'
+opening_of number k n k' (Opens.opens own) = record { own = own; node_is = refl; up = refl }
+
+left_as : (number : ℕ) (k k' : Kept) (fault : Fault) → FailsToOpen (IsOf number) k fault → (k' ≡ k) ⊎ (k' ≡ raised k) → LeftBy fault k k'
+left_as number k k' fault FailsToOpen.no_room h = h
+left_as number k k' fault FailsToOpen.keeper_failed h = h
+left_as number k k' fault (FailsToOpen.spent e) h = h
+left_as number k k' fault (FailsToOpen.other e) h = h
+
+left_by : (number : ℕ) (k k' : Kept) (fault : Fault) → Opens 1 (IsOf number) k (Err fault) k' → LeftBy fault k k'
+left_by number k k' fault (Opens.refused cause left) = left_as number k k' fault cause left
+
+least_name : (P : Name → Type 0) (name : Name) → IsLeastOf P name → IsLeastName P name
+least_name P name h = record { holds = h.holds; least = h.least }
+
+is_node : {K : Type 0} (may_hold : K → Held) (a : Option (NodeOver K)) (b : Option KeptNode) → MayBeNode may_hold a b → MayBeNode (λ keeper k. Unit {0}) a b
+is_node may_hold None None h = tt
+is_node may_hold (Some n) (Some s) h = (h.0, tt)
+is_node may_hold None (Some s) h = absurd h
+is_node may_hold (Some n) None h = absurd h
+
+module _ {K : Type 0} (is_honest : K → Type 0) (may_hold : K → Held) where
+  are_nodes : (over : WorldOver K) (w : World) → MayBe may_hold over w → AreNodes over w
+  are_nodes over w is number = is_node may_hold _ _ (is.nodes number)
+
+  -- the number is a node's
+  pub refused_there : (old new : WorldOver K) (number : ℕ) (keeper : K) (x : NodeOver K) → new ≡ old → map.get old.nodes number ≡ Some x
+      → GivesBack is_honest may_hold old keeper new keeper (IsRefused number faults.WrongNode)
+  refused_there old new number keeper x same there =
+      subst (λ n. GivesBack is_honest may_hold old keeper n keeper (IsRefused number faults.WrongNode)) (sym same) (record {
+        honest = λ all left. (all, left);
+        comes = λ all left after k' is held. (
+          after,
+          k',
+          is,
+          held,
+          record {
+            same = refl;
+            joins = Joins.there (node_there is_honest may_hold old after number x there is).there;
+            left = inl refl;
+          },
+        );
+      })
+
+  module _ (old : WorldOver K) (desks : old.desks ≡ 1) (number : ℕ) (keeper : K) (none : map.get old.nodes number ≡ None) where
+    -- the opening is refused
+    pub refused_opening : (new : WorldOver K) → new ≡ old → (given : K) (fault : Fault)
+        → (is_honest given → is_honest keeper × Follows (λ k k'. Opens 1 (IsOf number) k (Err fault) k') (may_hold keeper) (may_hold given))
+        → GivesBack is_honest may_hold old keeper new given (IsRefused number fault)
+    refused_opening new same given fault call =
+        subst (λ n. GivesBack is_honest may_hold old keeper n given (IsRefused number fault)) (sym same) (record {
+          honest = λ all left. (all, (call left).0);
+          comes = λ all left after k' is held.
+              let b = (call left).1 k' held in (
+                after,
+                b.0,
+                is,
+                b.1,
+                record {
+                  same = refl;
+                  joins = Joins.not_opened (no_node is_honest may_hold old after number none is)
+                      (subst (λ d. Opens d (IsOf number) b.0 (Err fault) k') (sym (is.desks ∙ desks)) b.2);
+                  left = left_by number b.0 k' fault b.2;
+                },
+              );
+        })
+
+    module _ (y : NodeOver K)
+        (opens : is_honest y.keeper → is_honest keeper × Follows (λ k k'. Opens 1 (IsOf number) k (Ok y.node) k') (may_hold keeper) (may_hold y.keeper)) where
+      -- it was opened, and refused then
+      refused_after : (fault : Fault)
+          → ((w : World) (k k' : Kept) → MayBe may_hold old w → map.get w.nodes number ≡ None → IsOpening number k y.node k' → IsRefused number fault w k w k')
+          → GivesBack is_honest may_hold old keeper old y.keeper (IsRefused number fault)
+      refused_after fault refuses = record {
+        honest = λ all left. (all, (opens left).0);
+        comes = λ all left after k' is held.
+            let b = (opens left).1 k' held in (
+              after,
+              b.0,
+              is,
+              b.1,
+              refuses after b.0 k' is (no_node is_honest may_hold old after number none is) (opening_of number b.0 y.node k' b.2),
+            );
+      }
+
+      pub refused_clash : (new : WorldOver K) → new ≡ old → (given : K) → given ≡ y.keeper → (name : Name)
+          → ((w : World) → AreNodes old w → IsLeastOf (IsClashAt w y.node.saved) name)
+          → GivesBack is_honest may_hold old keeper new given (IsRefused number (faults.Clash name))
+      refused_clash new same given is_given name least =
+          subst (λ n. GivesBack is_honest may_hold old keeper n given (IsRefused number (faults.Clash name))) (sym same)
+          (subst (λ g. GivesBack is_honest may_hold old keeper old g (IsRefused number (faults.Clash name))) (sym is_given)
+          (refused_after (faults.Clash name) (λ w k k' is absent o. record {
+            same = refl;
+            joins = Joins.clash absent o.own (subst (λ n. IsLeastName (IsClashAt w n.saved) name) o.node_is
+                (least_name (IsClashAt w y.node.saved) name (least w (are_nodes old w is))));
+            left = o.up;
+          })))
+
+      pub refused_memory : (new : WorldOver K) → new ≡ old → (given : K) → given ≡ y.keeper → (fault : Fault) → fault ≡ faults.Refused Memory
+          → GivesBack is_honest may_hold old keeper new given (IsRefused number fault)
+      refused_memory new same given is_given fault is_fault =
+          subst (λ n. GivesBack is_honest may_hold old keeper n given (IsRefused number fault)) (sym same)
+          (subst (λ g. GivesBack is_honest may_hold old keeper old g (IsRefused number fault)) (sym is_given)
+          (subst (λ f. GivesBack is_honest may_hold old keeper old y.keeper (IsRefused number f)) (sym is_fault)
+          (refused_after (faults.Refused Memory) (λ w k k' is absent o. record {
+            same = refl;
+            joins = Joins.not_opened absent (Opens.refused {left = k'} FailsToOpen.no_room (inr o.up));
+            left = inr o.up;
+          }))))
+
+      -- the world with the new node
+      with_it : (w : World) (k k' : Kept) → w.desks ≡ 1 → AreNodes old w → IsOpening number k y.node k' → AreNodes (over_with old number y) (joined w number k)
+      with_it w k k' one are o q = by_place (eq_by_cmp nat_cmp q number) refl
+        where
+          s : KeptNode
+          s = record { node = opened w.desks k; kept = raised k }
+
+          same : s.node ≡ y.node
+          same = ap (λ d. opened d k) one ∙ sym o.node_is
+
+          by_place : (b : Bool) → eq_by_cmp nat_cmp q number ≡ b
+              → MayBeNode (λ keeper k. Unit {0}) (map.get (map.insert old.nodes number y) q) (map.get (map.insert w.nodes number s) q)
+          by_place true e =
+              subst (λ p. MayBeNode (λ keeper k. Unit {0}) (map.get (map.insert old.nodes number y) p) (map.get (map.insert w.nodes number s) p)) (sym (same_number q number e))
+              (subst (λ o. MayBeNode (λ keeper k. Unit {0}) o (map.get (map.insert w.nodes number s) number)) (sym (here old.nodes number y))
+              (subst (λ o. MayBeNode (λ keeper k. Unit {0}) (Some y) o) (sym (here w.nodes number s)) (same, tt)))
+          by_place false e =
+              subst (λ o. MayBeNode (λ keeper k. Unit {0}) o (map.get (map.insert w.nodes number s) q)) (sym (at_other old.nodes number q y e))
+              (subst (λ o. MayBeNode (λ keeper k. Unit {0}) (map.get old.nodes q) o) (sym (at_other w.nodes number q s e)) (are q))
+
+      module _ (clear : (w : World) → AreNodes old w → (name : Name) → ¬ IsClashAt w y.node.saved name) where
+        clear_of : (w : World) (k k' : Kept) → AreNodes old w → IsOpening number k y.node k' → (name : Name) → ¬ IsClashAt w k.saved name
+        clear_of w k k' are o = subst (λ n. (name : Name) → ¬ IsClashAt w n.saved name) o.node_is (clear w are)
+
+        pub refused_stray : (new : WorldOver K) → new ≡ old → (given : K) → given ≡ y.keeper → (name : Name)
+            → ((w : World) → AreNodes (over_with old number y) w → IsLeastOf (IsStray w) name)
+            → GivesBack is_honest may_hold old keeper new given (IsRefused number (faults.Impostor name))
+        refused_stray new same given is_given name least =
+            subst (λ n. GivesBack is_honest may_hold old keeper n given (IsRefused number (faults.Impostor name))) (sym same)
+            (subst (λ g. GivesBack is_honest may_hold old keeper old g (IsRefused number (faults.Impostor name))) (sym is_given)
+            (refused_after (faults.Impostor name) (λ w k k' is absent o. record {
+              same = refl;
+              joins = Joins.impostor absent o.own (clear_of w k k' (are_nodes old w is) o)
+                  (least_name (IsStray (joined w number k)) name
+                  (least (joined w number k) (with_it w k k' (is.desks ∙ desks) (are_nodes old w is) o)));
+              left = o.up;
+            })))
+
+        -- the world before
+        abbrev without : World → World
+        without after = record {
+          desks = old.desks;
+          nodes = map.remove after.nodes number;
+          packets = old.packets;
+          audit = old.audit;
+        }
+
+        gone : (m : map.FinMap nat_cmp KeptNode) → map.get (map.remove m number) number ≡ None
+        gone m = map.get-remove nat_cmp_total m number number ∙ ap (λ b. cond b None (map.get m number)) (itself number)
+          where
+            itself : (q : ℕ) → eq_by_cmp nat_cmp q q ≡ true
+            itself q = ap is_eq (tied_itself nat_cmp_total q)
+
+        others : (m : map.FinMap nat_cmp KeptNode) (q : ℕ) → eq_by_cmp nat_cmp q number ≡ false → map.get (map.remove m number) q ≡ map.get m q
+        others m q e = map.get-remove nat_cmp_total m number q ∙ ap (λ b. cond b None (map.get m q)) e
+
+        nodes_before : (after : World) → MayBe may_hold (over_with old number y) after → (q : ℕ)
+            → MayBeNode may_hold (map.get old.nodes q) (map.get (map.remove after.nodes number) q)
+        nodes_before after is q = by_place (eq_by_cmp nat_cmp q number) refl
+          where
+            by_place : (b : Bool) → eq_by_cmp nat_cmp q number ≡ b → MayBeNode may_hold (map.get old.nodes q) (map.get (map.remove after.nodes number) q)
+            by_place true e =
+                subst (λ p. MayBeNode may_hold (map.get old.nodes p) (map.get (map.remove after.nodes number) p)) (sym (same_number q number e))
+                (subst (λ o. MayBeNode may_hold o (map.get (map.remove after.nodes number) number)) (sym none)
+                (subst (λ o. MayBeNode may_hold None o) (sym (gone after.nodes)) tt))
+            by_place false e =
+                subst (λ o. MayBeNode may_hold (map.get old.nodes q) o) (sym (others after.nodes q e))
+                (subst (λ o. MayBeNode may_hold o (map.get after.nodes q)) (at_other old.nodes number q y e) (is.nodes q))
+
+        may_be_without : (after : World) → MayBe may_hold (over_with old number y) after → MayBe may_hold old (without after)
+        may_be_without after is = record { desks = refl; nodes = nodes_before after is; packets = refl; audit = refl }
+
+        put_back : (m : map.FinMap nat_cmp KeptNode) (s : KeptNode) → map.get m number ≡ Some s → map.insert (map.remove m number) number s ≡ m
+        put_back m s at = same_map nat_cmp_total nat_cmp-IsAntisymmetric _ _ (λ q. by_place q (eq_by_cmp nat_cmp q number) refl)
+          where
+            by_place : (q : ℕ) (b : Bool) → eq_by_cmp nat_cmp q number ≡ b → map.get (map.insert (map.remove m number) number s) q ≡ map.get m q
+            by_place q true e =
+                subst (λ p. map.get (map.insert (map.remove m number) number s) p ≡ map.get m p) (sym (same_number q number e))
+                (here (map.remove m number) number s ∙ sym at)
+            by_place q false e = at_other (map.remove m number) number q s e ∙ others m q e
+
+        goes_on : (after : World) (k k' : Kept) → MayBe may_hold (over_with old number y) after → IsOpening number k y.node k'
+            → map.get after.nodes number ≡ Some (with_kept y.node k') → joined (without after) number k ≡ after
+        goes_on after k k' is o at =
+            let s : KeptNode = record { node = opened old.desks k; kept = raised k } in
+            let node_is : opened old.desks k ≡ y.node = ap (λ d. opened d k) desks ∙ sym o.node_is in
+            let there : map.get after.nodes number ≡ Some s = at ∙ (λ i. Some (record { node = sym node_is i; kept = o.up i })) in
+            let nodes : map.insert (map.remove after.nodes number) number s ≡ after.nodes = put_back after.nodes s there in
+            let packets : old.packets ++ [] ≡ after.packets = append-nil old.packets ∙ sym is.packets in
+            let audit : old.audit ++ [] ≡ after.audit = append-nil old.audit ∙ sym is.audit in
+            λ i. record { desks = sym is.desks i; nodes = nodes i; packets = packets i; audit = audit i }
+
+        honest_without : AreHonest is_honest (over_with old number y) → AreHonest is_honest old
+        honest_without all q n at = by_place (eq_by_cmp nat_cmp q number) refl
+          where
+            by_place : (b : Bool) → eq_by_cmp nat_cmp q number ≡ b → is_honest n.keeper
+            by_place true e = absurd (none_some (sym none ∙ ap (map.get old.nodes) (sym (same_number q number e)) ∙ at))
+              where
+                none_some : ◌≡◌ {A = Option (NodeOver K)} None (Some n) → ⊥
+                none_some h = cc
+            by_place false e = all q n (at_other old.nodes number q y e ∙ at)
+
+        pub takes_in : (new : WorldOver K) → new ≡ over_with old number y → (boot : ℕ) → boot ≡ y.node.boot → HasNamesOnce y.node.saved
+            → ((w : World) → AreNodes (over_with old number y) w → (name : Name) → ¬ IsStray w name)
+            → TakesIn is_honest may_hold old keeper new (λ w k w'. Joins w number k (reply.Booted boot) w')
+        takes_in new is_new boot is_boot names strays =
+            subst (λ n. TakesIn is_honest may_hold old keeper n (λ w k w'. Joins w number k (reply.Booted boot) w')) (sym is_new) (record {
+              honest = λ all. (honest_without all, (opens (all number y (here old.nodes number y))).0);
+              comes = λ all after is.
+                  let s = node_there is_honest may_hold (over_with old number y) after number y (here old.nodes number y) is in
+                  let b = (opens (all number y (here old.nodes number y))).1 s.kept s.held in
+                  let o = opening_of number b.0 y.node s.kept b.2 in
+                  let before = without after in
+                  let is_before = may_be_without after is in (
+                    before,
+                    b.0,
+                    is_before,
+                    b.1,
+                    subst (λ r. Joins before number b.0 (reply.Booted r) after) (sym (is_boot ∙ ap (λ n. n.boot) o.node_is))
+                        (subst (Joins before number b.0 (reply.Booted (b.0.boot + 1))) (goes_on after b.0 s.kept is o s.there)
+                        (Joins.joins (gone after.nodes) o.own (subst (λ n. HasNamesOnce n.saved) o.node_is names)
+                        (clear_of before b.0 s.kept (are_nodes old before is_before) o)
+                        (strays (joined before number b.0) (with_it before b.0 s.kept desks (are_nodes old before is_before) o)))),
+                  );
+            })
+
+-- what a `?` hands on
+pub handed_on : {T E : Type 0} (r : Result T E) (P : E → Type 0) (e : E) → IsErrAnd r (λ f. f ≡ e) → P e → IfErr r P
+handed_on (Ok x) P e h p = tt
+handed_on (Err f) P e h p = subst P (sym h) p
+
+-- ---- the map
+
+pub some_none : {A : Type 0} (x : A) → ◌≡◌ {A = Option A} (Some x) None → ⊥
+some_none x h = cc
+
+pub some_is : {A : Type 0} (x y : A) → ◌≡◌ {A = Option A} (Some x) (Some y) → x ≡ y
+some_is x y h = cc
+
+pub record IsThere {A : Type 0} (o : Option A) : Type 0 where
+  pub what : A
+  pub is : o ≡ Some what
+
+pub not_some : {A : Type 0} (o : Option A) → o ≡ None → IsSome o → ⊥
+not_some o e h = false≢true (sym (ap is_some e) ∙ h)
+
+pub it_is_there : {K : Type 0} (old new : WorldOver K) (number : ℕ) (y : NodeOver K) → new ≡ over_with old number y → map.get new.nodes number ≡ Some y
+it_is_there {K} old new number y e = ap (λ (t : WorldOver K). map.get t.nodes number) e ∙ here old.nodes number y
+
+pub is_there : {A : Type 0} (o : Option A) (b : Bool) → b ≡ is_some o → b ≡ true → IsThere o
+is_there None b e h = absurd (cc)
+is_there (Some x) b e h = record { what = x; is = refl }
+
+pub is_not_there : {A : Type 0} (o : Option A) (b : Bool) → b ≡ is_some o → b ≡ false → o ≡ None
+is_not_there None b e h = refl
+is_not_there (Some x) b e h = absurd (cc)
+
+module _ {K : Type 0} (es fs : List (ℕ × NodeOver K)) (packets : List Sent) (audit : List Admission) (w : WorldOver K)
+    (is : of_entries es packets audit ≡ w) (number : ℕ) where
+  -- a node was put
+  pub added : (y : NodeOver K)
+      → ((q : ℕ) → lookup (is_at (nat_cmp q)) fs ≡ cond (is_at (nat_cmp number) q) (Some y) (lookup (is_at (nat_cmp q)) es))
+      → of_entries fs packets audit ≡ over_with w number y
+  added y h =
+      let nodes = one_put nat_cmp_total nat_cmp-IsAntisymmetric es fs w.nodes number y (ap (λ (t : WorldOver K). t.nodes) is) h in
+      λ i. record {
+        desks = (ap (λ (t : WorldOver K). t.desks) is) i;
+        nodes = nodes i;
+        packets = (ap (λ (t : WorldOver K). t.packets) is) i;
+        audit = (ap (λ (t : WorldOver K). t.audit) is) i;
+      }
+
+  -- the node that was put was taken away
+  pub removed : ((q : ℕ) → lookup (is_at (nat_cmp q)) fs ≡ cond (is_at (nat_cmp number) q) None (lookup (is_at (nat_cmp q)) es))
+      → (before : WorldOver K) (y : NodeOver K) → w ≡ over_with before number y → map.get before.nodes number ≡ None
+      → of_entries fs packets audit ≡ before
+  removed h before y e none =
+      let gone = one_gone nat_cmp_total nat_cmp-IsAntisymmetric es fs w.nodes number (ap (λ (t : WorldOver K). t.nodes) is) h in
+      let nodes = gone ∙ ap (λ (t : WorldOver K). map.remove t.nodes number) e ∙ taken_back before.nodes y none in
+      λ i. record {
+        desks = (ap (λ (t : WorldOver K). t.desks) (is ∙ e)) i;
+        nodes = nodes i;
+        packets = (ap (λ (t : WorldOver K). t.packets) (is ∙ e)) i;
+        audit = (ap (λ (t : WorldOver K). t.audit) (is ∙ e)) i;
+      }
+    where
+      taken_back : (m : map.FinMap nat_cmp (NodeOver K)) (y : NodeOver K) → map.get m number ≡ None → map.remove (map.insert m number y) number ≡ m
+      taken_back m y none = same_map nat_cmp_total nat_cmp-IsAntisymmetric _ _ (λ q.
+          map.get-remove nat_cmp_total (map.insert m number y) number q ∙ by_place q (eq_by_cmp nat_cmp q number) refl)
+        where
+          by_place : (q : ℕ) (b : Bool) → eq_by_cmp nat_cmp q number ≡ b
+              → cond (eq_by_cmp nat_cmp q number) None (map.get (map.insert m number y) q) ≡ map.get m q
+          by_place q true e =
+              ap (λ b. cond b None (map.get (map.insert m number y) q)) e ∙ sym none ∙ ap (map.get m) (sym (same_number q number e))
+          by_place q false e =
+              ap (λ b. cond b None (map.get (map.insert m number y) q)) e ∙ at_other m number q y e

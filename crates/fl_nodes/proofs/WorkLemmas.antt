@@ -1,0 +1,256 @@
+-- A job at a node.
+use Rattle.std.proofs.Common.{◌≡◌, ◌≤◌, ◌<◌, ◌++◌, ◌∙◌, refl, sym, ap, subst, ℕ, suc, List, [], ◌∷◌, length, Option, Some, None, Result, Ok, Err, arith, inl}
+use Rattle.std.specs.Prelude.{◌+◌, min, max, IsSome, OnOk}
+use Rattle.std.specs.List.{Contains}
+use Rattle.std.proofs.lemmas.List.{append-nil}
+use Rattle.fl_labels.specs.declared.cap.Cap.TheVariants.{Grow}
+use Rattle.fl_labels.specs.declared.pid.Pid.{Pid}
+use Rattle.fl_message.specs.declared.message.Data.{Data}
+use Rattle.fl_wire.specs.declared.packet.Packet.TheVariants as packet
+use Rattle.fl_jobs.specs.declared.job.Act.{Act}
+use Rattle.fl_jobs.specs.declared.job.Act.TheVariants.{Order, Relabel, Ask, Spawn, Exit, Drop, Enter, Emit, Mail}
+use Rattle.fl_jobs.specs.declared.job.Mail as mails
+use Rattle.fl_jobs.specs.declared.job.Mail.TheVariants.{Open, Tune, Close, Send, Take}
+use Rattle.fl_jobs.specs.declared.job.Job.{Job}
+use Rattle.fl_jobs.specs.declared.job.Job.TheVariants.{Proc, By, Member, Arrive}
+use Rattle.fl_jobs.specs.declared.answer.Refusal.TheVariants.{Memory}
+use Rattle.fl_jobs.specs.declared.answer.Reply.TheVariants as replies
+use Rattle.fl_bench.specs.declared.process.Process.{Process}
+use Rattle.fl_bench.specs.laws.Orders.{sending_at}
+use Rattle.fl_system.specs.declared.admission.Admission.{Admission}
+use Rattle.fl_system.specs.declared.admission.Admission.TheVariants.{Grant}
+use Rattle.fl_system.specs.declared.admission.Party.{Party}
+use Rattle.fl_system.specs.declared.answer.Answer.{Answer}
+use Rattle.fl_system.specs.declared.answer.Answer.TheVariants as answers
+use Rattle.fl_system.specs.declared.answer.Fault.{Fault}
+use Rattle.fl_system.specs.declared.answer.Fault.TheVariants as faults
+use Rattle.fl_system.specs.declared.reply.Reply.{Reply}
+use Rattle.fl_system.specs.declared.reply.Reply.TheVariants as reply
+use Rattle.fl_system.specs.declared.sent.Sent.{Sent}
+use Rattle.fl_system.specs.declared.state.Batch.{Batch}
+use Rattle.fl_system.specs.declared.state.State.{State}
+use Rattle.fl_system.specs.declared.state.State.TheVariants.{Running, Stopped}
+use Rattle.fl_system.specs.Audit.{party, entries, entries_by}
+use Rattle.fl_system.specs.Jobs.{Jobs, Looks, place_of}
+use Rattle.fl_system.specs.Numbered.{item_at, with_item}
+use Rattle.fl_system.specs.Processes.{process_of, process_at}
+use Rattle.fl_system.specs.State.{NodeState}
+use Rattle.fl_system.specs.Waiting.{IsRunning, NotRunning}
+use Rattle.fl_system.specs.WorldJobs.{MayBeNoted, party_at, sent_message}
+use Rattle.fl_audit.specs.Drafts.{asker_of, drafted, listed}
+use Rattle.fl_audit.specs.Senders.{sender_of}
+use Rattle.fl_audit.specs.declared.draft.Draft.{Draft}
+use Rattle.fl_audit.specs.declared.draft.Draft.TheVariants.{Nothing, Always, IfYes, IfEntered}
+use Rattle.fl_nodes.specs.parts.Working.{HasRoom, IsNotable, IsUnready, Shows, Works, Worked}
+
+-- ---- drafts
+
+in_one : {A : Type 0} (x : A) → Contains (x ∷ []) x
+in_one x = (0, omega arith, refl)
+
+pub notable : (draft : Draft) → (draft ≡ Nothing → ⊥) → IsNotable draft
+notable Nothing some = absurd (some refl)
+notable (Always entry) some = record { answer = answers.Reply replies.Done; entry = entry; noted = in_one entry }
+notable (IfYes entry) some = record { answer = answers.Reply replies.Yes; entry = entry; noted = in_one entry }
+notable (IfEntered p login secret) some = record { answer = answers.Reply (replies.Entered (Grow login)); entry = _; noted = in_one _ }
+
+pub no_need : (draft : Draft) (len capacity : ℕ) → draft ≡ Nothing → HasRoom draft len capacity
+no_need draft len capacity e = subst (λ d. HasRoom d len capacity) (sym e) tt
+
+pub roomy : (draft : Draft) (len capacity : ℕ) → len < capacity → HasRoom draft len capacity
+roomy Nothing len capacity h = tt
+roomy (Always entry) len capacity h = h
+roomy (IfYes entry) len capacity h = h
+roomy (IfEntered p login secret) len capacity h = h
+
+pub room_if_ok : {T E : Type 0} (r : Result T E) (draft : Draft) (len capacity : ℕ) → OnOk r (len + 1 ≤ capacity) → OnOk r (HasRoom draft len capacity)
+room_if_ok (Ok x) draft len capacity h = roomy draft len capacity (omega (arith, h))
+room_if_ok (Err e) draft len capacity h = tt
+
+pub ok_or_not : {T E : Type 0} (r : Result T E) (draft : Draft) (len capacity : ℕ) → len + 1 ≤ capacity → OnOk r (HasRoom draft len capacity)
+ok_or_not (Ok x) draft len capacity h = roomy draft len capacity (omega (arith, h))
+ok_or_not (Err e) draft len capacity h = tt
+
+-- who notes something has room
+pub has_room : (draft : Draft) (a : Answer) (entry : Admission) (len capacity : ℕ) → entry ∷ [] ≡ drafted draft a
+    → HasRoom draft len capacity → len < capacity
+has_room Nothing a entry len capacity e h = absurd (cc)
+has_room (Always x) a entry len capacity e h = h
+has_room (IfYes x) a entry len capacity e h = h
+has_room (IfEntered p login secret) a entry len capacity e h = h
+
+pub listed_is : {A : Type 0} (o : Option A) (x : A) (l : List A) → o ≡ Some x → listed o ≡ l → x ∷ [] ≡ l
+listed_is o x l is e = ap listed (sym is) ∙ e
+
+-- ---- one desk
+
+record OneView (views : List ℕ) : Type 0 where
+  seen : ℕ
+  at : item_at views 1 ≡ Some seen
+  same : with_item views 1 seen ≡ views
+
+one_view : (views : List ℕ) → length views ≡ 1 → OneView views
+one_view [] e = absurd (omega (arith, e))
+one_view (x ∷ xs) e = record { seen = x; at = refl; same = refl }
+
+-- what the whole list shows is seen by who looks further too
+abbrev looks_upto : (n : NodeState) (desk upto v : ℕ) → length n.published ≤ upto → Looks n desk (length n.published) v → Looks n desk upto v
+looks_upto n desk upto v whole look =
+    let same : min (length n.published) (length n.published) ≡ min upto (length n.published) = omega (arith, whole) in
+    record { running = look.running; seen = look.seen; has_seen = look.has_seen; sees = look.sees ∙ ap (max look.seen) same }
+
+pub jobs_upto : (n : NodeState) (desk upto : ℕ) (job : Job) (result : Result Answer Fault) (n' : NodeState) → length n.published ≤ upto
+    → Jobs n desk (length n.published) job result n' → Jobs n desk upto job result n'
+jobs_upto n desk upto job result n' whole (Jobs.stopped h) = Jobs.stopped h
+jobs_upto n desk upto job result n' whole (Jobs.no_room look less seen) = Jobs.no_room (looks_upto n desk upto _ whole look) less seen
+jobs_upto n desk upto job result n' whole (Jobs.refused look h) = Jobs.refused (looks_upto n desk upto _ whole look) h
+jobs_upto n desk upto job result n' whole (Jobs.replied look h) = Jobs.replied (looks_upto n desk upto _ whole look) h
+jobs_upto n desk upto job result n' whole (Jobs.sent look h) = Jobs.sent (looks_upto n desk upto _ whole look) h
+jobs_upto n desk upto job result n' whole (Jobs.begun look h b) = Jobs.begun (looks_upto n desk upto _ whole look) h b
+jobs_upto n desk upto job result n' whole (Jobs.not_begun look h b) = Jobs.not_begun (looks_upto n desk upto _ whole look) h b
+
+-- ---- who sends
+
+record IsSentBy (n : NodeState) (job : Job) (d : Data) : Type 0 where
+  process : Process
+  stands : process_of n d.sender ≡ Some process
+  asked : job ≡ By d.sender (Mail (Send d.from d.receiver d.to d.message))
+
+sent_by : (n : NodeState) (desk upto : ℕ) (job : Job) (d : Data) (n' : NodeState) → Jobs n desk upto job (Ok (answers.Out d)) n' → IsSentBy n job d
+sent_by n desk upto job d n' (Jobs.sent look did) =
+    let s = sending_at did.does in
+    record {
+      process = s.process;
+      stands = ap (λ o. process_at o d.sender) (ap (λ j. item_at n.benches (place_of n j)) (sym s.asked) ∙ did.stands) ∙ s.lived;
+      asked = s.asked;
+    }
+
+granted : (n : NodeState) (job : Job) (d : Data) (a : Answer) (s : IsSentBy n job d)
+    → entries n job a ≡ Grant (party d.sender s.process) d.message.caps ∷ []
+granted n job d a s =
+    ap (λ j. entries n j a) s.asked
+    ∙ ap (λ o. entries_by o d.sender (Mail (Send d.from d.receiver d.to d.message)) a) s.stands
+
+-- a message that is sent is noted, so that there is room for it
+pub sends_in_room : (n : NodeState) (desk upto : ℕ) (job : Job) (d : Data) (n' : NodeState) (draft : Draft) (len capacity : ℕ)
+    → Jobs n desk upto job (Ok (answers.Out d)) n' → ((a : Answer) → drafted draft a ≡ entries n job a)
+    → HasRoom draft len capacity → len < capacity
+sends_in_room n desk upto job d n' draft len capacity did drafts room =
+    let s = sent_by n desk upto job d n' did in
+    has_room draft (answers.Out d) _ len capacity (sym (drafts (answers.Out d) ∙ granted n job d (answers.Out d) s)) room
+
+sender_is : (n : NodeState) (desk upto : ℕ) (job : Job) (d : Data) (n' : NodeState) → Jobs n desk upto job (Ok (answers.Out d)) n'
+    → sender_of (asker_of n job) job ≡ party_at d.sender (process_of n d.sender)
+sender_is n desk upto job d n' did = ap (λ j. sender_of (asker_of n j) j) (sent_by n desk upto job d n' did).asked
+
+-- who would send is noted
+granted_by : (n : NodeState) (pid : Pid) (mail : mails.Mail) (o : Option Process) → process_of n pid ≡ o → IsSome (sender_of o (By pid (Mail mail)))
+    → MayBeNoted n (By pid (Mail mail))
+granted_by n pid (Send from receiver to message) None e h = absurd (cc)
+granted_by n pid (Send from receiver to message) (Some p) e h = record {
+  answer = answers.Reply replies.Done;
+  entry = Grant (party pid p) message.caps;
+  noted = subst (λ o. Contains (entries_by o pid (Mail (Send from receiver to message)) (answers.Reply replies.Done)) (Grant (party pid p) message.caps))
+      (sym e) (in_one _);
+}
+granted_by n pid (Open mode labels) o e h = absurd (cc)
+granted_by n pid (Tune endpoint labels) o e h = absurd (cc)
+granted_by n pid (Close endpoint) o e h = absurd (cc)
+granted_by n pid Take o e h = absurd (cc)
+
+sender_noted_by : (n : NodeState) (pid : Pid) (act : Act) → IsSome (sender_of (process_of n pid) (By pid act)) → MayBeNoted n (By pid act)
+sender_noted_by n pid (Mail mail) h = granted_by n pid mail (process_of n pid) refl h
+sender_noted_by n pid (Order order) h = absurd (cc)
+sender_noted_by n pid (Relabel side label) h = absurd (cc)
+sender_noted_by n pid (Ask c) h = absurd (cc)
+sender_noted_by n pid (Spawn caps) h = absurd (cc)
+sender_noted_by n pid Exit h = absurd (cc)
+sender_noted_by n pid (Drop c) h = absurd (cc)
+sender_noted_by n pid (Enter login secret) h = absurd (cc)
+sender_noted_by n pid (Emit bytes) h = absurd (cc)
+
+pub sender_noted : (n : NodeState) (job : Job) → IsSome (sender_of (asker_of n job) job) → MayBeNoted n job
+sender_noted n (By pid act) h = sender_noted_by n pid act h
+sender_noted n Proc h = absurd (cc)
+sender_noted n (Member root c) h = absurd (cc)
+sender_noted n (Arrive d) h = absurd (cc)
+
+pub draft_noted : (n : NodeState) (job : Job) (draft : Draft) → ((a : Answer) → drafted draft a ≡ entries n job a) → IsNotable draft → MayBeNoted n job
+draft_noted n job draft drafts h = record {
+  answer = h.answer;
+  entry = h.entry;
+  noted = subst (λ l. Contains l h.entry) (drafts h.answer) h.noted;
+}
+
+-- ---- what comes of a job
+
+pub is_running : (s : State) → ((doubt : Option Batch) → s ≡ Stopped doubt → ⊥) → IsRunning s
+is_running (Running pending) h = tt
+is_running (Stopped doubt) h = h doubt refl
+
+pub not_running : (s : State) (doubt : Option Batch) → s ≡ Stopped doubt → NotRunning s faults.Stopped
+not_running s doubt e = subst (λ s. NotRunning s faults.Stopped) (sym e) refl
+
+module _ (number : ℕ) (n : NodeState) (upto : ℕ) (job : Job) (packets : List Sent) (audit : List Admission) where
+  unsent : (packets_after : List Sent) (audit_after : List Admission) (result : Reply) (n' : NodeState) → packets_after ≡ packets → audit_after ≡ audit
+      → Works number n 1 upto job (length packets) result n' [] [] → Worked number n 1 upto job result n' packets packets_after audit audit_after
+  unsent packets_after audit_after result n' same_packets same_audit works = record {
+    sent = [];
+    admitted = [];
+    sent_is = same_packets ∙ sym (append-nil packets);
+    admitted_is = same_audit ∙ sym (append-nil audit);
+    works = works;
+  }
+
+  no_room : (packets_after : List Sent) (audit_after : List Admission) → packets_after ≡ packets → audit_after ≡ audit
+      → IsRunning n.state → length n.views ≡ 1 → MayBeNoted n job
+      → Worked number n 1 upto job (reply.Refused (faults.Refused Memory)) n packets packets_after audit audit_after
+  no_room packets_after audit_after same_packets same_audit running one noted =
+      let view = one_view n.views one in
+      let look : Looks n 1 upto (max view.seen (min upto (length n.published))) = record { running = running; seen = view.seen; has_seen = view.at; sees = refl } in
+      unsent packets_after audit_after _ n same_packets same_audit
+      (subst (λ (views : List ℕ). Works number n 1 upto job (length packets) (reply.Refused (faults.Refused Memory)) (record n { views = views }) [] [])
+      view.same (Works.no_room look (inl refl) noted))
+
+  pub unready : (packets_after : List Sent) (audit_after : List Admission) (fault : Fault) → packets_after ≡ packets → audit_after ≡ audit
+      → length n.views ≡ 1 → IsUnready n job fault
+      → Worked number n 1 upto job (reply.Refused fault) n packets packets_after audit audit_after
+  unready packets_after audit_after fault same_packets same_audit one (IsUnready.stopped h) =
+      unsent packets_after audit_after _ n same_packets same_audit (Works.refused (Jobs.stopped h))
+  unready packets_after audit_after fault same_packets same_audit one (IsUnready.no_room running noted) =
+      no_room packets_after audit_after same_packets same_audit running one noted
+
+  pub not_done : (packets_after : List Sent) (audit_after : List Admission) (fault : Fault) (n' : NodeState) → packets_after ≡ packets → audit_after ≡ audit
+      → Jobs n 1 upto job (Err fault) n' → Worked number n 1 upto job (reply.Refused fault) n' packets packets_after audit audit_after
+  not_done packets_after audit_after fault n' same_packets same_audit h = unsent packets_after audit_after _ n' same_packets same_audit (Works.refused h)
+
+  pub done : (packets_room packets_after : List Sent) (audit_after : List Admission) (a : Answer) (n' : NodeState) (result : Reply) (sender : Option Party)
+      → packets_room ≡ packets → Jobs n 1 upto job (Ok a) n' → sender ≡ sender_of (asker_of n job) job
+      → audit_after ≡ audit ++ entries n job a → Shows number sender packets_room a result packets_after
+      → Worked number n 1 upto job result n' packets packets_after audit audit_after
+  done packets_room packets_after audit_after (answers.Reply r) n' result sender same did known noted shown =
+      subst (λ x. Worked number n 1 upto job x n' packets packets_after audit audit_after) (sym shown.0) (record {
+        sent = [];
+        admitted = entries n job (answers.Reply r);
+        sent_is = shown.1 ∙ same ∙ sym (append-nil packets);
+        admitted_is = noted;
+        works = Works.replied did;
+      })
+  done packets_room packets_after audit_after (answers.Begun name) n' result sender same did known noted shown =
+      subst (λ x. Worked number n 1 upto job x n' packets packets_after audit audit_after) (sym shown.0) (record {
+        sent = [];
+        admitted = entries n job (answers.Begun name);
+        sent_is = shown.1 ∙ same ∙ sym (append-nil packets);
+        admitted_is = noted;
+        works = Works.begun did;
+      })
+  done packets_room packets_after audit_after (answers.Out d) n' result sender same did known noted shown =
+      let party_is : sender ≡ party_at d.sender (process_of n d.sender) = known ∙ sender_is n 1 upto job d n' did in
+      subst (λ x. Worked number n 1 upto job x n' packets packets_after audit audit_after)
+      (sym (shown.0 ∙ ap (λ (l : List Sent). reply.Sent (suc (length l)) 1) same)) (record {
+        sent = sent_message number n d ∷ [];
+        admitted = entries n job (answers.Out d);
+        sent_is = shown.1 ∙ (λ i. same i ++ record { from = number; packet = packet.Data d; sender = party_is i } ∷ []);
+        admitted_is = noted;
+        works = Works.sends did;
+      })

@@ -1,0 +1,19 @@
+use Rattle.std.proofs.Common.{◌∙◌, ◌++◌, ap}
+use Rattle.fl_audit.specs.Drafts.{listed}
+use Rattle.fl_nodes.proofs.BringLemmas.{brought, not_brought, unready}
+use Rattle.fl_nodes.proofs.bringing.bring.Goals as goal
+
+pub returns-in-Err-clause-brings : goal.returns-in-Err-clause-brings
+returns-in-Err-clause-brings g c =
+    unready c.args.node.now.node c.args.sender.now c.args.message.now c.args.audit.now.items _ c.in-Err.fault c.prepare.ensures.audit c.in-Err.ensures.err
+
+pub returns-in-Ok-arrive-clause-brings : goal.returns-in-Ok-arrive-clause-brings
+returns-in-Ok-arrive-clause-brings g c =
+    brought c.args.node.now.node c.args.sender.now c.args.message.now c.args.audit.now.items _ c.in-Ok.made.message c.in-Ok-arrive.reply c.arrive.new.self.node
+    c.in-Ok.made.entry c.in-Ok.ensures.message c.in-Ok.ensures.entry
+    (c.note.ensures ∙ ap (λ l. l ++ listed c.in-Ok.made.entry) c.prepare.ensures.audit) c.in-Ok-arrive.ensures.arrives
+
+pub returns-in-Err-arrive-clause-brings : goal.returns-in-Err-arrive-clause-brings
+returns-in-Err-arrive-clause-brings g c =
+    not_brought c.args.node.now.node c.args.sender.now c.args.message.now c.args.audit.now.items _ c.in-Ok.made.message c.in-Err-arrive.fault c.arrive.new.self.node
+    c.in-Ok.ensures.message c.prepare.ensures.audit c.in-Err-arrive.ensures.arrives

@@ -1,0 +1,31 @@
+use Rattle.std.proofs.Common.{◌∙◌, sym, ap, ℕ}
+use Rattle.std.specs.BTreeMap.{BTreeMap}
+use Rattle.fl_node.specs.Over.{NodeOver}
+use Rattle.fl_nodes.proofs.Entries.{held, changed, unchanged}
+use Rattle.fl_nodes.proofs.JoinLemmas.{not_there, spare_none, reopened, is_spare}
+use Rattle.fl_nodes.proofs.nodes.Nodes.reopen.Goals as goal
+
+pub returns-in_default-clause-reopens : goal.returns-in_default-clause-reopens
+returns-in_default-clause-reopens g c =
+    not_there g.K.Keeper.is_honest g.K.Keeper.may_hold c.args.self.now _ c.args.number c.args.keeper
+    (unchanged c.self.inside.all.entries _ c.self.inside.sent.items c.self.inside.audit.items c.args.self.now c.self.view_is (ap (λ (t : BTreeMap ℕ (NodeOver g.row.K.Denot)). t.entries) c.get_mut.follows.holds-at-none))
+    (sym (held c.self.inside.all.entries c.self.inside.all.entries c.self.inside.sent.items c.self.inside.audit.items c.args.self.now c.self.view_is c.args.number) ∙ sym c.in_default.ensures.value)
+
+pub returns-in_default-clause-given : goal.returns-in_default-clause-given
+returns-in_default-clause-given g c =
+    spare_none _ c.args.keeper
+    (sym (held c.self.inside.all.entries c.self.inside.all.entries c.self.inside.sent.items c.self.inside.audit.items c.args.self.now c.self.view_is c.args.number) ∙ sym c.in_default.ensures.value)
+
+pub returns-clause-reopens : goal.returns-clause-reopens
+returns-clause-reopens g c =
+    reopened g.K.Keeper.is_honest g.K.Keeper.may_hold c.args.self.now _ c.args.number c.args.keeper _ c.in-Some.node.now c.reopen_over-result.new.self
+    (sym (held c.self.inside.all.entries c.self.inside.all.entries c.self.inside.sent.items c.self.inside.audit.items c.args.self.now c.self.view_is c.args.number) ∙ sym c.in-Some.ensures.value)
+    (changed c.self.inside.all.entries _ c.self.inside.sent.items c.self.inside.audit.items c.args.self.now c.self.view_is c.args.number c.in-Some.node.now c.reopen_over-result.new.self (sym c.in-Some.ensures.value) (c.get_mut.follows.holds c.reopen_over-result.new.self).0)
+    _ c.reopen_over-result.ensures.running c.reopen_over-result.ensures.given c.reopen_over-result.ensures.stopped _ c.opened.ensures
+
+pub returns-clause-given : goal.returns-clause-given
+returns-clause-given g c =
+    is_spare g.K.Keeper.is_honest g.K.Keeper.may_hold c.args.self.now _ c.args.number c.args.keeper _ c.in-Some.node.now c.reopen_over-result.new.self
+    (sym (held c.self.inside.all.entries c.self.inside.all.entries c.self.inside.sent.items c.self.inside.audit.items c.args.self.now c.self.view_is c.args.number) ∙ sym c.in-Some.ensures.value)
+    (changed c.self.inside.all.entries _ c.self.inside.sent.items c.self.inside.audit.items c.args.self.now c.self.view_is c.args.number c.in-Some.node.now c.reopen_over-result.new.self (sym c.in-Some.ensures.value) (c.get_mut.follows.holds c.reopen_over-result.new.self).0)
+    _ c.reopen_over-result.ensures.running c.reopen_over-result.ensures.given c.reopen_over-result.ensures.stopped

@@ -1,0 +1,82 @@
+-- What a job does at a node, and what it sends and has noted.
+use Rattle.std.specs.Prelude.{◌≡◌, ◌⊎◌, ◌<◌, ◌++◌, ℕ, suc, List, [], ◌∷◌, length}
+use Rattle.std.specs.List.{Contains}
+use Rattle.std.specs.declared.option.Option.{Option}
+use Rattle.std.specs.declared.result.Result.TheVariants.{Ok, Err}
+use Rattle.fl_labels.specs.declared.name.Name.{Name}
+use Rattle.fl_message.specs.declared.message.Data.{Data}
+use Rattle.fl_wire.specs.declared.packet.Packet.TheVariants as packet
+use Rattle.fl_jobs.specs.declared.job.Job.{Job}
+use Rattle.fl_jobs.specs.declared.answer.Reply as jobs
+use Rattle.fl_jobs.specs.declared.answer.Refusal.TheVariants.{Memory}
+use Rattle.fl_system.specs.declared.admission.Admission.{Admission}
+use Rattle.fl_system.specs.declared.admission.Party.{Party}
+use Rattle.fl_system.specs.declared.answer.Answer.{Answer}
+use Rattle.fl_system.specs.declared.answer.Answer.TheVariants as answers
+use Rattle.fl_system.specs.declared.answer.Fault.{Fault}
+use Rattle.fl_system.specs.declared.answer.Fault.TheVariants as faults
+use Rattle.fl_system.specs.declared.reply.Reply.{Reply}
+use Rattle.fl_system.specs.declared.reply.Reply.TheVariants.{Job as Answered, Begun, Sent as HasSent, Refused}
+use Rattle.fl_system.specs.declared.sent.Sent.{Sent}
+use Rattle.fl_system.specs.Audit.{entries}
+use Rattle.fl_system.specs.Jobs.{Jobs, Looks, looking}
+use Rattle.fl_system.specs.State.{NodeState}
+use Rattle.fl_system.specs.Waiting.{IsRunning, NotRunning}
+use Rattle.fl_system.specs.WorldJobs.{MayBeNoted, sent_message}
+use Rattle.fl_audit.specs.Drafts.{drafted}
+use Rattle.fl_audit.specs.declared.draft.Draft.{Draft}
+use Rattle.fl_audit.specs.declared.draft.Draft.TheVariants.{Nothing, Always, IfYes, IfEntered}
+
+-- room for one more, unless nothing would be noted
+abbrev pub HasRoom : Draft → ℕ → ℕ → Type 0
+HasRoom Nothing len capacity = Unit {0}
+HasRoom (Always entry) len capacity = len < capacity
+HasRoom (IfYes entry) len capacity = len < capacity
+HasRoom (IfEntered p login secret) len capacity = len < capacity
+
+-- some answer would be noted
+pub record IsNotable (draft : Draft) : Type 0 where
+  pub answer : Answer
+  pub entry : Admission
+  pub noted : Contains (drafted draft answer) entry
+
+-- why a job is not done: the node is stopped, or there is no room for what would be noted of it
+pub data IsUnready (n : NodeState) (job : Job) : Fault → Type 0 where
+  stopped : {fault : Fault} → NotRunning n.state fault → IsUnready n job fault
+  no_room : IsRunning n.state → MayBeNoted n job → IsUnready n job (faults.Refused Memory)
+
+-- an answer as it is shown, and the packets after it
+abbrev pub Shows : ℕ → Option Party → List Sent → Answer → Reply → List Sent → Type 0
+Shows number sender packets (answers.Reply reply) shown after =
+    (shown ≡ Answered reply) × (after ≡ packets)
+Shows number sender packets (answers.Begun name) shown after =
+    (shown ≡ Begun name) × (after ≡ packets)
+Shows number sender packets (answers.Out d) shown after =
+    (shown ≡ HasSent (suc (length packets)) 1)
+    × (after ≡ packets ++ record { from = number; packet = packet.Data d; sender = sender } ∷ [])
+
+-- The job at a desk of the node n, of this number, where so many packets were sent: the answer, the node after it, what is
+-- sent, and what is noted.
+pub data Works (number : ℕ) (n : NodeState) (desk upto : ℕ) (job : Job) (count : ℕ)
+    : Reply → NodeState → List Sent → List Admission → Type 0 where
+  refused : {fault : Fault} {n' : NodeState} → Jobs n desk upto job (Err fault) n'
+      → Works number n desk upto job count (Refused fault) n' [] []
+  replied : {reply : jobs.Reply} {n' : NodeState} → Jobs n desk upto job (Ok (answers.Reply reply)) n'
+      → Works number n desk upto job count (Answered reply) n' [] (entries n job (answers.Reply reply))
+  begun : {name : Name} {n' : NodeState} → Jobs n desk upto job (Ok (answers.Begun name)) n'
+      → Works number n desk upto job count (Begun name) n' [] (entries n job (answers.Begun name))
+  sends : {d : Data} {n' : NodeState} → Jobs n desk upto job (Ok (answers.Out d)) n'
+      → Works number n desk upto job count (HasSent (suc count) 1) n'
+      (sent_message number n d ∷ []) (entries n job (answers.Out d))
+  no_room : {v seen : ℕ} (look : Looks n desk upto v) → (seen ≡ look.seen) ⊎ (seen ≡ v)
+      → MayBeNoted n job
+      → Works number n desk upto job count (Refused (faults.Refused Memory)) (looking n desk seen) [] []
+
+-- with the packets and what was noted before and after
+pub record Worked (number : ℕ) (n : NodeState) (desk upto : ℕ) (job : Job) (result : Reply) (after : NodeState)
+    (packets packets_after : List Sent) (audit audit_after : List Admission) : Type 0 where
+  pub sent : List Sent
+  pub admitted : List Admission
+  pub sent_is : packets_after ≡ packets ++ sent
+  pub admitted_is : audit_after ≡ audit ++ admitted
+  pub works : Works number n desk upto job (length packets) result after sent admitted

@@ -1,0 +1,173 @@
+//! A job at a node, with what it sends and what is noted of it.
+ghost use Rattle.std.specs.Prelude.{◌≡◌, ◌≤◌, ◌<◌, ◌++◌, length, IfOk, IfErr, OnOk, OnErr};
+ghost use Rattle.std.specs.Option.{option_copied};
+ghost use Rattle.std.specs.Vec.{vec_len, vec_capacity};
+ghost use Rattle.fl_system.specs.declared.answer.Answer.TheVariants as answers;
+ghost use Rattle.fl_system.specs.Audit.{entries};
+ghost use Rattle.fl_system.specs.WorldJobs.{MayBeNoted};
+ghost use Rattle.fl_audit.specs.Drafts.{asker_of, drafted};
+ghost use Rattle.fl_audit.specs.Senders.{sender_of};
+ghost use Rattle.fl_nodes.specs.parts.Working.{HasRoom, IsNotable, IsUnready, Shows, Worked};
+
+use fl_audit::draft::Draft;
+use fl_audit::party::sender;
+use fl_bench::process::Process;
+use fl_jobs::answer::Refusal;
+use fl_jobs::job::Job;
+use fl_node::node::Node;
+use fl_store::keeper::Keeper;
+use fl_system::admission::{Admission, Party};
+use fl_system::answer::{Answer, Fault};
+use fl_system::reply::Reply;
+use fl_system::sent::Sent;
+use fl_system::state::State;
+use fl_wire::packet::Packet;
+use std::alloc::{AllocError, Global};
+
+// The process that asks for the job, if one does.
+fn asker<'a, K: Keeper>(node: &'a Node<K>, job: &Job) -> Option<&'a Process>
+    ensures { option_copied result ≡ asker_of node.now.node job.now }
+{
+    match job {
+        Job::By(pid, _) => node.process(*pid),
+        Job::Proc | Job::Member(_, _) | Job::Arrive(_) => None,
+    }
+}
+
+// Takes room for what would be noted and sent. Takes none where nothing would be.
+fn take_room(
+    draft: &Draft,
+    audit: &mut Vec<Admission>,
+    sent: &mut Vec<Sent>,
+) -> Result<(), AllocError>
+    ensures audit { audit.new.items ≡ audit.old.items }
+    ensures sent { sent.new.items ≡ sent.old.items }
+    ensures to_note { OnOk result (HasRoom draft.now (vec_len audit.new) (vec_capacity audit.new)) }
+    ensures to_send { OnOk result (HasRoom draft.now (vec_len sent.new) (vec_capacity sent.new)) }
+    ensures err { OnErr result (IsNotable draft.now) }
+{
+    if let Draft::Nothing = draft {
+        return Ok(());
+    }
+    audit.reserve(1)?;
+    sent.reserve(1)
+}
+
+// Notes what there is to note of the answer, in the room that there is.
+fn note(audit: &mut Vec<Admission>, draft: Draft, answer: &Answer)
+    requires { HasRoom draft (vec_len audit.old) (vec_capacity audit.old) }
+    ensures { audit.new.items ≡ audit.old.items ++ drafted draft answer.now }
+{
+    if let Some(entry) = draft.entry(answer) {
+        let Ok(()) = audit.push(entry) else {
+            unreachable!("there is room");
+        };
+    }
+}
+
+// Sends a message that was answered, in the room that there is, and shows the answer.
+fn show(number: u16, sender: Option<Party>, sent: &mut Vec<Sent>, answer: Answer) -> Reply
+    requires { (d : _) → answer ≡ answers.Out d → vec_len sent.old < vec_capacity sent.old }
+    ensures { Shows number sender sent.old.items answer result sent.new.items }
+{
+    match answer {
+        Answer::Reply(reply) => Reply::Job(reply),
+        Answer::Begun(name) => Reply::Begun(name),
+        Answer::Out(message) => {
+            let packet = Packet::Data(message);
+            let Ok(()) = sent.push(Sent {
+                from: number,
+                packet,
+                sender,
+            }) else {
+                unreachable!("there is room");
+            };
+            Reply::Sent {
+                first: sent.len() as u64,
+                count: 1,
+            }
+        }
+    }
+}
+
+// What is made of a job before it is done.
+#[derive(Drop)]
+struct Prepared {
+    draft: Draft,
+    sender: Option<Party>,
+}
+
+// Makes what would be noted of the job, and who would send by it.
+fn draft<K: Keeper>(alloc: Global, node: &Node<K>, job: &Job) -> Result<Prepared, AllocError>
+    ensures drafts { IfOk result (λ made. (a : _) →
+        drafted made.draft a ≡ entries node.now.node job.now a) }
+    ensures sender { IfOk result (λ made.
+        made.sender ≡ sender_of (asker_of node.now.node job.now) job.now) }
+    ensures err { OnErr result (MayBeNoted node.now.node job.now) }
+{
+    let process = asker(node, job);
+    let draft = Draft::new(alloc, node.number(), node.boot(), process, job)?;
+    let sender = sender(alloc, process, job)?;
+    Ok(Prepared { draft, sender })
+}
+
+// The same, where the node runs, with room for what would be noted and sent.
+fn prepare<K: Keeper>(
+    alloc: Global,
+    node: &Node<K>,
+    job: &Job,
+    audit: &mut Vec<Admission>,
+    sent: &mut Vec<Sent>,
+) -> Result<Prepared, Fault>
+    ensures drafts { IfOk result (λ made. (a : _) →
+        drafted made.draft a ≡ entries node.now.node job.now a) }
+    ensures sender { IfOk result (λ made.
+        made.sender ≡ sender_of (asker_of node.now.node job.now) job.now) }
+    ensures to_note { IfOk result (λ made.
+        HasRoom made.draft (vec_len audit.new) (vec_capacity audit.new)) }
+    ensures to_send { IfOk result (λ made.
+        HasRoom made.draft (vec_len sent.new) (vec_capacity sent.new)) }
+    ensures audit { audit.new.items ≡ audit.old.items }
+    ensures sent { sent.new.items ≡ sent.old.items }
+    ensures err { IfErr result (IsUnready node.now.node job.now) }
+{
+    if let State::Stopped(_) = node.state() {
+        return Err(Fault::Stopped);
+    }
+    let Ok(made) = draft(alloc, node, job) else {
+        return Err(Fault::Refused(Refusal::Memory));
+    };
+    match take_room(&made.draft, audit, sent) {
+        Ok(()) => Ok(made),
+        Err(_) => Err(Fault::Refused(Refusal::Memory)),
+    }
+}
+
+// Has the node of this number do the job at its desk, under all that is published. What would be noted and sent is made and
+// has its room before.
+pub(crate) fn work<K: Keeper>(
+    alloc: Global,
+    number: u16,
+    node: &mut Node<K>,
+    job: Job,
+    audit: &mut Vec<Admission>,
+    sent: &mut Vec<Sent>,
+) -> Reply
+    requires { length node.old.node.views ≡ 1 }
+    ensures works { (upto : _) → length node.old.node.published ≤ upto
+        → Worked number node.old.node 1 upto job result node.new.node
+        sent.old.items sent.new.items audit.old.items audit.new.items }
+    ensures keeper { node.new.keeper ≡ node.old.keeper }
+{
+    let Prepared { draft, sender } = match prepare(alloc, node, &job, audit, sent) {
+        Ok(made) => made,
+        Err(fault) => return Reply::Refused(fault),
+    };
+    match node.job(alloc, job) {
+        Ok(answer) => {
+            note(audit, draft, &answer);
+            show(number, sender, sent, answer)
+        }
+        Err(fault) => Reply::Refused(fault),
+    }
+}
