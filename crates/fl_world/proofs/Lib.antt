@@ -1,2 +1,3 @@
 pub mod Headlines
 pub mod Reaching
+pub mod Running

@@ -1,5 +1,5 @@
 -- A run goes on by one more moment.
-use Rattle.std.proofs.Common.{◌≡◌, ◌∙◌, ℕ, refl, sym, subst, List, [], ◌∷◌, ◌++◌, Option, Some, None}
+use Rattle.std.proofs.Common.{◌≡◌, ◌∙◌, ℕ, refl, sym, subst, List, [], ◌∷◌, ◌++◌, ◌≤◌, Option, Some, None, Result, Ok, Err, IfOk, OnErr, length, arith}
 use Rattle.std.specs.FinMap as map
 use Rattle.std.specs.FinMap.{nat_cmp-IsAntisymmetric}
 use Rattle.std.specs.Cmp.{nat_cmp_total}
@@ -7,9 +7,14 @@ use Rattle.std.specs.Ordering.{nat_cmp}
 use Rattle.fl_store.specs.Keeping.{Held}
 use Rattle.fl_system.specs.World.{World, KeptNode, empty_world}
 use Rattle.fl_system.specs.declared.reply.Reply.{Reply}
-use Rattle.fl_system.specs.Runs.{Move, Moment, Moves, IsRun, IsReached, end}
+use Rattle.fl_system.specs.declared.reply.Reply.TheVariants as replies
+use Rattle.fl_system.specs.declared.answer.Fault.{Fault}
+use Rattle.fl_system.specs.Joins.{Joins}
+use Rattle.fl_system.specs.Runs.{Move, Comes, Moment, Moves, IsRun, IsReached, end}
 use Rattle.fl_node.specs.Over.{NodeOver}
 use Rattle.fl_nodes.specs.Over.{WorldOver, empty_over}
+use Rattle.fl_nodes.specs.Joining.{TakesIn}
+use Rattle.fl_nodes.specs.Whole.{IsWhole}
 use Rattle.fl_nodes.specs.Goes.{MayBeNode, MayBe, Goes}
 use Rattle.fl_world.specs.Reached.{InEach}
 
@@ -74,3 +79,28 @@ each_reached is_honest may_hold old new move reply goes all = record {
 pub each_has : {K : Type 0} (is_honest : K → Type 0) (may_hold : K → Held) (over : WorldOver K) (P Q : World → Type 0)
     → ((w : World) → P w → Q w) → InEach is_honest may_hold over P → InEach is_honest may_hold over Q
 each_has is_honest may_hold over P Q leads all = record { each = λ honest w is. leads w (all.each honest w is) }
+
+-- how far a desk looks that looks at the whole list of the node of this number
+pub whole_look : {K : Type 0} (over : WorldOver K) (number : ℕ) → (upto : ℕ) × IsWhole over number upto
+whole_look {K} over number = by_node (map.get over.nodes number) refl
+  where
+    by_node : (o : Option (NodeOver K)) → map.get over.nodes number ≡ o → (upto : ℕ) × IsWhole over number upto
+    by_node None e = (0, λ n is. absurd (cc))
+    by_node (Some m) e = (
+      length m.node.published,
+      λ n is. let same : m ≡ n = cc in
+          subst (λ x. length x.node.published ≤ length m.node.published) same (omega arith),
+    )
+
+-- a node that joins is a move too, and who is refused changes nothing
+pub joined_or_not : {K : Type 0} (is_honest : K → Type 0) (may_hold : K → Held) (old new : WorldOver K) (number : ℕ) (keeper : K)
+    (result : Result ℕ (Fault × K))
+    → IfOk result (λ boot. TakesIn is_honest may_hold old keeper new (λ w k w'. Joins w number k (replies.Booted boot) w'))
+    → OnErr result (new ≡ old) → InEach is_honest may_hold old IsReached → InEach is_honest may_hold new IsReached
+joined_or_not is_honest may_hold old new number keeper (Ok boot) joins same all = record {
+  each = λ honest after is.
+      let before = joins.comes honest after is in
+      reached_on before.0 after (Comes number before.1) _ (all.each (joins.honest honest).0 before.0 before.2) before.4;
+}
+joined_or_not is_honest may_hold old new number keeper (Err e) joins same all =
+    subst (λ o. InEach is_honest may_hold o IsReached) (sym same) all

@@ -1,25 +1,33 @@
 //! A world, event by event.
-ghost use Rattle.std.specs.Prelude.{◌≡◌};
+ghost use Rattle.std.specs.Prelude.{◌≡◌, ◌<◌, All, IfOk, IfErr, OnErr};
 ghost use Rattle.std.specs.FinMap as map;
 ghost use Rattle.std.specs.Option.{option_copied};
 ghost use Rattle.fl_system.specs.declared.event.Event.TheVariants as event;
+ghost use Rattle.fl_system.specs.declared.reply.Reply.TheVariants as replies;
+ghost use Rattle.fl_system.specs.Joins.{Joins};
+ghost use Rattle.fl_system.specs.Runs.{Run};
 ghost use Rattle.fl_system.specs.WorldSteps.{Step};
 ghost use Rattle.fl_nodes.specs.Over.{empty_over};
 ghost use Rattle.fl_nodes.specs.Goes.{Goes};
+ghost use Rattle.fl_nodes.specs.Joining.{GivesBack, IsRefused, TakesIn};
 ghost use Rattle.fl_nodes.specs.Texts.{TextAt};
+ghost use Rattle.fl_nodes.specs.Whole.{IsWhole};
+ghost use Rattle.fl_world.specs.Looking.{LooksFar};
 ghost use Rattle.fl_world.specs.Reached.{InEach};
 ghost use Rattle.fl_world.specs.Headline.{HasSafeAudit, IsSafeWorld};
 
 use crate::laws::law_headline;
+use fl_jobs::job::Job;
 use fl_node::node::Node;
 use fl_nodes::nodes::Nodes;
 use fl_sink::sink::WriteFault;
 use fl_store::keeper::Keeper;
 use fl_system::admission::Admission;
 use fl_system::answer::Fault;
+use fl_system::event::Event;
 use fl_system::reply::Reply;
 use fl_system::sent::Sent;
-use std::alloc::Global;
+use std::alloc::{AllocError, Global};
 use std::io::Write;
 use std::marker::Model;
 
@@ -35,6 +43,8 @@ impl<K: Keeper> Model for World<K> {
     ghost use Rattle.fl_system.specs.Runs.{IsReached};
     ghost use Rattle.fl_nodes.specs.Over.{WorldOver, coded_world_over};
     ghost use Rattle.fl_nodes.specs.Texts.{TextAt};
+    ghost use Rattle.fl_nodes.specs.Whole.{IsWhole};
+    ghost use Rattle.fl_world.specs.Looking.{LooksFar};
     ghost use Rattle.fl_world.specs.Reached.{InEach};
 
     ghost Value = { WorldOver K };
@@ -88,6 +98,27 @@ impl<K: Keeper> World<K> {
         self.nodes.audit()
     }
 
+    /// A node of this number joins over its keeper, as `Nodes::join` has it, or the keeper is given back with why not.
+    pub fn join(&mut self, alloc: Global, number: u16, keeper: K) -> Result<u32, (Fault, K)>
+        requires { 0 < number }
+        ensures joins { IfOk result (λ boot. TakesIn K.is_honest K.may_hold self.old keeper self.new
+            (λ w k w'. Joins w number k (replies.Booted boot) w')) }
+        ensures refused { IfErr result (λ e. GivesBack K.is_honest K.may_hold self.old keeper self.new e.1
+            (IsRefused number e.0)) }
+        ensures same { OnErr result (self.new ≡ self.old) }
+    {
+        self.nodes.join(alloc, number, keeper)
+    }
+
+    /// Has the node do a job at its desk, under all that it published, as `Nodes::job` has it. What the job lets pass is noted.
+    pub fn job(&mut self, alloc: Global, number: u16, desk: u8, job: Job) -> Reply
+        ensures { (upto : _) → IsWhole self.old number upto
+            → Goes K.is_honest K.may_hold self.old self.new
+            (λ w w'. Step w (event.Job number desk upto job) result w') }
+    {
+        self.nodes.job(alloc, number, desk, job)
+    }
+
     /// Saves what is to be saved at the node, as `Nodes::save` has it.
     pub fn save(&mut self, number: u16) -> Reply
         ensures { Goes K.is_honest K.may_hold self.old self.new
@@ -118,6 +149,73 @@ impl<K: Keeper> World<K> {
             (λ w w'. Step w (event.Restart number keeps) result w') }
     {
         self.nodes.restart(alloc, number, keeps)
+    }
+
+    /// Has the node send what it has saved, as `Nodes::tell` has it.
+    pub fn tell(&mut self, alloc: Global, number: u16) -> Reply
+        ensures { Goes K.is_honest K.may_hold self.old self.new
+            (λ w w'. Step w (event.Tell number) result w') }
+    {
+        self.nodes.tell(alloc, number)
+    }
+
+    /// Has the packet of this number come to the node of this number, as `Nodes::deliver` has it; it may come again.
+    pub fn deliver(&mut self, alloc: Global, packet: u64, number: u16) -> Reply
+        ensures { Goes K.is_honest K.may_hold self.old self.new
+            (λ w w'. Step w (event.Deliver packet number) result w') }
+    {
+        self.nodes.deliver(alloc, packet, number)
+    }
+
+    // How long the list of the node of this number is, or 0 where it is not there.
+    fn whole(&self, number: u16) -> u64
+        ensures { IsWhole self.now number result }
+    {
+        match self.node(number) {
+            Some(node) => node.published().len() as u64,
+            None => 0,
+        }
+    }
+
+    /// Has the event happen, and gives what it is answered. A job looks at the whole list of its node, so far: it is handed in to
+    /// look as far as can be.
+    pub fn step(&mut self, alloc: Global, event: Event) -> Reply
+        requires { LooksFar event }
+        ensures { Goes K.is_honest K.may_hold self.old self.new (λ w w'. Step w event result w') }
+    {
+        match event {
+            Event::Job {
+                node,
+                desk,
+                job,
+                ..
+            } => {
+                let _whole = self.whole(node);
+                self.job(alloc, node, desk, job)
+            }
+            Event::Save(node) => self.save(node),
+            Event::Publish(node) => self.publish(alloc, node),
+            Event::Cancel(node) => self.cancel(node),
+            Event::Restart(node, keeps) => self.restart(alloc, node, keeps),
+            Event::Tell(node) => self.tell(alloc, node),
+            Event::Deliver { packet, node } => self.deliver(alloc, packet, node),
+        }
+    }
+
+    /// Has the events happen one after another, and gives what each is answered. Room for the answers is taken first: an error
+    /// says that there was not enough memory for them, and nothing has happened then.
+    pub fn run(&mut self, alloc: Global, events: Vec<Event>) -> Result<Vec<Reply>, AllocError>
+        requires { All LooksFar events.items }
+        ensures ok { IfOk result (λ replies. Goes K.is_honest K.may_hold self.old self.new
+            (λ w w'. Run w events.items replies.items w')) }
+        ensures err { OnErr result (self.new ≡ self.old) }
+    {
+        let mut replies = Vec::with_capacity(alloc, events.len())?;
+        for event in events {
+            let reply = self.step(alloc, event);
+            replies.push_reserved(reply);
+        }
+        Ok(replies)
     }
 
     /// Writes the text of the node's published operations, as `Nodes::text` has it, or nothing where it is not there.

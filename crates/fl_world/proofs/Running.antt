@@ -1,0 +1,67 @@
+-- Events that happen one after another.
+use Rattle.std.proofs.Common.{◌≡◌, ◌≤◌, ◌<◌, ◌+◌, ◌^◌, ℕ, refl, sym, subst, List, [], ◌∷◌, ◌++◌, arith}
+use Rattle.fl_store.specs.Keeping.{Held}
+use Rattle.fl_system.specs.World.{World}
+use Rattle.fl_system.specs.WorldSteps.{Step}
+use Rattle.fl_system.specs.Runs.{Run}
+use Rattle.fl_jobs.specs.declared.job.Job.{Job as AnyJob}
+use Rattle.fl_system.specs.declared.event.Event.{Event}
+use Rattle.fl_system.specs.declared.event.Event.TheVariants as event_of
+use Rattle.fl_system.specs.declared.reply.Reply.{Reply}
+use Rattle.fl_nodes.specs.Over.{WorldOver}
+use Rattle.fl_nodes.specs.Goes.{Goes}
+use Rattle.fl_nodes.specs.Whole.{IsWhole}
+use Rattle.fl_world.specs.Looking.{LooksFar}
+
+-- a run goes on by one more event
+run_then : (w between w' : World) (events : List Event) (replies : List Reply) (event : Event) (reply : Reply)
+    → Run w events replies between → Step between event reply w' → Run w (events ++ event ∷ []) (replies ++ reply ∷ []) w'
+run_then w between w' [] [] event reply run step = (w', subst (λ x. Step x event reply w') run step, refl)
+run_then w between w' (e ∷ events) (r ∷ replies) event reply run step =
+    (run.0, run.1, run_then run.0 between w' events replies event reply run.2 step)
+run_then w between w' [] (r ∷ replies) event reply run step = absurd run
+run_then w between w' (e ∷ events) [] event reply run step = absurd run
+
+-- the events that have happened, what they were answered, and that there is room for the answers to so many more
+pub record RunsTo {K : Type 0} (is_honest : K → Type 0) (may_hold : K → Held) (old new : WorldOver K) (events : List Event)
+    (replies : List Reply) (len capacity left : ℕ) : Type 0 where
+  pub goes : Goes is_honest may_hold old new (λ w w'. Run w events replies w')
+  pub room : len + left ≤ capacity
+
+module _ {K : Type 0} (is_honest : K → Type 0) (may_hold : K → Held) where
+  pub none_yet : (over : WorldOver K) (replies : List Reply) (len capacity left : ℕ) → replies ≡ [] → len ≡ 0 → left ≤ capacity
+      → RunsTo is_honest may_hold over over [] replies len capacity left
+  none_yet over replies len capacity left none zero_is enough = record {
+    goes = subst (λ r. Goes is_honest may_hold over over (λ w w'. Run w [] r w')) (sym none)
+        (record { honest = λ all. all; comes = λ all w is. (w, is, refl) });
+    room = omega (arith, zero_is, enough);
+  }
+
+  pub one_more : (old new next : WorldOver K) (events : List Event) (replies replies' : List Reply) (event : Event) (reply : Reply)
+      (len len' capacity capacity' left left' : ℕ) → RunsTo is_honest may_hold old new events replies len capacity left
+      → Goes is_honest may_hold new next (λ w w'. Step w event reply w') → replies' ≡ replies ++ reply ∷ [] → len' ≡ len + 1
+      → capacity' ≡ capacity → left ≡ left' + 1
+      → RunsTo is_honest may_hold old next (events ++ event ∷ []) replies' len' capacity' left'
+  one_more old new next events replies replies' event reply len len' capacity capacity' left left' so_far goes grown longer same fewer = record {
+    goes = subst (λ r. Goes is_honest may_hold old next (λ w w'. Run w (events ++ event ∷ []) r w')) (sym grown) (record {
+      honest = λ all. so_far.goes.honest (goes.honest all);
+      comes = λ all after is.
+          let between = goes.comes all after is in
+          let before = so_far.goes.comes (goes.honest all) between.0 between.1 in
+          (before.0, before.1, run_then before.0 between.0 after events replies event reply before.2 between.2);
+    });
+    room = omega (arith, so_far.room, longer, same, fewer);
+  }
+
+  pub all_done : (old new : WorldOver K) (events all : List Event) (replies : List Reply) (len capacity left : ℕ)
+      → RunsTo is_honest may_hold old new events replies len capacity left → events ≡ all
+      → Goes is_honest may_hold old new (λ w w'. Run w all replies w')
+  all_done old new events all replies len capacity left so_far is =
+      subst (λ e. Goes is_honest may_hold old new (λ w w'. Run w e replies w')) is so_far.goes
+
+-- a job that looks as far as can be looks at the whole list
+pub job_far : {K : Type 0} (over : WorldOver K) (number desk upto bound : ℕ) (job : AnyJob) (event : Event)
+    → event ≡ event_of.Job number desk upto job → LooksFar event → IsWhole over number bound → bound < 2 ^ 64 → IsWhole over number upto
+job_far over number desk upto bound job event is far whole less = λ n at.
+    let all : upto ≡ 18446744073709551615 = subst LooksFar is far in
+    omega (arith, whole n at, less, all)

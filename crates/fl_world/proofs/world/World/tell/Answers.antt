@@ -1,0 +1,16 @@
+use Rattle.std.proofs.Common.{subst}
+use Rattle.fl_system.specs.Runs.{Happens}
+use Rattle.fl_system.specs.WorldSteps.{Step}
+use Rattle.fl_system.specs.declared.event.Event.TheVariants as event
+use Rattle.fl_nodes.specs.Goes.{Goes}
+use Rattle.fl_world.proofs.Reaching.{each_reached}
+use Rattle.fl_world.proofs.world.World.tell.Goals as goal
+
+pub invariant_of-self : goal.invariant_of-self
+invariant_of-self g c =
+    each_reached g.K.Keeper.is_honest g.K.Keeper.may_hold _ _ (Happens (event.Tell c.args.number)) _ c.tell.ensures c.self.invariant
+
+pub returns : goal.returns
+returns g c =
+    subst (λ old. Goes g.K.Keeper.is_honest g.K.Keeper.may_hold old c.tell.new.self (λ w w'. Step w (event.Tell c.args.number) c.tell.result w'))
+    c.self.view_is c.tell.ensures
