@@ -79,6 +79,16 @@ impl<K: Keeper> Model for Nodes<K> {
     } };
 }
 
+impl<K: Keeper + Drop> Drop for Nodes<K> {
+    fn drop(self) {
+        let Nodes {
+            all: _,
+            sent: _,
+            audit: _,
+        } = self;
+    }
+}
+
 impl<K: Keeper> Nodes<K> {
     /// No node and no packet. Takes no memory.
     pub fn new(alloc: Global) -> Nodes<K>

@@ -56,6 +56,12 @@ impl<K: Keeper> Model for World<K> {
     ghost invariant = { λ w. InEach K.is_honest K.may_hold w.nodes IsReached };
 }
 
+impl<K: Keeper + Drop> Drop for World<K> {
+    fn drop(self) {
+        let World { nodes: _ } = self;
+    }
+}
+
 impl<K: Keeper> World<K> {
     /// Without a node. Takes no memory.
     pub fn new(alloc: Global) -> World<K>
