@@ -45,9 +45,7 @@ pub fn write_refusal<W: Writer>(
         Puts (W.contents output.old) (W.contents output.new) sink.old text sink.new result }
     ensures cause { OnErr result (W.has_failed output.new) }
 {
-    sink.put_all(output, &[b"refused "])?;
-    put_refusal(refusal, sink, output)?;
-    sink.put_all(output, &[b"\n"])
+    write_refusal_after(b"refused ", refusal, sink, output)
 }
 
 /// Puts the line of a message that does not arrive into the sink: `dropped`, and then as a refusal.
@@ -60,7 +58,21 @@ pub fn write_dropped<W: Writer>(
         Puts (W.contents output.old) (W.contents output.new) sink.old text sink.new result }
     ensures cause { OnErr result (W.has_failed output.new) }
 {
-    sink.put_all(output, &[b"dropped "])?;
+    write_refusal_after(b"dropped ", refusal, sink, output)
+}
+
+/// Puts a line of these bytes and a refusal into the sink: its number, and what it is about.
+pub fn write_refusal_after<W: Writer>(
+    front: &[u8],
+    refusal: Refusal,
+    sink: &mut Sink,
+    output: &mut W,
+) -> Result<(), WriteFault>
+    ensures puts { let text = front.now ++ (refusal_text refusal ++ codes "\n") in
+        Puts (W.contents output.old) (W.contents output.new) sink.old text sink.new result }
+    ensures cause { OnErr result (W.has_failed output.new) }
+{
+    sink.put(output, front)?;
     put_refusal(refusal, sink, output)?;
     sink.put_all(output, &[b"\n"])
 }

@@ -1,0 +1,11 @@
+use Rattle.fl_sink.specs.laws.Passing.{puts_then, puts_stop}
+use Rattle.fl_answers.proofs.text.write_refusal_after.Goals as goal
+
+pub returns-in_err-put-clause-puts : goal.returns-in_err-put-clause-puts
+returns-in_err-put-clause-puts g c = puts_stop _ _ c.in_err-put.ensures.puts.is c.from_residual.ensures.0
+
+pub returns-in_err-put_refusal-clause-puts : goal.returns-in_err-put_refusal-clause-puts
+returns-in_err-put_refusal-clause-puts g c = puts_then c.in_ok-put.ensures.puts.is (puts_stop _ _ c.in_err-put_refusal.ensures.puts.is c.from_residual-in_err-put_refusal.ensures.0)
+
+pub returns-clause-puts : goal.returns-clause-puts
+returns-clause-puts g c = puts_then c.in_ok-put.ensures.puts.is (puts_then c.in_ok-put_refusal.ensures.puts.is c.put_all.ensures.puts)
