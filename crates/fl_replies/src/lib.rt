@@ -1,0 +1,4 @@
+//! The text of what a world answers.
+#![tactic(auto)]
+
+pub mod text;
