@@ -1,0 +1,16 @@
+-- What a new keeper holds, and why none could be made.
+use Rattle.std.specs.Prelude.{◌≡◌, ◌⊎◌, ℕ}
+use Rattle.fl_labels.specs.SetBy as set
+use Rattle.fl_store.specs.Kept.{Kept}
+use Rattle.fl_jobs.specs.declared.answer.Refusal.TheVariants.{Memory}
+use Rattle.fl_system.specs.declared.answer.Fault.{Fault}
+use Rattle.fl_system.specs.declared.answer.Fault.TheVariants.{Refused, KeeperFailed, WrongNode}
+
+-- of a node that was never opened
+abbrev pub nothing_kept : ℕ → Kept
+nothing_kept number = record { number = number; boot = 0; saved = set.empty }
+
+-- why a keeper over what is kept somewhere was not made: want of memory, a failure, or what is kept there is another node's
+abbrev pub IsKeeperFault : Fault → Type 0
+IsKeeperFault fault =
+    (fault ≡ Refused Memory) ⊎ ((fault ≡ KeeperFailed) ⊎ (fault ≡ WrongNode))

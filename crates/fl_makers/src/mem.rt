@@ -1,0 +1,25 @@
+//! A maker of keepers in memory.
+ghost use Rattle.std.specs.Prelude.{◌≡◌};
+ghost use Rattle.fl_makers.specs.Making.{nothing_kept};
+
+use crate::maker::MakesKeepers;
+use fl_store::mem::MemKeeper;
+use fl_system::answer::Fault;
+use std::alloc::Global;
+
+/// Makes keepers in memory, in which nothing is kept yet, and refuses none.
+#[derive(Clone, Copy, Debug, PartialEq, Eq)]
+pub struct MemMaker;
+
+impl MakesKeepers for MemMaker {
+    type K = MemKeeper;
+
+    ghost finds = { λ _ number k. k ≡ nothing_kept number };
+
+    ghost refuses = { λ _ _ _. ⊥ };
+
+    /// Takes no memory.
+    fn make(&mut self, alloc: Global, number: u16) -> Result<MemKeeper, Fault> {
+        Ok(MemKeeper::new(alloc, number))
+    }
+}
