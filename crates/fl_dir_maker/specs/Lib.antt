@@ -1,0 +1,2 @@
+pub mod NodeFile
+pub mod Failing
