@@ -1,0 +1,10 @@
+-- Proved laws of one outcome, that the crates above cite.
+pub mod OneCut
+pub mod Tellings
+pub mod Benches
+pub mod Calls
+pub mod Deliveries
+pub mod Steps
+pub mod Joinings
+pub mod Desks
+pub mod Runs

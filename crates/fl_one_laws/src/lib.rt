@@ -1,0 +1,4 @@
+//! Laws by which an event of a world has one outcome.
+#![tactic(auto)]
+
+pub mod laws;
