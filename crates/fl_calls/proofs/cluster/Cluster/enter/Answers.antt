@@ -1,0 +1,8 @@
+use Rattle.std.proofs.Common.{sym}
+use Rattle.fl_calls.proofs.Opening.{entered_as}
+use Rattle.fl_calls.proofs.cluster.Cluster.enter.Goals as goal
+
+pub returns-in-Some : goal.returns-in-Some
+returns-in-Some g c =
+    rw (← c.self.view_is) (entered_as g.M.K.Keeper.is_honest g.M.K.Keeper.may_hold g.M.MakesKeepers.finds g.M.MakesKeepers.refuses
+    _ _ _ (sym (rw c.in-Some.is at c.node.ensures)))

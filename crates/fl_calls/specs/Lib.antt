@@ -1,0 +1,7 @@
+pub mod Answer
+pub mod Entering
+pub mod Completing
+pub mod Calls
+pub mod Over
+pub mod parts
+pub mod laws

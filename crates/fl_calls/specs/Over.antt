@@ -1,0 +1,60 @@
+-- A world over keepers, with who makes them, and what a call does to the world that they may be.
+use Rattle.std.specs.Prelude.{ℕ, refl}
+use Rattle.std.specs.Coded.{Coded, code_by, coded×}
+use Rattle.fl_store.specs.Kept.{Kept}
+use Rattle.fl_store.specs.Keeping.{Held}
+use Rattle.fl_system.specs.declared.answer.Fault.{Fault}
+use Rattle.fl_system.specs.declared.reply.Reply.TheVariants.{Refused}
+use Rattle.fl_system.specs.Joins.{Joins}
+use Rattle.fl_system.specs.World.{World}
+use Rattle.fl_nodes.specs.Over.{WorldOver, empty_over, coded_world_over}
+use Rattle.fl_nodes.specs.Goes.{Goes}
+use Rattle.fl_calls.specs.Entering.{Openings}
+
+pub record ClusterOver (K M : Type 0) : Type 0 where
+  pub world : WorldOver K
+  pub maker : M
+
+-- without a node
+abbrev pub begun_over : {K M : Type 0} → M → ClusterOver K M
+begun_over maker = record { world = empty_over 1; maker = maker }
+
+-- it is stored as the pair of its fields
+abbrev pub coded_cluster_over : {K M : Type 0} → Coded K → Coded M → Coded (ClusterOver K M)
+coded_cluster_over {K} {M} keeper maker =
+    code_by (WorldOver K × M) (coded× (coded_world_over keeper) maker)
+    (λ c. (c.world, c.maker))
+    (λ t. record { world = t.0; maker = t.1 })
+    (λ _. refl)
+
+-- an honest keeper, and something that it may hold
+pub record Trusts {K : Type 0} (is_honest : K → Type 0) (may_hold : K → Held) (keeper : K) : Type 0 where
+  pub honest : is_honest keeper
+  pub kept : Kept
+  pub held : may_hold keeper kept
+
+-- Why a node is not opened: no keeper was made, or one was and did not join, as it should if it may be trusted.
+pub data NotOpened {K : Type 0} (is_honest : K → Type 0) (may_hold : K → Held)
+    (finds : ℕ → Kept → Type 0) (refuses : ℕ → Fault → Type 0)
+    (w : World) (number : ℕ) (fault : Fault) : Type 0 where
+  none_made : refuses number fault → NotOpened is_honest may_hold finds refuses w number fault
+  not_joined : (keeper : K)
+      → (Trusts is_honest may_hold keeper
+      → (k : Kept) × finds number k × Joins w number k (Refused fault) w)
+      → NotOpened is_honest may_hold finds refuses w number fault
+
+abbrev pub openings_of : {K : Type 0} → (K → Type 0) → (K → Held) → (ℕ → Kept → Type 0)
+    → (ℕ → Fault → Type 0) → Openings
+openings_of is_honest may_hold finds refuses =
+    record { finds = finds; refuses = NotOpened is_honest may_hold finds refuses }
+
+-- Where all keepers are honest they were before, and each world that it may be now comes by this step from one that it might
+-- have been before, with the openings of the maker before; and the maker makes nothing that it did not make before.
+pub record GoesOn {K M : Type 0} (is_honest : K → Type 0) (may_hold : K → Held)
+    (finds : M → ℕ → Kept → Type 0) (refuses : M → ℕ → Fault → Type 0)
+    (old new : ClusterOver K M) (step : Openings → World → World → Type 0) : Type 0 where
+  pub goes : Goes is_honest may_hold old.world new.world
+      (step (openings_of is_honest may_hold (finds old.maker) (refuses old.maker)))
+  pub finds_less : (number : ℕ) (k : Kept) → finds new.maker number k → finds old.maker number k
+  pub refuses_less : (number : ℕ) (fault : Fault) → refuses new.maker number fault
+      → refuses old.maker number fault

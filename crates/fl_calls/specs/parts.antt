@@ -1,0 +1,2 @@
+-- What joins functions, and no public clause needs.
+pub mod Coming

@@ -1,0 +1,74 @@
+//! Events of a world, with what they begin.
+ghost use Rattle.std.specs.Prelude.{◌≡◌, ◌≢◌, false, true};
+ghost use Rattle.fl_system.specs.WorldSteps.{node_of};
+ghost use Rattle.fl_nodes.specs.Goes.{Goes};
+ghost use Rattle.fl_world.specs.Looking.{LooksFar};
+ghost use Rattle.fl_calls.specs.Completing.{begins, starved, Finishes, Completes};
+
+use fl_jobs::answer::Refusal;
+use fl_store::keeper::Keeper;
+use fl_system::answer::Fault;
+use fl_system::event::Event;
+use fl_system::reply::Reply;
+use fl_world::world::World;
+use std::alloc::Global;
+
+/// The number of the node to which the event happens.
+pub fn number_of(event: &Event) -> u16
+    ensures { result ≡ node_of event.now }
+{
+    match event {
+        Event::Job { node, .. } | Event::Deliver { node, .. } => *node,
+        Event::Save(node) | Event::Publish(node) | Event::Cancel(node) | Event::Tell(node) => *node,
+        Event::Restart(node, _) => *node,
+    }
+}
+
+// Whether the reply says that something is to be saved and published.
+fn begins(reply: &Reply) -> bool
+    ensures { result ≡ begins reply.now }
+{
+    matches!(reply, Reply::Begun(_) | Reply::Taking(_))
+}
+
+fn is_done(reply: &Reply) -> bool
+    ensures yes { result ≡ true → reply.now ≡ Reply.Done }
+    ensures no { result ≡ false → reply.now ≢ Reply.Done }
+{
+    matches!(reply, Reply::Done)
+}
+
+// Whether there was not enough memory.
+fn is_starved(reply: &Reply) -> bool
+    ensures yes { result ≡ true → reply.now ≡ starved }
+    ensures no { result ≡ false → reply.now ≢ starved }
+{
+    matches!(reply, Reply::Refused(Fault::Refused(Refusal::Memory)))
+}
+
+// Saves what is to be saved at the node, and publishes it. Where saving wants memory, it is given up.
+fn finish<K: Keeper>(alloc: Global, world: &mut World<K>, number: u16) -> Reply
+    ensures { Goes K.is_honest K.may_hold world.old world.new (λ w w'. Finishes w number result w') }
+{
+    let reply = world.save(number);
+    if is_done(&reply) {
+        return world.publish(alloc, number);
+    }
+    if is_starved(&reply) {
+        world.cancel(number);
+    }
+    reply
+}
+
+/// Has the event happen, and saves and publishes what it begins. Gives what the last of it is answered.
+pub fn complete<K: Keeper>(alloc: Global, world: &mut World<K>, event: Event) -> Reply
+    requires { LooksFar event }
+    ensures { Goes K.is_honest K.may_hold world.old world.new (λ w w'. Completes w event result w') }
+{
+    let number = number_of(&event);
+    let reply = world.step(alloc, event);
+    if begins(&reply) {
+        return finish(alloc, world, number);
+    }
+    reply
+}

@@ -1,0 +1,37 @@
+//! What is answered to a line that asks something of a world.
+
+use fl_opset::set::OpSet;
+use fl_system::answer::Fault;
+use fl_system::reply::Reply;
+
+/// What a packet would bring, were it to come now.
+#[derive(Clone, Copy, Debug, PartialEq, Eq)]
+pub enum Check {
+    /// So many operations that are not saved.
+    New(u64),
+    /// A window, which lacks so many of the saved operations.
+    Lacks(u64),
+    /// A message.
+    Data,
+}
+
+/// What is answered to a line that asks something of a world.
+#[derive(Debug, Drop)]
+pub enum Response {
+    /// What an event is answered, or why a node was not opened.
+    Reply(Reply),
+    /// The message does not arrive.
+    Dropped(Fault),
+    /// The operations of the node of this number, which are written from the node itself.
+    Text(u16),
+    /// These operations of two nodes.
+    Union(OpSet),
+    /// What the packet would bring.
+    Checked(Check),
+    /// The bytes are no packet: at this place they are none.
+    BadPacket(u64),
+    /// So much was admitted.
+    Admitted(u64),
+    /// The line names a packet that was not sent, or one of which it cannot speak. Nothing has changed.
+    Unknown,
+}
