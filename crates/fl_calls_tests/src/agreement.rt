@@ -27,12 +27,15 @@ impl Stage {
     }
 
     // One of the numbers below a bound, by a linear congruential generator.
-    fn draw(&mut self, bound: u64) -> u64 {
+    fn draw(&mut self, bound: u64) -> u64
+        requires { 0 < bound }
+        ensures { result < bound }
+    {
         self.state = self
             .state
             .wrapping_mul(6364136223846793005)
             .wrapping_add(1442695040888963407);
-        (self.state >> 33).checked_rem(bound).unwrap_or(0)
+        (self.state >> 33) % bound
     }
 
     // How often the node was opened.
