@@ -7,7 +7,7 @@ use std::test::Fail;
 
 const NODES: u16 = 5;
 
-const STEPS: u32 = 80;
+const STEPS: u32 = 240;
 
 // Five nodes, each with how often it was opened, and what the run draws from.
 #[derive(Drop)]
@@ -117,7 +117,7 @@ impl Stage {
     // Something happens at some node.
     fn step(&mut self) -> Result<(), Fail> {
         let node = self.draw(u64::from(NODES)) as u16 + 1;
-        match self.draw(16) {
+        match self.draw(24) {
             0..=2 => self.order("", node),
             3 => self.order("begin ", node),
             4 => self.does(node, "save"),
