@@ -1,5 +1,5 @@
 -- What one line of a script does.
-use Rattle.std.specs.Prelude.{◌≡◌, ◌⊎◌, ℕ, List, Option, Some}
+use Rattle.std.specs.Prelude.{◌≡◌, ◌⊎◌, ℕ, List, Option}
 use Rattle.fl_jobs.specs.declared.job.Act.TheVariants.{Order as Orders}
 use Rattle.fl_jobs.specs.declared.job.Job.{Job}
 use Rattle.fl_jobs.specs.declared.job.Job.TheVariants.{By}
@@ -23,35 +23,29 @@ use Rattle.fl_turns.specs.Session.{Session}
 abbrev pub job_at : ℕ → Job → Event
 job_at number job = event.Job number 1 18446744073709551615 job
 
--- what the world is asked for is answered
-abbrev pub Calls : (Said → World → Type 0) → Answer → World → Type 0
-Calls asks answer w' = (what : Said) × (answer ≡ said what) × asks what w'
+-- What the line asks of the world is answered so, and leaves the world so.
+abbrev pub AsksOf : Openings → World → Line → Said → World → Type 0
+AsksOf openings w (line.Job number job) = Asks openings w (job_at number job)
+AsksOf openings w (line.Begin number pid order) =
+    AsksToBegin openings w (job_at number (By pid (Orders order)))
+AsksOf openings w (line.Deliver number packet) = Delivers openings w number packet
+AsksOf openings w (line.BeginDeliver number packet) = BeginsToTake openings w number packet
+AsksOf openings w (line.Tell number) = Asks openings w (event.Tell number)
+AsksOf openings w (line.Save number) = Asks openings w (event.Save number)
+AsksOf openings w (line.Publish number) = Asks openings w (event.Publish number)
+AsksOf openings w (line.Cancel number) = Asks openings w (event.Cancel number)
+AsksOf openings w (line.Restart number kept) = Asks openings w (event.Restart number kept)
+AsksOf openings w (line.Text number) = AsksForText openings w number
+AsksOf openings w (line.Check number bytes) = AsksToCheck openings w number bytes
+AsksOf openings w (line.Union first second) = AsksForUnion openings w first second
+AsksOf openings w line.Audit = AsksForAudit w
+AsksOf openings w line.Aliases = λ what w'. ⊥
 
 -- The line is answered so in the session, and leaves its world so.
-abbrev pub AnswersLine : Openings → Session → Line → Answer → World → Type 0
-AnswersLine openings old (line.Job number job) =
-    Calls (Asks openings old.world (job_at number job))
-AnswersLine openings old (line.Begin number pid order) =
-    Calls (AsksToBegin openings old.world (job_at number (By pid (Orders order))))
-AnswersLine openings old (line.Deliver number packet) =
-    Calls (Delivers openings old.world number packet)
-AnswersLine openings old (line.BeginDeliver number packet) =
-    Calls (BeginsToTake openings old.world number packet)
-AnswersLine openings old (line.Tell number) = Calls (Asks openings old.world (event.Tell number))
-AnswersLine openings old (line.Save number) = Calls (Asks openings old.world (event.Save number))
-AnswersLine openings old (line.Publish number) =
-    Calls (Asks openings old.world (event.Publish number))
-AnswersLine openings old (line.Cancel number) = Calls (Asks openings old.world (event.Cancel number))
-AnswersLine openings old (line.Restart number kept) =
-    Calls (Asks openings old.world (event.Restart number kept))
-AnswersLine openings old (line.Text number) = Calls (AsksForText openings old.world number)
-AnswersLine openings old (line.Check number bytes) =
-    Calls (AsksToCheck openings old.world number bytes)
-AnswersLine openings old (line.Union first second) =
-    Calls (AsksForUnion openings old.world first second)
-AnswersLine openings old line.Audit = Calls (AsksForAudit old.world)
-AnswersLine openings old line.Aliases =
-    λ answer w'. (answer ≡ listed old.aliases) × (w' ≡ old.world)
+pub data AnswersLine (openings : Openings) (old : Session) : Line → Answer → World → Type 0 where
+  asks : {said_so : Line} {what : Said} {w' : World} → AsksOf openings old.world said_so what w'
+      → AnswersLine openings old said_so (said what) w'
+  lists : AnswersLine openings old line.Aliases (listed old.aliases) old.world
 
 -- the line is answered so, and what it made, if it made something, is what its alias stands for, if it has one
 pub record AnswersNamed (openings : Openings) (old : Session) (line : Line)
@@ -73,16 +67,10 @@ pub record Understood (openings : Openings) (old : Session) (bytes : List ℕ) (
   pub says : IsReading old.aliases bytes reading
   pub answered : AnswersReading openings old reading answer new
 
--- reading the bytes takes memory, or setting their alias does
-pub data MayWant (old : Session) (bytes : List ℕ) : Type 0 where
-  to_read : ReadingTakesMemory bytes → MayWant old bytes
-  to_name : {line : Line} {alias : List ℕ}
-      → IsReading old.aliases bytes (reading.Means line (Some alias)) → MayWant old bytes
-
--- the line may want memory before anything is asked for, and did, and nothing changed
+-- reading the line, or setting its alias, takes memory, and there was not enough, and nothing changed
 pub record Starved (old : Session) (bytes : List ℕ) (answer : Answer) (new : Session)
     : Type 0 where
-  pub may : MayWant old bytes
+  pub takes : ReadingTakesMemory bytes
   pub answered : answer ≡ starved_line
   pub unchanged : new ≡ old
 
