@@ -1,14 +1,18 @@
 //! What a line asks of the world.
 ghost use Rattle.std.specs.Prelude.{◌≡◌, ◌<◌, All};
 ghost use Rattle.fl_script.specs.Grammar.{nodes_of};
-ghost use Rattle.fl_turns.specs.Turn.{job_at};
+ghost use Rattle.fl_calls.specs.Answer.{shown};
+ghost use Rattle.fl_calls.specs.Over.{GoesOn};
+ghost use Rattle.fl_turns.specs.Turn.{AsksNode, job_at};
 ghost use Rattle.fl_cluster.specs.parts.Answering.{RespondsTo};
 
 use crate::response::Response;
 use fl_calls::cluster::Cluster;
+use fl_calls::response::Response as Said;
 use fl_jobs::job::{Act, Job};
 use fl_makers::maker::MakesKeepers;
 use fl_script::line::Line;
+use fl_script::request::Request;
 use fl_system::event::Event;
 use std::alloc::Global;
 
@@ -27,6 +31,34 @@ fn job_at(node: u16, job: Job) -> Event
     }
 }
 
+// What is asked of the node is answered.
+fn respond_for<M: MakesKeepers>(
+    alloc: Global,
+    cluster: &mut Cluster<M>,
+    node: u16,
+    request: Request,
+) -> Said
+    requires { 0 < node }
+    ensures { GoesOn M.K.is_honest M.K.may_hold M.finds M.refuses cluster.old cluster.new
+        (λ openings w w'. AsksNode openings w node request (shown cluster.new.world result) w') }
+{
+    match request {
+        Request::Job(job) => cluster.ask(alloc, job_at(node, job)),
+        Request::Begin(pid, order) => {
+            cluster.begin(alloc, job_at(node, Job::By(pid, Act::Order(order))))
+        }
+        Request::Deliver(packet) => cluster.deliver(alloc, node, packet),
+        Request::BeginDeliver(packet) => cluster.begin_to_take(alloc, node, packet),
+        Request::Tell => cluster.ask(alloc, Event::Tell(node)),
+        Request::Save => cluster.ask(alloc, Event::Save(node)),
+        Request::Publish => cluster.ask(alloc, Event::Publish(node)),
+        Request::Cancel => cluster.ask(alloc, Event::Cancel(node)),
+        Request::Restart { kept } => cluster.ask(alloc, Event::Restart(node, kept)),
+        Request::Text => cluster.text(alloc, node),
+        Request::Check(bytes) => cluster.check(alloc, node, bytes.as_slice()),
+    }
+}
+
 /// Answers the line, whatever the aliases are.
 pub fn respond_to<M: MakesKeepers>(
     alloc: Global,
@@ -37,23 +69,12 @@ pub fn respond_to<M: MakesKeepers>(
     ensures { RespondsTo M.K.is_honest M.K.may_hold M.finds M.refuses
         cluster.old line result cluster.new }
 {
-    let said = match line {
-        Line::Job { node, job } => cluster.ask(alloc, job_at(node, job)),
-        Line::Begin { node, pid, order } => {
-            cluster.begin(alloc, job_at(node, Job::By(pid, Act::Order(order))))
+    match line {
+        Line::Node { node, request } => {
+            Response::Said(respond_for(alloc, cluster, node, request))
         }
-        Line::Deliver { node, packet } => cluster.deliver(alloc, node, packet),
-        Line::BeginDeliver { node, packet } => cluster.begin_to_take(alloc, node, packet),
-        Line::Tell { node } => cluster.ask(alloc, Event::Tell(node)),
-        Line::Save { node } => cluster.ask(alloc, Event::Save(node)),
-        Line::Publish { node } => cluster.ask(alloc, Event::Publish(node)),
-        Line::Cancel { node } => cluster.ask(alloc, Event::Cancel(node)),
-        Line::Restart { node, kept } => cluster.ask(alloc, Event::Restart(node, kept)),
-        Line::Text { node } => cluster.text(alloc, node),
-        Line::Check { node, bytes } => cluster.check(alloc, node, bytes.as_slice()),
-        Line::Union { first, second } => cluster.union(alloc, first, second),
-        Line::Audit => cluster.audit(),
-        Line::Aliases => return Response::Aliases,
-    };
-    Response::Said(said)
+        Line::Union { first, second } => Response::Said(cluster.union(alloc, first, second)),
+        Line::Audit => Response::Said(cluster.audit()),
+        Line::Aliases => Response::Aliases,
+    }
 }

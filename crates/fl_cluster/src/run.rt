@@ -42,7 +42,8 @@ pub fn converse<RT: AllocGlobal, C: Conversation<W>, W: Writer, M: MakesKeepers 
     ensures whole { OnOk result (IsAtEnd (C.remaining input.new)) }
     ensures short { OnOk result (IfSome (C.remaining input.old) (λ script. length script ≤ 16777216)) }
     ensures said { OnOk result (C.said output.new ≡ W.contents output.new) }
-    ensures served { IfErr result (λ e. e ≡ RunFault.Read → Served (TurnsOver M.K.is_honest M.K.may_hold M.finds M.refuses) (begun_over keepers)
+    ensures served { IfErr result (λ e. e ≡ RunFault.Read →
+        Served (TurnsOver M.K.is_honest M.K.may_hold M.finds M.refuses) (begun_over keepers)
         (C.remaining input.old) (C.remaining input.new) (W.contents output.old) (W.contents output.new)) }
     ensures cause { IfErr result (λ e. e ≡ RunFault.Read →
         C.is_deaf input.new ⊎ Outgrows 16777216 (C.heard input.old) (C.heard input.new)) }
@@ -78,7 +79,8 @@ pub fn run<RT: AllocGlobal, R: Read, W: Write, M: MakesKeepers + Drop>(
     ensures short { OnOk result (IfSome (R.remaining input.old) (λ script. length script ≤ 16777216)) }
 
     // Any read may fail, so that all lines that have ended are answered before each.
-    ensures served { IfErr result (λ e. e ≡ RunFault.Read → Served (TurnsOver M.K.is_honest M.K.may_hold M.finds M.refuses) (begun_over keepers)
+    ensures served { IfErr result (λ e. e ≡ RunFault.Read →
+        Served (TurnsOver M.K.is_honest M.K.may_hold M.finds M.refuses) (begun_over keepers)
         (R.remaining input.old) (R.remaining input.new) (W.contents output.old) (W.contents output.new)) }
     ensures err { OnErr result (IfSome (R.remaining input.old) (λ script.
         WritesFirst (TurnsOver M.K.is_honest M.K.may_hold M.finds M.refuses) (begun_over keepers)

@@ -8,6 +8,8 @@ use Rattle.fl_system.specs.declared.event.Event.TheVariants as event
 use Rattle.fl_system.specs.World.{World}
 use Rattle.fl_script.specs.declared.line.Line.{Line}
 use Rattle.fl_script.specs.declared.line.Line.TheVariants as line
+use Rattle.fl_script.specs.declared.request.Request.{Request}
+use Rattle.fl_script.specs.declared.request.Request.TheVariants as request
 use Rattle.fl_script.specs.declared.reading.Reading.{Reading}
 use Rattle.fl_script.specs.declared.reading.Reading.TheVariants as reading
 use Rattle.fl_script.specs.Reading.{IsReading, ReadingTakesMemory}
@@ -23,28 +25,31 @@ use Rattle.fl_turns.specs.Session.{Session}
 abbrev pub job_at : ℕ → Job → Event
 job_at number job = event.Job number 1 18446744073709551615 job
 
--- What the line asks of the world is answered so, and leaves the world so.
-abbrev pub AsksOf : Openings → World → Line → Said → World → Type 0
-AsksOf openings w (line.Job number job) = Asks openings w (job_at number job)
-AsksOf openings w (line.Begin number pid order) =
+-- What is asked of the node of this number is answered so, and leaves the world so.
+abbrev pub AsksNode : Openings → World → ℕ → Request → Said → World → Type 0
+AsksNode openings w number (request.Job job) = Asks openings w (job_at number job)
+AsksNode openings w number (request.Begin pid order) =
     AsksToBegin openings w (job_at number (By pid (Orders order)))
-AsksOf openings w (line.Deliver number packet) = Delivers openings w number packet
-AsksOf openings w (line.BeginDeliver number packet) = BeginsToTake openings w number packet
-AsksOf openings w (line.Tell number) = Asks openings w (event.Tell number)
-AsksOf openings w (line.Save number) = Asks openings w (event.Save number)
-AsksOf openings w (line.Publish number) = Asks openings w (event.Publish number)
-AsksOf openings w (line.Cancel number) = Asks openings w (event.Cancel number)
-AsksOf openings w (line.Restart number kept) = Asks openings w (event.Restart number kept)
-AsksOf openings w (line.Text number) = AsksForText openings w number
-AsksOf openings w (line.Check number bytes) = AsksToCheck openings w number bytes
-AsksOf openings w (line.Union first second) = AsksForUnion openings w first second
-AsksOf openings w line.Audit = AsksForAudit w
-AsksOf openings w line.Aliases = λ what w'. ⊥
+AsksNode openings w number (request.Deliver packet) = Delivers openings w number packet
+AsksNode openings w number (request.BeginDeliver packet) = BeginsToTake openings w number packet
+AsksNode openings w number request.Tell = Asks openings w (event.Tell number)
+AsksNode openings w number request.Save = Asks openings w (event.Save number)
+AsksNode openings w number request.Publish = Asks openings w (event.Publish number)
+AsksNode openings w number request.Cancel = Asks openings w (event.Cancel number)
+AsksNode openings w number (request.Restart kept) = Asks openings w (event.Restart number kept)
+AsksNode openings w number request.Text = AsksForText openings w number
+AsksNode openings w number (request.Check bytes) = AsksToCheck openings w number bytes
 
 -- The line is answered so in the session, and leaves its world so.
 pub data AnswersLine (openings : Openings) (old : Session) : Line → Answer → World → Type 0 where
-  asks : {said_so : Line} {what : Said} {w' : World} → AsksOf openings old.world said_so what w'
-      → AnswersLine openings old said_so (said what) w'
+  asks : {number : ℕ} {request : Request} {what : Said} {w' : World}
+      → AsksNode openings old.world number request what w'
+      → AnswersLine openings old (line.Node number request) (said what) w'
+  unites : {first second : ℕ} {what : Said} {w' : World}
+      → AsksForUnion openings old.world first second what w'
+      → AnswersLine openings old (line.Union first second) (said what) w'
+  counts : {what : Said} {w' : World} → AsksForAudit old.world what w'
+      → AnswersLine openings old line.Audit (said what) w'
   lists : AnswersLine openings old line.Aliases (listed old.aliases) old.world
 
 -- the line is answered so, and what it made, if it made something, is what its alias stands for, if it has one
