@@ -60,11 +60,7 @@ fn respond_for<M: MakesKeepers>(
 }
 
 /// Answers the line, whatever the aliases are.
-pub fn respond_to<M: MakesKeepers>(
-    alloc: Global,
-    cluster: &mut Cluster<M>,
-    line: Line,
-) -> Response
+pub fn respond_to<M: MakesKeepers>(alloc: Global, cluster: &mut Cluster<M>, line: Line) -> Response
     requires { All (λ node. 0 < node) (nodes_of line) }
     ensures { RespondsTo M.K.is_honest M.K.may_hold M.finds M.refuses
         cluster.old line result cluster.new }

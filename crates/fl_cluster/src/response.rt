@@ -30,10 +30,7 @@ fn fault_status(fault: Fault) -> u8
 }
 
 impl Response {
-    ghost use Rattle.fl_turns.specs.Answer.{bad_line, starved_line, status_of};
-    ghost use Rattle.fl_turns.specs.Naming.{made_by};
-    ghost use Rattle.fl_turns.specs.Over.{SessionOver};
-    ghost use Rattle.fl_cluster.specs.Shown.{shown};
+    ghost use Rattle.fl_cluster.specs.Shown.{made_said, status_said};
 
     /// The line is none of the script.
     pub fn bad_line() -> Self
@@ -53,7 +50,7 @@ impl Response {
 
     /// The status of its line: 1 where it is none of the script, 3 where a keeper failed, and else 0.
     pub fn status(&self) -> u8
-        ensures { {K M : Type 0} (session : SessionOver K M) → result ≡ status_of (shown session self.now) }
+        ensures { result ≡ status_said self.now }
     {
         match self {
             Response::Said(Said::Reply(Reply::Refused(fault)) | Said::Dropped(fault)) => {
@@ -66,7 +63,7 @@ impl Response {
 
     /// The process, the endpoint or the operation that the line made, for which its alias is to stand.
     pub fn made(&self) -> Option<Target>
-        ensures { {K M : Type 0} (session : SessionOver K M) → result ≡ made_by (shown session self.now) }
+        ensures { result ≡ made_said self.now }
     {
         match self {
             Response::Said(Said::Reply(Reply::Job(JobReply::Made(pid)))) => {

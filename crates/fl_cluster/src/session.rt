@@ -1,8 +1,8 @@
 //! What the lines of a script made, and the aliases of it.
-ghost use Rattle.std.specs.Prelude.{◌≡◌, ◌<◌, All, IsSome, None, Some, length, true};
+ghost use Rattle.std.specs.Prelude.{◌≡◌, ◌<◌, ℕ, All, IsSome, List, None, Some, length, true};
 ghost use Rattle.fl_aliases.specs.Table.{Table, target_of};
 ghost use Rattle.fl_script.specs.Grammar.{nodes_of};
-ghost use Rattle.fl_script.specs.Reading.{makes};
+ghost use Rattle.fl_script.specs.Reading.{IsReading, makes};
 ghost use Rattle.fl_turns.specs.Naming.{IsPlaced, renamed};
 ghost use Rattle.fl_turns.specs.Over.{TurnOver, begun_over};
 ghost use Rattle.fl_cluster.specs.Shown.{shown};
@@ -104,11 +104,30 @@ impl<M: MakesKeepers> Session<M> {
             Ok(Reading::Quiet) => Response::Silence,
             Ok(Reading::Bad) => Response::bad_line(),
             Ok(Reading::Means { line, alias: None }) => self.answer(alloc, line),
-            Ok(Reading::Means {
-                line,
-                alias: Some(alias),
-            }) => self.answer_named(alloc, line, alias),
+            Ok(
+                Reading::Means {
+                    line,
+                    alias: Some(alias),
+                },
+            ) => self.answer_named(alloc, line, alias),
             Err(AllocError) => Response::starved(),
+        }
+    }
+
+    // Answers what was read of a line.
+    fn answer_reading(&mut self, alloc: Global, reading: Reading) -> Response
+        requires { (bytes : List ℕ) × IsReading self.old.aliases bytes reading }
+        ensures { (bytes : List ℕ) → IsReading self.old.aliases bytes reading
+            → TurnOver M.K.is_honest M.K.may_hold M.finds M.refuses
+            self.old bytes (shown self.new result) self.new }
+    {
+        match reading {
+            Reading::Quiet => Response::Silence,
+            Reading::Bad => Response::bad_line(),
+            Reading::Means { line, alias } => match alias {
+                None => self.answer(alloc, line),
+                Some(alias) => self.answer_named(alloc, line, alias),
+            },
         }
     }
 
