@@ -101,15 +101,7 @@ impl<M: MakesKeepers> Session<M> {
             self.old line.now (shown self.new result) self.new }
     {
         match read_line(alloc, &self.aliases, line) {
-            Ok(Reading::Quiet) => Response::Silence,
-            Ok(Reading::Bad) => Response::bad_line(),
-            Ok(Reading::Means { line, alias: None }) => self.answer(alloc, line),
-            Ok(
-                Reading::Means {
-                    line,
-                    alias: Some(alias),
-                },
-            ) => self.answer_named(alloc, line, alias),
+            Ok(reading) => self.answer_reading(alloc, reading),
             Err(AllocError) => Response::starved(),
         }
     }
