@@ -33,12 +33,12 @@ module _ {M : Type 0} {turns : Turns M} where
   }
 
   -- one line was answered
-  pub lines_pass_one : {a b : Option (List ℕ)} {line : List ℕ} {status : ℕ} {new : M} {rest : List ℕ} (d : InterpreterState M) → AnswerPasses turns d.number d.machine line status new a b d.pending rest → LinesPass turns d (record { number = d.number + 1; status = max d.status status; machine = new; pending = rest }) a b (line ∷ [])
-  lines_pass_one {a} {b} {line} {status} {new} {rest} d t = record {
+  pub lines_pass_one : {a b : Option (List ℕ)} {line : List ℕ} {status worse : ℕ} {new : M} {rest : List ℕ} (d : InterpreterState M) → AnswerPasses turns d.number d.machine line status new a b d.pending rest → worse ≡ max d.status status → LinesPass turns d (record { number = d.number + 1; status = worse; machine = new; pending = rest }) a b (line ∷ [])
+  lines_pass_one {a} {b} {line} {status} {worse} {new} {rest} d t greatest = record {
     outputs = record { text = t.text; status = status } ∷ [];
     run = (new, t.turn, refl);
     count = refl;
-    status_is = ap (max d.status) (sym (max-zero status));
+    status_is = greatest ∙ ap (max d.status) (sym (max-zero status));
     passed = rw (append-nil t.text) t.passed;
   }
 
