@@ -1,5 +1,5 @@
 -- The lines of the script, each by the words that spell it.
-use Rattle.std.specs.Prelude.{◌≡◌, ◌⊎◌, ℕ, List, [], ◌∷◌, codes}
+use Rattle.std.specs.Prelude.{◌≡◌, ◌⊎◌, ℕ, Bool, true, false, List, [], ◌∷◌, codes}
 use Rattle.fl_labels.specs.Text.{name_text, pid_text, cap_text, endpoint_text}
 use Rattle.fl_labels.specs.Words.{IsNode, IsNumber}
 use Rattle.fl_jobs.specs.declared.job.Order.TheVariants.{Tag, Group, Put, MakeLogin}
@@ -11,7 +11,7 @@ use Rattle.fl_aliases.specs.Words.{Word}
 use Rattle.fl_ops.specs.PolicyText.{policy_text}
 use Rattle.fl_script.specs.Words.{side_text, mode_text, IsLabelWord, IsCapsWord, IsSecretWord, IsBytesWord}
 use Rattle.fl_script.specs.declared.line.Line.{Line}
-use Rattle.fl_script.specs.declared.line.Line.TheVariants.{Job as OfJob, Text, Deliver, Union, Aliases}
+use Rattle.fl_script.specs.declared.line.Line.TheVariants.{Job as OfJob, Begin, Deliver, BeginDeliver, Tell, Save, Publish, Cancel, Restart, Text, Check, Union, Audit, Aliases}
 
 -- the word is this one
 abbrev pub Is : List ℕ → Word → Type 0
@@ -50,12 +50,26 @@ job_forms (By p (Mailbox Take)) = Is (codes "take") ∷ Is (pid_text p) ∷ []
 job_forms (Member root cap) = Is (codes "member") ∷ Is (cap_text root) ∷ Is (cap_text cap) ∷ []
 job_forms (Arrive packet) = Never ∷ []
 
+-- what may stand behind `restart`
+abbrev pub kept_forms : Bool → List (Word → Type 0)
+kept_forms true = Is (codes "kept") ∷ []
+kept_forms false = []
+
 -- the table of the lines
 abbrev pub forms : Line → List (Word → Type 0)
 forms (OfJob n job) = IsNode n ∷ job_forms job
-forms (Text n) = IsNode n ∷ Is (codes "text") ∷ []
+forms (Begin n p order) = IsNode n ∷ Is (codes "begin") ∷ job_forms (By p (Orders order))
 forms (Deliver n packet) = IsNode n ∷ Is (codes "deliver") ∷ IsNumber packet ∷ []
+forms (BeginDeliver n packet) = IsNode n ∷ Is (codes "begin") ∷ Is (codes "deliver") ∷ IsNumber packet ∷ []
+forms (Tell n) = IsNode n ∷ Is (codes "tell") ∷ []
+forms (Save n) = IsNode n ∷ Is (codes "save") ∷ []
+forms (Publish n) = IsNode n ∷ Is (codes "publish") ∷ []
+forms (Cancel n) = IsNode n ∷ Is (codes "cancel") ∷ []
+forms (Restart n kept) = IsNode n ∷ Is (codes "restart") ∷ kept_forms kept
+forms (Text n) = IsNode n ∷ Is (codes "text") ∷ []
+forms (Check n bytes) = IsNode n ∷ Is (codes "check") ∷ IsBytesWord bytes ∷ []
 forms (Union n m) = Is (codes "union") ∷ IsNode n ∷ IsNode m ∷ []
+forms Audit = Is (codes "audit") ∷ []
 forms Aliases = Is (codes "aliases") ∷ []
 
 -- the words after the node spell the job
@@ -66,9 +80,9 @@ SpellsJob job words = Matches (job_forms job) words
 abbrev pub Spells : Line → List Word → Type 0
 Spells line words = Matches (forms line) words
 
--- the verb of a job that holds a list: of tags, of capabilities, of bytes
+-- the verb of a line that holds a list: of tags, of capabilities, of bytes
 pub record IsListVerb (verb : Word) : Type 0 where
-  pub is : (verb ≡ codes "label") ⊎ (verb ≡ codes "spawn") ⊎ (verb ≡ codes "emit") ⊎ (verb ≡ codes "open") ⊎ (verb ≡ codes "tune") ⊎ (verb ≡ codes "send")
+  pub is : (verb ≡ codes "label") ⊎ (verb ≡ codes "spawn") ⊎ (verb ≡ codes "emit") ⊎ (verb ≡ codes "open") ⊎ (verb ≡ codes "tune") ⊎ (verb ≡ codes "send") ⊎ (verb ≡ codes "check")
 
 -- the second word is the verb of a list
 abbrev pub HoldsList : List Word → Type 0
@@ -79,7 +93,16 @@ HoldsList (node ∷ verb ∷ words) = IsListVerb verb
 -- the nodes that the line names, in their order
 abbrev pub nodes_of : Line → List ℕ
 nodes_of (OfJob node job) = node ∷ []
-nodes_of (Text node) = node ∷ []
+nodes_of (Begin node pid order) = node ∷ []
 nodes_of (Deliver node packet) = node ∷ []
+nodes_of (BeginDeliver node packet) = node ∷ []
+nodes_of (Tell node) = node ∷ []
+nodes_of (Save node) = node ∷ []
+nodes_of (Publish node) = node ∷ []
+nodes_of (Cancel node) = node ∷ []
+nodes_of (Restart node kept) = node ∷ []
+nodes_of (Text node) = node ∷ []
+nodes_of (Check node bytes) = node ∷ []
 nodes_of (Union first second) = first ∷ second ∷ []
+nodes_of Audit = []
 nodes_of Aliases = []

@@ -14,7 +14,7 @@ use Rattle.fl_jobs.specs.declared.job.Job.TheVariants.{Proc, By, Member, Arrive}
 use Rattle.fl_aliases.specs.Words.{Word, words_of}
 use Rattle.fl_script.specs.Grammar.{Spells, HoldsList}
 use Rattle.fl_script.specs.declared.line.Line.{Line}
-use Rattle.fl_script.specs.declared.line.Line.TheVariants.{Job as OfJob, Text, Deliver, Union, Aliases}
+use Rattle.fl_script.specs.declared.line.Line.TheVariants.{Job as OfJob, Begin, Deliver, BeginDeliver, Tell, Save, Publish, Cancel, Restart, Text, Check, Union, Audit, Aliases}
 use Rattle.fl_script.specs.declared.reading.Reading.{Reading}
 use Rattle.fl_script.specs.declared.reading.Reading.TheVariants.{Quiet, Bad, Means}
 
@@ -66,9 +66,18 @@ job_makes (Arrive packet) = false
 -- and for what the line makes
 abbrev pub makes : Line → Bool
 makes (OfJob n job) = job_makes job
-makes (Text n) = false
+makes (Begin n p order) = false
 makes (Deliver n packet) = false
+makes (BeginDeliver n packet) = false
+makes (Tell n) = false
+makes (Save n) = false
+makes (Publish n) = false
+makes (Cancel n) = false
+makes (Restart n kept) = false
+makes (Text n) = false
+makes (Check n bytes) = false
 makes (Union n m) = false
+makes Audit = false
 makes Aliases = false
 
 -- with each alias in them replaced, the words spell the line

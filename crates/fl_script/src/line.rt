@@ -5,21 +5,41 @@ ghost use Rattle.fl_script.specs.parts.Reads.{Reads};
 ghost use Rattle.fl_script.specs.Grammar.{HoldsList, IsListVerb, Spells};
 
 use crate::job::job_from_words;
-use fl_jobs::job::Job;
+use fl_jobs::job::{Job, Order};
+use fl_labels::pid::Pid;
 use fl_labels::text::{read_node, read_number};
+use fl_message::payload::Payload;
 use std::alloc::{AllocError, Global};
 
 /// A line that asks something of one node, of two, or of none. A line that was read names nodes from 1 to 65,535.
 #[derive(Debug, Drop)]
 pub enum Line {
-    /// The node is to do a job.
+    /// The node is to do a job, and what it begins is to be saved and published.
     Job { node: u16, job: Job },
-    /// The node's published operations are to be written.
-    Text { node: u16 },
+    /// The node is to begin the order of the process, and to stop there: it is to be saved and published by further lines.
+    Begin { node: u16, pid: Pid, order: Order },
     /// The packet that was sent as the one of this number, counted from 1, is to come to the node.
     Deliver { node: u16, packet: u32 },
+    /// The same, and what it brings is to be saved and published by further lines.
+    BeginDeliver { node: u16, packet: u32 },
+    /// The node is to send windows of what it has saved.
+    Tell { node: u16 },
+    /// What is to be saved at the node is to be saved.
+    Save { node: u16 },
+    /// What is saved at the node and due is to be published.
+    Publish { node: u16 },
+    /// What is to be saved at the node is to be given up.
+    Cancel { node: u16 },
+    /// The node is to be restarted. What is to be saved is saved first where it is to be kept, and else lost.
+    Restart { node: u16, kept: bool },
+    /// The node's published operations are to be written.
+    Text { node: u16 },
+    /// What a packet of these bytes would bring to the node is to be written.
+    Check { node: u16, bytes: Payload },
     /// The published operations of both nodes are to be written together.
     Union { first: u16, second: u16 },
+    /// How much was admitted is to be written.
+    Audit,
     /// The aliases that are set are to be written.
     Aliases,
 }
