@@ -1,6 +1,7 @@
 -- Lemmas that proofs of the crates above cite.
 pub mod Agreement
 pub mod JobKinds
+pub mod LineKinds
 pub mod OneWord
 pub mod OneLine
 pub mod Ends

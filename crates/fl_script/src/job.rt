@@ -1,15 +1,20 @@
 //! Jobs by the words that spell them.
-ghost use Rattle.std.specs.Prelude.{◌≡◌, ◌∷◌, OnErr, map, codes};
+ghost use Rattle.std.specs.Prelude.{◌≡◌, ◌∷◌, MatchOption, OnErr, map, codes};
 ghost use Rattle.fl_labels.specs.Found.{Finds};
 ghost use Rattle.fl_script.specs.parts.Reads.{Reads};
 ghost use Rattle.fl_labels.specs.Text.{endpoint_text, pid_text};
+ghost use Rattle.fl_labels.specs.declared.pid.Pid.{Pid};
+ghost use Rattle.fl_jobs.specs.declared.job.Order.{Order};
+ghost use Rattle.fl_jobs.specs.declared.job.Act.TheVariants.{Order as Orders};
+ghost use Rattle.fl_jobs.specs.declared.job.Job.TheVariants.{By};
 ghost use Rattle.fl_script.specs.Grammar.{IsListVerb, SpellsJob};
 
+use crate::order::order_from_words;
 use crate::words::{
     bytes_from_word, caps_from_word, label_from_word, labels_from_words, message_from_words,
-    mode_from_word, policy_from_word, secret_from_word, side_from_word,
+    mode_from_word, secret_from_word, side_from_word,
 };
-use fl_jobs::job::{Act, Job, Mail, Order};
+use fl_jobs::job::{Act, Job, Mail};
 use fl_labels::endpoint::Endpoint;
 use fl_labels::pid::Pid;
 use fl_labels::text::{read_cap, read_endpoint, read_name, read_pid};
@@ -20,45 +25,6 @@ fn proc_job(rest: &[&str]) -> Option<Job>
 {
     let [] = rest else { return None };
     Some(Job::Proc)
-}
-
-fn tag_job(rest: &[&str]) -> Option<Job>
-    ensures { Finds result (λ j. SpellsJob j (codes "tag" ∷ map (λ w. w.now) rest.now)) }
-{
-    let [pid, policy] = rest else { return None };
-    let pid = read_pid(pid)?;
-    let policy = policy_from_word(policy)?;
-    Some(Job::By(pid, Act::Order(Order::Tag(policy))))
-}
-
-fn group_job(rest: &[&str]) -> Option<Job>
-    ensures { Finds result (λ j. SpellsJob j (codes "group" ∷ map (λ w. w.now) rest.now)) }
-{
-    let [pid] = rest else { return None };
-    let pid = read_pid(pid)?;
-    Some(Job::By(pid, Act::Order(Order::Group)))
-}
-
-fn put_job(rest: &[&str]) -> Option<Job>
-    ensures { Finds result (λ j. SpellsJob j (codes "put" ∷ map (λ w. w.now) rest.now)) }
-{
-    let [pid, group, cap] = rest else { return None };
-    let pid = read_pid(pid)?;
-    let group = read_name(group)?;
-    let cap = read_cap(cap)?;
-    Some(Job::By(pid, Act::Order(Order::Put(group, cap))))
-}
-
-fn make_login_job(rest: &[&str]) -> Option<Job>
-    ensures { Finds result (λ j. SpellsJob j (codes "make-login" ∷ map (λ w. w.now) rest.now)) }
-{
-    let [pid, cap, secret] = rest else {
-        return None
-    };
-    let pid = read_pid(pid)?;
-    let cap = read_cap(cap)?;
-    let secret = secret_from_word(secret)?;
-    Some(Job::By(pid, Act::Order(Order::MakeLogin(cap, secret))))
 }
 
 fn label_job(alloc: Global, rest: &[&str]) -> Result<Option<Job>, AllocError>
@@ -252,6 +218,17 @@ fn member_job(rest: &[&str]) -> Option<Job>
     Some(Job::Member(root, cap))
 }
 
+// The job of the order that the words spell, or none where they spell no order.
+fn order_job(verb: &str, rest: &[&str]) -> Option<Job>
+    ensures { let said = verb.now ∷ map (λ w. w.now) rest.now in
+        MatchOption result
+        ((p : Pid) (order : Order) → SpellsJob (By p (Orders order)) said → ⊥)
+        (λ job. SpellsJob job said) }
+{
+    let given = order_from_words(verb, rest)?;
+    Some(Job::By(given.pid, Act::Order(given.order)))
+}
+
 /// The job that a verb and the words after it spell, or none where they spell no job.
 /// Takes memory for a list alone: of tags, of capabilities or of bytes.
 pub fn job_from_words(alloc: Global, verb: &str, rest: &[&str]) -> Result<Option<Job>, AllocError>
@@ -260,10 +237,6 @@ pub fn job_from_words(alloc: Global, verb: &str, rest: &[&str]) -> Result<Option
 {
     match verb {
         "proc" => Ok(proc_job(rest)),
-        "tag" => Ok(tag_job(rest)),
-        "group" => Ok(group_job(rest)),
-        "put" => Ok(put_job(rest)),
-        "make-login" => Ok(make_login_job(rest)),
         "label" => label_job(alloc, rest),
         "ask" => Ok(ask_job(rest)),
         "spawn" => spawn_job(alloc, rest),
@@ -277,6 +250,6 @@ pub fn job_from_words(alloc: Global, verb: &str, rest: &[&str]) -> Result<Option
         "send" => send_job(alloc, rest),
         "take" => Ok(take_job(rest)),
         "member" => Ok(member_job(rest)),
-        _ => Ok(None),
+        _ => Ok(order_job(verb, rest)),
     }
 }

@@ -6,6 +6,8 @@ mod job;
 pub mod laws;
 pub mod line;
 mod meaning;
+mod node_line;
+mod order;
 pub mod reading;
 mod replaced;
 mod words;

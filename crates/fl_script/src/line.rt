@@ -1,13 +1,13 @@
 //! Lines of the script.
-ghost use Rattle.std.specs.Prelude.{◌≡◌, ◌≢◌, ◌∷◌, OnErr, map, codes};
+ghost use Rattle.std.specs.Prelude.{◌∷◌, OnErr, map, codes};
 ghost use Rattle.fl_labels.specs.Found.{Finds};
 ghost use Rattle.fl_script.specs.parts.Reads.{Reads};
-ghost use Rattle.fl_script.specs.Grammar.{HoldsList, IsListVerb, Spells};
+ghost use Rattle.fl_script.specs.Grammar.{HoldsList, Spells};
 
-use crate::job::job_from_words;
+use crate::node_line::node_line;
 use fl_jobs::job::{Job, Order};
 use fl_labels::pid::Pid;
-use fl_labels::text::{read_node, read_number};
+use fl_labels::text::read_node;
 use fl_message::payload::Payload;
 use std::alloc::{AllocError, Global};
 
@@ -44,23 +44,6 @@ pub enum Line {
     Aliases,
 }
 
-fn text_line(n: &str, rest: &[&str]) -> Option<Line>
-    ensures { Finds result (λ l. Spells l (n.now ∷ codes "text" ∷ map (λ w. w.now) rest.now)) }
-{
-    let [] = rest else { return None };
-    let node = read_node(n)?;
-    Some(Line::Text { node })
-}
-
-fn deliver_line(n: &str, rest: &[&str]) -> Option<Line>
-    ensures { Finds result (λ l. Spells l (n.now ∷ codes "deliver" ∷ map (λ w. w.now) rest.now)) }
-{
-    let [packet] = rest else { return None };
-    let node = read_node(n)?;
-    let packet = read_number(packet)?;
-    Some(Line::Deliver { node, packet })
-}
-
 fn union_line(rest: &[&str]) -> Option<Line>
     ensures { Finds result (λ l. Spells l (codes "union" ∷ map (λ w. w.now) rest.now)) }
 {
@@ -68,27 +51,6 @@ fn union_line(rest: &[&str]) -> Option<Line>
     let first = read_node(first)?;
     let second = read_node(second)?;
     Some(Line::Union { first, second })
-}
-
-// The line that a node's number, a verb and the words after it spell, or none where they spell no line.
-fn node_line(alloc: Global, n: &str, verb: &str, rest: &[&str]) -> Result<Option<Line>, AllocError>
-    requires { n.now ≢ codes "union" }
-    ensures ok { Reads result (λ l. Spells l (n.now ∷ verb.now ∷ map (λ w. w.now) rest.now)) }
-    ensures err { OnErr result (IsListVerb verb.now) }
-{
-    match verb {
-        "text" => Ok(text_line(n, rest)),
-        "deliver" => Ok(deliver_line(n, rest)),
-        _ => {
-            let Some(node) = read_node(n) else {
-                return Ok(None);
-            };
-            match job_from_words(alloc, verb, rest)? {
-                Some(job) => Ok(Some(Line::Job { node, job })),
-                None => Ok(None),
-            }
-        }
-    }
 }
 
 /// The line that the words spell, or none where they spell no line. Takes memory for a list alone: of tags,
@@ -99,6 +61,7 @@ pub(crate) fn line_from_words(alloc: Global, words: &[&str]) -> Result<Option<Li
 {
     match words {
         ["aliases"] => Ok(Some(Line::Aliases)),
+        ["audit"] => Ok(Some(Line::Audit)),
         ["union", rest @ ..] => Ok(union_line(rest)),
         [n, verb, rest @ ..] => node_line(alloc, n, verb, rest),
         _ => Ok(None),

@@ -1,0 +1,6 @@
+use Rattle.std.proofs.Common.{map}
+use Rattle.fl_script.proofs.NodeWords.{no_packet}
+use Rattle.fl_script.proofs.node_line.deliver_line.Goals as goal
+
+pub returns-in_err-packet : goal.returns-in_err-packet
+returns-in_err-packet c = rw c.from_residual.ensures (no_packet c.args.node (map (λ w. w.now) c.args.rest.now) c.in_err-packet.ensures)
