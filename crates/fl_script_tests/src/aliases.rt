@@ -94,10 +94,15 @@ fn say_pair(
     say(alloc, meant, aliases, plain)
 }
 
+const BEGUN: &str = "\
+1 begin put $a $g +$t => Begin { node: 1, pid: Pid { node: 1, boot: 2, serial: 3 }, order: Put(Name { node: 25, seq: 36 }, Plus(Name { node: 1, seq: 4 })) }
+1 check 0$e => Check { node: 1, bytes: Payload { bytes: [14, 100] } }";
+
 #[test]
 fn aliases_are_replaced(rt: HostRuntime) -> Result<(), AllocError> {
     let aliases = sample(rt.alloc(), FIRST)?;
-    check_pairs(&rt, &aliases, REPLACED)
+    check_pairs(&rt, &aliases, REPLACED)?;
+    check(&rt, &aliases, BEGUN)
 }
 
 const NAMED: &str = "\
@@ -120,6 +125,9 @@ const NO_LINES: &str = "\
 1 send $a $e $a $e {} none as $x
 1 take $a as $x
 1 deliver 1 as $x
+1 begin group $a as $x
+1 save as $x
+audit as $x
 1 open $a $t {} {}
 1 tune $a $t {} {}
 1 close $a $a

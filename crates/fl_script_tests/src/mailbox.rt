@@ -81,7 +81,8 @@ const SIZES: &str = "\
 1 send p1.1.1 e1 p2.1.1 e1 {+1.64,+1.1..64} none => 64 0 false false
 1 send p1.1.1 e1 p2.1.1 e1 {+1.1..65} none => bad
 1 send p1.1.1 e1 p2.1.1 e1 {} a0..1024 => 0 1024 false false
-1 send p1.1.1 e1 p2.1.1 e1 {} a0..1025 => bad";
+1 send p1.1.1 e1 p2.1.1 e1 {} a0..1025 => bad
+1 check a0..1025 => 0 1025 false false";
 
 #[test]
 fn sizes(rt: HostRuntime) -> Result<(), AllocError> {
