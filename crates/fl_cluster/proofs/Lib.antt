@@ -1,5 +1,1 @@
-pub mod StreamRuns
-pub mod NodeLemmas
 pub mod Naming
-pub mod NodesTable
-pub mod Wanting

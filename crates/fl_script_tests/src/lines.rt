@@ -104,6 +104,42 @@ union text
 Union 1 2
 a b c d e f g h i";
 
+const STEPS: &str = "\
+1 begin group p2.1.1 => Begin { node: 1, pid: Pid { node: 2, boot: 1, serial: 1 }, order: Group }
+1 begin tag p1.1.1 read => Begin { node: 1, pid: Pid { node: 1, boot: 1, serial: 1 }, order: Tag(Read) }
+2 deliver 7 => Deliver { node: 2, packet: 7 }
+2 begin deliver 7 => BeginDeliver { node: 2, packet: 7 }
+3 tell => Tell { node: 3 }
+3 save => Save { node: 3 }
+3 publish => Publish { node: 3 }
+3 cancel => Cancel { node: 3 }";
+
+const WORLD: &str = "\
+3 restart => Restart { node: 3, kept: false }
+3 restart kept => Restart { node: 3, kept: true }
+4 check 00aBFF => Check { node: 4, bytes: Payload { bytes: [0, 171, 255] } }
+4 check none => Check { node: 4, bytes: Payload { bytes: [] } }
+audit => Audit";
+
+const NO_STEPS: &str = "\
+1 begin
+1 begin ask p1.1.1 *1.5
+1 begin exit p1.1.1
+1 begin proc
+1 begin group p1.1.1 as $x
+1 begin deliver
+1 begin begin deliver 1
+begin deliver 1
+1 tell 2
+save
+1 restart keep
+1 restart kept kept
+1 check
+1 check 0g
+1 check none none
+audit 1
+1 audit";
+
 // Lines that answer nothing, and lines of the greatest length, which comments may pass.
 const QUIET: &str = "\
  => Quiet
@@ -126,6 +162,14 @@ fn lines(rt: HostRuntime) -> Result<(), AllocError> {
 #[test]
 fn bad_lines(rt: HostRuntime) -> Result<(), AllocError> {
     for rows in [NO_ORDERS, NO_CHANGES, NO_WRITINGS] {
+        check_plain(&rt, rows)?;
+    }
+    Ok(())
+}
+
+#[test]
+fn steps(rt: HostRuntime) -> Result<(), AllocError> {
+    for rows in [STEPS, WORLD, NO_STEPS] {
         check_plain(&rt, rows)?;
     }
     Ok(())

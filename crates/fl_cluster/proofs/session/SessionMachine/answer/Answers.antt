@@ -1,6 +1,0 @@
-use Rattle.fl_sink.specs.laws.Passing.{on_err_always}
-use Rattle.fl_cluster.proofs.StreamRuns.{cuts_answer}
-use Rattle.fl_cluster.proofs.session.SessionMachine.answer.Goals as goal
-
-pub returns-in_err-write_response-clause-err : goal.returns-in_err-write_response-clause-err
-returns-in_err-write_response-clause-err g c = on_err_always _ (cuts_answer _ c.respond-response.ensures c.in_err-write_response.ensures.puts.is)
