@@ -1,10 +1,10 @@
 use Rattle.fl_cluster.proofs.asking.respond_for.Goals as goal
 
 pub returns-in-Job : goal.returns-in-Job
-returns-in-Job g c = rw (c.in-Job.is, ← c.job_at.ensures) c.ask.ensures
+returns-in-Job g c = rw c.in-Job.is (rw c.job_at.ensures at c.ask.ensures)
 
 pub returns-in-Begin : goal.returns-in-Begin
-returns-in-Begin g c = rw (c.in-Begin.is, ← c.job_at-in-Begin.ensures) c.begin.ensures
+returns-in-Begin g c = rw c.in-Begin.is (rw c.job_at-in-Begin.ensures at c.begin.ensures)
 
 pub returns-in-Deliver : goal.returns-in-Deliver
 returns-in-Deliver g c = rw c.in-Deliver.is c.deliver.ensures

@@ -1,0 +1,8 @@
+use Rattle.fl_sink.specs.laws.Passing.{on_err_always}
+use Rattle.fl_cluster.proofs.Turning.{cuts_answer}
+use Rattle.fl_cluster.proofs.session.SessionMachine.answer.Goals as goal
+
+pub returns-in_err-write_response-clause-err : goal.returns-in_err-write_response-clause-err
+returns-in_err-write_response-clause-err g c =
+    on_err_always _ (cuts_answer g.M.K.Keeper.is_honest g.M.K.Keeper.may_hold g.M.MakesKeepers.finds g.M.MakesKeepers.refuses
+    _ _ _ _ _ c.respond-response.ensures c.in_err-write_response.ensures.puts.is)
