@@ -6,6 +6,7 @@ use crate::words::{event_from, job_at, line_from, reply_text};
 use fl_labels::name::Name;
 use fl_ops::op::{Body, Op};
 use fl_script::line::Line;
+use fl_script::request::Request;
 use fl_store::keeper::Keeper;
 use fl_store::mem::MemKeeper;
 use fl_system::answer::Fault;
@@ -26,8 +27,11 @@ fn event_of(alloc: Global, words: &str) -> Result<Event, Fail>
     if let Some(event) = event_from(1, words) {
         return Ok(event);
     }
-    match line_from(alloc, words)? {
-        Line::Job { node, job } => Ok(job_at(node, job)),
+    let Line::Node { node, request } = line_from(alloc, words)? else {
+        return Err(Fail::from("no job"));
+    };
+    match request {
+        Request::Job(job) => Ok(job_at(node, job)),
         _ => Err(Fail::from("no job")),
     }
 }

@@ -7,6 +7,7 @@ use fl_calls::response::Response;
 use fl_makers::mem::MemMaker;
 use fl_replies::text::{write_count, write_dropped_fault, write_world_reply};
 use fl_script::line::Line;
+use fl_script::request::Request;
 use fl_sink::sink::{Sink, WriteFault};
 use fl_wire::writing::encode;
 use std::alloc::{AllocGlobal, Global};
@@ -78,15 +79,13 @@ impl Scene {
 
     // Has a line of a node begin alone.
     fn begin(&mut self, words: &str) -> Result<Response, Fail> {
-        match line_from(self.alloc, words)? {
-            Line::Job { node, job } => {
-                let event = job_at(known(node)?, job);
-                Ok(self.cluster.begin(self.alloc, event))
-            }
-            Line::Deliver { node, packet } => {
-                let node = known(node)?;
-                Ok(self.cluster.begin_to_take(self.alloc, node, packet))
-            }
+        let Line::Node { node, request } = line_from(self.alloc, words)? else {
+            return Err(Fail::from("nothing begins"));
+        };
+        let node = known(node)?;
+        match request {
+            Request::Job(job) => Ok(self.cluster.begin(self.alloc, job_at(node, job))),
+            Request::Deliver(packet) => { Ok(self.cluster.begin_to_take(self.alloc, node, packet)) }
             _ => Err(Fail::from("nothing begins")),
         }
     }
@@ -120,20 +119,24 @@ impl Scene {
     // Asks what a line of the script asks.
     fn ask_line(&mut self, words: &str) -> Result<Response, Fail> {
         match line_from(self.alloc, words)? {
-            Line::Job { node, job } => {
-                let event = job_at(known(node)?, job);
-                Ok(self.cluster.ask(self.alloc, event))
-            }
-            Line::Text { node } => Ok(self.cluster.text(self.alloc, known(node)?)),
-            Line::Deliver { node, packet } => {
-                let node = known(node)?;
-                Ok(self.cluster.deliver(self.alloc, node, packet))
-            }
+            Line::Node { node, request } => self.ask_node(known(node)?, request),
             Line::Union { first, second } => {
                 let (first, second) = (known(first)?, known(second)?);
                 Ok(self.cluster.union(self.alloc, first, second))
             }
-            Line::Aliases => Err(Fail::from("no aliases")),
+            _ => Err(Fail::from("no answer")),
+        }
+    }
+
+    // Asks it of the node.
+    fn ask_node(&mut self, node: u16, request: Request) -> Result<Response, Fail>
+        requires { 0 < node }
+    {
+        match request {
+            Request::Job(job) => Ok(self.cluster.ask(self.alloc, job_at(node, job))),
+            Request::Text => Ok(self.cluster.text(self.alloc, node)),
+            Request::Deliver(packet) => Ok(self.cluster.deliver(self.alloc, node, packet)),
+            _ => Err(Fail::from("no answer")),
         }
     }
 
