@@ -17,10 +17,7 @@ use std::test::Fail;
 /// A world over keepers in memory. A line is one of the script, or
 ///
 /// - `begin 1 group p1.1.1`, `begin 1 deliver 2`: what the line begins is left to be saved and published.
-/// - `1 tell`, `1 save`, `1 publish`, `1 cancel`, `1 restart`, `1 restart kept`: that event of the node.
-/// - `1 check f10300`: what a packet of these bytes would bring to the node.
 /// - `packet 1`: the bytes of that packet.
-/// - `audit`: how much was admitted.
 #[derive(Drop)]
 pub struct Scene {
     pub alloc: Global,
@@ -85,7 +82,7 @@ impl Scene {
         let node = known(node)?;
         match request {
             Request::Job(job) => Ok(self.cluster.begin(self.alloc, job_at(node, job))),
-            Request::Deliver(packet) => { Ok(self.cluster.begin_to_take(self.alloc, node, packet)) }
+            Request::Deliver(packet) => Ok(self.cluster.begin_to_take(self.alloc, node, packet)),
             _ => Err(Fail::from("nothing begins")),
         }
     }

@@ -59,7 +59,7 @@ pub fn job_at(node: u16, job: Job) -> Event
     }
 }
 
-/// What happens to the node by these words, which are no line of the script.
+/// What happens to the node by these words, where they ask for nothing else.
 pub fn event_from(node: u16, words: &str) -> Option<Event>
     ensures far { IfSome result (λ event. LooksFar event) }
     ensures there { IfSome result (λ event. node_of event ≡ node) }
