@@ -1,3 +1,4 @@
 pub mod Reached
 pub mod Headline
+pub mod Lasting
 pub mod Looking

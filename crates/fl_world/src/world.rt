@@ -15,8 +15,9 @@ ghost use Rattle.fl_nodes.specs.Whole.{IsWhole};
 ghost use Rattle.fl_world.specs.Looking.{LooksFar};
 ghost use Rattle.fl_world.specs.Reached.{InEach};
 ghost use Rattle.fl_world.specs.Headline.{HasSafeAudit, IsSafeWorld};
+ghost use Rattle.fl_world.specs.Lasting.{IsLastingWorld};
 
-use crate::laws::law_headline;
+use crate::laws::{law_headline, law_lasting};
 use fl_jobs::job::Job;
 use fl_node::node::Node;
 use fl_nodes::nodes::Nodes;
@@ -79,6 +80,15 @@ impl<K: Keeper> World<K> {
     {
         let _nodes = &self.nodes;
         law_headline();
+    }
+
+    /// What lasts, of any world that a run led to: no yes is withdrawn, what is published grows by the node's own publications alone,
+    /// what is noted is of its moment, a tag is confined, and no event is refused for a name.
+    pub fn law_lasting(&self)
+        ensures { InEach K.is_honest K.may_hold self.now IsLastingWorld }
+    {
+        let _nodes = &self.nodes;
+        law_lasting();
     }
 
     /// The node of this number, or none where it is not there.

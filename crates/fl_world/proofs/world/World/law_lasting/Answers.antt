@@ -1,0 +1,10 @@
+use Rattle.std.proofs.Common.{subst}
+use Rattle.fl_world.specs.Lasting.{IsLastingWorld}
+use Rattle.fl_world.specs.Reached.{InEach}
+use Rattle.fl_world.proofs.Reaching.{each_has}
+use Rattle.fl_world.proofs.world.World.law_lasting.Goals as goal
+
+pub returns : goal.returns
+returns g c =
+    subst (λ o. InEach g.K.Keeper.is_honest g.K.Keeper.may_hold o IsLastingWorld) c.self.view_is
+    (each_has g.K.Keeper.is_honest g.K.Keeper.may_hold _ _ _ c.law_lasting.ensures c.self.invariant)
