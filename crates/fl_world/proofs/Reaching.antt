@@ -9,8 +9,11 @@ use Rattle.fl_system.specs.World.{World, KeptNode, empty_world}
 use Rattle.fl_system.specs.declared.reply.Reply.{Reply}
 use Rattle.fl_system.specs.declared.reply.Reply.TheVariants as replies
 use Rattle.fl_system.specs.declared.answer.Fault.{Fault}
+use Rattle.fl_system.specs.declared.event.Event.{Event}
 use Rattle.fl_system.specs.Joins.{Joins}
 use Rattle.fl_system.specs.Runs.{Move, Comes, Moment, Moves, IsRun, IsReached, end}
+use Rattle.fl_system.specs.WorldSteps.{Step}
+use Rattle.fl_world_laws.specs.Places.{IsNameRefusal}
 use Rattle.fl_node.specs.Over.{NodeOver}
 use Rattle.fl_nodes.specs.Over.{WorldOver, empty_over}
 use Rattle.fl_nodes.specs.Joining.{TakesIn}
@@ -79,6 +82,18 @@ each_reached is_honest may_hold old new move reply goes all = record {
 pub each_has : {K : Type 0} (is_honest : K → Type 0) (may_hold : K → Held) (over : WorldOver K) (P Q : World → Type 0)
     → ((w : World) → P w → Q w) → InEach is_honest may_hold over P → InEach is_honest may_hold over Q
 each_has is_honest may_hold over P Q leads all = record { each = λ honest w is. leads w (all.each honest w is) }
+
+-- an event of a world that a run leads to is not refused for a name
+pub never_named : {K : Type 0} (is_honest : K → Type 0) (may_hold : K → Held) (old new : WorldOver K) (event : Event)
+    (reply : Reply)
+    → ((w after : World) (event : Event) (reply : Reply) → IsReached w → Step w event reply after → ¬ IsNameRefusal reply)
+    → InEach is_honest may_hold old IsReached → Goes is_honest may_hold old new (λ w w'. Step w event reply w')
+    → InEach is_honest may_hold new (λ w. ¬ IsNameRefusal reply)
+never_named is_honest may_hold old new event reply none reached goes = record {
+  each = λ honest after is.
+      let before = goes.comes honest after is in
+      none before.0 after event reply (reached.each (goes.honest honest) before.0 before.1) before.2;
+}
 
 -- how far a desk looks that looks at the whole list of the node of this number
 pub whole_look : {K : Type 0} (over : WorldOver K) (number : ℕ) → (upto : ℕ) × IsWhole over number upto

@@ -7,6 +7,7 @@ ghost use Rattle.fl_system.specs.declared.reply.Reply.TheVariants as replies;
 ghost use Rattle.fl_system.specs.Joins.{Joins};
 ghost use Rattle.fl_system.specs.Runs.{Run};
 ghost use Rattle.fl_system.specs.WorldSteps.{Step};
+ghost use Rattle.fl_world_laws.specs.Places.{IsNameRefusal};
 ghost use Rattle.fl_nodes.specs.Over.{empty_over};
 ghost use Rattle.fl_nodes.specs.Goes.{Goes};
 ghost use Rattle.fl_nodes.specs.Joining.{GivesBack, IsRefused, TakesIn};
@@ -28,6 +29,7 @@ use fl_system::answer::Fault;
 use fl_system::event::Event;
 use fl_system::reply::Reply;
 use fl_system::sent::Sent;
+use fl_world_laws::laws::law_names;
 use std::alloc::{AllocError, Global};
 use std::io::Write;
 use std::marker::Model;
@@ -193,9 +195,8 @@ impl<K: Keeper> World<K> {
         }
     }
 
-    /// Has the event happen, and gives what it is answered. A job looks at the whole list of its node, so far: it is handed in to
-    /// look as far as can be.
-    pub fn step(&mut self, alloc: Global, event: Event) -> Reply
+    // The event happens. A job looks at the whole list of its node.
+    fn turn(&mut self, alloc: Global, event: Event) -> Reply
         requires { LooksFar event }
         ensures { Goes K.is_honest K.may_hold self.old self.new (λ w w'. Step w event result w') }
     {
@@ -216,6 +217,18 @@ impl<K: Keeper> World<K> {
             Event::Tell(node) => self.tell(alloc, node),
             Event::Deliver { packet, node } => self.deliver(alloc, packet, node),
         }
+    }
+
+    /// Has the event happen, and gives what it is answered. A job looks at the whole list of its node, so far: it is handed in to
+    /// look as far as can be. It is never answered `Clash` or `Impostor`.
+    pub fn step(&mut self, alloc: Global, event: Event) -> Reply
+        requires { LooksFar event }
+        ensures goes { Goes K.is_honest K.may_hold self.old self.new (λ w w'. Step w event result w') }
+        ensures named { InEach K.is_honest K.may_hold self.new (λ w. ¬ IsNameRefusal result) }
+    {
+        let _nodes = &self.nodes;
+        law_names();
+        self.turn(alloc, event)
     }
 
     /// Has the events happen one after another, and gives what each is answered. Room for the answers is taken first: an error

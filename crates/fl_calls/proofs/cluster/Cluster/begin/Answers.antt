@@ -11,7 +11,7 @@ returns-in-Ok g c =
     once_open g.M.K.Keeper.is_honest g.M.K.Keeper.may_hold g.M.MakesKeepers.finds g.M.MakesKeepers.refuses _ _ _ _ _ _ _ _
     (λ v. Says replied (Step v c.args.event)) (replied c.step.result) c.self.view_is c.in-Ok.is
     (rw c.number_of.ensures at c.enter.ensures)
-    (goes_as g.M.K.Keeper.is_honest g.M.K.Keeper.may_hold _ _ _ _ (λ w w' done. (c.step.result, refl, done)) c.step.ensures)
+    (goes_as g.M.K.Keeper.is_honest g.M.K.Keeper.may_hold _ _ _ _ (λ w w' done. (c.step.result, refl, done)) c.step.ensures.goes)
 
 pub returns-in-Err : goal.returns-in-Err
 returns-in-Err g c =

@@ -14,7 +14,7 @@ pub returns-in-Ok : goal.returns-in-Ok
 returns-in-Ok g c =
     taken g.M.K.Keeper.is_honest g.M.K.Keeper.may_hold g.M.MakesKeepers.finds g.M.MakesKeepers.refuses _ _ _ _ _ _ _ _ _
     c.in-Some.sent.now _ _ _ c.self.view_is c.in-Ok.is (rw c.in-Some.is at c.packet.ensures) c.brings_ops.ensures
-    c.if-not-brings_ops.false c.arrival.ensures c.enter.ensures c.step.ensures
+    c.if-not-brings_ops.false c.arrival.ensures c.enter.ensures c.step.ensures.goes
 
 pub returns-in-Err : goal.returns-in-Err
 returns-in-Err g c =

@@ -13,7 +13,7 @@ loop-event-init g c =
 
 pub loop-event-preserved : goal.loop-event-preserved
 loop-event-preserved g c =
-    one_more g.K.Keeper.is_honest g.K.Keeper.may_hold _ _ _ _ _ _ _ _ _ _ _ _ _ _ c.loop-event.invariant c.step-reply.ensures
+    one_more g.K.Keeper.is_honest g.K.Keeper.may_hold _ _ _ _ _ _ _ _ _ _ _ _ _ _ c.loop-event.invariant c.step-reply.ensures.goes
     c.push_reserved.ensures.items c.push_reserved.ensures.len c.push_reserved.ensures.capacity
     (omega (arith, ap length c.in-Some.ensures.steps.0))
 
