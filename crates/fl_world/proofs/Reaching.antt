@@ -1,11 +1,8 @@
 -- A run goes on by one more moment.
-use Rattle.std.proofs.Common.{◌≡◌, ◌∙◌, ℕ, refl, sym, subst, List, [], ◌∷◌, ◌++◌, ◌≤◌, Option, Some, None, Result, Ok, Err, IfOk, OnErr, length, arith}
+use Rattle.std.proofs.Common.{◌≡◌, ℕ, refl, sym, subst, List, [], ◌∷◌, ◌++◌, ◌≤◌, Option, Some, None, Result, Ok, Err, IfOk, OnErr, length, arith}
 use Rattle.std.specs.FinMap as map
-use Rattle.std.specs.FinMap.{nat_cmp-IsAntisymmetric}
-use Rattle.std.specs.Cmp.{nat_cmp_total}
-use Rattle.std.specs.Ordering.{nat_cmp}
 use Rattle.fl_store.specs.Keeping.{Held}
-use Rattle.fl_system.specs.World.{World, KeptNode, empty_world}
+use Rattle.fl_system.specs.World.{World, empty_world}
 use Rattle.fl_system.specs.declared.reply.Reply.{Reply}
 use Rattle.fl_system.specs.declared.reply.Reply.TheVariants as replies
 use Rattle.fl_system.specs.declared.answer.Fault.{Fault}
@@ -18,7 +15,8 @@ use Rattle.fl_node.specs.Over.{NodeOver}
 use Rattle.fl_nodes.specs.Over.{WorldOver, empty_over}
 use Rattle.fl_nodes.specs.Joining.{TakesIn}
 use Rattle.fl_nodes.specs.Whole.{IsWhole}
-use Rattle.fl_nodes.specs.Goes.{MayBeNode, MayBe, Goes}
+use Rattle.fl_nodes.specs.Goes.{Goes}
+use Rattle.fl_nodes.specs.laws.Nothing.{none_is}
 use Rattle.fl_world.specs.Reached.{InEach}
 
 run_on : (w : World) (ms : List Moment) (m : Moment) → IsRun w ms → Moves (end w ms) m.move m.reply m.after
@@ -43,30 +41,11 @@ reached_on w w' move reply r goes =
 empty_reached : (desks : ℕ) → IsReached (empty_world desks)
 empty_reached desks = record { desks = desks; moments = []; is_run = tt; leads = refl }
 
-none_there : {K : Type 0} (may_hold : K → Held) (o : Option KeptNode) → MayBeNode may_hold None o → o ≡ None
-none_there may_hold None h = refl
-none_there may_hold (Some s) h = absurd h
-
-same_at : {K : Type 0} (may_hold : K → Held) (desks : ℕ) (w : World) → MayBe may_hold (empty_over desks) w → (q : ℕ)
-    → map.get (map.empty {X = KeptNode} {R = nat_cmp}) q ≡ map.get w.nodes q
-same_at {K} may_hold desks w is q =
-    let none = none_there may_hold (map.get w.nodes q)
-    (subst (λ o. MayBeNode may_hold o (map.get w.nodes q)) (map.get-empty {X = NodeOver K} nat_cmp q) (is.nodes q)) in
-    map.get-empty {X = KeptNode} nat_cmp q ∙ sym none
-
--- nodes that are none may be the world without a node, and no other
-empty_is : {K : Type 0} (may_hold : K → Held) (desks : ℕ) (w : World) → MayBe may_hold (empty_over desks) w
-    → empty_world desks ≡ w
-empty_is may_hold desks w is =
-    let nodes : map.empty ≡ w.nodes =
-    map.same_map nat_cmp_total nat_cmp-IsAntisymmetric map.empty w.nodes (same_at may_hold desks w is) in
-    λ i. record { desks = (sym is.desks) i; nodes = nodes i; packets = (sym is.packets) i; audit = (sym is.audit) i }
-
 -- the world without a node
 pub none_reached : {K : Type 0} (is_honest : K → Type 0) (may_hold : K → Held) (desks : ℕ)
     → InEach is_honest may_hold (empty_over desks) IsReached
 none_reached is_honest may_hold desks =
-    record { each = λ honest w is. subst IsReached (empty_is may_hold desks w is) (empty_reached desks) }
+    record { each = λ honest w is. subst IsReached (none_is may_hold desks w is) (empty_reached desks) }
 
 -- a call that is a move leads to what a run leads to
 pub each_reached : {K : Type 0} (is_honest : K → Type 0) (may_hold : K → Held) (old new : WorldOver K) (move : Move)
