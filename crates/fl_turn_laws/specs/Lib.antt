@@ -1,0 +1,4 @@
+pub mod Answered
+pub mod Beginning
+pub mod Certain
+pub mod Leading
