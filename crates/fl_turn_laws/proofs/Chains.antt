@@ -5,13 +5,13 @@ use Rattle.fl_store.specs.Keeping.{Held}
 use Rattle.fl_stream.specs.Turns.{LineOutput, Run as Lines}
 use Rattle.fl_system.specs.declared.answer.Fault.{Fault}
 use Rattle.fl_system.specs.World.{World}
-use Rattle.fl_nodes.specs.Goes.{MayBe, AreHonest, Goes}
+use Rattle.fl_nodes.specs.Goes.{Goes}
 use Rattle.fl_nodes.specs.laws.Nothing.{none_is}
 use Rattle.fl_calls.specs.Entering.{Openings}
 use Rattle.fl_calls.specs.Over.{openings_of}
 use Rattle.fl_calls.specs.laws.Widening.{OpensMore, opens_more}
 use Rattle.fl_turns.specs.Over.{SessionOver, begun_over, TurnsOver}
-use Rattle.fl_turns.specs.Run.{Run, output_of, outputs_from}
+use Rattle.fl_turns.specs.Run.{output_of, outputs_from}
 use Rattle.fl_turns.specs.Session.{Session, begun}
 use Rattle.fl_world.specs.Reached.{InEach}
 use Rattle.fl_turn_laws.specs.Answered.{IsAnswered}

@@ -1,5 +1,5 @@
 -- What each line asks for is a run of worlds.
-use Rattle.std.proofs.Common.{◌≡◌, ◌∙◌, ℕ, refl, sym, ap, subst, List, [], ◌∷◌, ◌++◌, inl, inr, Result, Ok, Err}
+use Rattle.std.proofs.Common.{◌≡◌, ◌∙◌, ℕ, refl, sym, ap, subst, List, [], ◌∷◌, ◌++◌, inl, inr, Result}
 use Rattle.fl_system.specs.declared.answer.Fault.{Fault}
 use Rattle.fl_system.specs.declared.event.Event.{Event}
 use Rattle.fl_system.specs.declared.reply.Reply.{Reply}
@@ -18,7 +18,7 @@ use Rattle.fl_calls.specs.Calls as calls
 use Rattle.fl_calls.specs.Calls.{Says, Delivers, BeginsToTake, Tells, Unites, ChecksAt}
 use Rattle.fl_turns.specs.Answer.{Answer}
 use Rattle.fl_turns.specs.Run.{Run}
-use Rattle.fl_turns.specs.Session.{Session, begun}
+use Rattle.fl_turns.specs.Session.{Session}
 use Rattle.fl_turns.specs.Turn.{AsksNode, AnswersLine, asks, unites, counts, lists, AnswersReading, Turn}
 use Rattle.fl_turn_laws.specs.Leading.{Leads}
 

@@ -1,5 +1,5 @@
 -- What a packet would bring is said in one way.
-use Rattle.std.proofs.Common.{◌≡◌, ◌≢◌, ◌∙◌, inl, inr, ℕ, refl, sym, ap, subst, Result, Ok, Err}
+use Rattle.std.proofs.Common.{◌≡◌, ◌≢◌, ℕ, refl, ap, Result, Ok, Err}
 use Rattle.fl_labels.specs.SetBy as set
 use Rattle.fl_labels.specs.SetBy.{SetBy}
 use Rattle.fl_ops.specs.OpOrder.{op_cmp}
@@ -11,7 +11,7 @@ use Rattle.fl_system.specs.declared.answer.Fault.{Fault}
 use Rattle.fl_system.specs.declared.answer.Fault.TheVariants.{Refused}
 use Rattle.fl_system.specs.Receives.{Receives, AreLacking, CanTake}
 use Rattle.fl_system.specs.State.{NodeState}
-use Rattle.fl_system.specs.Waiting.{IsRunning, NotRunning}
+use Rattle.fl_system.specs.Waiting.{IsRunning}
 use Rattle.fl_node.specs.Checking.{AreRefused, Counts, Checks}
 use Rattle.fl_one_laws.specs.laws.Benches.{one_stop, not_both}
 use Rattle.fl_one_laws.specs.laws.Deliveries.{one_receiving}

@@ -1,6 +1,5 @@
 -- A line has one answer, where the keepers of its nodes open one way.
-use Rattle.std.proofs.Common.{◌≡◌, ◌≢◌, ◌<◌, ◌≤◌, ◌∙◌, inl, inr, ℕ, Bool, true, false, List, [], ◌∷◌, Option, None, Some, refl, sym, ap, subst, Result, Ok, Err, arith}
-use Rattle.std.specs.FinMap as map
+use Rattle.std.proofs.Common.{◌≡◌, ◌≢◌, ◌∙◌, inl, inr, ℕ, true, List, [], ◌∷◌, ◌++◌, length, take, None, Some, refl, sym, ap, subst, Result, Ok, Err, arith}
 use Rattle.std.specs.List.{All, AllByRecursion}
 use Rattle.std.proofs.lemmas.List.Elements.{recursion_from_All}
 use Rattle.fl_bench.specs.laws.Puts.{none_some, same_found}
@@ -24,15 +23,14 @@ use Rattle.fl_system.specs.declared.sent.Sent.{Sent}
 use Rattle.fl_system.specs.declared.state.State.{State}
 use Rattle.fl_system.specs.declared.state.State.TheVariants.{Running, Stopped}
 use Rattle.fl_system.specs.Joins.{Joins}
-use Rattle.fl_system.specs.Numbered.{item_at}
-use Rattle.fl_system.specs.Runs.{Moment, IsRun, IsReached, end}
+use Rattle.fl_system.specs.Runs.{Moment, IsRun, end}
 use Rattle.fl_system.specs.Waiting.{IsRunning, NotRunning}
 use Rattle.fl_system.specs.World.{World, KeptNode, empty_world}
 use Rattle.fl_system.specs.WorldSteps.{Step, IsAt, node_of}
 use Rattle.fl_system_laws.specs.Goes.{Goes}
 use Rattle.fl_system_laws.specs.laws.Going.{moves_goes}
 use Rattle.fl_node.specs.Checking.{Checks}
-use Rattle.fl_one_laws.specs.Ample.{IsAmple, HasBootAt, HasDesk, IsAtDesk}
+use Rattle.fl_one_laws.specs.Ample.{HasBootAt, HasDesk, IsAtDesk}
 use Rattle.fl_one_laws.specs.laws.Benches.{one_stop, not_both}
 use Rattle.fl_one_laws.specs.laws.Desks.{reached_desks, at_desk}
 use Rattle.fl_one_laws.specs.laws.Joinings.{one_joining}
@@ -43,17 +41,17 @@ use Rattle.fl_script.specs.declared.reading.Reading.TheVariants as reading
 use Rattle.fl_script.specs.declared.request.Request.{Request}
 use Rattle.fl_script.specs.declared.request.Request.TheVariants as request
 use Rattle.fl_script.specs.laws.OneReading.{one_reading}
-use Rattle.fl_calls.specs.Answer.{Answer as Said, replied, dropped, text, checked, bad_packet}
+use Rattle.fl_calls.specs.Answer.{Answer as Said, replied, text, checked, bad_packet}
 use Rattle.fl_calls.specs.Entering.{Openings, Enters, is_there, joins, is_refused, OnceOpen, shut, opened}
 use Rattle.fl_calls.specs.Completing.{begins, starved, Finishes, given_up, not_saved, saved, Completes, at_once, in_steps}
 use Rattle.fl_calls.specs.Calls as calls
 use Rattle.fl_calls.specs.Calls.{Says, said_of, counted, Delivers, BeginsToTake, Tells, Unites, ChecksAt}
 use Rattle.fl_calls.specs.Over.{NotOpened, none_made, not_joined, openings_of}
-use Rattle.fl_turns.specs.Answer.{Answer, said, starved_line}
+use Rattle.fl_turns.specs.Answer.{Answer, said}
 use Rattle.fl_turns.specs.Naming.{made_by, renamed}
 use Rattle.fl_turns.specs.Run.{Run}
 use Rattle.fl_turns.specs.Session.{Session, begun}
-use Rattle.fl_turns.specs.Turn.{AsksNode, AnswersLine, asks, unites, counts, lists, AnswersReading, AnswersNamed, Turn}
+use Rattle.fl_turns.specs.Turn.{AsksNode, AnswersLine, asks, unites, counts, lists, AnswersReading, Turn}
 use Rattle.fl_turn_laws.specs.Certain.{IsSureReply, IsSure, OpenOneWay}
 use Rattle.fl_turn_laws.specs.Leading.{Leads}
 use Rattle.fl_turn_laws.proofs.Leads.{stays, then_, enters_leads, step_leads, turn_leads, is_reached}
@@ -481,3 +479,26 @@ module _ (one_spelling : (a b : Packet) → packet_bytes a ≡ packet_bytes b �
     unfolding o Fit
     script_one lines xs ys m n h k p q =
         run_one begun lines xs ys m n (stays (empty_world 1)) h k (recursion_from_All IsSure xs p) (recursion_from_All IsSure ys q)
+
+    -- the first of two lists of lines are answered alike
+    first_one : (old : Session) (first later other : List (List ℕ)) (xs ys : List Answer) (m n : Session) → Fit old.world
+        → Run o old (first ++ later) xs m → Run o old (first ++ other) ys n → AllByRecursion IsSure xs
+        → AllByRecursion IsSure ys → take (length first) xs ≡ take (length first) ys
+    unfolding Fit
+    first_one old [] later other xs ys m n fit h k p q = refl
+    first_one old (line ∷ first) later other [] ys m n fit h k p q = absurd h
+    first_one old (line ∷ first) later other (x ∷ xs) [] m n fit h k p q = absurd k
+    first_one old (line ∷ first) later other (x ∷ xs) (y ∷ ys) m n fit h k p q =
+        let one = turn_one old line x y h.0 k.0 fit h.1 k.1 p.0 q.0 in
+        let here = then_ (empty_world 1) old.world (h.0).world fit (turn_leads o old line x h.0 h.1) in
+        let rest = first_one h.0 first later other xs ys m n here h.2 (subst (λ s. Run o s (first ++ other) ys n) (sym one.1) k.2) p.1 q.1 in
+        λ i. one.0 i ∷ rest i
+
+    pub same_first : (first later other : List (List ℕ)) (xs ys : List Answer) (m n : Session)
+        → Run (openings_of is_honest may_hold finds refuses) begun (first ++ later) xs m
+        → Run (openings_of is_honest may_hold finds refuses) begun (first ++ other) ys n → All IsSure xs → All IsSure ys
+        → take (length first) xs ≡ take (length first) ys
+    unfolding o Fit
+    same_first first later other xs ys m n h k p q =
+        first_one begun first later other xs ys m n (stays (empty_world 1)) h k (recursion_from_All IsSure xs p)
+        (recursion_from_All IsSure ys q)

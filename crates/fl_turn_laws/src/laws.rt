@@ -1,5 +1,5 @@
 //! Laws of scripts. A run is that of a script over the keepers of some maker, as `fl_cluster::run::run` answers it.
-ghost use Rattle.std.specs.Prelude.{◌≡◌, ◌≢◌, ◌++◌, ℕ, All, List, Option, None, Some};
+ghost use Rattle.std.specs.Prelude.{◌≡◌, ◌≢◌, ◌++◌, ℕ, All, List, Option, None, Some, length, take};
 ghost use Rattle.fl_aliases.specs.declared.target.Target.{Target};
 ghost use Rattle.fl_calls.specs.Over.{openings_of};
 ghost use Rattle.fl_script.specs.Reading.{IsReading};
@@ -10,6 +10,7 @@ ghost use Rattle.fl_system.specs.Runs.{IsReached};
 ghost use Rattle.fl_turn_laws.specs.Answered.{IsAnswered};
 ghost use Rattle.fl_turn_laws.specs.Beginning.{Begins};
 ghost use Rattle.fl_turn_laws.specs.Certain.{IsSure, OpenOneWay};
+ghost use Rattle.fl_turn_laws.specs.InMemory.{in_memory};
 ghost use Rattle.fl_turn_laws.specs.Leading.{Leads};
 ghost use Rattle.fl_turns.specs.Answer.{Answer, starved_line};
 ghost use Rattle.fl_turns.specs.Naming.{SetsAlias, made_by};
@@ -22,6 +23,7 @@ ghost use Rattle.fl_world.specs.Lasting.{IsLastingWorld};
 ghost use Rattle.fl_world.specs.Reached.{InEach};
 
 use fl_makers::maker::MakesKeepers;
+use fl_makers::mem::MemMaker;
 use fl_wire::laws::law_one_packet;
 use fl_world::laws::{law_headline, law_lasting};
 
@@ -64,14 +66,25 @@ pub fn law_script_safe<M: MakesKeepers>()
     law_lasting();
 }
 
-/// What the first lines are answered is a run of them alone, whatever comes later.
+/// What the first lines are answered is a run of them alone; and, where the keepers open one way and no line is answered that
+/// something was wanting, the same whatever comes later.
 pub fn law_first_lines<M: MakesKeepers>()
-    ensures { (maker : M) (first later : List (List ℕ)) (outputs : List LineOutput)
+    ensures begins { (maker : M) (first later : List (List ℕ)) (outputs : List LineOutput)
         (end : SessionOver M.K M) → Lines (TurnsOver M.K.is_honest M.K.may_hold M.finds M.refuses)
         1 (begun_over maker) (first ++ later) outputs end →
         Begins (TurnsOver M.K.is_honest M.K.may_hold M.finds M.refuses)
         1 (begun_over maker) first later outputs end }
-{}
+    ensures same { (maker : M) (first later other : List (List ℕ)) (a b : List Answer)
+        (m n : Session) →
+        OpenOneWay M.K.is_honest M.K.may_hold (M.finds maker) (M.refuses maker) →
+        Run (openings_of M.K.is_honest M.K.may_hold (M.finds maker) (M.refuses maker))
+        begun (first ++ later) a m →
+        Run (openings_of M.K.is_honest M.K.may_hold (M.finds maker) (M.refuses maker))
+        begun (first ++ other) b n → All IsSure a → All IsSure b →
+        take (length first) a ≡ take (length first) b }
+{
+    law_one_packet();
+}
 
 /// Where the keepers of a script's nodes open one way, as those in memory do, and no line is answered that memory, a name, a boot
 /// or a keeper was wanting, a script has one run: the same answers, and the same nodes at the end.
@@ -84,6 +97,15 @@ pub fn law_output<M: MakesKeepers>()
         begun lines b n → All IsSure a → All IsSure b → (a ≡ b) × (m ≡ n) }
 {
     law_one_packet();
+}
+
+/// So it is over keepers in memory, which open one way.
+pub fn law_in_memory()
+    ensures { (lines : List (List ℕ)) (a b : List Answer) (m n : Session) →
+        Run in_memory begun lines a m → Run in_memory begun lines b n → All IsSure a → All IsSure b →
+        (a ≡ b) × (m ≡ n) }
+{
+    law_output::<MemMaker>();
 }
 
 /// An alias stands for what its line made: a line sets its own alias alone, and only where it made something,
