@@ -8,6 +8,8 @@ mod rows;
 #[cfg(test)]
 mod rows_messages;
 #[cfg(test)]
+mod rows_worlds;
+#[cfg(test)]
 mod streams;
 #[cfg(test)]
 mod tests;
@@ -15,3 +17,5 @@ mod tests;
 mod tests_made;
 #[cfg(test)]
 mod tests_messages;
+#[cfg(test)]
+mod tests_worlds;
