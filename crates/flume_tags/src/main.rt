@@ -1,6 +1,7 @@
 //! `flume-tags`: reads a script from standard input, and writes the answers to its lines to standard output.
 #![tactic(auto)]
 
+use clap::builder::ValueParser;
 use clap::{ArgMatches, Command, arg};
 use fl_cluster::fault::RunFault;
 use fl_cluster::options::Options;
@@ -20,9 +21,11 @@ const FAULT: u8 = 3;
 /// Reads the words of the program: where its nodes are kept, if they are.
 fn parsed<'a>(rt: &HostRuntime, words: &'a [String]) -> Result<ArgMatches<'a>, clap::Error> {
     let alloc = rt.alloc();
+    let dir = arg!(in alloc; --dir <PATH> "Keep node n in the file node-n.db of this directory");
     Command::new(alloc, "flume-tags")
         .about("Answers a script of tags, labels and questions, read from standard input")
-        .arg(arg!(in alloc; --dir <PATH> "Keep node n in the file node-n.db of this directory"))?
+        // the files of an empty path would be those of the root
+        .arg(dir.value_parser(ValueParser::NonEmptyString))?
         .try_get_matches_from(words)
 }
 
