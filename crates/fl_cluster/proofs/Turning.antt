@@ -2,10 +2,10 @@
 use Rattle.std.proofs.Common.{◌≡◌, ◌∙◌, refl, sym, ap, subst, ℕ, true, List, Option, None, Some, inl, inr}
 use Rattle.fl_aliases.specs.Table.{Table}
 use Rattle.fl_aliases.specs.declared.target.Target.{Target}
-use Rattle.fl_sink.specs.Sink.{Cuts}
+use Rattle.fl_sink.specs.Sink.{Passes, Cuts}
 use Rattle.fl_store.specs.Kept.{Kept}
 use Rattle.fl_store.specs.Keeping.{Held}
-use Rattle.fl_stream.specs.Turns.{AnswerCuts}
+use Rattle.fl_stream.specs.Turns.{AnswerPasses, AnswerCuts}
 use Rattle.fl_script.specs.Reading.{IsReading, ReadingTakesMemory, makes}
 use Rattle.fl_script.specs.laws.NamedLines.{named_takes}
 use Rattle.fl_script.specs.declared.line.Line.{Line}
@@ -27,11 +27,11 @@ use Rattle.fl_turns.specs.Over.{SessionOver, TurnOver, TurnsOver}
 use Rattle.fl_turns.specs.Run.{output_of}
 use Rattle.fl_turns.specs.Session.{Session}
 use Rattle.fl_turns.specs.Turn.{AsksNode, AnswersLine, asks, unites, counts, lists}
-use Rattle.fl_cluster.specs.Shown.{shown, made_said}
+use Rattle.fl_cluster.specs.Shown.{shown, status_said, made_said}
 use Rattle.fl_cluster.specs.parts.Answering.{RespondsTo, Names, NamesOrStarves}
 use Rattle.fl_cluster.specs.declared.response.Response.{Response}
 use Rattle.fl_cluster.specs.declared.response.Response.TheVariants as response
-use Rattle.fl_cluster.proofs.Saying.{same_made}
+use Rattle.fl_cluster.proofs.Saying.{same_status, same_made}
 
 -- what a line that makes something is answered is no list of aliases
 none_listed : {openings : Openings} {old : Session} {l : Line} {table : Table} {w : World} → makes l ≡ true
@@ -149,6 +149,22 @@ module _ {K M : Type 0} (is_honest : K → Type 0) (may_hold : K → Held) (find
   turns_placed old new bytes l alias r says (inl on) = turns_named old new bytes l (Some alias) r says on
   turns_placed old new bytes l alias r says (inr h) =
       rw (h.0, h.1) (turns_starved old bytes (named_takes says))
+
+  -- the response's text passed, and its status was told
+  pub passes_answer : {before after : Option (List ℕ)} {pending rest : List ℕ} (number : ℕ) (old new : SessionOver K M)
+      (line : List ℕ) (r : Response) (status : ℕ) → status ≡ status_said r
+      → TurnOver is_honest may_hold finds refuses old line (shown new r) new
+      → Passes before after pending (text_of number (shown new r)) rest
+      → AnswerPasses (TurnsOver is_honest may_hold finds refuses) number old line status new before after pending rest
+  passes_answer number old new line r status is turn passed = record {
+    text = text_of number (shown new r);
+    turn = record {
+      answer = shown new r;
+      turn = turn;
+      output_is = rw (is, ← same_status new r) refl;
+    };
+    passed = passed;
+  }
 
   -- a front of the answer's text was written
   pub cuts_answer : {before after : Option (List ℕ)} {pending : List ℕ} (number : ℕ) (old new : SessionOver K M)
