@@ -1,19 +1,21 @@
 -- A run goes on by one more moment.
-use Rattle.std.proofs.Common.{◌≡◌, ℕ, refl, sym, subst, List, [], ◌∷◌, ◌++◌, ◌≤◌, Option, Some, None, Result, Ok, Err, IfOk, OnErr, length, arith}
+use Rattle.std.proofs.Common.{◌≡◌, ℕ, refl, sym, subst, List, [], ◌∷◌, ◌++◌, ◌≤◌, Option, Some, None, Result, Ok, Err, IfErr, IfOk, OnErr, inl, length, arith}
 use Rattle.std.specs.FinMap as map
+use Rattle.fl_labels.specs.SetBy.{In}
+use Rattle.fl_ops.specs.declared.op.Op.{Op}
 use Rattle.fl_store.specs.Keeping.{Held}
-use Rattle.fl_system.specs.World.{World, empty_world}
+use Rattle.fl_system.specs.World.{World, KeptNode, empty_world}
 use Rattle.fl_system.specs.declared.reply.Reply.{Reply}
 use Rattle.fl_system.specs.declared.reply.Reply.TheVariants as replies
 use Rattle.fl_system.specs.declared.answer.Fault.{Fault}
 use Rattle.fl_system.specs.declared.event.Event.{Event}
 use Rattle.fl_system.specs.Joins.{Joins}
 use Rattle.fl_system.specs.Runs.{Move, Comes, Moment, Moves, IsRun, IsReached, end}
-use Rattle.fl_system.specs.WorldSteps.{Step}
-use Rattle.fl_world_laws.specs.Places.{IsNameRefusal}
+use Rattle.fl_system.specs.WorldSteps.{IsAt, Step}
+use Rattle.fl_world_laws.specs.Places.{IsKnown, IsNameRefusal}
 use Rattle.fl_node.specs.Over.{NodeOver}
 use Rattle.fl_nodes.specs.Over.{WorldOver, empty_over}
-use Rattle.fl_nodes.specs.Joining.{TakesIn}
+use Rattle.fl_nodes.specs.Joining.{DoesJoin, DoesNotJoin, GivesBack, HasNoStray, IsRefused, TakesIn}
 use Rattle.fl_nodes.specs.Whole.{IsWhole}
 use Rattle.fl_nodes.specs.Goes.{Goes}
 use Rattle.fl_nodes.specs.laws.Nothing.{none_is}
@@ -85,6 +87,35 @@ whole_look {K} over number = by_node (map.get over.nodes number) refl
       λ n is. let same : m ≡ n = cc in
           subst (λ x. length x.node.published ≤ length m.node.published) same (omega arith),
     )
+
+-- in a world that a run leads to each operation that is saved is known to the node whose number it has
+pub no_stray : ((w : World) (op : Op) (s : KeptNode) → IsReached w → IsKnown w op → IsAt w op.name.node s → In s.node.saved op)
+    → (w : World) → IsReached w → HasNoStray w
+no_stray owned w reached name stray = stray.unknown (owned w stray.op stray.owner reached (inl stray.in_world) stray.there)
+
+-- so a joining is one of such a world
+module _ {K : Type 0} (is_honest : K → Type 0) (may_hold : K → Held) (old new : WorldOver K) (number : ℕ) (keeper : K)
+    (known : (w : World) → IsReached w → HasNoStray w) (all : InEach is_honest may_hold old IsReached) where
+  pub joins_known : (result : Result ℕ (Fault × K)) → IfOk result (λ boot. TakesIn is_honest may_hold old keeper new (DoesJoin number boot))
+      → IfOk result (λ boot. TakesIn is_honest may_hold old keeper new (λ w k w'. Joins w number k (replies.Booted boot) w'))
+  joins_known (Ok boot) takes = record {
+    honest = takes.honest;
+    comes = λ honest after is.
+        let b = takes.comes honest after is in
+        (b.0, b.1, b.2, b.3, b.4 (known b.0 (all.each (takes.honest honest).0 b.0 b.2)));
+  }
+  joins_known (Err e) takes = tt
+
+  pub refused_known : (result : Result ℕ (Fault × K))
+      → IfErr result (λ e. GivesBack is_honest may_hold old keeper new e.1 (DoesNotJoin number e.0))
+      → IfErr result (λ e. GivesBack is_honest may_hold old keeper new e.1 (IsRefused number e.0))
+  refused_known (Ok boot) gives = tt
+  refused_known (Err e) gives = record {
+    honest = gives.honest;
+    comes = λ honest left after k' is held.
+        let b = gives.comes honest left after k' is held in
+        (b.0, b.1, b.2, b.3, b.4 (known b.0 (all.each (gives.honest honest left).0 b.0 b.2)));
+  }
 
 -- a node that joins is a move too, and who is refused changes nothing
 pub joined_or_not : {K : Type 0} (is_honest : K → Type 0) (may_hold : K → Held) (old new : WorldOver K) (number : ℕ) (keeper : K)
