@@ -1,0 +1,71 @@
+-- Nodes that catch up with one another, in a run.
+use Rattle.std.specs.Prelude.{◌≡◌, ◌≢◌, ◌<◌, ◌+◌, ◌++◌, ◌∷◌, ℕ, List}
+use Rattle.std.specs.List.{All, Contains}
+use Rattle.fl_ops.specs.declared.op.Op.{Op}
+use Rattle.fl_system.specs.declared.event.Event.{Event}
+use Rattle.fl_system.specs.declared.event.Event.TheVariants.{Save, Tell, Deliver}
+use Rattle.fl_system.specs.declared.reply.Reply.{Reply}
+use Rattle.fl_system.specs.declared.reply.Reply.TheVariants.{Done, Sent, Taking, Took}
+use Rattle.fl_system.specs.declared.state.Pending.TheVariants.{Nothing}
+use Rattle.fl_system.specs.declared.state.State.TheVariants.{Running}
+use Rattle.fl_system.specs.Runs.{Move, Happens, Comes, Returns, Moment}
+use Rattle.fl_system.specs.World.{World, KeptNode}
+use Rattle.fl_system.specs.WorldSteps.{IsAt, node_of}
+
+-- ---- a node of a world
+
+-- the node of this number runs, and nothing is pending there
+pub record IsIdle (w : World) (number : ℕ) : Type 0 where
+  pub s : KeptNode
+  pub at : IsAt w number s
+  pub idle : s.node.state ≡ Running Nothing
+
+-- the node of this number has published the operation
+pub record IsPublishedAt (w : World) (number : ℕ) (op : Op) : Type 0 where
+  pub s : KeptNode
+  pub at : IsAt w number s
+  pub published : Contains s.node.published op
+
+-- ---- moments of a run
+
+-- at one of these moments, after the earlier and before the later ones, the event is answered so
+pub record Occurs (event : Event) (reply : Reply) (ms : List Moment) : Type 0 where
+  pub earlier : List Moment
+  pub after : World
+  pub later : List Moment
+  pub moments_are : ms ≡
+      earlier ++ ((record { move = Happens event; reply = reply; after = after }) ∷ later)
+
+-- the move is not at the node of this number
+abbrev pub IsAway : ℕ → Move → Type 0
+IsAway number (Happens event) = node_of event ≢ number
+IsAway number (Comes other k) = other ≢ number
+IsAway number (Returns other k) = other ≢ number
+
+-- The next that happens at the node is that it saves what is pending there.
+pub record SavesNext (number : ℕ) (ms : List Moment) : Type 0 where
+  pub saving : Occurs (Save number) Done ms
+  pub away : All (λ m. IsAway number m.move) saving.earlier
+
+-- ---- catching up
+
+-- The packet comes to the node, which has saved all that it brings, or takes it and saves it.
+pub data IsTaken (packet number : ℕ) (ms : List Moment) : Type 0 where
+  nothing_new : Occurs (Deliver packet number) (Took 0) ms → IsTaken packet number ms
+  takes : {count : ℕ} (taking : Occurs (Deliver packet number) (Taking count) ms)
+      → SavesNext number taking.later → IsTaken packet number ms
+
+-- The packet comes to the one node, and each packet that this answers is then taken by the other.
+pub record IsAnswered (packet from to : ℕ) (ms : List Moment) : Type 0 where
+  pub first : ℕ
+  pub count : ℕ
+  pub answer : Occurs (Deliver packet from) (Sent first count) ms
+  pub taken : (k : ℕ) → k < count → IsTaken (first + k) to answer.later
+
+-- A node catches up with another: it sends the summary of what it has saved, and each packet of
+-- that is then answered by the other.
+pub record CatchesUp (to from : ℕ) (ms : List Moment) : Type 0 where
+  pub first : ℕ
+  pub count : ℕ
+  pub summary : Occurs (Tell to) (Sent first count) ms
+  pub answered : (k : ℕ) → k < count → IsAnswered (first + k) from to summary.later
