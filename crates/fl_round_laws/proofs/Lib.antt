@@ -1,3 +1,6 @@
 mod Places
 mod Staying
 mod Catching
+mod Idle
+mod Holding
+mod Between

@@ -1,14 +1,17 @@
 -- Nodes that catch up with one another, in a run.
-use Rattle.std.specs.Prelude.{◌≡◌, ◌≢◌, ◌<◌, ◌+◌, ◌++◌, ◌∷◌, ℕ, List}
+use Rattle.std.specs.Prelude.{◌≡◌, ◌≢◌, ◌⊎◌, ◌<◌, ◌+◌, ◌++◌, ℕ, List, [], ◌∷◌}
 use Rattle.std.specs.List.{All, Contains}
+use Rattle.std.specs.declared.option.Option.TheVariants.{Some}
 use Rattle.fl_ops.specs.declared.op.Op.{Op}
 use Rattle.fl_system.specs.declared.event.Event.{Event}
-use Rattle.fl_system.specs.declared.event.Event.TheVariants.{Save, Tell, Deliver}
+use Rattle.fl_system.specs.declared.event.Event.TheVariants.{Job, Save, Tell, Deliver}
 use Rattle.fl_system.specs.declared.reply.Reply.{Reply}
-use Rattle.fl_system.specs.declared.reply.Reply.TheVariants.{Done, Sent, Taking, Took}
+use Rattle.fl_system.specs.declared.reply.Reply.TheVariants.{Begun, Done, Sent, Taking, Took}
+use Rattle.fl_system.specs.declared.sent.Sent.{Sent as Packet}
 use Rattle.fl_system.specs.declared.state.Pending.TheVariants.{Nothing}
 use Rattle.fl_system.specs.declared.state.State.TheVariants.{Running}
-use Rattle.fl_system.specs.Runs.{Move, Happens, Comes, Returns, Moment}
+use Rattle.fl_system.specs.Numbered.{item_at}
+use Rattle.fl_system.specs.Runs.{Move, Happens, Comes, Returns, Moment, end}
 use Rattle.fl_system.specs.World.{World, KeptNode}
 use Rattle.fl_system.specs.WorldSteps.{IsAt, node_of}
 
@@ -69,3 +72,30 @@ pub record CatchesUp (to from : ℕ) (ms : List Moment) : Type 0 where
   pub count : ℕ
   pub summary : Occurs (Tell to) (Sent first count) ms
   pub answered : (k : ℕ) → k < count → IsAnswered (first + k) from to summary.later
+
+-- ---- a round
+
+abbrev pub IsEither : ℕ → ℕ → ℕ → Type 0
+IsEither a b number = (number ≡ a) ⊎ (number ≡ b)
+
+-- In the world w neither of the two nodes begins an operation at the move, or takes any from a
+-- third node.
+abbrev pub IsBetween : ℕ → ℕ → World → Move → Reply → Type 0
+IsBetween a b w (Happens (Job number desk upto job)) (Begun name) = ¬ IsEither a b number
+IsBetween a b w (Happens (Deliver packet number)) (Taking count) = IsEither a b number
+    → (sent : Packet) → item_at w.packets packet ≡ Some sent → IsEither a b sent.from
+IsBetween a b w move reply = Unit {0}
+
+-- at none of these moments, from the world w on
+abbrev pub AreBetween : ℕ → ℕ → World → List Moment → Type 0
+AreBetween a b w [] = Unit {0}
+AreBetween a b w (m ∷ ms) = IsBetween a b w m.move m.reply × AreBetween a b m.after ms
+
+-- In the run from the world w the two nodes catch up with one another, and gain nothing else. At
+-- neither of them anything is pending before or after.
+pub record IsRound (a b : ℕ) (w : World) (ms : List Moment) : Type 0 where
+  pub there : CatchesUp a b ms
+  pub back : CatchesUp b a ms
+  pub between : AreBetween a b w ms
+  pub before : (number : ℕ) → IsEither a b number → IsIdle w number
+  pub after : (number : ℕ) → IsEither a b number → IsIdle (end w ms) number

@@ -1,13 +1,16 @@
 //! Laws of nodes that catch up with one another by summaries and answers.
-ghost use Rattle.std.specs.Prelude.{◌⊎◌, ℕ, List};
+ghost use Rattle.std.specs.Prelude.{◌≡◌, ◌⊎◌, ◌↔◌, ℕ, List};
+ghost use Rattle.fl_labels.specs.SetBy as set;
+ghost use Rattle.fl_ops.specs.OpOrder.{op_cmp};
 ghost use Rattle.fl_ops.specs.declared.op.Op.{Op};
+ghost use Rattle.fl_opset.specs.RegistryText.{registry_text};
 ghost use Rattle.fl_system.specs.Runs.{IsReached, IsRun, Moment, end};
-ghost use Rattle.fl_system.specs.World.{World};
+ghost use Rattle.fl_system.specs.World.{World, KeptNode};
+ghost use Rattle.fl_system.specs.WorldSteps.{IsAt};
 ghost use Rattle.fl_world_laws.specs.Places.{IsSavedAt};
-ghost use Rattle.fl_round_laws.specs.Round.{CatchesUp, IsIdle, IsPublishedAt};
+ghost use Rattle.fl_round_laws.specs.Round.{CatchesUp, IsEither, IsIdle, IsPublishedAt, IsRound};
 
-use fl_opset::laws::law_caught_up;
-use fl_world_laws::laws::law_hold;
+use fl_opset::laws::{law_caught_up, law_equal_text};
 
 /// In a run a node catches up with another: it sends the summary of what it has saved, each packet
 /// of that comes to the other, and each packet of the answers is taken and saved, in whatever order
@@ -23,5 +26,23 @@ pub fn law_half_round()
         IsSavedAt w from op ⊎ IsSavedAt w to op → IsPublishedAt (end w ms) to op }
 {
     law_caught_up();
-    law_hold();
+}
+
+/// In a run two nodes catch up with one another, in whatever order and among whatever else, but that
+/// neither begins an operation or takes one from a third. Where nothing is pending at either before
+/// and after, both have then published the same operations, with the same text: just those that one
+/// of them had published before.
+pub fn law_round()
+    ensures union { (w : World) (ms : List Moment) (a b number : ℕ) (op : Op) → IsReached w →
+        IsRun w ms → IsRound a b w ms → IsEither a b number →
+        IsPublishedAt (end w ms) number op ↔ (IsPublishedAt w a op ⊎ IsPublishedAt w b op) }
+    ensures equal { (w : World) (ms : List Moment) (a b : ℕ) (s t : KeptNode) → IsReached w →
+        IsRun w ms → IsRound a b w ms → IsAt (end w ms) a s → IsAt (end w ms) b t →
+        set.of_list {R = op_cmp} s.node.published ≡ set.of_list t.node.published }
+    ensures text { (w : World) (ms : List Moment) (a b : ℕ) (s t : KeptNode) → IsReached w →
+        IsRun w ms → IsRound a b w ms → IsAt (end w ms) a s → IsAt (end w ms) b t →
+        registry_text (set.of_list s.node.published) ≡ registry_text (set.of_list t.node.published) }
+{
+    law_half_round();
+    law_equal_text();
 }
