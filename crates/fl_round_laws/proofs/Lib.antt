@@ -1,5 +1,6 @@
 mod Places
 mod Staying
+mod Pending
 mod Catching
 mod Idle
 mod Holding

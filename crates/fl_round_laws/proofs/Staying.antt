@@ -1,31 +1,25 @@
--- What stays in a run: what a node has saved, what was sent, and a node to which nothing happens.
-use Rattle.std.proofs.Common.{◌≡◌, ◌≢◌, ◌∙◌, ◌++◌, ℕ, List, [], ◌∷◌, Some, refl, sym, ap, subst}
+-- What stays in a run: what a node has saved, and what was sent.
+use Rattle.std.proofs.Common.{◌≡◌, ◌∙◌, ◌++◌, ℕ, List, [], ◌∷◌, Some, refl, sym, ap, subst}
 use Rattle.std.specs.FinMap as map
-use Rattle.std.specs.List.{All}
-use Rattle.std.proofs.lemmas.List.Elements.{All-head, All-tail}
 use Rattle.fl_labels.specs.Found.{Within}
 use Rattle.fl_labels.specs.SetBy.{In}
 use Rattle.fl_ops.specs.declared.op.Op.{Op}
 use Rattle.fl_bench.specs.laws.Puts.{none_some, same_found}
-use Rattle.fl_store.specs.Kept.{Kept, raised}
+use Rattle.fl_store.specs.Kept.{raised}
 use Rattle.fl_system.specs.declared.event.Event.{Event}
 use Rattle.fl_system.specs.declared.reply.Reply.{Reply}
 use Rattle.fl_system.specs.declared.sent.Sent.{Sent}
 use Rattle.fl_system.specs.Numbered.{item_at}
 use Rattle.fl_system.specs.Openings.{opened}
 use Rattle.fl_system.specs.World.{World, KeptNode, empty_world}
-use Rattle.fl_system.specs.WorldSteps.{IsAt, Step, node_of}
-use Rattle.fl_system.specs.WorldJobs.{JobAt}
-use Rattle.fl_system.specs.WorldCalls.{SaveAt, PublishAt, CancelAt, RestartAt}
-use Rattle.fl_system.specs.Deliveries.{TellAt, WindowAt, BatchAt, MessageAt, DeliverAt}
-use Rattle.fl_system.specs.Joins.{Joins, Reopening}
-use Rattle.fl_system.specs.Runs.{Move, Happens, Comes, Returns, Moves, Moment, IsRun, IsReached, end}
+use Rattle.fl_system.specs.WorldSteps.{IsAt, Step}
+use Rattle.fl_system.specs.Runs.{Moves, Moment, IsRun, IsReached, end}
 use Rattle.fl_system_laws.specs.Goes.{Goes}
 use Rattle.fl_system_laws.specs.laws.Going.{moves_goes}
 use Rattle.fl_world_laws.specs.Places.{IsSavedAt}
 use Rattle.fl_world_laws.specs.laws.Naming.{IsNamed, calls_step, goes_named}
 use Rattle.fl_world_laws.specs.laws.Nodes.{Stays, is_replaced, is_still, stays_there, at_key}
-use Rattle.fl_round_laws.specs.Round.{Occurs, IsAway}
+use Rattle.fl_round_laws.specs.Round.{Occurs, moment}
 use Rattle.fl_round_laws.proofs.Places.{stays_at}
 
 -- ---- what is saved
@@ -107,118 +101,6 @@ run_packets w [] run k x e = e
 run_packets w (m ∷ ms) run k x e =
     run_packets m.after ms run.1 k x (goes_packets (moves_goes w m.move m.reply m.after run.0) k x e)
 
--- ---- where nothing happens
-
--- no node changes but the one of this number
-pub data IsOnly (number : ℕ) (w w' : World) : Type 0 where
-  unmoved : w'.nodes ≡ w.nodes → IsOnly number w w'
-  moved : (new : KeptNode) → w'.nodes ≡ map.insert w.nodes number new → IsOnly number w w'
-
-module _ (w : World) (number : ℕ) (s : KeptNode) where
-  job_only : {desk upto : ℕ} {job : _} {reply : Reply} {w' : World} → JobAt w number s desk upto job reply w'
-      → IsOnly number w w'
-  job_only (JobAt.refused does) = moved _ refl
-  job_only (JobAt.replied does) = moved _ refl
-  job_only (JobAt.begun does) = moved _ refl
-  job_only (JobAt.sends does) = moved _ refl
-  job_only (JobAt.no_room look is noted) = moved _ refl
-
-  save_only : {reply : Reply} {w' : World} → SaveAt w number s reply w' → IsOnly number w w'
-  save_only (SaveAt.saved does) = moved _ refl
-  save_only (SaveAt.refused does) = moved _ refl
-
-  publish_only : {reply : Reply} {w' : World} → PublishAt w number s reply w' → IsOnly number w w'
-  publish_only (PublishAt.ordered is does) = moved _ refl
-  publish_only (PublishAt.received is does) = moved _ refl
-  publish_only (PublishAt.refused does) = moved _ refl
-
-  cancel_only : {reply : Reply} {w' : World} → CancelAt w number s reply w' → IsOnly number w w'
-  cancel_only (CancelAt.given_up does) = moved _ refl
-  cancel_only (CancelAt.refused does) = moved _ refl
-
-  restart_only : {keeps : _} {reply : Reply} {w' : World} → RestartAt w number s keeps reply w' → IsOnly number w w'
-  restart_only (RestartAt.booted does) = moved _ refl
-  restart_only (RestartAt.refused does) = moved _ refl
-
-  tell_only : {reply : Reply} {w' : World} → TellAt w number s reply w' → IsOnly number w w'
-  tell_only (TellAt.stopped why) = unmoved refl
-  tell_only (TellAt.no_room running) = unmoved refl
-  tell_only (TellAt.tells running summary) = unmoved refl
-
-  window_only : {window : _} {reply : Reply} {w' : World} → WindowAt w number s window reply w' → IsOnly number w w'
-  window_only (WindowAt.stopped why) = unmoved refl
-  window_only (WindowAt.no_room running) = unmoved refl
-  window_only (WindowAt.answers running answer) = unmoved refl
-
-  batch_only : {ops : List Op} {reply : Reply} {w' : World} → BatchAt w number s ops reply w' → IsOnly number w w'
-  batch_only (BatchAt.nothing_new does) = moved _ refl
-  batch_only (BatchAt.takes does some) = moved _ refl
-  batch_only (BatchAt.refused does) = moved _ refl
-
-  message_only : {sent : Sent} {d : _} {reply : Reply} {w' : World} → MessageAt w number s sent d reply w'
-      → IsOnly number w w'
-  message_only (MessageAt.arrives does) = moved _ refl
-  message_only (MessageAt.refused does) = moved _ refl
-  message_only (MessageAt.no_room running) = unmoved refl
-
-  deliver_only : {sent : Sent} {reply : Reply} {w' : World} → DeliverAt w number s sent reply w' → IsOnly number w w'
-  deliver_only (DeliverAt.have is h) = window_only h
-  deliver_only (DeliverAt.ops is h) = batch_only h
-  deliver_only (DeliverAt.message is h) = message_only h
-
-module _ (w : World) where
-  step_only : {event : Event} {reply : Reply} {w' : World} → Step w event reply w' → IsOnly (node_of event) w w'
-  step_only (Step.no_node e) = unmoved refl
-  step_only (Step.no_desk at e) = unmoved refl
-  step_only (Step.no_such_job is) = unmoved refl
-  step_only (Step.no_packet e) = unmoved refl
-  step_only (Step.job {number = number} {s = s} at is h) = job_only w number s h
-  step_only (Step.save {number = number} {s = s} at h) = save_only w number s h
-  step_only (Step.publish {number = number} {s = s} at h) = publish_only w number s h
-  step_only (Step.cancel {number = number} {s = s} at h) = cancel_only w number s h
-  step_only (Step.restart {number = number} {s = s} at h) = restart_only w number s h
-  step_only (Step.tell {number = number} {s = s} at h) = tell_only w number s h
-  step_only (Step.deliver {number = number} {s = s} e at h) = deliver_only w number s h
-
-  joins_only : (number : ℕ) {k : Kept} {reply : Reply} {w' : World} → Joins w number k reply w' → IsOnly number w w'
-  joins_only number (Joins.there at) = unmoved refl
-  joins_only number (Joins.not_opened free h) = unmoved refl
-  joins_only number (Joins.clash free is least) = unmoved refl
-  joins_only number (Joins.impostor free is none least) = unmoved refl
-  joins_only number (Joins.joins free is names no_clash no_stray) = moved _ refl
-
-  reopening_only : (number : ℕ) {k : Kept} {reply : Reply} {w' : World} → Reopening w number k reply w'
-      → IsOnly number w w'
-  reopening_only number (Reopening.no_node e) = unmoved refl
-  reopening_only number (Reopening.running at running) = unmoved refl
-  reopening_only number (Reopening.booted at is h) = moved _ refl
-  reopening_only number (Reopening.refused at is h) = moved _ refl
-
-  only_away : (number k : ℕ) (s : KeptNode) → k ≢ number → IsAt w number s → {w' : World} → IsOnly k w w'
-      → IsAt w' number s
-  only_away number k s away at (unmoved nodes) =
-      subst (λ (l : map.FinMap _ KeptNode). map.get l number ≡ Some s) (sym nodes) at
-  only_away number k s away at (moved new nodes) =
-      subst (λ (l : map.FinMap _ KeptNode). map.get l number ≡ Some s) (sym nodes)
-      (by_stay (stays_there w.nodes k new number s at))
-    where
-      by_stay : Stays w.nodes k new number s → map.get (map.insert w.nodes k new) number ≡ Some s
-      by_stay (is_replaced is) = absurd (away (sym is))
-      by_stay (is_still stands) = stands
-
-  move_away : (number : ℕ) (s : KeptNode) (move : Move) (reply : Reply) (w' : World)
-      → IsAway number move → Moves w move reply w' → IsAt w number s → IsAt w' number s
-  move_away number s (Happens event) reply w' away h at = only_away number (node_of event) s away at (step_only h)
-  move_away number s (Comes k kept) reply w' away h at = only_away number k s away at (joins_only k h)
-  move_away number s (Returns k kept) reply w' away h at = only_away number k s away at (reopening_only k h)
-
-pub run_away : (w : World) (ms : List Moment) (number : ℕ) (s : KeptNode) → IsRun w ms
-    → All (λ m. IsAway number m.move) ms → IsAt w number s → IsAt (end w ms) number s
-run_away w [] number s run away at = at
-run_away w (m ∷ ms) number s run away at =
-    run_away m.after ms number s run.1 (All-tail (λ x. IsAway number x.move) m ms away)
-    (move_away w number s m.move m.reply m.after (All-head (λ x. IsAway number x.move) m ms away) run.0 at)
-
 -- ---- one moment of a run
 
 -- the run up to the moment, the step that it is, and the run from there
@@ -245,7 +127,7 @@ cut_at w (x ∷ earlier) m later run =
 pub parts : (w : World) (event : Event) (reply : Reply) (ms : List Moment) → IsRun w ms → (o : Occurs event reply ms)
     → Parts w event reply ms o
 parts w event reply ms run o =
-    let m : Moment = record { move = Happens event; reply = reply; after = o.after } in
+    let m = moment event reply o.after in
     let c = cut_at w o.earlier m o.later (subst (IsRun w) o.moments_are run) in
     record {
       before = c.before;

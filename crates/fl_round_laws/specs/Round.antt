@@ -4,16 +4,16 @@ use Rattle.std.specs.List.{All, Contains}
 use Rattle.std.specs.declared.option.Option.TheVariants.{Some}
 use Rattle.fl_ops.specs.declared.op.Op.{Op}
 use Rattle.fl_system.specs.declared.event.Event.{Event}
-use Rattle.fl_system.specs.declared.event.Event.TheVariants.{Job, Save, Tell, Deliver}
+use Rattle.fl_system.specs.declared.event.Event.TheVariants.{Job, Save, Cancel, Restart, Tell, Deliver}
 use Rattle.fl_system.specs.declared.reply.Reply.{Reply}
 use Rattle.fl_system.specs.declared.reply.Reply.TheVariants.{Begun, Done, Sent, Taking, Took}
 use Rattle.fl_system.specs.declared.sent.Sent.{Sent as Packet}
 use Rattle.fl_system.specs.declared.state.Pending.TheVariants.{Nothing}
 use Rattle.fl_system.specs.declared.state.State.TheVariants.{Running}
 use Rattle.fl_system.specs.Numbered.{item_at}
-use Rattle.fl_system.specs.Runs.{Move, Happens, Comes, Returns, Moment, end}
+use Rattle.fl_system.specs.Runs.{Move, Happens, Moment, end}
 use Rattle.fl_system.specs.World.{World, KeptNode}
-use Rattle.fl_system.specs.WorldSteps.{IsAt, node_of}
+use Rattle.fl_system.specs.WorldSteps.{IsAt}
 
 -- ---- a node of a world
 
@@ -31,42 +31,47 @@ pub record IsPublishedAt (w : World) (number : ℕ) (op : Op) : Type 0 where
 
 -- ---- moments of a run
 
--- at one of these moments, after the earlier and before the later ones, the event is answered so
+-- the moment at which the event is answered so, in this world after it
+abbrev pub moment : Event → Reply → World → Moment
+moment event reply after = record { move = Happens event; reply = reply; after = after }
+
+-- One of these moments is of the event, answered so; earlier and later ones stand around it.
 pub record Occurs (event : Event) (reply : Reply) (ms : List Moment) : Type 0 where
   pub earlier : List Moment
   pub after : World
   pub later : List Moment
-  pub moments_are : ms ≡
-      earlier ++ ((record { move = Happens event; reply = reply; after = after }) ∷ later)
+  pub moments_are : ms ≡ earlier ++ (moment event reply after ∷ later)
 
--- the move is not at the node of this number
-abbrev pub IsAway : ℕ → Move → Type 0
-IsAway number (Happens event) = node_of event ≢ number
-IsAway number (Comes other k) = other ≢ number
-IsAway number (Returns other k) = other ≢ number
+-- the move is not that the node of this number saves or gives up what is pending, or restarts
+abbrev pub LeavesPending : ℕ → Move → Type 0
+LeavesPending number (Happens (Save other)) = other ≢ number
+LeavesPending number (Happens (Cancel other)) = other ≢ number
+LeavesPending number (Happens (Restart other keeps)) = other ≢ number
+LeavesPending number other = Unit {0}
 
--- The next that happens at the node is that it saves what is pending there.
-pub record SavesNext (number : ℕ) (ms : List Moment) : Type 0 where
+-- What is pending at the node is left, and then saved.
+pub record IsSaved (number : ℕ) (ms : List Moment) : Type 0 where
   pub saving : Occurs (Save number) Done ms
-  pub away : All (λ m. IsAway number m.move) saving.earlier
+  pub left : All (λ m. LeavesPending number m.move) saving.earlier
 
 -- ---- catching up
 
--- The packet comes to the node, which has saved all that it brings, or takes it and saves it.
+-- The packet comes to the node, which has saved all that it brings before, or takes it and saves it.
 pub data IsTaken (packet number : ℕ) (ms : List Moment) : Type 0 where
   nothing_new : Occurs (Deliver packet number) (Took 0) ms → IsTaken packet number ms
   takes : {count : ℕ} (taking : Occurs (Deliver packet number) (Taking count) ms)
-      → SavesNext number taking.later → IsTaken packet number ms
+      → IsSaved number taking.later → IsTaken packet number ms
 
--- The packet comes to the one node, and each packet that this answers is then taken by the other.
+-- The packet comes to the node `from`, and each packet that this answers is then taken by the
+-- node `to`.
 pub record IsAnswered (packet from to : ℕ) (ms : List Moment) : Type 0 where
   pub first : ℕ
   pub count : ℕ
   pub answer : Occurs (Deliver packet from) (Sent first count) ms
   pub taken : (k : ℕ) → k < count → IsTaken (first + k) to answer.later
 
--- A node catches up with another: it sends the summary of what it has saved, and each packet of
--- that is then answered by the other.
+-- The node `to` catches up with the node `from`: it sends the summary of what it has saved, and
+-- each packet of that is then answered.
 pub record CatchesUp (to from : ℕ) (ms : List Moment) : Type 0 where
   pub first : ℕ
   pub count : ℕ
@@ -75,6 +80,7 @@ pub record CatchesUp (to from : ℕ) (ms : List Moment) : Type 0 where
 
 -- ---- a round
 
+-- it is one of the two
 abbrev pub IsEither : ℕ → ℕ → ℕ → Type 0
 IsEither a b number = (number ≡ a) ⊎ (number ≡ b)
 
@@ -86,13 +92,13 @@ IsBetween a b w (Happens (Deliver packet number)) (Taking count) = IsEither a b 
     → (sent : Packet) → item_at w.packets packet ≡ Some sent → IsEither a b sent.from
 IsBetween a b w move reply = Unit {0}
 
--- at none of these moments, from the world w on
+-- nor at any of these moments, from the world w on
 abbrev pub AreBetween : ℕ → ℕ → World → List Moment → Type 0
 AreBetween a b w [] = Unit {0}
 AreBetween a b w (m ∷ ms) = IsBetween a b w m.move m.reply × AreBetween a b m.after ms
 
--- In the run from the world w the two nodes catch up with one another, and gain nothing else. At
--- neither of them anything is pending before or after.
+-- In the run from the world w the two nodes catch up with one another, and gain nothing from
+-- elsewhere. Nothing is pending at either of them before, nor after.
 pub record IsRound (a b : ℕ) (w : World) (ms : List Moment) : Type 0 where
   pub there : CatchesUp a b ms
   pub back : CatchesUp b a ms
