@@ -70,7 +70,8 @@ saves_hold (Saves.failed is left) op (inl i) = inl i
 saves_hold (Saves.failed is left) op (inr way) = inr (on_its_way is op way)
 saves_hold (Saves.none why) op h = h
 
-pub publishes_hold : {n : NodeState} {result : Result ℕ Fault} {n' : NodeState} → Publishes n result n' → Within (Holds n') (Holds n)
+pub publishes_hold : {n : NodeState} {result : Result ℕ Fault} {n' : NodeState} → Publishes n result n'
+    → Within (Holds n') (Holds n)
 publishes_hold (Publishes.published is) op (inl i) = inl i
 publishes_hold (Publishes.published is) op (inr way) = absurd way
 publishes_hold (Publishes.no_room is) op h = h
@@ -121,8 +122,8 @@ abbrev pub HasSome : Result ℕ Fault → Type 0
 HasSome (Ok count) = 0 < count
 HasSome (Err fault) = ⊥
 
-pub receives_hold : {n : NodeState} {ops : SetBy op_cmp} {result : Result ℕ Fault} {n' : NodeState} → Receives n ops result n'
-    → (op : Op) → Holds n' op → Holds n op ⊎ (HasSome result × In ops op)
+pub receives_hold : {n : NodeState} {ops : SetBy op_cmp} {result : Result ℕ Fault} {n' : NodeState}
+    → Receives n ops result n' → (op : Op) → Holds n' op → Holds n op ⊎ (HasSome result × In ops op)
 receives_hold (Receives.stopped why) op h = inl h
 receives_hold (Receives.no_room is) op h = inl h
 receives_hold (Receives.impostor is least fault) op h = inl h

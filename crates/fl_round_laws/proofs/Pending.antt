@@ -60,8 +60,8 @@ not_nothing p q = absurd (cc)
 not_due : {P : Type 0} {st : State} {batch due : Batch} → st ≡ Running (Unsaved batch) → st ≡ Running (Due due) → P
 not_due p q = absurd (cc)
 
-not_stopped : {P : Type 0} {st : State} {batch : Batch} {doubt : Option Batch} → st ≡ Running (Unsaved batch) → st ≡ Stopped doubt
-    → P
+not_stopped : {P : Type 0} {st : State} {batch : Batch} {doubt : Option Batch} → st ≡ Running (Unsaved batch)
+    → st ≡ Stopped doubt → P
 not_stopped p q = absurd (cc)
 
 jobs_leave : {n : NodeState} {desk upto : ℕ} {job : AnyJob} {result : Result Answer Fault} {n' : NodeState}

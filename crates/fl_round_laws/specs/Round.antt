@@ -56,7 +56,7 @@ pub record IsSaved (number : ℕ) (ms : List Moment) : Type 0 where
 
 -- ---- catching up
 
--- The packet comes to the node, which has saved all that it brings before, or takes it and saves it.
+-- The packet comes to the node, which had saved all that it brings, or takes and saves it.
 pub data IsTaken (packet number : ℕ) (ms : List Moment) : Type 0 where
   nothing_new : Occurs (Deliver packet number) (Took 0) ms → IsTaken packet number ms
   takes : {count : ℕ} (taking : Occurs (Deliver packet number) (Taking count) ms)

@@ -14,9 +14,9 @@ use fl_opset::laws::{law_caught_up, law_equal_text};
 
 /// In a run a node catches up with another: it sends the summary of what it has saved, each packet
 /// of that is answered by the other, and each packet of an answer brings nothing new, or is taken
-/// and saved. The order is free, and whatever else may happen in between, but that what was taken is
-/// given up. Then the node has saved all that the other had at the start, and, as each node in each
-/// run, all that it had itself. Once nothing is pending there, it has published that.
+/// and saved. The order is free, and whatever else may happen in between, but that what was taken
+/// is given up. Then the node has saved all that the other had at the start, and, as each node in
+/// each run, all that it had itself. Once nothing is pending there, it has published that.
 pub fn law_half_round()
     ensures stays { (w : World) (ms : List Moment) (number : ℕ) (op : Op) → IsReached w →
         IsRun w ms → IsSavedAt w number op → IsSavedAt (end w ms) number op }
@@ -42,7 +42,8 @@ pub fn law_round()
         set.of_list {R = op_cmp} s.node.published ≡ set.of_list t.node.published }
     ensures text { (w : World) (ms : List Moment) (a b : ℕ) (s t : KeptNode) → IsReached w →
         IsRun w ms → IsRound a b w ms → IsAt (end w ms) a s → IsAt (end w ms) b t →
-        registry_text (set.of_list s.node.published) ≡ registry_text (set.of_list t.node.published) }
+        registry_text (set.of_list s.node.published) ≡
+        registry_text (set.of_list t.node.published) }
 {
     law_half_round();
     law_equal_text();

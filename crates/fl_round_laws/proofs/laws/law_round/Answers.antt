@@ -40,7 +40,8 @@ module _ (law : HalfRound) (w : World) (ms : List Moment) (a b : ℕ) (reached :
   hold_only =
       run_only a b Had w ms (reached_named w reached) run round.between (record {
         there = λ number either. let idle = round.before number either in (idle.s, idle.at);
-        only = λ number either s at op h. of_either number either op (idle_holds w number (round.before number either) s at op h);
+        only = λ number either s at op h.
+            of_either number either op (idle_holds w number (round.before number either) s at op h);
       })
     where
       of_either : (number : ℕ) → IsEither a b number → (op : Op) → IsSavedAt w number op → Had op
