@@ -5,3 +5,5 @@ mod Catching
 mod Idle
 mod Holding
 mod Between
+mod Wider
+mod Plain

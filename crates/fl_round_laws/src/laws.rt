@@ -8,6 +8,7 @@ ghost use Rattle.fl_system.specs.Runs.{IsReached, IsRun, Moment, end};
 ghost use Rattle.fl_system.specs.World.{World, KeptNode};
 ghost use Rattle.fl_system.specs.WorldSteps.{IsAt};
 ghost use Rattle.fl_world_laws.specs.Places.{IsSavedAt};
+ghost use Rattle.fl_round_laws.specs.Plain.{HalfRound, IsRoundTo};
 ghost use Rattle.fl_round_laws.specs.Round.{CatchesUp, IsEither, IsIdle, IsPublishedAt, IsRound};
 
 use fl_opset::laws::{law_caught_up, law_equal_text};
@@ -47,4 +48,23 @@ pub fn law_round()
 {
     law_half_round();
     law_equal_text();
+}
+
+/// In the plainest round one step comes directly after another: a node sends its summary, each
+/// packet of that comes to the other, and of each answer each packet comes back, and is saved and
+/// published at once; and then the same the other way. Where nothing was pending at either before,
+/// this is a round, so that both have then published the same; and after the half of it the one has
+/// published what the other had saved.
+pub fn law_plain_round()
+    ensures half { (w v : World) (to from : ℕ) (op : Op) → IsReached w → IsIdle w to →
+        IsIdle w from → HalfRound to from w v → IsSavedAt w from op ⊎ IsSavedAt w to op →
+        IsPublishedAt v to op }
+    ensures is_round { (w v w' : World) (a b : ℕ) → IsIdle w a → IsIdle w b → HalfRound a b w v →
+        HalfRound b a v w' → IsRoundTo a b w w' }
+    ensures equal { (w v w' : World) (a b : ℕ) (s t : KeptNode) → IsReached w → IsIdle w a →
+        IsIdle w b → HalfRound a b w v → HalfRound b a v w' → IsAt w' a s → IsAt w' b t →
+        set.of_list {R = op_cmp} s.node.published ≡ set.of_list t.node.published }
+{
+    law_half_round();
+    law_round();
 }
