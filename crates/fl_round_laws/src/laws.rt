@@ -15,9 +15,10 @@ use fl_opset::laws::{law_caught_up, law_equal_text};
 
 /// In a run a node catches up with another: it sends the summary of what it has saved, each packet
 /// of that is answered by the other, and each packet of an answer brings nothing new, or is taken
-/// and saved. The order is free, and whatever else may happen in between, but that what was taken
-/// is given up. Then the node has saved all that the other had at the start, and, as each node in
-/// each run, all that it had itself. Once nothing is pending there, it has published that.
+/// and saved. The order is free, and anything else may happen in between, as long as what was taken
+/// is not given up, nor the node restarted, before it is saved. Then the node has saved all that
+/// the other had at the start, and, as each node in each run, all that it had itself. Once nothing
+/// is pending there, it has published that.
 pub fn law_half_round()
     ensures stays { (w : World) (ms : List Moment) (number : ℕ) (op : Op) → IsReached w →
         IsRun w ms → IsSavedAt w number op → IsSavedAt (end w ms) number op }
@@ -30,10 +31,10 @@ pub fn law_half_round()
     law_caught_up();
 }
 
-/// In a run two nodes catch up with one another, in whatever order and whatever else happens, but
-/// that one of them begins an operation or takes one from a third. Where nothing is pending at
-/// either before and after, both have then published the same operations, which have the same text:
-/// just those that one of them had published before.
+/// In a run two nodes catch up with one another, in whatever order; whatever else happens, neither
+/// begins an operation or takes one from a third. Where nothing is pending at either before and
+/// after, both have then published the same operations, which have the same text: just those that
+/// one of them had published before.
 pub fn law_round()
     ensures union { (w : World) (ms : List Moment) (a b number : ℕ) (op : Op) → IsReached w →
         IsRun w ms → IsRound a b w ms → IsEither a b number →
