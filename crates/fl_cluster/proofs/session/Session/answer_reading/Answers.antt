@@ -1,4 +1,4 @@
-use Rattle.std.proofs.Common.{None, Some}
+use Rattle.std.proofs.Common.{None}
 use Rattle.fl_cluster.proofs.Turning.{turns_quiet, turns_bad, turns_named, turns_placed}
 use Rattle.fl_cluster.proofs.session.Session.answer_reading.Goals as goal
 
