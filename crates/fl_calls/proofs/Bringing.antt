@@ -39,8 +39,9 @@ use Rattle.fl_calls.specs.Completing.{Completes}
 use Rattle.fl_calls.specs.Entering.{Openings, Enters, is_there, joins, is_refused, OnceOpen, shut, opened}
 use Rattle.fl_calls.specs.Over.{ClusterOver, openings_of, GoesOn}
 use Rattle.fl_calls.specs.parts.Coming.{coming, is_message, sent_at}
+use Rattle.fl_calls.specs.laws.Widening.{opens_more, enters_more}
 use Rattle.fl_calls.proofs.Going.{goes_as}
-use Rattle.fl_calls.proofs.Opening.{enters_more, goes_on_as, rests, once_open, once_shut, both_open}
+use Rattle.fl_calls.proofs.Opening.{goes_on_as, rests, once_open, once_shut, both_open}
 
 -- ---- packets
 
@@ -167,8 +168,8 @@ module _ {K M : Type 0} (is_honest : K → Type 0) (may_hold : K → Held) (find
             before.1,
             opened
                 (subst (λ r. Enters (openings_of is_honest may_hold (finds old.maker) (refuses old.maker)) before.0 first r between.0) ok before.2)
-                (opened (enters_more is_honest may_hold (finds old.maker) (finds mid.maker) (refuses old.maker) (refuses mid.maker)
-                enters.finds_less enters.refuses_less between.0 after second (Ok tt)
+                (opened (enters_more _ _ (opens_more is_honest may_hold (finds old.maker) (finds mid.maker) (refuses old.maker) (refuses mid.maker)
+                enters.finds_less enters.refuses_less) between.0 after second (Ok tt)
                 (subst (λ r. Enters (openings_of is_honest may_hold (finds mid.maker) (refuses mid.maker)) between.0 second r after) then_ok between.2))
                 (tells after here.s there.s is here.at there.at)),
           );

@@ -10,8 +10,9 @@ use Rattle.fl_node.specs.Over.{NodeOver}
 use Rattle.fl_nodes.specs.Over.{WorldOver}
 use Rattle.fl_nodes.specs.Goes.{MayBe, Goes}
 use Rattle.fl_calls.specs.Answer.{Answer, replied}
-use Rattle.fl_calls.specs.Entering.{Openings, Enters, is_there, joins, is_refused, OnceOpen, shut, opened}
-use Rattle.fl_calls.specs.Over.{ClusterOver, none_made, not_joined, openings_of, GoesOn}
+use Rattle.fl_calls.specs.Entering.{Openings, Enters, OnceOpen, shut, opened}
+use Rattle.fl_calls.specs.Over.{ClusterOver, openings_of, GoesOn}
+use Rattle.fl_calls.specs.laws.Widening.{opens_more, once_open_more}
 use Rattle.fl_calls.proofs.Going.{goes_then, entered}
 
 module _ {K M : Type 0} (is_honest : K → Type 0) (may_hold : K → Held) (finds : M → ℕ → Kept → Type 0)
@@ -71,30 +72,6 @@ module _ {K M : Type 0} (is_honest : K → Type 0) (may_hold : K → Held) (find
       (λ openings w w'. OnceOpen openings w number does (replied (Refused fault)) w')
       (λ openings w w' is entered. shut (subst (λ r. Enters openings w number r w') err entered)) enters
 
--- what may be opened by a maker that makes no more may be opened by one that makes more
-pub enters_more : {K : Type 0} (is_honest : K → Type 0) (may_hold : K → Held) (finds finds' : ℕ → Kept → Type 0)
-    (refuses refuses' : ℕ → Fault → Type 0) → ((n : ℕ) (k : Kept) → finds' n k → finds n k)
-    → ((n : ℕ) (fault : Fault) → refuses' n fault → refuses n fault) → (w w' : World) (number : ℕ) (result : Result (Unit {0}) Fault)
-    → Enters (openings_of is_honest may_hold finds' refuses') w number result w'
-    → Enters (openings_of is_honest may_hold finds refuses) w number result w'
-enters_more is_honest may_hold finds finds' refuses refuses' f r w w' number result (is_there at) = is_there at
-enters_more is_honest may_hold finds finds' refuses refuses' f r w w' number result (joins none found step) = joins none (f number _ found) step
-enters_more is_honest may_hold finds finds' refuses refuses' f r w w' number result (is_refused none (none_made why)) =
-    is_refused none (none_made (r number _ why))
-enters_more is_honest may_hold finds finds' refuses refuses' f r w w' number result (is_refused none (not_joined keeper over)) =
-    is_refused none (not_joined keeper (λ trusted. let k = over trusted in (k.0, f number k.0 k.1, k.2)))
-
-once_open_more : {K : Type 0} (is_honest : K → Type 0) (may_hold : K → Held) (finds finds' : ℕ → Kept → Type 0)
-    (refuses refuses' : ℕ → Fault → Type 0) → ((n : ℕ) (k : Kept) → finds' n k → finds n k)
-    → ((n : ℕ) (fault : Fault) → refuses' n fault → refuses n fault) → (w w' : World) (number : ℕ)
-    (does : World → Answer → World → Type 0) (answer : Answer)
-    → OnceOpen (openings_of is_honest may_hold finds' refuses') w number does answer w'
-    → OnceOpen (openings_of is_honest may_hold finds refuses) w number does answer w'
-once_open_more is_honest may_hold finds finds' refuses refuses' f r w w' number does answer (shut entered) =
-    shut (enters_more is_honest may_hold finds finds' refuses refuses' f r w _ number _ entered)
-once_open_more is_honest may_hold finds finds' refuses refuses' f r w w' number does answer (opened entered done) =
-    opened (enters_more is_honest may_hold finds finds' refuses refuses' f r w _ number _ entered) done
-
 module _ {K M : Type 0} (is_honest : K → Type 0) (may_hold : K → Held) (finds : M → ℕ → Kept → Type 0)
     (refuses : M → ℕ → Fault → Type 0) where
   -- once the first node is open, the second one is opened
@@ -111,8 +88,8 @@ module _ {K M : Type 0} (is_honest : K → Type 0) (may_hold : K → Held) (find
         (λ w w'. OnceOpen (openings_of is_honest may_hold (finds old.maker) (refuses old.maker)) w first
         (λ v. OnceOpen (openings_of is_honest may_hold (finds old.maker) (refuses old.maker)) v second does) answer w')
         (λ w v w' entered done. opened (subst (λ r. Enters (openings_of is_honest may_hold (finds old.maker) (refuses old.maker)) w first r v) ok entered)
-        (once_open_more is_honest may_hold (finds old.maker) (finds mid.maker) (refuses old.maker) (refuses mid.maker)
-        enters.finds_less enters.refuses_less v w' second does answer done)) enters.goes then_.goes;
+        (once_open_more _ _ (opens_more is_honest may_hold (finds old.maker) (finds mid.maker) (refuses old.maker) (refuses mid.maker)
+        enters.finds_less enters.refuses_less) v w' second does does answer (λ _ _ _ h. h) done)) enters.goes then_.goes;
     finds_less = λ n k found. enters.finds_less n k (then_.finds_less n k found);
     refuses_less = λ n fault why. enters.refuses_less n fault (then_.refuses_less n fault why);
   }

@@ -1,2 +1,3 @@
 -- Lemmas that proofs of the crates above cite.
 pub mod Choosing
+pub mod Widening

@@ -85,9 +85,9 @@ impl Stage {
     }
 
     // An order of the node's process, which is saved and published, or left pending.
-    fn order(&mut self, front: &str, node: u16) -> Result<(), Fail> {
+    fn order(&mut self, node: u16, verb: &str) -> Result<(), Fail> {
         let boot = self.boot(node);
-        let line = format!(in self.scene.alloc; "{front}{node} group p{node}.{boot}.1")?;
+        let line = format!(in self.scene.alloc; "{node} {verb} p{node}.{boot}.1")?;
         self.line(&line)
     }
 
@@ -118,8 +118,8 @@ impl Stage {
     fn step(&mut self) -> Result<(), Fail> {
         let node = self.draw(u64::from(NODES)) as u16 + 1;
         match self.draw(24) {
-            0..=2 => self.order("", node),
-            3 => self.order("begin ", node),
+            0..=2 => self.order(node, "group"),
+            3 => self.order(node, "begin group"),
             4 => self.does(node, "save"),
             5 => self.does(node, "publish"),
             6 => self.restart(node, ""),

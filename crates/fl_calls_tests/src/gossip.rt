@@ -56,7 +56,7 @@ fn received_batch_in_steps(rt: HostRuntime) -> Result<(), Fail> {
 1 label p1.1.1 S {1.1} => ok
 2 tell => sent 1
 1 deliver 1 => sent 2
-begin 2 deliver 2 => begun 1
+2 begin deliver 2 => begun 1
 2 check f10101010100010000000101 => new 1
 2 save => ok
 2 check f10101010100010000000101 => new 0

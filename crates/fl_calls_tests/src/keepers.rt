@@ -2,10 +2,11 @@
 ghost use Rattle.std.specs.Prelude.{IfOk};
 ghost use Rattle.fl_world.specs.Looking.{LooksFar};
 
-use crate::words::{event_from, job_at, line_from, reply_text};
+use crate::words::{job_at, line_from, reply_text};
 use fl_labels::name::Name;
 use fl_ops::op::{Body, Op};
 use fl_script::line::Line;
+use fl_script::request::Request;
 use fl_store::keeper::Keeper;
 use fl_store::mem::MemKeeper;
 use fl_system::answer::Fault;
@@ -19,16 +20,18 @@ fn keeper_with(alloc: Global, op: Op) -> Result<MemKeeper, AllocError> {
     MemKeeper::with(alloc, 1, 0, &[op])
 }
 
-// What is asked of node 1.
+// What is asked of a node.
 fn event_of(alloc: Global, words: &str) -> Result<Event, Fail>
     ensures { IfOk result (λ event. LooksFar event) }
 {
-    if let Some(event) = event_from(1, words) {
-        return Ok(event);
-    }
-    match line_from(alloc, words)? {
-        Line::Job { node, job } => Ok(job_at(node, job)),
-        _ => Err(Fail::from("no job")),
+    let Line::Node { node, request } = line_from(alloc, words)? else {
+        return Err(Fail::from("no event"));
+    };
+    match request {
+        Request::Job(job) => Ok(job_at(node, job)),
+        Request::Save => Ok(Event::Save(node)),
+        Request::Publish => Ok(Event::Publish(node)),
+        _ => Err(Fail::from("no event")),
     }
 }
 
@@ -48,8 +51,8 @@ fn last_name_is_spent(rt: HostRuntime) -> Result<(), Fail> {
     for (words, answer) in [
         ("1 proc", "p1.1.1"),
         ("1 group p1.1.1", "begun 1.4294967295"),
-        ("save", "ok"),
-        ("publish", "ok 1.4294967295"),
+        ("1 save", "ok"),
+        ("1 publish", "ok 1.4294967295"),
         ("1 group p1.1.1", "refused F12"),
     ] {
         let reply = world.step(alloc, event_of(alloc, words)?);

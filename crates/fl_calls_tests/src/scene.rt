@@ -1,25 +1,22 @@
 //! A world that is driven by lines.
 ghost use Rattle.std.specs.Prelude.{◌<◌};
 
-use crate::words::{event_from, job_at, joined, known, line_from, node_from, parts, write_check};
+use crate::words::{job_at, joined, known, line_from, node_from, write_check};
 use fl_calls::cluster::Cluster;
 use fl_calls::response::Response;
+use fl_jobs::job::{Act, Job};
 use fl_makers::mem::MemMaker;
 use fl_replies::text::{write_count, write_dropped_fault, write_world_reply};
 use fl_script::line::Line;
+use fl_script::request::Request;
 use fl_sink::sink::{Sink, WriteFault};
+use fl_system::event::Event;
 use fl_wire::writing::encode;
 use std::alloc::{AllocGlobal, Global};
 use std::process::Abort;
 use std::test::Fail;
 
-/// A world over keepers in memory. A line is one of the script, or
-///
-/// - `begin 1 group p1.1.1`, `begin 1 deliver 2`: what the line begins is left to be saved and published.
-/// - `1 tell`, `1 save`, `1 publish`, `1 cancel`, `1 restart`, `1 restart kept`: that event of the node.
-/// - `1 check f10300`: what a packet of these bytes would bring to the node.
-/// - `packet 1`: the bytes of that packet.
-/// - `audit`: how much was admitted.
+/// A world over keepers in memory. A line is one of the script, or `packet 1`: the bytes of that packet.
 #[derive(Drop)]
 pub struct Scene {
     pub alloc: Global,
@@ -54,15 +51,10 @@ impl Scene {
 
     /// What the line is answered, without its line feed. The lines of a text are joined by `;`.
     pub fn answer(&mut self, line: &str) -> Result<Vec<u8>, Fail> {
-        let (what, rest) = parts(line);
-        if what == "packet" {
-            return self.packet(rest);
+        if let Some(number) = line.strip_prefix("packet ") {
+            return self.packet(number);
         }
-        let response = match what {
-            "audit" => self.cluster.audit(),
-            "begin" => self.begin(rest)?,
-            _ => self.ask(line)?,
-        };
+        let response = self.ask(line)?;
         self.text_of(&response)
     }
 
@@ -76,64 +68,39 @@ impl Scene {
         Ok(hex::encode(self.alloc, bytes.as_slice())?.into_bytes())
     }
 
-    // Has a line of a node begin alone.
-    fn begin(&mut self, words: &str) -> Result<Response, Fail> {
-        match line_from(self.alloc, words)? {
-            Line::Job { node, job } => {
-                let event = job_at(known(node)?, job);
-                Ok(self.cluster.begin(self.alloc, event))
-            }
-            Line::Deliver { node, packet } => {
-                let node = known(node)?;
-                Ok(self.cluster.begin_to_take(self.alloc, node, packet))
-            }
-            _ => Err(Fail::from("nothing begins")),
-        }
-    }
-
-    // Asks what a line asks.
-    fn ask(&mut self, words: &str) -> Result<Response, Fail> {
-        let (word, rest) = parts(words);
-        if word == "union" {
-            return self.ask_line(words);
-        }
-        let node = node_from(word)?;
-        if let Some(event) = event_from(node, rest) {
-            return Ok(self.cluster.ask(self.alloc, event));
-        }
-        match rest.strip_prefix("check ") {
-            Some(digits) => self.check(node, digits),
-            None => self.ask_line(words),
-        }
-    }
-
-    // What a packet of the bytes of these digits would bring to the node.
-    fn check(&mut self, node: u16, digits: &str) -> Result<Response, Fail>
-        requires { 0 < node }
-    {
-        match hex::decode(self.alloc, digits) {
-            Ok(bytes) => Ok(self.cluster.check(self.alloc, node, &bytes)),
-            Err(_) => Err(Fail::from("no digits")),
-        }
-    }
-
     // Asks what a line of the script asks.
-    fn ask_line(&mut self, words: &str) -> Result<Response, Fail> {
+    fn ask(&mut self, words: &str) -> Result<Response, Fail> {
         match line_from(self.alloc, words)? {
-            Line::Job { node, job } => {
-                let event = job_at(known(node)?, job);
-                Ok(self.cluster.ask(self.alloc, event))
-            }
-            Line::Text { node } => Ok(self.cluster.text(self.alloc, known(node)?)),
-            Line::Deliver { node, packet } => {
-                let node = known(node)?;
-                Ok(self.cluster.deliver(self.alloc, node, packet))
-            }
+            Line::Node { node, request } => Ok(self.ask_node(known(node)?, request)),
             Line::Union { first, second } => {
                 let (first, second) = (known(first)?, known(second)?);
                 Ok(self.cluster.union(self.alloc, first, second))
             }
+            Line::Audit => Ok(self.cluster.audit()),
             Line::Aliases => Err(Fail::from("no aliases")),
+        }
+    }
+
+    // Asks it of the node.
+    fn ask_node(&mut self, node: u16, request: Request) -> Response
+        requires { 0 < node }
+    {
+        let alloc = self.alloc;
+        let cluster = &mut self.cluster;
+        match request {
+            Request::Job(job) => cluster.ask(alloc, job_at(node, job)),
+            Request::Begin(pid, order) => {
+                cluster.begin(alloc, job_at(node, Job::By(pid, Act::Order(order))))
+            }
+            Request::Deliver(packet) => cluster.deliver(alloc, node, packet),
+            Request::BeginDeliver(packet) => cluster.begin_to_take(alloc, node, packet),
+            Request::Tell => cluster.ask(alloc, Event::Tell(node)),
+            Request::Save => cluster.ask(alloc, Event::Save(node)),
+            Request::Publish => cluster.ask(alloc, Event::Publish(node)),
+            Request::Cancel => cluster.ask(alloc, Event::Cancel(node)),
+            Request::Restart { kept } => cluster.ask(alloc, Event::Restart(node, kept)),
+            Request::Text => cluster.text(alloc, node),
+            Request::Check(bytes) => cluster.check(alloc, node, bytes.as_slice()),
         }
     }
 

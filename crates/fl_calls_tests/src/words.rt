@@ -1,5 +1,5 @@
 //! Lines and answers as words.
-ghost use Rattle.std.specs.Prelude.{◌≡◌, ◌<◌, IfOk, IfSome};
+ghost use Rattle.std.specs.Prelude.{◌≡◌, ◌<◌, IfOk};
 ghost use Rattle.fl_system.specs.WorldSteps.{node_of};
 ghost use Rattle.fl_world.specs.Looking.{LooksFar};
 
@@ -15,11 +15,6 @@ use fl_system::event::Event;
 use fl_system::reply::Reply;
 use std::alloc::Global;
 use std::test::Fail;
-
-/// The first word, and what follows it.
-pub fn parts(text: &str) -> (&str, &str) {
-    text.split_once(' ').unwrap_or((text, ""))
-}
 
 /// The number of a node that a line names.
 pub fn known(number: u16) -> Result<u16, Fail>
@@ -56,22 +51,6 @@ pub fn job_at(node: u16, job: Job) -> Event
         desk: 1,
         upto: u64::MAX,
         job,
-    }
-}
-
-/// What happens to the node by these words, which are no line of the script.
-pub fn event_from(node: u16, words: &str) -> Option<Event>
-    ensures far { IfSome result (λ event. LooksFar event) }
-    ensures there { IfSome result (λ event. node_of event ≡ node) }
-{
-    match words {
-        "tell" => Some(Event::Tell(node)),
-        "save" => Some(Event::Save(node)),
-        "publish" => Some(Event::Publish(node)),
-        "cancel" => Some(Event::Cancel(node)),
-        "restart" => Some(Event::Restart(node, false)),
-        "restart kept" => Some(Event::Restart(node, true)),
-        _ => None,
     }
 }
 

@@ -1,5 +1,3 @@
-pub mod StreamRuns
-pub mod NodeLemmas
 pub mod Naming
-pub mod NodesTable
-pub mod Wanting
+pub mod Saying
+pub mod Turning

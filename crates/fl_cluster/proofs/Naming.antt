@@ -1,22 +1,10 @@
 -- An alias is placed, and then stands for what its line made, or is taken back.
-use Rattle.std.proofs.Common.{◌≡◌, ◌≢◌, ◌<◌, ◌∙◌, refl, sym, ap, ℕ, Bool, true, false, cond, Option, None, Some, IsNone, IsSome, is_some, Result, List, [], ◌∷◌, ◌++◌, length, arith}
+use Rattle.std.proofs.Common.{◌≡◌, ◌<◌, ◌∙◌, refl, sym, ap, ℕ, Bool, true, false, cond, Option, None, Some, IsNone, IsSome, is_some, List, [], ◌∷◌, ◌++◌, length, arith}
 use Rattle.std.specs.Bool.{MatchBool}
 use Rattle.fl_aliases.specs.Table.{Entry, Table, target_of, retargeted}
 use Rattle.fl_aliases.specs.declared.target.Target.{Target}
 use Rattle.fl_aliases.specs.laws.Placing.{placed_found, placed_set, taken_back}
-use Rattle.fl_jobs.specs.declared.answer.Outcome.{Outcome}
-use Rattle.fl_jobs.specs.declared.answer.Refusal.{Refusal}
-use Rattle.fl_bench.specs.Bench as bench
-use Rattle.fl_script.specs.Reading.{makes as is_making}
-use Rattle.fl_script.specs.declared.line.Line.{Line}
-use Rattle.fl_cluster.specs.Cluster.{Cluster, NodeState}
-use Rattle.fl_cluster.specs.NodeStep.{AnswersResult, replies, refuses, makes, spends}
-use Rattle.fl_cluster.specs.Session.{Session}
-use Rattle.fl_cluster.specs.Answer.{Answer, shown, listed}
-use Rattle.fl_cluster.specs.Naming.{with_alias, IsPlaced, as_last, in_place}
-use Rattle.fl_cluster.specs.Turn.{AnswersLine, works, sends, brings, no_room, never_sent, shows, unites, lists}
-use Rattle.fl_cluster.specs.declared.response.Response.{Response}
-use Rattle.fl_cluster.specs.declared.response.Response.TheVariants as response
+use Rattle.fl_turns.specs.Naming.{with_alias, IsPlaced, as_last, in_place}
 
 is_none : {X : Type 0} (o : Option X) → IsNone o → o ≡ None
 is_none None h = refl
@@ -51,34 +39,3 @@ placed_then_back left new (in_place some) back = absurd (cc)
 pub placed_then_left : {before after : Table} {alias : List ℕ} {is_new : Bool} → is_new ≡ false → IsPlaced before alias is_new after → after ≡ before
 placed_then_left old (as_last target none) = absurd (cc)
 placed_then_left old (in_place some) = refl
-
--- no job is answered with the aliases
-result_no_list : {node : NodeState} {r : Result Outcome Refusal} {after : bench.BenchState} {answer : Answer} {m : NodeState} {table : Table} → AnswersResult node r after answer m → answer ≢ listed table
-result_no_list replies e = absurd (cc)
-result_no_list (refuses more) e = absurd (cc)
-result_no_list (makes next) e = absurd (cc)
-result_no_list (spends last) e = absurd (cc)
-
--- nor is a line that makes something
-no_list : {place : ℕ} {table other : Table} {old : Cluster} {said : Line} {answer : Answer} {new : Cluster} → is_making said ≡ true → AnswersLine place table old said answer new → answer ≢ listed other
-no_list made (works w) e = result_no_list w.answered e
-no_list made (sends s) e = absurd (cc)
-no_list made (brings found w) e = absurd (cc)
-no_list made (no_room found) e = absurd (cc)
-no_list made (never_sent none) e = absurd (cc)
-no_list made shows e = absurd (cc)
-no_list made unites e = absurd (cc)
-no_list made lists e = absurd (cc)
-
--- so that its answer is the same whatever the aliases are when it is written
-pub shown_apart : {place : ℕ} {old new : Cluster} {said : Line} (table other : Table) (r : Response) → is_making said ≡ true → AnswersLine place table old said (shown (record { state = new; aliases = table }) r) new → AnswersLine place table old said (shown (record { state = new; aliases = other }) r) new
-shown_apart table other response.Aliases made h = absurd (no_list made h refl)
-shown_apart table other response.Silence made h = h
-shown_apart table other (response.Reply reply) made h = h
-shown_apart table other (response.Named name) made h = h
-shown_apart table other (response.Sent number) made h = h
-shown_apart table other (response.Dropped refusal) made h = h
-shown_apart table other (response.Text node) made h = h
-shown_apart table other (response.Union registry) made h = h
-shown_apart table other (response.Refused refusal) made h = h
-shown_apart table other (response.BadLine number) made h = h

@@ -1,13 +1,2 @@
-pub mod Cluster
-pub mod Session
-pub mod Answer
-pub mod Naming
-pub mod AnswerText
-pub mod LastName
-pub mod NodeStep
-pub mod MayWant
-pub mod Turn
-pub mod LineTurn
-pub mod Output
-pub mod laws
+pub mod Shown
 pub mod parts

@@ -1,3 +1,2 @@
 -- Relations that join the private functions.
-pub mod ComesOf
-pub mod Responds
+pub mod Answering

@@ -1,51 +1,71 @@
 //! The text of the answers. Writing takes no memory but the sink's, and does without.
-ghost use Rattle.std.specs.Prelude.{◌++◌, codes, OnErr};
-ghost use Rattle.std.specs.Fmt.{decimal};
+ghost use Rattle.std.specs.Prelude.{OnErr};
 ghost use Rattle.fl_sink.specs.Sink.{Puts};
-ghost use Rattle.fl_cluster.specs.Answer.{shown};
-ghost use Rattle.fl_cluster.specs.AnswerText.{text_of};
+ghost use Rattle.fl_calls.specs.Answer.{shown as shown_of};
+ghost use Rattle.fl_turns.specs.AnswerText.{check_text, said_text, text_of};
+ghost use Rattle.fl_cluster.specs.Shown.{shown};
 
 use crate::response::Response;
 use crate::session::Session;
-use fl_answers::text::{write_dropped, write_name, write_refusal, write_reply, write_sent};
+use fl_calls::cluster::Cluster;
+use fl_calls::response::{Check, Response as Said};
+use fl_makers::maker::MakesKeepers;
+use fl_replies::text::{write_count, write_dropped_fault, write_world_reply};
 use fl_sink::sink::{Sink, WriteFault};
 use fl_sink::writer::Writer;
-use itoa::Buffer;
 
-/// Puts the text of what is answered to a line into the sink.
-pub fn write_response<W: Writer>(
-    session: &Session,
+/// Puts the text of what is answered to the line of this number into the sink.
+pub fn write_response<M: MakesKeepers, W: Writer>(
+    session: &Session<M>,
+    number: u64,
     response: &Response,
     sink: &mut Sink,
     output: &mut W,
 ) -> Result<(), WriteFault>
-    ensures puts { let text = text_of (shown session.now response.now) in
+    ensures puts { let text = text_of number (shown session.now response.now) in
         Puts (W.contents output.old) (W.contents output.new) sink.old text sink.new result }
     ensures cause { OnErr result (W.has_failed output.new) }
 {
     match response {
         Response::Silence => sink.put_all(output, &[]),
-        Response::Reply(reply) => write_reply(reply, sink, output),
-        Response::Named(name) => write_name(b"ok ", *name, sink, output),
-        Response::Sent(number) => write_sent(*number, sink, output),
-        Response::Text(node) => session.nodes().write_text(*node, sink, output),
-        Response::Union(registry) => registry.write_text(sink, output),
+        Response::Said(said) => write_said(session.cluster(), number, said, sink, output),
         Response::Aliases => session.aliases().write_text(sink, output),
-        Response::Refused(refusal) => write_refusal(*refusal, sink, output),
-        Response::Dropped(refusal) => write_dropped(*refusal, sink, output),
-        Response::BadLine(number) => write_bad_line(*number, sink, output),
     }
 }
 
-// Puts the text of a line that is none of the script into the sink.
-fn write_bad_line<W: Writer>(number: u64, sink: &mut Sink, output: &mut W) -> Result<(), WriteFault>
-    ensures puts { let text = codes "refused F19 " ++ (decimal number ++ codes "\n") in
+// Puts what the world says to the line of this number into the sink.
+fn write_said<M: MakesKeepers, W: Writer>(
+    cluster: &Cluster<M>,
+    number: u64,
+    said: &Said,
+    sink: &mut Sink,
+    output: &mut W,
+) -> Result<(), WriteFault>
+    ensures puts { let text = said_text number (shown_of cluster.now.world said.now) in
         Puts (W.contents output.old) (W.contents output.new) sink.old text sink.new result }
     ensures cause { OnErr result (W.has_failed output.new) }
 {
-    let mut buffer = Buffer::new();
-    sink.put_all(
-        output,
-        &[b"refused F19 ", buffer.format(number).as_bytes(), b"\n"],
-    )
+    match said {
+        Said::Reply(reply) => write_world_reply(reply, sink, output),
+        Said::Dropped(fault) => write_dropped_fault(fault, sink, output),
+        Said::Text(node) => cluster.write_text(*node, sink, output),
+        Said::Union(registry) => registry.write_text(sink, output),
+        Said::Checked(check) => write_check(*check, sink, output),
+        Said::BadPacket(place) => write_count(b"refused F18 ", *place, sink, output),
+        Said::Admitted(count) => write_count(b"admitted ", *count, sink, output),
+        Said::Unknown => write_count(b"refused F19 ", number, sink, output),
+    }
+}
+
+// Puts what a packet would bring into the sink.
+fn write_check<W: Writer>(check: Check, sink: &mut Sink, output: &mut W) -> Result<(), WriteFault>
+    ensures puts { let text = check_text check in
+        Puts (W.contents output.old) (W.contents output.new) sink.old text sink.new result }
+    ensures cause { OnErr result (W.has_failed output.new) }
+{
+    match check {
+        Check::New(count) => write_count(b"new ", count, sink, output),
+        Check::Lacks(count) => write_count(b"lacks ", count, sink, output),
+        Check::Data => sink.put_all(output, &[b"data\n"]),
+    }
 }

@@ -2,10 +2,9 @@
 #![tactic(auto)]
 
 mod answers;
+mod asking;
 pub mod fault;
-mod node;
-mod nodes;
+pub mod options;
 mod response;
 pub mod run;
-mod sent;
 mod session;

@@ -2,12 +2,13 @@
 ghost use Rattle.std.specs.Prelude.{◌≡◌, ◌≤◌, ◌⊎◌, [], ℕ, List, Option, IfErr, IfOk, IfSome, OnErr, OnOk, length};
 ghost use Rattle.std.specs.Io.KnownBytes.{IsAtEnd};
 ghost use Rattle.fl_stream.specs.Served.{Answered, Outgrows, Served};
-ghost use Rattle.fl_cluster.specs.Session.{begun};
-ghost use Rattle.fl_cluster.specs.LineTurn.{TurnsOut};
-ghost use Rattle.fl_cluster.specs.Output.{WritesFirst, WritesOutput};
+ghost use Rattle.fl_stream.specs.Output.{WritesFirst, WritesOutput};
+ghost use Rattle.fl_turns.specs.Over.{TurnsOver, begun_over};
 
 use crate::fault::RunFault;
+use crate::options::Options;
 use crate::session::Session;
+use fl_makers::maker::MakesKeepers;
 use fl_sink::writer::Writer;
 use fl_stream::conversation::Conversation;
 use std::alloc::AllocGlobal;
@@ -16,63 +17,74 @@ use std::io::{Read, Write};
 /// Hears a script of at most 16,777,216 bytes, and says the answers to its lines.
 ///
 /// More is heard only where what was said is exactly the answers to all lines that have ended: [`Conversation::hear`]
-/// requires it. To hear no bytes is the end of the script. The status is 1 where some line was none of the script, and
-/// else 0.
+/// requires it. To hear no bytes is the end of the script. The status is 3 where some line was answered that a keeper failed,
+/// else 1 where some line was none of the script, and else 0. A node is opened by the first line that names it, over the keeper that
+/// is made for it then.
 ///
 /// At a fault a front of the answers to the first lines is written: `Read` only where hearing fails or the script is
 /// longer; `Write` where a write fails or takes no bytes, or sending fails; `Memory` where there is no room for the 64 KiB
 /// that are heard at once, or for a line that has not ended. Want of memory in a line's own work is that line's answer.
-pub fn converse<RT: AllocGlobal, C: Conversation<W>, W: Writer>(
+pub fn converse<RT: AllocGlobal, C: Conversation<W>, W: Writer, M: MakesKeepers + Drop>(
     rt: &RT,
     input: &mut C,
     output: &mut W,
+    keepers: M,
 ) -> Result<u8, RunFault>
     requires unheard { IfSome (C.heard input.old) (λ bytes. bytes ≡ []) }
     requires fresh { C.hearings input.old ≡ 0 }
     requires said { C.said output.old ≡ W.contents output.old }
     requires due { (heard : List ℕ) (said : Option (List ℕ)) →
-        Answered TurnsOut begun heard (W.contents output.old) said → C.may_hear heard said }
+        Answered (TurnsOver M.K.is_honest M.K.may_hold M.finds M.refuses) (begun_over keepers)
+        heard (W.contents output.old) said → C.may_hear heard said }
     ensures ok { IfOk result (λ status. IfSome (C.remaining input.old) (λ script.
-        WritesOutput (W.contents output.old) (W.contents output.new) script status)) }
+        WritesOutput (TurnsOver M.K.is_honest M.K.may_hold M.finds M.refuses) (begun_over keepers)
+        (W.contents output.old) (W.contents output.new) script status)) }
     ensures whole { OnOk result (IsAtEnd (C.remaining input.new)) }
     ensures short { OnOk result (IfSome (C.remaining input.old) (λ script. length script ≤ 16777216)) }
     ensures said { OnOk result (C.said output.new ≡ W.contents output.new) }
-    ensures served { IfErr result (λ e. e ≡ RunFault.Read → Served TurnsOut begun
+    ensures served { IfErr result (λ e. e ≡ RunFault.Read →
+        Served (TurnsOver M.K.is_honest M.K.may_hold M.finds M.refuses) (begun_over keepers)
         (C.remaining input.old) (C.remaining input.new) (W.contents output.old) (W.contents output.new)) }
     ensures cause { IfErr result (λ e. e ≡ RunFault.Read →
         C.is_deaf input.new ⊎ Outgrows 16777216 (C.heard input.old) (C.heard input.new)) }
     ensures write_cause { IfErr result (λ e. e ≡ RunFault.Write → W.has_failed output.new) }
     ensures err { OnErr result (IfSome (C.remaining input.old) (λ script.
-        WritesFirst (W.contents output.old) (W.contents output.new) script)) }
+        WritesFirst (TurnsOver M.K.is_honest M.K.may_hold M.finds M.refuses) (begun_over keepers)
+        (W.contents output.old) (W.contents output.new) script)) }
 {
     let alloc = rt.alloc();
-    fl_stream::run::converse(alloc, Session::new(alloc), input, output)
+    fl_stream::run::converse(alloc, Session::new(alloc, keepers), input, output)
 }
 
 /// Reads a script of at most 16,777,216 bytes, by at most 16,777,217 reads, and writes the answers to its lines.
 ///
 /// It is [`converse`] with a reader and a writer: before each read but the first, all lines that have ended are answered,
-/// and the answers are written and flushed. A read of no bytes is the end of the script. The status is 1 where some line
-/// was none of the script, and else 0.
+/// and the answers are written and flushed. A read of no bytes is the end of the script.
 ///
 /// At a fault a front of the answers to the first lines is written: `Read` where a read fails or the script is longer;
 /// `Write` where a write fails or takes no bytes, or a flush fails; `Memory` where there is no room for the 64 KiB that a
 /// read fills, or for a line that has not ended. Want of memory in a line's own work is that line's answer.
-pub fn run<RT: AllocGlobal, R: Read, W: Write>(
+pub fn run<RT: AllocGlobal, R: Read, W: Write, M: MakesKeepers + Drop>(
     rt: &RT,
     input: &mut R,
     output: &mut W,
+    options: Options,
+    keepers: M,
 ) -> Result<u8, RunFault>
+    requires alone { options.workers ≡ 0 }
     ensures ok { IfOk result (λ status. IfSome (R.remaining input.old) (λ script.
-        WritesOutput (W.contents output.old) (W.contents output.new) script status)) }
+        WritesOutput (TurnsOver M.K.is_honest M.K.may_hold M.finds M.refuses) (begun_over keepers)
+        (W.contents output.old) (W.contents output.new) script status)) }
     ensures whole { OnOk result (IsAtEnd (R.remaining input.new)) }
     ensures short { OnOk result (IfSome (R.remaining input.old) (λ script. length script ≤ 16777216)) }
 
     // Any read may fail, so that all lines that have ended are answered before each.
-    ensures served { IfErr result (λ e. e ≡ RunFault.Read → Served TurnsOut begun
+    ensures served { IfErr result (λ e. e ≡ RunFault.Read →
+        Served (TurnsOver M.K.is_honest M.K.may_hold M.finds M.refuses) (begun_over keepers)
         (R.remaining input.old) (R.remaining input.new) (W.contents output.old) (W.contents output.new)) }
     ensures err { OnErr result (IfSome (R.remaining input.old) (λ script.
-        WritesFirst (W.contents output.old) (W.contents output.new) script)) }
+        WritesFirst (TurnsOver M.K.is_honest M.K.may_hold M.finds M.refuses) (begun_over keepers)
+        (W.contents output.old) (W.contents output.new) script)) }
 {
-    converse(rt, input, output)
+    converse(rt, input, output, keepers)
 }

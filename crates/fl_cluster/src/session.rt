@@ -1,22 +1,22 @@
 //! What the lines of a script made, and the aliases of it.
-ghost use Rattle.std.specs.Prelude.{◌≡◌, ◌<◌, All, IfOk, IsSome, OnErr, Some, length, true};
+ghost use Rattle.std.specs.Prelude.{◌≡◌, ◌<◌, ℕ, All, IsSome, List, None, Some, length, true};
 ghost use Rattle.fl_aliases.specs.Table.{Table, target_of};
 ghost use Rattle.fl_script.specs.Grammar.{nodes_of};
-ghost use Rattle.fl_script.specs.Reading.{makes};
-ghost use Rattle.fl_cluster.specs.Session.{begun};
-ghost use Rattle.fl_cluster.specs.Answer.{shown};
-ghost use Rattle.fl_cluster.specs.Naming.{IsPlaced, renamed};
-ghost use Rattle.fl_cluster.specs.MayWant.{MayWant};
-ghost use Rattle.fl_cluster.specs.Turn.{AnswersNamed, Turn, Understood};
+ghost use Rattle.fl_script.specs.Reading.{IsReading, makes};
+ghost use Rattle.fl_turns.specs.Naming.{IsPlaced, renamed};
+ghost use Rattle.fl_turns.specs.Over.{TurnOver, begun_over};
+ghost use Rattle.fl_cluster.specs.Shown.{shown};
+ghost use Rattle.fl_cluster.specs.parts.Answering.{Names, NamesOrStarves};
 
 use crate::answers::write_response;
-use crate::nodes::Nodes;
+use crate::asking::respond_to;
 use crate::response::Response;
 use fl_aliases::alias::Alias;
 use fl_aliases::table::Aliases;
 use fl_aliases::target::Target;
-use fl_jobs::answer::Refusal;
+use fl_calls::cluster::Cluster;
 use fl_labels::name::Name;
+use fl_makers::maker::MakesKeepers;
 use fl_script::line::Line;
 use fl_script::reading::{Reading, read_line};
 use fl_sink::sink::{Sink, WriteFault};
@@ -45,39 +45,47 @@ fn settle(aliases: &mut Aliases, alias: Alias, is_new: bool, made: Option<Target
     }
 }
 
-/// The nodes of a script by their numbers with the packets that they sent, and the aliases of what its lines made.
-#[derive(Drop)]
-pub struct Session {
-    nodes: Nodes,
+/// The world of a script with who makes its keepers, and the aliases of what its lines made.
+pub struct Session<M: MakesKeepers> {
+    cluster: Cluster<M>,
     aliases: Aliases,
 }
 
-impl Model for Session {
-    ghost use Rattle.fl_cluster.specs.Session.{Session, coded_session};
+impl<M: MakesKeepers> Model for Session<M> {
+    ghost use Rattle.fl_turns.specs.Over.{SessionOver, coded_session_over};
 
-    ghost Value = { Session };
+    ghost Value = { SessionOver M.K M };
 
-    ghost coded = { coded_session };
+    ghost coded = { coded_session_over M.K.code M.code };
 
-    ghost view = { λ s. record { state = s.nodes; aliases = s.aliases } };
+    ghost view = { λ s. record { cluster = s.cluster; aliases = s.aliases } };
 }
 
-impl Session {
-    /// No node, no packet and no alias, before the first line. Takes no memory.
-    pub fn new(alloc: Global) -> Self
-        ensures { result ≡ begun }
+impl<M: MakesKeepers + Drop> Drop for Session<M> {
+    fn drop(self) {
+        let Session {
+            cluster: _,
+            aliases: _,
+        } = self;
+    }
+}
+
+impl<M: MakesKeepers> Session<M> {
+    /// No node and no alias, before the first line. Takes no memory.
+    pub fn new(alloc: Global, keepers: M) -> Self
+        ensures { result ≡ begun_over keepers }
     {
         Session {
-            nodes: Nodes::new(alloc),
+            cluster: Cluster::new(alloc, keepers),
             aliases: Aliases::new(alloc),
         }
     }
 
-    /// Its nodes, with the packets that they sent.
-    pub fn nodes(&self) -> &Nodes
-        ensures { result.now ≡ self.now.state }
+    /// Its world.
+    pub fn cluster(&self) -> &Cluster<M>
+        ensures { result.now ≡ self.now.cluster }
     {
-        &self.nodes
+        &self.cluster
     }
 
     /// Its aliases.
@@ -87,72 +95,65 @@ impl Session {
         &self.aliases
     }
 
-    /// What is answered to the line of this number. Where memory is wanted, nothing changes.
-    pub fn respond(&mut self, alloc: Global, number: u64, line: &[u8]) -> Response
-        ensures { Turn number self.old line.now (shown self.new result) self.new }
+    /// What is answered to the line. Where memory is wanted before anything is asked of the world, nothing changes.
+    pub fn respond(&mut self, alloc: Global, line: &[u8]) -> Response
+        ensures { TurnOver M.K.is_honest M.K.may_hold M.finds M.refuses
+            self.old line.now (shown self.new result) self.new }
     {
-        match self.understand(alloc, number, line) {
-            Ok(response) => response,
-            Err(AllocError) => Response::Refused(Refusal::Memory),
+        match read_line(alloc, &self.aliases, line) {
+            Ok(reading) => self.answer_reading(alloc, reading),
+            Err(AllocError) => Response::starved(),
         }
     }
 
-    // What is answered to the line of this number, where there is memory.
-    fn understand(
-        &mut self,
-        alloc: Global,
-        number: u64,
-        line: &[u8],
-    ) -> Result<Response, AllocError>
-        ensures ok { IfOk result (λ response.
-            Understood number self.old line.now (shown self.new response) self.new) }
-        ensures wants { OnErr result (MayWant self.old line.now) }
-        ensures err { OnErr result (self.new ≡ self.old) }
+    // Answers what was read of a line.
+    fn answer_reading(&mut self, alloc: Global, reading: Reading) -> Response
+        requires { (bytes : List ℕ) × IsReading self.old.aliases bytes reading }
+        ensures { (bytes : List ℕ) → IsReading self.old.aliases bytes reading
+            → TurnOver M.K.is_honest M.K.may_hold M.finds M.refuses
+            self.old bytes (shown self.new result) self.new }
     {
-        match read_line(alloc, &self.aliases, line)? {
-            Reading::Quiet => Ok(Response::Silence),
-            Reading::Bad => Ok(Response::BadLine(number)),
+        match reading {
+            Reading::Quiet => Response::Silence,
+            Reading::Bad => Response::bad_line(),
             Reading::Means { line, alias } => match alias {
-                None => self.nodes.answer(alloc, number, line),
-                Some(alias) => self.answer_named(alloc, number, line, alias),
+                None => self.answer(alloc, line),
+                Some(alias) => self.answer_named(alloc, line, alias),
             },
         }
     }
 
-    // Answers the line of this number, and has the alias stand for what it made. The alias is placed first, so that there is
-    // room for it once something is made.
-    fn answer_named(
-        &mut self,
-        alloc: Global,
-        number: u64,
-        line: Line,
-        alias: Alias,
-    ) -> Result<Response, AllocError>
+    // Answers the line, which has no alias.
+    fn answer(&mut self, alloc: Global, line: Line) -> Response
+        requires nodes { All (λ node. 0 < node) (nodes_of line) }
+        ensures { Names M.K.is_honest M.K.may_hold M.finds M.refuses
+            self.old line None result self.new }
+    {
+        respond_to(alloc, &mut self.cluster, line)
+    }
+
+    // Answers the line, and has the alias stand for what it made. The alias is placed first, so that there is room for it once
+    // something is made.
+    fn answer_named(&mut self, alloc: Global, line: Line, alias: Alias) -> Response
         requires nodes { All (λ node. 0 < node) (nodes_of line) }
         requires makes { makes line ≡ true }
         requires room { length self.old.aliases < 1024 }
-        ensures ok { IfOk result (λ response.
-            AnswersNamed number self.old line (Some alias) (shown self.new response) self.new) }
-        ensures err { OnErr result (self.new ≡ self.old) }
+        ensures { NamesOrStarves M.K.is_honest M.K.may_hold M.finds M.refuses
+            self.old line (Some alias) result self.new }
     {
-        let is_new = self.aliases.place(alias, UNMADE)?;
-        match self.nodes.answer(alloc, number, line) {
-            Ok(response) => {
-                settle(&mut self.aliases, alias, is_new, response.made());
-                Ok(response)
-            }
-            Err(error) => {
-                settle(&mut self.aliases, alias, is_new, None);
-                Err(error)
-            }
-        }
+        let Ok(is_new) = self.aliases.place(alias, UNMADE) else {
+            return Response::starved();
+        };
+        let response = respond_to(alloc, &mut self.cluster, line);
+        settle(&mut self.aliases, alias, is_new, response.made());
+        response
     }
 }
 
-impl Machine for Session {
-    ghost use Rattle.fl_cluster.specs.LineTurn.{TurnsOut};
+impl<M: MakesKeepers> Machine for Session<M> {
+    ghost use Rattle.fl_turns.specs.Over.{TurnsOver};
 
-    ghost turns = { TurnsOut };
+    ghost turns = { TurnsOver M.K.is_honest M.K.may_hold M.finds M.refuses };
 
     fn answer<W: Writer>(
         &mut self,
@@ -161,9 +162,9 @@ impl Machine for Session {
         line: &[u8],
         sink: &mut Sink,
         output: &mut W,
-    ) -> Result<bool, WriteFault> {
-        let response = self.respond(alloc, number, line);
-        write_response(self, &response, sink, output)?;
-        Ok(response.is_bad())
+    ) -> Result<u8, WriteFault> {
+        let response = self.respond(alloc, line);
+        write_response(self, number, &response, sink, output)?;
+        Ok(response.status())
     }
 }

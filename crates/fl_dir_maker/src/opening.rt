@@ -7,11 +7,18 @@ use fl_sql_store::sql_keeper::SqlKeeper;
 use sqlite::{Connection, File, FileStore, Options, Unknown};
 use std::hash::{BuildHasher, RandomState};
 
+// How many pages of a file are kept in memory. A node reads all of it once, and then adds to it.
+const CACHE_PAGES: usize = 64;
+
 // The database of a file, which is made if it is missing.
 fn connect(rt: &HostRuntime, path: &str) -> Result<Connection<FileStore<File>>, Cause> {
     let files = sqlite_std_file::open(rt, path, Unknown).map_err(of_files)?;
     let seed = RandomState::new(rt).map_err(of_system)?.hash_one(&0u8);
-    match Connection::open_files(rt.alloc(), files, Options::new(seed)) {
+    let options = Options {
+        cache_pages: CACHE_PAGES,
+        ..Options::new(seed)
+    };
+    match Connection::open_files(rt.alloc(), files, options) {
         Ok(conn) => Ok(conn),
         Err((error, _left)) => Err(of_database(error)),
     }

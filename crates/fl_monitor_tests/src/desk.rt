@@ -12,6 +12,7 @@ use fl_ops::op::{Body, Op};
 use fl_rules::labels::Labels;
 use fl_script::line::Line;
 use fl_script::reading::{Reading, read_line};
+use fl_script::request::Request;
 use fl_sink::sink::Sink;
 use std::alloc::{AllocGlobal, Global};
 use std::process::Abort;
@@ -100,9 +101,12 @@ impl Desk {
     }
 
     fn job_of(&self, line: Line) -> Result<Job, Fail> {
-        match line {
-            Line::Job { job, .. } => Ok(job),
-            Line::Deliver { packet, .. } => self.arrival(packet),
+        let Line::Node { request, .. } = line else {
+            return Err(Fail::from("no job"));
+        };
+        match request {
+            Request::Job(job) => Ok(job),
+            Request::Deliver(packet) => self.arrival(packet),
             _ => Err(Fail::from("no job")),
         }
     }

@@ -7,6 +7,7 @@ use fl_jobs::job::Job;
 use fl_node::node::Node;
 use fl_script::line::Line;
 use fl_script::reading::{Reading, read_line};
+use fl_script::request::Request;
 use fl_store::mem::MemKeeper;
 use fl_system::answer::Answer;
 use std::alloc::{AllocGlobal, Global};
@@ -117,10 +118,17 @@ fn post(alloc: Global, node: &mut Node<MemKeeper>, line: &str) -> Result<Vec<u8>
 /// The job that the line asks for.
 fn job_of(alloc: Global, line: &str) -> Result<Job, Fail> {
     match read_line(alloc, &Aliases::new(alloc), line.as_bytes())? {
-        Reading::Means {
-            line: Line::Job { job, .. },
-            ..
-        } => Ok(job),
+        Reading::Means { line, .. } => job_of_line(line),
+        _ => Err(Fail::from("no job")),
+    }
+}
+
+fn job_of_line(line: Line) -> Result<Job, Fail> {
+    let Line::Node { request, .. } = line else {
+        return Err(Fail::from("no job"));
+    };
+    match request {
+        Request::Job(job) => Ok(job),
         _ => Err(Fail::from("no job")),
     }
 }

@@ -1,5 +1,5 @@
 -- What the nodes of a world have against one another, by the entries that hold them.
-use Rattle.std.proofs.Common.{◌≡◌, ◌∙◌, refl, sym, ap, subst, ℕ, List, [], ◌∷◌, ◌++◌, Option, Some, None}
+use Rattle.std.proofs.Common.{◌≡◌, ◌∙◌, ◌⊎◌, inl, inr, refl, sym, ap, subst, ℕ, List, [], ◌∷◌, ◌++◌, Option, Some, None}
 use Rattle.std.proofs.lemmas.Cmp.{nat_cmp_total}
 use Rattle.std.proofs.lemmas.List.{append-nil, append_assoc}
 use Rattle.std.proofs.lemmas.Map.Lookups.{exact_unsigned}
@@ -13,13 +13,13 @@ use Rattle.fl_labels.specs.SetBy.{SetBy, In}
 use Rattle.fl_labels.specs.declared.name.Name.{Name}
 use Rattle.fl_ops.specs.OpOrder.{op_cmp}
 use Rattle.fl_gossip.specs.Meeting.{FindsLeast, IsClashOf, IsStrayOf, OfSome, lesser_of}
-use Rattle.fl_gossip.specs.laws.Leasts.{least_of_more, least_of_none, least_same}
-use Rattle.fl_system.specs.Joins.{IsClashAt, IsStray}
+use Rattle.fl_gossip.specs.laws.Leasts.{least_either, least_of_more, least_of_none, least_same}
+use Rattle.fl_system.specs.Joins.{IsClashAt}
 use Rattle.fl_system.specs.World.{World, KeptNode}
 use Rattle.fl_node.specs.Over.{NodeOver}
 use Rattle.fl_nodes.specs.Over.{WorldOver}
 use Rattle.fl_nodes.specs.Goes.{MayBeNode}
-use Rattle.fl_nodes.specs.parts.Joined.{AreNodes, ClashesWith, HasUnknown, IsUnknownTo}
+use Rattle.fl_nodes.specs.parts.Joined.{AreNodes, ClashesWith, IsStrayWith, StraysWith}
 
 -- the least of the names of those that were seen, before the rest
 pub record LeastSoFar {X : Type 0} (P : X → Name → Type 0) (all rest : List X) (least : Option Name) : Type 0 where
@@ -51,17 +51,21 @@ clash_finds saved others e r same h = least_same (IsClashOf (In saved) (In other
     (λ k c. record { clash = subst (λ s. IsClashOf (In saved) (In s) k) same c })
     (λ k c. subst (λ s. IsClashOf (In saved) (In s) k) (sym same) c.clash) r h
 
-pub stray_finds : {K : Type 0} (saved others : SetBy op_cmp) (e : ℕ × NodeOver K) (r : Option Name) → others ≡ e.1.node.saved
-    → FindsLeast (IsStrayOf (In saved) (In others) e.0) r → FindsLeast (IsUnknownTo saved e) r
-stray_finds saved others e r same h = least_same (IsStrayOf (In saved) (In others) e.0) (IsUnknownTo saved e)
-    (λ k c. record { stray = subst (λ s. IsStrayOf (In saved) (In s) e.0 k) same c })
-    (λ k c. subst (λ s. IsStrayOf (In saved) (In s) e.0 k) (sym same) c.stray) r h
+pub stray_finds : {K : Type 0} (saved others : SetBy op_cmp) (number : ℕ) (e : ℕ × NodeOver K) (a b r : Option Name) → others ≡ e.1.node.saved
+    → r ≡ lesser_of a b → FindsLeast (IsStrayOf (In saved) (In others) e.0) a → FindsLeast (IsStrayOf (In others) (In saved) number) b
+    → FindsLeast (StraysWith number saved e) r
+stray_finds saved others number e a b r same is brought awaited =
+    subst (FindsLeast (StraysWith number saved e)) (sym is)
+    (least_same (λ k. IsStrayOf (In saved) (In others) e.0 k ⊎ IsStrayOf (In others) (In saved) number k) (StraysWith number saved e) to from (lesser_of a b)
+    (least_either (IsStrayOf (In saved) (In others) e.0) (IsStrayOf (In others) (In saved) number) a b brought awaited))
+  where
+    to : (k : Name) → IsStrayOf (In saved) (In others) e.0 k ⊎ IsStrayOf (In others) (In saved) number k → StraysWith number saved e k
+    to k (inl h) = StraysWith.brought (subst (λ s. IsStrayOf (In saved) (In s) e.0 k) same h)
+    to k (inr h) = StraysWith.awaited (subst (λ s. IsStrayOf (In s) (In saved) number k) same h)
 
-pub unknown_finds : {K : Type 0} (saved : SetBy op_cmp) (all : List (ℕ × NodeOver K)) (e : ℕ × NodeOver K) (r : Option Name) → saved ≡ e.1.node.saved
-    → FindsLeast (OfSome (IsUnknownTo saved) all) r → FindsLeast (HasUnknown all e) r
-unknown_finds saved all e r same h = least_same (OfSome (IsUnknownTo saved) all) (HasUnknown all e)
-    (λ k c. record { unknown = subst (λ s. OfSome (IsUnknownTo s) all k) same c })
-    (λ k c. subst (λ s. OfSome (IsUnknownTo s) all k) (sym same) c.unknown) r h
+    from : (k : Name) → StraysWith number saved e k → IsStrayOf (In saved) (In others) e.0 k ⊎ IsStrayOf (In others) (In saved) number k
+    from k (StraysWith.brought h) = inl (subst (λ s. IsStrayOf (In saved) (In s) e.0 k) (sym same) h)
+    from k (StraysWith.awaited h) = inr (subst (λ s. IsStrayOf (In s) (In saved) number k) (sym same) h)
 
 -- ---- the nodes of a world
 
@@ -142,44 +146,45 @@ module _ {K : Type 0} (m : BTreeMap ℕ (NodeOver K)) (ordered : IsOrdered nat_c
   pub clash_of_world : (saved : SetBy op_cmp) (r : Option Name) → FindsLeast (OfSome (ClashesWith saved) m.entries) r → FindsLeast (IsClashAt w saved) r
   clash_of_world saved r h = least_same (OfSome (ClashesWith saved) m.entries) (IsClashAt w saved) (clash_to saved) (clash_from saved) r h
 
-  stray_to : (name : Name) → OfSome (HasUnknown m.entries) m.entries name → IsStray w name
-  stray_to name h =
-      let there = in_world h.0.0 h.0.1 h.1 in
-      let u = h.2.unknown in
-      let owner = in_world u.0.0 u.0.1 u.1 in
-      let s = u.2.stray in
-      record {
-        op = s.op;
-        op_name = s.op_name;
-        in_world = (h.0.0, there.node, there.at, subst (λ n. In n.saved s.op) (sym there.same) s.in_there);
-        owner = owner.node;
-        there = subst (λ q. map.get w.nodes q ≡ Some owner.node) (sym s.of) owner.at;
-        unknown = λ i. s.unknown (subst (λ n. In n.saved s.op) owner.same i);
-      }
+  module _ (number : ℕ) (saved : SetBy op_cmp) where
+    stray_to : (name : Name) → OfSome (StraysWith number saved) m.entries name → IsStrayWith w number saved name
+    stray_to name h = by_kind h.2
+      where
+        s : Is h.0.1 (map.get w.nodes h.0.0)
+        s = in_world h.0.0 h.0.1 h.1
 
-  stray_from : (name : Name) → IsStray w name → OfSome (HasUnknown m.entries) m.entries name
-  stray_from name s =
-      let u = s.in_world in
-      let n = in_map u.0 u.1 u.2 in
-      let owner = in_map s.op.name.node s.owner s.there in (
-        (u.0, n.node),
-        n.among,
-        record {
-          unknown = (
-            (s.op.name.node, owner.node),
-            owner.among,
-            record {
-              stray = record {
-                op = s.op;
-                op_name = s.op_name;
-                of = refl;
-                in_there = subst (λ n. In n.saved s.op) n.same u.3;
-                unknown = λ i. s.unknown (subst (λ n. In n.saved s.op) (sym owner.same) i);
-              };
-            },
-          );
-        },
-      )
+        by_kind : StraysWith number saved h.0 name → IsStrayWith w number saved name
+        by_kind (StraysWith.brought b) =
+            IsStrayWith.brought b.op b.op_name b.in_there (subst (λ q. map.get w.nodes q ≡ Some s.node) (sym b.of) s.at)
+            (λ i. b.unknown (subst (λ n. In n.saved b.op) s.same i))
+        by_kind (StraysWith.awaited b) =
+            IsStrayWith.awaited b.op b.op_name b.of (h.0.0, s.node, s.at, subst (λ n. In n.saved b.op) (sym s.same) b.in_there) b.unknown
 
-  pub stray_of_world : (r : Option Name) → FindsLeast (OfSome (HasUnknown m.entries) m.entries) r → FindsLeast (IsStray w) r
-  stray_of_world r h = least_same (OfSome (HasUnknown m.entries) m.entries) (IsStray w) stray_to stray_from r h
+    stray_from : (name : Name) → IsStrayWith w number saved name → OfSome (StraysWith number saved) m.entries name
+    stray_from name (IsStrayWith.brought op {owner} is in_saved at unknown) =
+        let n = in_map op.name.node owner at in (
+          (op.name.node, n.node),
+          n.among,
+          StraysWith.brought (record {
+            op = op;
+            op_name = is;
+            of = refl;
+            in_there = in_saved;
+            unknown = λ i. unknown (subst (λ n. In n.saved op) (sym n.same) i);
+          }),
+        )
+    stray_from name (IsStrayWith.awaited op is of u unknown) =
+        let n = in_map u.0 u.1 u.2 in (
+          (u.0, n.node),
+          n.among,
+          StraysWith.awaited (record {
+            op = op;
+            op_name = is;
+            of = of;
+            in_there = subst (λ n. In n.saved op) n.same u.3;
+            unknown = unknown;
+          }),
+        )
+
+    pub stray_of_world : (r : Option Name) → FindsLeast (OfSome (StraysWith number saved) m.entries) r → FindsLeast (IsStrayWith w number saved) r
+    stray_of_world r h = least_same (OfSome (StraysWith number saved) m.entries) (IsStrayWith w number saved) stray_to stray_from r h

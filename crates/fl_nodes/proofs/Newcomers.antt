@@ -1,16 +1,16 @@
 -- A node that joins the others, or not, as a step of the world.
 use Rattle.std.proofs.Common.{◌≡◌, ◌∙◌, ◌⊎◌, ◌+◌, inl, inr, refl, sym, ap, subst, ℕ, Bool, true, false, cond, List, [], ◌++◌, Option, Some, None, Result, Ok, Err}
-use Rattle.std.proofs.lemmas.Bool.{false≢true}
 use Rattle.std.proofs.lemmas.Cmp.{nat_cmp_total}
 use Rattle.std.proofs.lemmas.List.{append-nil}
 use Rattle.std.specs.BTreeMap.{is_at}
 use Rattle.std.specs.Cmp.{tied_itself}
 use Rattle.std.specs.Map.{lookup}
-use Rattle.std.specs.Prelude.{IfErr, IsErrAnd, IsSome, is_some}
+use Rattle.std.specs.Prelude.{IfErr, IsErrAnd, is_some}
 use Rattle.std.specs.FinMap as map
 use Rattle.std.specs.FinMap.{nat_cmp-IsAntisymmetric, same_map}
 use Rattle.std.specs.Ordering.{nat_cmp, eq_by_cmp, is_eq}
-use Rattle.fl_mailbox.specs.laws.Tables.{one_gone, one_put}
+use Rattle.fl_mailbox.specs.laws.Tables.{one_put}
+use Rattle.fl_labels.specs.SetBy.{In}
 use Rattle.fl_labels.specs.declared.name.Name.{Name}
 use Rattle.fl_gossip.specs.Meeting.{IsLeastOf}
 use Rattle.fl_jobs.specs.declared.answer.Refusal.TheVariants.{Memory}
@@ -28,10 +28,18 @@ use Rattle.fl_system.specs.World.{World, KeptNode}
 use Rattle.fl_node.specs.Over.{NodeOver}
 use Rattle.fl_nodes.specs.Over.{WorldOver}
 use Rattle.fl_nodes.specs.Goes.{AreHonest, MayBe, MayBeNode}
-use Rattle.fl_nodes.specs.Joining.{GivesBack, IsRefused, LeftBy, TakesIn}
-use Rattle.fl_nodes.specs.parts.Joined.{AreNodes, over_with}
+use Rattle.fl_nodes.specs.Joining.{DoesJoin, DoesNotJoin, GivesBack, HasNoStray, IsRefused, LeftBy, TakesIn}
+use Rattle.fl_nodes.specs.parts.Joined.{AreNodes, IsStrayWith, over_with}
 use Rattle.fl_nodes.proofs.Entries.{of_entries}
 use Rattle.fl_nodes.proofs.Lifting.{at_other, here, no_node, node_there, same_number, with_kept}
+
+-- ---- the map
+
+pub some_none : {A : Type 0} (x : A) → ◌≡◌ {A = Option A} (Some x) None → ⊥
+some_none x h = cc
+
+pub some_is : {A : Type 0} (x y : A) → ◌≡◌ {A = Option A} (Some x) (Some y) → x ≡ y
+some_is x y h = cc
 
 -- ---- openings
 
@@ -67,16 +75,16 @@ module _ {K : Type 0} (is_honest : K → Type 0) (may_hold : K → Held) where
 
   -- the number is a node's
   pub refused_there : (old new : WorldOver K) (number : ℕ) (keeper : K) (x : NodeOver K) → new ≡ old → map.get old.nodes number ≡ Some x
-      → GivesBack is_honest may_hold old keeper new keeper (IsRefused number faults.WrongNode)
+      → GivesBack is_honest may_hold old keeper new keeper (DoesNotJoin number faults.WrongNode)
   refused_there old new number keeper x same there =
-      subst (λ n. GivesBack is_honest may_hold old keeper n keeper (IsRefused number faults.WrongNode)) (sym same) (record {
+      subst (λ n. GivesBack is_honest may_hold old keeper n keeper (DoesNotJoin number faults.WrongNode)) (sym same) (record {
         honest = λ all left. (all, left);
         comes = λ all left after k' is held. (
           after,
           k',
           is,
           held,
-          record {
+          λ known. record {
             same = refl;
             joins = Joins.there (node_there is_honest may_hold old after number x there is).there;
             left = inl refl;
@@ -88,9 +96,9 @@ module _ {K : Type 0} (is_honest : K → Type 0) (may_hold : K → Held) where
     -- the opening is refused
     pub refused_opening : (new : WorldOver K) → new ≡ old → (given : K) (fault : Fault)
         → (is_honest given → is_honest keeper × Follows (λ k k'. Opens 1 (IsOf number) k (Err fault) k') (may_hold keeper) (may_hold given))
-        → GivesBack is_honest may_hold old keeper new given (IsRefused number fault)
+        → GivesBack is_honest may_hold old keeper new given (DoesNotJoin number fault)
     refused_opening new same given fault call =
-        subst (λ n. GivesBack is_honest may_hold old keeper n given (IsRefused number fault)) (sym same) (record {
+        subst (λ n. GivesBack is_honest may_hold old keeper n given (DoesNotJoin number fault)) (sym same) (record {
           honest = λ all left. (all, (call left).0);
           comes = λ all left after k' is held.
               let b = (call left).1 k' held in (
@@ -98,7 +106,7 @@ module _ {K : Type 0} (is_honest : K → Type 0) (may_hold : K → Held) where
                 b.0,
                 is,
                 b.1,
-                record {
+                λ known. record {
                   same = refl;
                   joins = Joins.not_opened (no_node is_honest may_hold old after number none is)
                       (subst (λ d. Opens d (IsOf number) b.0 (Err fault) k') (sym (is.desks ∙ desks)) b.2);
@@ -111,8 +119,8 @@ module _ {K : Type 0} (is_honest : K → Type 0) (may_hold : K → Held) where
         (opens : is_honest y.keeper → is_honest keeper × Follows (λ k k'. Opens 1 (IsOf number) k (Ok y.node) k') (may_hold keeper) (may_hold y.keeper)) where
       -- it was opened, and refused then
       refused_after : (fault : Fault)
-          → ((w : World) (k k' : Kept) → MayBe may_hold old w → map.get w.nodes number ≡ None → IsOpening number k y.node k' → IsRefused number fault w k w k')
-          → GivesBack is_honest may_hold old keeper old y.keeper (IsRefused number fault)
+          → ((w : World) (k k' : Kept) → MayBe may_hold old w → map.get w.nodes number ≡ None → IsOpening number k y.node k' → HasNoStray w → IsRefused number fault w k w k')
+          → GivesBack is_honest may_hold old keeper old y.keeper (DoesNotJoin number fault)
       refused_after fault refuses = record {
         honest = λ all left. (all, (opens left).0);
         comes = λ all left after k' is held.
@@ -127,11 +135,11 @@ module _ {K : Type 0} (is_honest : K → Type 0) (may_hold : K → Held) where
 
       pub refused_clash : (new : WorldOver K) → new ≡ old → (given : K) → given ≡ y.keeper → (name : Name)
           → ((w : World) → AreNodes old w → IsLeastOf (IsClashAt w y.node.saved) name)
-          → GivesBack is_honest may_hold old keeper new given (IsRefused number (faults.Clash name))
+          → GivesBack is_honest may_hold old keeper new given (DoesNotJoin number (faults.Clash name))
       refused_clash new same given is_given name least =
-          subst (λ n. GivesBack is_honest may_hold old keeper n given (IsRefused number (faults.Clash name))) (sym same)
-          (subst (λ g. GivesBack is_honest may_hold old keeper old g (IsRefused number (faults.Clash name))) (sym is_given)
-          (refused_after (faults.Clash name) (λ w k k' is absent o. record {
+          subst (λ n. GivesBack is_honest may_hold old keeper n given (DoesNotJoin number (faults.Clash name))) (sym same)
+          (subst (λ g. GivesBack is_honest may_hold old keeper old g (DoesNotJoin number (faults.Clash name))) (sym is_given)
+          (refused_after (faults.Clash name) (λ w k k' is absent o known. record {
             same = refl;
             joins = Joins.clash absent o.own (subst (λ n. IsLeastName (IsClashAt w n.saved) name) o.node_is
                 (least_name (IsClashAt w y.node.saved) name (least w (are_nodes old w is))));
@@ -139,52 +147,105 @@ module _ {K : Type 0} (is_honest : K → Type 0) (may_hold : K → Held) where
           })))
 
       pub refused_memory : (new : WorldOver K) → new ≡ old → (given : K) → given ≡ y.keeper → (fault : Fault) → fault ≡ faults.Refused Memory
-          → GivesBack is_honest may_hold old keeper new given (IsRefused number fault)
+          → GivesBack is_honest may_hold old keeper new given (DoesNotJoin number fault)
       refused_memory new same given is_given fault is_fault =
-          subst (λ n. GivesBack is_honest may_hold old keeper n given (IsRefused number fault)) (sym same)
-          (subst (λ g. GivesBack is_honest may_hold old keeper old g (IsRefused number fault)) (sym is_given)
-          (subst (λ f. GivesBack is_honest may_hold old keeper old y.keeper (IsRefused number f)) (sym is_fault)
-          (refused_after (faults.Refused Memory) (λ w k k' is absent o. record {
+          subst (λ n. GivesBack is_honest may_hold old keeper n given (DoesNotJoin number fault)) (sym same)
+          (subst (λ g. GivesBack is_honest may_hold old keeper old g (DoesNotJoin number fault)) (sym is_given)
+          (subst (λ f. GivesBack is_honest may_hold old keeper old y.keeper (DoesNotJoin number f)) (sym is_fault)
+          (refused_after (faults.Refused Memory) (λ w k k' is absent o known. record {
             same = refl;
             joins = Joins.not_opened absent (Opens.refused {left = k'} FailsToOpen.no_room (inr o.up));
             left = inr o.up;
           }))))
 
-      -- the world with the new node
-      with_it : (w : World) (k k' : Kept) → w.desks ≡ 1 → AreNodes old w → IsOpening number k y.node k' → AreNodes (over_with old number y) (joined w number k)
-      with_it w k k' one are o q = by_place (eq_by_cmp nat_cmp q number) refl
+      -- the newcomer
+      abbrev newcomer : World → Kept → KeptNode
+      newcomer w k = record { node = opened w.desks k; kept = raised k }
+
+      -- where no node knows less than another of its own operations, the strays in the world with the new node are those with it
+      strays_from : (w : World) (k : Kept) → HasNoStray w → (name : Name) → IsStray (joined w number k) name → IsStrayWith w number k.saved name
+      strays_from w k known name stray = by_place (eq_by_cmp nat_cmp stray.in_world.0 number) (eq_by_cmp nat_cmp stray.op.name.node number) refl refl
         where
-          s : KeptNode
-          s = record { node = opened w.desks k; kept = raised k }
+          -- what stands under the number is the new node
+          new_there : (p : ℕ) (t : KeptNode) → eq_by_cmp nat_cmp p number ≡ true → map.get (map.insert w.nodes number (newcomer w k)) p ≡ Some t → newcomer w k ≡ t
+          new_there p t e at = some_is (newcomer w k) t (sym (here w.nodes number (newcomer w k)) ∙ ap (map.get (map.insert w.nodes number (newcomer w k))) (sym (same_number p number e)) ∙ at)
 
-          same : s.node ≡ y.node
-          same = ap (λ d. opened d k) one ∙ sym o.node_is
+          old_there : (p : ℕ) (t : KeptNode) → eq_by_cmp nat_cmp p number ≡ false → map.get (map.insert w.nodes number (newcomer w k)) p ≡ Some t → map.get w.nodes p ≡ Some t
+          old_there p t e at = sym (at_other w.nodes number p (newcomer w k) e) ∙ at
 
-          by_place : (b : Bool) → eq_by_cmp nat_cmp q number ≡ b
-              → MayBeNode (λ keeper k. Unit {0}) (map.get (map.insert old.nodes number y) q) (map.get (map.insert w.nodes number s) q)
-          by_place true e =
-              subst (λ p. MayBeNode (λ keeper k. Unit {0}) (map.get (map.insert old.nodes number y) p) (map.get (map.insert w.nodes number s) p)) (sym (same_number q number e))
-              (subst (λ o. MayBeNode (λ keeper k. Unit {0}) o (map.get (map.insert w.nodes number s) number)) (sym (here old.nodes number y))
-              (subst (λ o. MayBeNode (λ keeper k. Unit {0}) (Some y) o) (sym (here w.nodes number s)) (same, tt)))
-          by_place false e =
-              subst (λ o. MayBeNode (λ keeper k. Unit {0}) o (map.get (map.insert w.nodes number s) q)) (sym (at_other old.nodes number q y e))
-              (subst (λ o. MayBeNode (λ keeper k. Unit {0}) (map.get old.nodes q) o) (sym (at_other w.nodes number q s e)) (are q))
+          by_place : (b d : Bool) → eq_by_cmp nat_cmp stray.in_world.0 number ≡ b → eq_by_cmp nat_cmp stray.op.name.node number ≡ d → IsStrayWith w number k.saved name
+          by_place true true e f =
+              let source = new_there stray.in_world.0 stray.in_world.1 e stray.in_world.2 in
+              let owner = new_there stray.op.name.node stray.owner f stray.there in
+              absurd (stray.unknown (subst (λ (t : KeptNode). In t.node.saved stray.op) (sym source ∙ owner) stray.in_world.3))
+          by_place true false e f =
+              let source = new_there stray.in_world.0 stray.in_world.1 e stray.in_world.2 in
+              IsStrayWith.brought stray.op stray.op_name (subst (λ (t : KeptNode). In t.node.saved stray.op) (sym source) stray.in_world.3)
+              (old_there stray.op.name.node stray.owner f stray.there) stray.unknown
+          by_place false true e f =
+              let owner = new_there stray.op.name.node stray.owner f stray.there in
+              IsStrayWith.awaited stray.op stray.op_name (same_number stray.op.name.node number f)
+              (stray.in_world.0, stray.in_world.1, old_there stray.in_world.0 stray.in_world.1 e stray.in_world.2, stray.in_world.3)
+              (λ i. stray.unknown (subst (λ (t : KeptNode). In t.node.saved stray.op) owner i))
+          by_place false false e f = absurd (known name (record {
+            op = stray.op;
+            op_name = stray.op_name;
+            in_world = (stray.in_world.0, stray.in_world.1, old_there stray.in_world.0 stray.in_world.1 e stray.in_world.2, stray.in_world.3);
+            owner = stray.owner;
+            there = old_there stray.op.name.node stray.owner f stray.there;
+            unknown = stray.unknown;
+          }))
+
+      strays_to : (w : World) (k : Kept) → map.get w.nodes number ≡ None → (name : Name) → IsStrayWith w number k.saved name → IsStray (joined w number k) name
+      strays_to w k absent name stray = by_kind stray
+        where
+          still : (p : ℕ) (t : KeptNode) → map.get w.nodes p ≡ Some t → map.get (map.insert w.nodes number (newcomer w k)) p ≡ Some t
+          still p t at = by_place (eq_by_cmp nat_cmp p number) refl
+            where
+              by_place : (b : Bool) → eq_by_cmp nat_cmp p number ≡ b → map.get (map.insert w.nodes number (newcomer w k)) p ≡ Some t
+              by_place true e = absurd (some_none t (sym at ∙ ap (map.get w.nodes) (same_number p number e) ∙ absent))
+              by_place false e = at_other w.nodes number p (newcomer w k) e ∙ at
+
+          by_kind : IsStrayWith w number k.saved name → IsStray (joined w number k) name
+          by_kind (IsStrayWith.brought op {owner} is in_saved at unknown) = record {
+            op = op;
+            op_name = is;
+            in_world = (number, newcomer w k, here w.nodes number (newcomer w k), in_saved);
+            owner = owner;
+            there = still op.name.node owner at;
+            unknown = unknown;
+          }
+          by_kind (IsStrayWith.awaited op is of u unknown) = record {
+            op = op;
+            op_name = is;
+            in_world = (u.0, u.1, still u.0 u.1 u.2, u.3);
+            owner = newcomer w k;
+            there = subst (λ p. map.get (map.insert w.nodes number (newcomer w k)) p ≡ Some (newcomer w k)) (sym of) (here w.nodes number (newcomer w k));
+            unknown = unknown;
+          }
 
       module _ (clear : (w : World) → AreNodes old w → (name : Name) → ¬ IsClashAt w y.node.saved name) where
         clear_of : (w : World) (k k' : Kept) → AreNodes old w → IsOpening number k y.node k' → (name : Name) → ¬ IsClashAt w k.saved name
         clear_of w k k' are o = subst (λ n. (name : Name) → ¬ IsClashAt w n.saved name) o.node_is (clear w are)
 
+        least_stray : (w : World) (k : Kept) → HasNoStray w → map.get w.nodes number ≡ None → (name : Name)
+            → IsLeastOf (IsStrayWith w number k.saved) name → IsLeastName (IsStray (joined w number k)) name
+        least_stray w k known absent name h = record {
+          holds = strays_to w k absent name h.holds;
+          least = λ other stray. h.least other (strays_from w k known other stray);
+        }
+
         pub refused_stray : (new : WorldOver K) → new ≡ old → (given : K) → given ≡ y.keeper → (name : Name)
-            → ((w : World) → AreNodes (over_with old number y) w → IsLeastOf (IsStray w) name)
-            → GivesBack is_honest may_hold old keeper new given (IsRefused number (faults.Impostor name))
+            → ((w : World) → AreNodes old w → IsLeastOf (IsStrayWith w number y.node.saved) name)
+            → GivesBack is_honest may_hold old keeper new given (DoesNotJoin number (faults.Impostor name))
         refused_stray new same given is_given name least =
-            subst (λ n. GivesBack is_honest may_hold old keeper n given (IsRefused number (faults.Impostor name))) (sym same)
-            (subst (λ g. GivesBack is_honest may_hold old keeper old g (IsRefused number (faults.Impostor name))) (sym is_given)
-            (refused_after (faults.Impostor name) (λ w k k' is absent o. record {
+            subst (λ n. GivesBack is_honest may_hold old keeper n given (DoesNotJoin number (faults.Impostor name))) (sym same)
+            (subst (λ g. GivesBack is_honest may_hold old keeper old g (DoesNotJoin number (faults.Impostor name))) (sym is_given)
+            (refused_after (faults.Impostor name) (λ w k k' is absent o known. record {
               same = refl;
               joins = Joins.impostor absent o.own (clear_of w k k' (are_nodes old w is) o)
-                  (least_name (IsStray (joined w number k)) name
-                  (least (joined w number k) (with_it w k k' (is.desks ∙ desks) (are_nodes old w is) o)));
+                  (least_stray w k known absent name
+                  (subst (λ n. IsLeastOf (IsStrayWith w number n.saved) name) o.node_is (least w (are_nodes old w is))));
               left = o.up;
             })))
 
@@ -253,10 +314,10 @@ module _ {K : Type 0} (is_honest : K → Type 0) (may_hold : K → Held) where
             by_place false e = all q n (at_other old.nodes number q y e ∙ at)
 
         pub takes_in : (new : WorldOver K) → new ≡ over_with old number y → (boot : ℕ) → boot ≡ y.node.boot → HasNamesOnce y.node.saved
-            → ((w : World) → AreNodes (over_with old number y) w → (name : Name) → ¬ IsStray w name)
-            → TakesIn is_honest may_hold old keeper new (λ w k w'. Joins w number k (reply.Booted boot) w')
+            → ((w : World) → AreNodes old w → (name : Name) → ¬ IsStrayWith w number y.node.saved name)
+            → TakesIn is_honest may_hold old keeper new (DoesJoin number boot)
         takes_in new is_new boot is_boot names strays =
-            subst (λ n. TakesIn is_honest may_hold old keeper n (λ w k w'. Joins w number k (reply.Booted boot) w')) (sym is_new) (record {
+            subst (λ n. TakesIn is_honest may_hold old keeper n (DoesJoin number boot)) (sym is_new) (record {
               honest = λ all. (honest_without all, (opens (all number y (here old.nodes number y))).0);
               comes = λ all after is.
                   let s = node_there is_honest may_hold (over_with old number y) after number y (here old.nodes number y) is in
@@ -268,11 +329,12 @@ module _ {K : Type 0} (is_honest : K → Type 0) (may_hold : K → Held) where
                     b.0,
                     is_before,
                     b.1,
-                    subst (λ r. Joins before number b.0 (reply.Booted r) after) (sym (is_boot ∙ ap (λ n. n.boot) o.node_is))
+                    λ known. subst (λ r. Joins before number b.0 (reply.Booted r) after) (sym (is_boot ∙ ap (λ n. n.boot) o.node_is))
                         (subst (Joins before number b.0 (reply.Booted (b.0.boot + 1))) (goes_on after b.0 s.kept is o s.there)
                         (Joins.joins (gone after.nodes) o.own (subst (λ n. HasNamesOnce n.saved) o.node_is names)
                         (clear_of before b.0 s.kept (are_nodes old before is_before) o)
-                        (strays (joined before number b.0) (with_it before b.0 s.kept desks (are_nodes old before is_before) o)))),
+                        (λ name stray. subst (λ n. (name : Name) → ¬ IsStrayWith before number n.saved name) o.node_is
+                        (strays before (are_nodes old before is_before)) name (strays_from before b.0 known name stray)))),
                   );
             })
 
@@ -283,21 +345,9 @@ handed_on (Err f) P e h p = subst P (sym h) p
 
 -- ---- the map
 
-pub some_none : {A : Type 0} (x : A) → ◌≡◌ {A = Option A} (Some x) None → ⊥
-some_none x h = cc
-
-pub some_is : {A : Type 0} (x y : A) → ◌≡◌ {A = Option A} (Some x) (Some y) → x ≡ y
-some_is x y h = cc
-
 pub record IsThere {A : Type 0} (o : Option A) : Type 0 where
   pub what : A
   pub is : o ≡ Some what
-
-pub not_some : {A : Type 0} (o : Option A) → o ≡ None → IsSome o → ⊥
-not_some o e h = false≢true (sym (ap is_some e) ∙ h)
-
-pub it_is_there : {K : Type 0} (old new : WorldOver K) (number : ℕ) (y : NodeOver K) → new ≡ over_with old number y → map.get new.nodes number ≡ Some y
-it_is_there {K} old new number y e = ap (λ (t : WorldOver K). map.get t.nodes number) e ∙ here old.nodes number y
 
 pub is_there : {A : Type 0} (o : Option A) (b : Bool) → b ≡ is_some o → b ≡ true → IsThere o
 is_there None b e h = absurd (cc)
@@ -321,28 +371,3 @@ module _ {K : Type 0} (es fs : List (ℕ × NodeOver K)) (packets : List Sent) (
         packets = (ap (λ (t : WorldOver K). t.packets) is) i;
         audit = (ap (λ (t : WorldOver K). t.audit) is) i;
       }
-
-  -- the node that was put was taken away
-  pub removed : ((q : ℕ) → lookup (is_at (nat_cmp q)) fs ≡ cond (is_at (nat_cmp number) q) None (lookup (is_at (nat_cmp q)) es))
-      → (before : WorldOver K) (y : NodeOver K) → w ≡ over_with before number y → map.get before.nodes number ≡ None
-      → of_entries fs packets audit ≡ before
-  removed h before y e none =
-      let gone = one_gone nat_cmp_total nat_cmp-IsAntisymmetric es fs w.nodes number (ap (λ (t : WorldOver K). t.nodes) is) h in
-      let nodes = gone ∙ ap (λ (t : WorldOver K). map.remove t.nodes number) e ∙ taken_back before.nodes y none in
-      λ i. record {
-        desks = (ap (λ (t : WorldOver K). t.desks) (is ∙ e)) i;
-        nodes = nodes i;
-        packets = (ap (λ (t : WorldOver K). t.packets) (is ∙ e)) i;
-        audit = (ap (λ (t : WorldOver K). t.audit) (is ∙ e)) i;
-      }
-    where
-      taken_back : (m : map.FinMap nat_cmp (NodeOver K)) (y : NodeOver K) → map.get m number ≡ None → map.remove (map.insert m number y) number ≡ m
-      taken_back m y none = same_map nat_cmp_total nat_cmp-IsAntisymmetric _ _ (λ q.
-          map.get-remove nat_cmp_total (map.insert m number y) number q ∙ by_place q (eq_by_cmp nat_cmp q number) refl)
-        where
-          by_place : (q : ℕ) (b : Bool) → eq_by_cmp nat_cmp q number ≡ b
-              → cond (eq_by_cmp nat_cmp q number) None (map.get (map.insert m number y) q) ≡ map.get m q
-          by_place q true e =
-              ap (λ b. cond b None (map.get (map.insert m number y) q)) e ∙ sym none ∙ ap (map.get m) (sym (same_number q number e))
-          by_place q false e =
-              ap (λ b. cond b None (map.get (map.insert m number y) q)) e ∙ at_other m number q y e

@@ -2,14 +2,15 @@
 use Rattle.std.specs.Prelude.{◌≡◌, ◌⊎◌, ℕ}
 use Rattle.std.specs.declared.option.Option.{Option}
 use Rattle.std.specs.declared.option.Option.TheVariants.{None, Some}
+use Rattle.fl_labels.specs.declared.name.Name.{Name}
 use Rattle.fl_store.specs.Kept.{Kept, raised}
 use Rattle.fl_store.specs.Keeping.{Held}
 use Rattle.fl_system.specs.declared.answer.Fault.{Fault}
 use Rattle.fl_system.specs.declared.answer.Fault.TheVariants as faults
-use Rattle.fl_system.specs.declared.reply.Reply.TheVariants.{Refused}
+use Rattle.fl_system.specs.declared.reply.Reply.TheVariants.{Booted, Refused}
 use Rattle.fl_system.specs.declared.state.State.{State}
 use Rattle.fl_system.specs.declared.state.State.TheVariants.{Running, Stopped}
-use Rattle.fl_system.specs.Joins.{Joins}
+use Rattle.fl_system.specs.Joins.{IsStray, Joins}
 use Rattle.fl_system.specs.World.{World}
 use Rattle.fl_node.specs.Over.{NodeOver}
 use Rattle.fl_nodes.specs.Over.{WorldOver}
@@ -52,6 +53,17 @@ pub record IsRefused (number : ℕ) (fault : Fault) (w : World) (k : Kept) (w' :
   pub same : w' ≡ w
   pub joins : Joins w number k (Refused fault) w
   pub left : LeftBy fault k k'
+
+-- each operation that is saved is saved by the node whose number it has, if that is there
+abbrev pub HasNoStray : World → Type 0
+HasNoStray w = (name : Name) → ¬ IsStray w name
+
+-- Where this is so before, a node of this number joins the world, or does not.
+abbrev pub DoesJoin : ℕ → ℕ → World → Kept → World → Type 0
+DoesJoin number boot w k w' = HasNoStray w → Joins w number k (Booted boot) w'
+
+abbrev pub DoesNotJoin : ℕ → Fault → World → Kept → World → Kept → Type 0
+DoesNotJoin number fault w k w' k' = HasNoStray w → IsRefused number fault w k w' k'
 
 -- the keeper that no node has after a node is to be opened over another: its own, if it is stopped, or else the other
 abbrev pub spare_of : {K : Type 0} → K → K → State → K

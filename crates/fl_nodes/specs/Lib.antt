@@ -4,3 +4,4 @@ pub mod Texts
 pub mod Whole
 pub mod Joining
 pub mod parts
+pub mod laws

@@ -1,5 +1,5 @@
 //! Nodes that join the others, and stopped ones that are opened over another keeper.
-ghost use Rattle.std.specs.Prelude.{◌≡◌, ◌<◌, IsSome, is_some, IfOk, IfErr, OnErr, OnOk};
+ghost use Rattle.std.specs.Prelude.{◌≡◌, ◌<◌, is_some, IfOk, IfErr, OnErr, OnOk};
 ghost use Rattle.std.specs.Prelude.{None, Some, Err};
 ghost use Rattle.std.specs.BTreeMap.{IsOrdered};
 ghost use Rattle.std.specs.FinMap as map;
@@ -7,13 +7,11 @@ ghost use Rattle.std.specs.Ordering.{nat_cmp};
 ghost use Rattle.fl_gossip.specs.Meeting.{FindsLeast, OfSome};
 ghost use Rattle.fl_jobs.specs.declared.answer.Refusal.TheVariants.{Memory};
 ghost use Rattle.fl_system.specs.declared.answer.Fault.TheVariants as faults;
-ghost use Rattle.fl_system.specs.declared.reply.Reply.TheVariants as replies;
-ghost use Rattle.fl_system.specs.Joins.{IsClashAt, IsStray, Joins, Reopening};
+ghost use Rattle.fl_system.specs.Joins.{IsClashAt, Reopening};
 ghost use Rattle.fl_system.specs.World.{World};
 ghost use Rattle.fl_node.specs.Over.{NodeOver};
-ghost use Rattle.fl_nodes.specs.Over.{WorldOver};
-ghost use Rattle.fl_nodes.specs.Joining.{GivesBack, IsRefused, TakesIn, spare};
-ghost use Rattle.fl_nodes.specs.parts.Joined.{AreNodes, ClashesWith, HasUnknown, IsUnknownTo};
+ghost use Rattle.fl_nodes.specs.Joining.{DoesJoin, DoesNotJoin, GivesBack, TakesIn, spare};
+ghost use Rattle.fl_nodes.specs.parts.Joined.{AreNodes, ClashesWith, IsStrayWith, StraysWith};
 ghost use Rattle.fl_nodes.specs.parts.Joined.{opened_reply, over_with};
 
 use crate::nodes::Nodes;
@@ -50,26 +48,28 @@ fn least_clash_with<K: Keeper>(all: &BTreeMap<u16, Node<K>>, saved: &OpSet) -> O
     least
 }
 
-// The least name of an operation of the set that has the number of a node, and that this node has not saved.
-fn least_unknown<K: Keeper>(all: &BTreeMap<u16, Node<K>>, saved: &OpSet) -> Option<Name>
-    ensures least { FindsLeast (OfSome (IsUnknownTo saved.now) all.now.entries) result }
-    ensures ordered { IsOrdered nat_cmp all.now }
+// The least name of an operation of a newcomer that has the number of this node and is not saved there, or the other way round.
+fn stray_between<K: Keeper>(other: u16, node: &Node<K>, number: u16, saved: &OpSet) -> Option<Name>
+    ensures { FindsLeast (StraysWith number saved.now (other, node.now)) result }
 {
-    let mut least = None;
-    for (number, node) in all {
-        least = lesser(least, least_stray(saved, node.saved(), *number));
-    }
-    least
+    let theirs = node.saved();
+    let brought = least_stray(saved, theirs, other);
+    let awaited = least_stray(theirs, saved, number);
+    lesser(brought, awaited)
 }
 
-// The same of all that the nodes have saved.
-fn least_stray_of<K: Keeper>(all: &BTreeMap<u16, Node<K>>) -> Option<Name>
-    ensures least { FindsLeast (OfSome (HasUnknown all.now.entries) all.now.entries) result }
+// The same of a newcomer and all nodes.
+fn least_stray_with<K: Keeper>(
+    all: &BTreeMap<u16, Node<K>>,
+    number: u16,
+    saved: &OpSet,
+) -> Option<Name>
+    ensures least { FindsLeast (OfSome (StraysWith number saved.now) all.now.entries) result }
     ensures ordered { IsOrdered nat_cmp all.now }
 {
     let mut least = None;
-    for (_, node) in all {
-        least = lesser(least, least_unknown(all, node.saved()));
+    for (other, node) in all {
+        least = lesser(least, stray_between(*other, node, number, saved));
     }
     least
 }
@@ -90,11 +90,13 @@ impl<K: Keeper> Nodes<K> {
         least_clash_with(&self.all, saved)
     }
 
-    // The least name of an operation that is saved, though not by the node whose number it has, which is there.
-    fn stray(&self) -> Option<Name>
-        ensures { (w : World) → AreNodes self.now w → FindsLeast (IsStray w) result }
+    // The least name of an operation that comes with a newcomer of this number, which has saved these, and that the node of its
+    // number has not saved; or of one of the newcomer's number that is saved, though not by the newcomer.
+    fn stray(&self, number: u16, saved: &OpSet) -> Option<Name>
+        ensures { (w : World) → AreNodes self.now w
+            → FindsLeast (IsStrayWith w number saved.now) result }
     {
-        least_stray_of(&self.all)
+        least_stray_with(&self.all, number, saved)
     }
 
     // Takes a node in, under a number that is not there, or gives its keeper back for want of memory.
@@ -115,21 +117,6 @@ impl<K: Keeper> Nodes<K> {
         }
     }
 
-    // Takes the node of this number out again, and gives its keeper.
-    fn take_out(&mut self, number: u16) -> K
-        requires { IsSome (map.get self.old.nodes number) }
-        ensures out { (before : WorldOver K) (node : NodeOver K)
-            → self.old ≡ over_with before number node → map.get before.nodes number ≡ None
-            → self.new ≡ before }
-        ensures keeper { (node : NodeOver K) → map.get self.old.nodes number ≡ Some node
-            → result ≡ node.keeper }
-    {
-        let Some(node) = self.all.remove(&number) else {
-            unreachable!("the node is there");
-        };
-        node.into_keeper()
-    }
-
     /// A node of this number joins the others over its keeper, and its boot is given; or the keeper comes back with the refusal,
     /// and the nodes are as before.
     ///
@@ -138,16 +125,16 @@ impl<K: Keeper> Nodes<K> {
     /// - `Impostor`: an operation of this name, the least, is saved, though not by the node whose number it has.
     /// - As `Node::open`; `Memory` too where there was no room for one more node.
     ///
-    /// A refused joining may have raised the boot, but where the number is a node's. Costs what the opening does; for each node
-    /// that is there a binary search for each operation of the smaller of its set and the new one's; and then, for each two nodes,
-    /// one for each operation that the one has saved and that has the number of the other.
+    /// That all that is saved here is saved by the node whose number it has, if that is there, is not looked at again: it is so in
+    /// each world that a run leads to. A refused joining may have raised the boot, but where the number is a node's. Costs what the
+    /// opening does; and for each node that is there a binary search for each operation of the smaller of its set and the new
+    /// one's, two in each of them, and one for each operation of the one that has the number of the other.
     pub fn join(&mut self, alloc: Global, number: u16, keeper: K) -> Result<u32, (Fault, K)>
         requires { 0 < number }
-        ensures joins { IfOk result (λ boot.
-            TakesIn K.is_honest K.may_hold self.old keeper self.new
-            (λ w k w'. Joins w number k (replies.Booted boot) w')) }
+        ensures joins { IfOk result (λ boot. TakesIn K.is_honest K.may_hold self.old keeper self.new
+            (DoesJoin number boot)) }
         ensures refused { IfErr result (λ e.
-            GivesBack K.is_honest K.may_hold self.old keeper self.new e.1 (IsRefused number e.0)) }
+            GivesBack K.is_honest K.may_hold self.old keeper self.new e.1 (DoesNotJoin number e.0)) }
         ensures there { (n : NodeOver K) → map.get self.old.nodes number ≡ Some n
             → result ≡ Err (Fault.WrongNode, keeper) }
         ensures same { OnErr result (self.new ≡ self.old) }
@@ -159,12 +146,12 @@ impl<K: Keeper> Nodes<K> {
         if let Some(name) = self.clash(node.saved()) {
             return Err((Fault::Clash(name), node.into_keeper()));
         }
+        if let Some(name) = self.stray(number, node.saved()) {
+            return Err((Fault::Impostor(name), node.into_keeper()));
+        }
         let boot = node.boot();
         self.take_in(number, node)?;
-        match self.stray() {
-            None => Ok(boot),
-            Some(name) => Err((Fault::Impostor(name), self.take_out(number))),
-        }
+        Ok(boot)
     }
 
     /// Opens a stopped node again over another keeper, as `Node::reopen_over` has it, and answers its boot, or why not: `NoSuch`

@@ -2,7 +2,6 @@ pub mod CutLemmas
 pub mod LabelWord
 pub mod SecretWord
 pub mod UnionWords
-pub mod NodeWords
 pub mod MessageWords
 pub mod WordAt
 pub mod SpawnWords
@@ -10,3 +9,4 @@ pub mod SendWords
 pub mod ReplacedWords
 pub mod Saying
 pub mod Quiet
+pub mod BeginWords

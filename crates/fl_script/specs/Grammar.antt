@@ -1,5 +1,5 @@
 -- The lines of the script, each by the words that spell it.
-use Rattle.std.specs.Prelude.{◌≡◌, ◌⊎◌, ℕ, List, [], ◌∷◌, codes}
+use Rattle.std.specs.Prelude.{◌≡◌, ◌⊎◌, ℕ, Bool, true, false, List, [], ◌∷◌, codes}
 use Rattle.fl_labels.specs.Text.{name_text, pid_text, cap_text, endpoint_text}
 use Rattle.fl_labels.specs.Words.{IsNode, IsNumber}
 use Rattle.fl_jobs.specs.declared.job.Order.TheVariants.{Tag, Group, Put, MakeLogin}
@@ -11,7 +11,9 @@ use Rattle.fl_aliases.specs.Words.{Word}
 use Rattle.fl_ops.specs.PolicyText.{policy_text}
 use Rattle.fl_script.specs.Words.{side_text, mode_text, IsLabelWord, IsCapsWord, IsSecretWord, IsBytesWord}
 use Rattle.fl_script.specs.declared.line.Line.{Line}
-use Rattle.fl_script.specs.declared.line.Line.TheVariants.{Job as OfJob, Text, Deliver, Union, Aliases}
+use Rattle.fl_script.specs.declared.line.Line.TheVariants.{Node as OfNode, Union, Audit, Aliases}
+use Rattle.fl_script.specs.declared.request.Request.{Request}
+use Rattle.fl_script.specs.declared.request.Request.TheVariants.{Job as OfJob, Begin, Deliver, BeginDeliver, Tell, Save, Publish, Cancel, Restart, Text, Check}
 
 -- the word is this one
 abbrev pub Is : List ℕ → Word → Type 0
@@ -50,25 +52,47 @@ job_forms (By p (Mailbox Take)) = Is (codes "take") ∷ Is (pid_text p) ∷ []
 job_forms (Member root cap) = Is (codes "member") ∷ Is (cap_text root) ∷ Is (cap_text cap) ∷ []
 job_forms (Arrive packet) = Never ∷ []
 
+-- the forms of the words that say whether something is to be kept
+abbrev pub kept_forms : Bool → List (Word → Type 0)
+kept_forms true = Is (codes "kept") ∷ []
+kept_forms false = []
+
+-- the table of what is asked of a node, after its number
+abbrev pub request_forms : Request → List (Word → Type 0)
+request_forms (OfJob job) = job_forms job
+request_forms (Begin p order) = Is (codes "begin") ∷ job_forms (By p (Orders order))
+request_forms (Deliver packet) = Is (codes "deliver") ∷ IsNumber packet ∷ []
+request_forms (BeginDeliver packet) = Is (codes "begin") ∷ Is (codes "deliver") ∷ IsNumber packet ∷ []
+request_forms Tell = Is (codes "tell") ∷ []
+request_forms Save = Is (codes "save") ∷ []
+request_forms Publish = Is (codes "publish") ∷ []
+request_forms Cancel = Is (codes "cancel") ∷ []
+request_forms (Restart kept) = Is (codes "restart") ∷ kept_forms kept
+request_forms Text = Is (codes "text") ∷ []
+request_forms (Check bytes) = Is (codes "check") ∷ IsBytesWord bytes ∷ []
+
 -- the table of the lines
 abbrev pub forms : Line → List (Word → Type 0)
-forms (OfJob n job) = IsNode n ∷ job_forms job
-forms (Text n) = IsNode n ∷ Is (codes "text") ∷ []
-forms (Deliver n packet) = IsNode n ∷ Is (codes "deliver") ∷ IsNumber packet ∷ []
+forms (OfNode n request) = IsNode n ∷ request_forms request
 forms (Union n m) = Is (codes "union") ∷ IsNode n ∷ IsNode m ∷ []
+forms Audit = Is (codes "audit") ∷ []
 forms Aliases = Is (codes "aliases") ∷ []
 
 -- the words after the node spell the job
 abbrev pub SpellsJob : Job → List Word → Type 0
 SpellsJob job words = Matches (job_forms job) words
 
+-- the words after the node spell what is asked of it
+abbrev pub SpellsRequest : Request → List Word → Type 0
+SpellsRequest request words = Matches (request_forms request) words
+
 -- the words spell the line
 abbrev pub Spells : Line → List Word → Type 0
 Spells line words = Matches (forms line) words
 
--- the verb of a job that holds a list: of tags, of capabilities, of bytes
+-- the verb of a line that holds a list: of tags, of capabilities, of bytes
 pub record IsListVerb (verb : Word) : Type 0 where
-  pub is : (verb ≡ codes "label") ⊎ (verb ≡ codes "spawn") ⊎ (verb ≡ codes "emit") ⊎ (verb ≡ codes "open") ⊎ (verb ≡ codes "tune") ⊎ (verb ≡ codes "send")
+  pub is : (verb ≡ codes "label") ⊎ (verb ≡ codes "spawn") ⊎ (verb ≡ codes "emit") ⊎ (verb ≡ codes "open") ⊎ (verb ≡ codes "tune") ⊎ (verb ≡ codes "send") ⊎ (verb ≡ codes "check")
 
 -- the second word is the verb of a list
 abbrev pub HoldsList : List Word → Type 0
@@ -78,8 +102,7 @@ HoldsList (node ∷ verb ∷ words) = IsListVerb verb
 
 -- the nodes that the line names, in their order
 abbrev pub nodes_of : Line → List ℕ
-nodes_of (OfJob node job) = node ∷ []
-nodes_of (Text node) = node ∷ []
-nodes_of (Deliver node packet) = node ∷ []
+nodes_of (OfNode node request) = node ∷ []
 nodes_of (Union first second) = first ∷ second ∷ []
+nodes_of Audit = []
 nodes_of Aliases = []

@@ -14,7 +14,9 @@ use Rattle.fl_jobs.specs.declared.job.Job.TheVariants.{Proc, By, Member, Arrive}
 use Rattle.fl_aliases.specs.Words.{Word, words_of}
 use Rattle.fl_script.specs.Grammar.{Spells, HoldsList}
 use Rattle.fl_script.specs.declared.line.Line.{Line}
-use Rattle.fl_script.specs.declared.line.Line.TheVariants.{Job as OfJob, Text, Deliver, Union, Aliases}
+use Rattle.fl_script.specs.declared.line.Line.TheVariants.{Node as OfNode, Union, Audit, Aliases}
+use Rattle.fl_script.specs.declared.request.Request.{Request}
+use Rattle.fl_script.specs.declared.request.Request.TheVariants.{Job as OfJob, Begin, Deliver, BeginDeliver, Tell, Save, Publish, Cancel, Restart, Text, Check}
 use Rattle.fl_script.specs.declared.reading.Reading.{Reading}
 use Rattle.fl_script.specs.declared.reading.Reading.TheVariants.{Quiet, Bad, Means}
 
@@ -63,12 +65,25 @@ job_makes (By p act) = act_makes act
 job_makes (Member root cap) = false
 job_makes (Arrive packet) = false
 
+-- and for what the request makes
+abbrev pub request_makes : Request → Bool
+request_makes (OfJob job) = job_makes job
+request_makes (Begin p order) = false
+request_makes (Deliver packet) = false
+request_makes (BeginDeliver packet) = false
+request_makes Tell = false
+request_makes Save = false
+request_makes Publish = false
+request_makes Cancel = false
+request_makes (Restart kept) = false
+request_makes Text = false
+request_makes (Check bytes) = false
+
 -- and for what the line makes
 abbrev pub makes : Line → Bool
-makes (OfJob n job) = job_makes job
-makes (Text n) = false
-makes (Deliver n packet) = false
+makes (OfNode n request) = request_makes request
 makes (Union n m) = false
+makes Audit = false
 makes Aliases = false
 
 -- with each alias in them replaced, the words spell the line

@@ -22,7 +22,7 @@ fn proc_job(rest: &[&str]) -> Option<Job>
     Some(Job::Proc)
 }
 
-fn tag_job(rest: &[&str]) -> Option<Job>
+pub(crate) fn tag_job(rest: &[&str]) -> Option<Job>
     ensures { Finds result (λ j. SpellsJob j (codes "tag" ∷ map (λ w. w.now) rest.now)) }
 {
     let [pid, policy] = rest else { return None };
@@ -31,7 +31,7 @@ fn tag_job(rest: &[&str]) -> Option<Job>
     Some(Job::By(pid, Act::Order(Order::Tag(policy))))
 }
 
-fn group_job(rest: &[&str]) -> Option<Job>
+pub(crate) fn group_job(rest: &[&str]) -> Option<Job>
     ensures { Finds result (λ j. SpellsJob j (codes "group" ∷ map (λ w. w.now) rest.now)) }
 {
     let [pid] = rest else { return None };
@@ -39,7 +39,7 @@ fn group_job(rest: &[&str]) -> Option<Job>
     Some(Job::By(pid, Act::Order(Order::Group)))
 }
 
-fn put_job(rest: &[&str]) -> Option<Job>
+pub(crate) fn put_job(rest: &[&str]) -> Option<Job>
     ensures { Finds result (λ j. SpellsJob j (codes "put" ∷ map (λ w. w.now) rest.now)) }
 {
     let [pid, group, cap] = rest else { return None };
@@ -49,7 +49,7 @@ fn put_job(rest: &[&str]) -> Option<Job>
     Some(Job::By(pid, Act::Order(Order::Put(group, cap))))
 }
 
-fn make_login_job(rest: &[&str]) -> Option<Job>
+pub(crate) fn make_login_job(rest: &[&str]) -> Option<Job>
     ensures { Finds result (λ j. SpellsJob j (codes "make-login" ∷ map (λ w. w.now) rest.now)) }
 {
     let [pid, cap, secret] = rest else {

@@ -8,4 +8,5 @@ pub mod line;
 mod meaning;
 pub mod reading;
 mod replaced;
+pub mod request;
 mod words;

@@ -4,41 +4,21 @@ ghost use Rattle.fl_labels.specs.Found.{Finds};
 ghost use Rattle.fl_script.specs.parts.Reads.{Reads};
 ghost use Rattle.fl_script.specs.Grammar.{HoldsList, IsListVerb, Spells};
 
-use crate::job::job_from_words;
-use fl_jobs::job::Job;
-use fl_labels::text::{read_node, read_number};
+use crate::request::{Request, request_from_words};
+use fl_labels::text::read_node;
 use std::alloc::{AllocError, Global};
 
 /// A line that asks something of one node, of two, or of none. A line that was read names nodes from 1 to 65,535.
 #[derive(Debug, Drop)]
 pub enum Line {
-    /// The node is to do a job.
-    Job { node: u16, job: Job },
-    /// The node's published operations are to be written.
-    Text { node: u16 },
-    /// The packet that was sent as the one of this number, counted from 1, is to come to the node.
-    Deliver { node: u16, packet: u32 },
-    /// The published operations of both nodes are to be written together.
+    /// Something is asked of the node.
+    Node { node: u16, request: Request },
+    /// What both nodes have published is to be written together.
     Union { first: u16, second: u16 },
+    /// How much was admitted is to be written.
+    Audit,
     /// The aliases that are set are to be written.
     Aliases,
-}
-
-fn text_line(n: &str, rest: &[&str]) -> Option<Line>
-    ensures { Finds result (λ l. Spells l (n.now ∷ codes "text" ∷ map (λ w. w.now) rest.now)) }
-{
-    let [] = rest else { return None };
-    let node = read_node(n)?;
-    Some(Line::Text { node })
-}
-
-fn deliver_line(n: &str, rest: &[&str]) -> Option<Line>
-    ensures { Finds result (λ l. Spells l (n.now ∷ codes "deliver" ∷ map (λ w. w.now) rest.now)) }
-{
-    let [packet] = rest else { return None };
-    let node = read_node(n)?;
-    let packet = read_number(packet)?;
-    Some(Line::Deliver { node, packet })
 }
 
 fn union_line(rest: &[&str]) -> Option<Line>
@@ -56,18 +36,12 @@ fn node_line(alloc: Global, n: &str, verb: &str, rest: &[&str]) -> Result<Option
     ensures ok { Reads result (λ l. Spells l (n.now ∷ verb.now ∷ map (λ w. w.now) rest.now)) }
     ensures err { OnErr result (IsListVerb verb.now) }
 {
-    match verb {
-        "text" => Ok(text_line(n, rest)),
-        "deliver" => Ok(deliver_line(n, rest)),
-        _ => {
-            let Some(node) = read_node(n) else {
-                return Ok(None);
-            };
-            match job_from_words(alloc, verb, rest)? {
-                Some(job) => Ok(Some(Line::Job { node, job })),
-                None => Ok(None),
-            }
-        }
+    let Some(node) = read_node(n) else {
+        return Ok(None);
+    };
+    match request_from_words(alloc, verb, rest)? {
+        Some(request) => Ok(Some(Line::Node { node, request })),
+        None => Ok(None),
     }
 }
 
@@ -79,6 +53,7 @@ pub(crate) fn line_from_words(alloc: Global, words: &[&str]) -> Result<Option<Li
 {
     match words {
         ["aliases"] => Ok(Some(Line::Aliases)),
+        ["audit"] => Ok(Some(Line::Audit)),
         ["union", rest @ ..] => Ok(union_line(rest)),
         [n, verb, rest @ ..] => node_line(alloc, n, verb, rest),
         _ => Ok(None),

@@ -10,6 +10,7 @@ ghost use Rattle.fl_script.specs.declared.line.Line.{Line};
 use crate::cut::cut_words;
 use crate::line::{Line, line_from_words};
 use crate::replaced::{has_dollars, replaced_text};
+use crate::request::Request;
 use fl_aliases::alias::Alias;
 use fl_aliases::table::Aliases;
 use fl_jobs::job::{Act, Job, Mail};
@@ -44,9 +45,12 @@ fn makes(line: &Line) -> bool
     ensures { result ≡ makes line.now }
 {
     match line {
-        Line::Job { job: Job::Proc, .. } => true,
-        Line::Job {
-            job: Job::By(_, act),
+        Line::Node {
+            request: Request::Job(Job::Proc),
+            ..
+        } => true,
+        Line::Node {
+            request: Request::Job(Job::By(_, act)),
             ..
         } => act_makes(act),
         _ => false,

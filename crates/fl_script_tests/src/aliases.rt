@@ -76,7 +76,10 @@ fn check_pairs(
     let mut meant = String::new(rt.alloc());
     for row in rows.split('\n') {
         say_pair(rt.alloc(), &mut said, &mut meant, aliases, row)?;
-        assert!(rt; said.starts_with("Means { line: Job {"), "{row}");
+        assert!(rt;
+            said.starts_with("Means { line: Node { node: 1, request: Job("),
+            "{row}"
+        );
         assert_eq!(rt; said.as_str(), meant.as_str(), "{row}");
     }
     Ok(())
@@ -94,18 +97,23 @@ fn say_pair(
     say(alloc, meant, aliases, plain)
 }
 
+const BEGUN: &str = "\
+1 begin put $a $g +$t => Node { node: 1, request: Begin(Pid { node: 1, boot: 2, serial: 3 }, Put(Name { node: 25, seq: 36 }, Plus(Name { node: 1, seq: 4 }))) }
+1 check 0$e => Node { node: 1, request: Check(Payload { bytes: [14, 100] }) }";
+
 #[test]
 fn aliases_are_replaced(rt: HostRuntime) -> Result<(), AllocError> {
     let aliases = sample(rt.alloc(), FIRST)?;
-    check_pairs(&rt, &aliases, REPLACED)
+    check_pairs(&rt, &aliases, REPLACED)?;
+    check(&rt, &aliases, BEGUN)
 }
 
 const NAMED: &str = "\
-1 proc as $x => Job { node: 1, job: Proc }, alias: Some($x) }
-1 tag $a export as $t => Job { node: 1, job: By(Pid { node: 1, boot: 2, serial: 3 }, Order(Tag(Export))) }, alias: Some($t) }
-1 group p1.2.3  as   $new_1  => Job { node: 1, job: By(Pid { node: 1, boot: 2, serial: 3 }, Order(Group)) }, alias: Some($new_1) }
-1 put $a $g *$t as $a => Job { node: 1, job: By(Pid { node: 1, boot: 2, serial: 3 }, Order(Put(Name { node: 25, seq: 36 }, Use(Name { node: 1, seq: 4 })))) }, alias: Some($a) }
-1 open $a w {} {$t} as $e => Job { node: 1, job: By(Pid { node: 1, boot: 2, serial: 3 }, Mail(Open(Write, GivenLabels { secrecy: Ok(Label { tags: [] }), integrity: Ok(Label { tags: [Name { node: 1, seq: 4 }] }) }))) }, alias: Some($e) }
+1 proc as $x => Node { node: 1, request: Job(Proc) }, alias: Some($x) }
+1 tag $a export as $t => Node { node: 1, request: Job(By(Pid { node: 1, boot: 2, serial: 3 }, Order(Tag(Export)))) }, alias: Some($t) }
+1 group p1.2.3  as   $new_1  => Node { node: 1, request: Job(By(Pid { node: 1, boot: 2, serial: 3 }, Order(Group))) }, alias: Some($new_1) }
+1 put $a $g *$t as $a => Node { node: 1, request: Job(By(Pid { node: 1, boot: 2, serial: 3 }, Order(Put(Name { node: 25, seq: 36 }, Use(Name { node: 1, seq: 4 }))))) }, alias: Some($a) }
+1 open $a w {} {$t} as $e => Node { node: 1, request: Job(By(Pid { node: 1, boot: 2, serial: 3 }, Mail(Open(Write, GivenLabels { secrecy: Ok(Label { tags: [] }), integrity: Ok(Label { tags: [Name { node: 1, seq: 4 }] }) })))) }, alias: Some($e) }
 # $x => Quiet
   #$ => Quiet
 #1 proc as $x => Quiet";
@@ -120,6 +128,9 @@ const NO_LINES: &str = "\
 1 send $a $e $a $e {} none as $x
 1 take $a as $x
 1 deliver 1 as $x
+1 begin group $a as $x
+1 save as $x
+audit as $x
 1 open $a $t {} {}
 1 tune $a $t {} {}
 1 close $a $a
@@ -162,7 +173,7 @@ fn other_lines_are_bad(rt: HostRuntime) -> Result<(), AllocError> {
 
 const LAST: &str = "\
 1 group $a
-1 member *$a +$a => Job { node: 1, job: Member(Use(Name { node: 1, seq: 4 }), Plus(Name { node: 1, seq: 4 })) }";
+1 member *$a +$a => Node { node: 1, request: Job(Member(Use(Name { node: 1, seq: 4 }), Plus(Name { node: 1, seq: 4 }))) }";
 
 #[test]
 fn the_last_setting_holds(rt: HostRuntime) -> Result<(), AllocError> {
@@ -176,7 +187,7 @@ fn fill(rt: &(impl Abort + AllocGlobal), aliases: &mut Aliases) -> Result<(), Al
         check(
             rt,
             aliases,
-            "1 proc as $x => Job { node: 1, job: Proc }, alias: Some($x) }",
+            "1 proc as $x => Node { node: 1, request: Job(Proc) }, alias: Some($x) }",
         )?;
         let word = format!(in rt.alloc(); "$x_{serial}")?;
         set(aliases, &word, TAG)?;
@@ -187,7 +198,7 @@ fn fill(rt: &(impl Abort + AllocGlobal), aliases: &mut Aliases) -> Result<(), Al
 const FULL: &str = "\
 1 proc as $x
 1 proc as $x_1
-1 member *$x_1024 +$x_1 => Job { node: 1, job: Member(Use(Name { node: 1, seq: 4 }), Plus(Name { node: 1, seq: 4 })) }";
+1 member *$x_1024 +$x_1 => Node { node: 1, request: Job(Member(Use(Name { node: 1, seq: 4 }), Plus(Name { node: 1, seq: 4 }))) }";
 
 #[test]
 fn a_full_table_takes_no_more(rt: HostRuntime) -> Result<(), AllocError> {

@@ -11,3 +11,5 @@ mod mailbox;
 mod said;
 #[cfg(test)]
 mod secrets;
+#[cfg(test)]
+mod steps;

@@ -5,29 +5,29 @@ use std::alloc::{AllocError, AllocGlobal};
 use std::process::Abort;
 
 const ORDERS: &str = "\
-1 proc => Job { node: 1, job: Proc }
-  65535   tag  p65535.4294967295.1 export  => Job { node: 65535, job: By(Pid { node: 65535, boot: 4294967295, serial: 1 }, Order(Tag(Export))) }
-1 tag p2.1.1 read => Job { node: 1, job: By(Pid { node: 2, boot: 1, serial: 1 }, Order(Tag(Read))) }
-1 tag p1.1.1 integrity => Job { node: 1, job: By(Pid { node: 1, boot: 1, serial: 1 }, Order(Tag(Integrity))) }
-2 group p2.1.1 => Job { node: 2, job: By(Pid { node: 2, boot: 1, serial: 1 }, Order(Group)) }
-1 put p1.1.1 2.4 +3.5 => Job { node: 1, job: By(Pid { node: 1, boot: 1, serial: 1 }, Order(Put(Name { node: 2, seq: 4 }, Plus(Name { node: 3, seq: 5 })))) }";
+1 proc => Node { node: 1, request: Job(Proc) }
+  65535   tag  p65535.4294967295.1 export  => Node { node: 65535, request: Job(By(Pid { node: 65535, boot: 4294967295, serial: 1 }, Order(Tag(Export)))) }
+1 tag p2.1.1 read => Node { node: 1, request: Job(By(Pid { node: 2, boot: 1, serial: 1 }, Order(Tag(Read)))) }
+1 tag p1.1.1 integrity => Node { node: 1, request: Job(By(Pid { node: 1, boot: 1, serial: 1 }, Order(Tag(Integrity)))) }
+2 group p2.1.1 => Node { node: 2, request: Job(By(Pid { node: 2, boot: 1, serial: 1 }, Order(Group))) }
+1 put p1.1.1 2.4 +3.5 => Node { node: 1, request: Job(By(Pid { node: 1, boot: 1, serial: 1 }, Order(Put(Name { node: 2, seq: 4 }, Plus(Name { node: 3, seq: 5 }))))) }";
 
 const CHANGES: &str = "\
-1 label p1.1.1 S {1.4,1.1,1.4} => Job { node: 1, job: By(Pid { node: 1, boot: 1, serial: 1 }, Relabel(Secrecy, Ok(Label { tags: [Name { node: 1, seq: 1 }, Name { node: 1, seq: 4 }] }))) }
-1 label p1.1.1 I {} => Job { node: 1, job: By(Pid { node: 1, boot: 1, serial: 1 }, Relabel(Integrity, Ok(Label { tags: [] }))) }
-1 ask p1.1.1 *1.5 => Job { node: 1, job: By(Pid { node: 1, boot: 1, serial: 1 }, Ask(Use(Name { node: 1, seq: 5 }))) }
-1 member *1.1 ^2.4294967295 => Job { node: 1, job: Member(Use(Name { node: 1, seq: 1 }), Grow(Name { node: 2, seq: 4294967295 })) }
-1 drop p1.1.1 -1.5 => Job { node: 1, job: By(Pid { node: 1, boot: 1, serial: 1 }, Drop(Minus(Name { node: 1, seq: 5 }))) }
-1 emit p1.1.1 00aBFf => Job { node: 1, job: By(Pid { node: 1, boot: 1, serial: 1 }, Emit(Payload { bytes: [0, 171, 255] })) }
-1 emit p1.1.1 none => Job { node: 1, job: By(Pid { node: 1, boot: 1, serial: 1 }, Emit(Payload { bytes: [] })) }";
+1 label p1.1.1 S {1.4,1.1,1.4} => Node { node: 1, request: Job(By(Pid { node: 1, boot: 1, serial: 1 }, Relabel(Secrecy, Ok(Label { tags: [Name { node: 1, seq: 1 }, Name { node: 1, seq: 4 }] })))) }
+1 label p1.1.1 I {} => Node { node: 1, request: Job(By(Pid { node: 1, boot: 1, serial: 1 }, Relabel(Integrity, Ok(Label { tags: [] })))) }
+1 ask p1.1.1 *1.5 => Node { node: 1, request: Job(By(Pid { node: 1, boot: 1, serial: 1 }, Ask(Use(Name { node: 1, seq: 5 })))) }
+1 member *1.1 ^2.4294967295 => Node { node: 1, request: Job(Member(Use(Name { node: 1, seq: 1 }), Grow(Name { node: 2, seq: 4294967295 }))) }
+1 drop p1.1.1 -1.5 => Node { node: 1, request: Job(By(Pid { node: 1, boot: 1, serial: 1 }, Drop(Minus(Name { node: 1, seq: 5 })))) }
+1 emit p1.1.1 00aBFf => Node { node: 1, request: Job(By(Pid { node: 1, boot: 1, serial: 1 }, Emit(Payload { bytes: [0, 171, 255] }))) }
+1 emit p1.1.1 none => Node { node: 1, request: Job(By(Pid { node: 1, boot: 1, serial: 1 }, Emit(Payload { bytes: [] }))) }";
 
 const BIRTHS: &str = "\
-1 spawn p1.1.1 {-1.4,+1.4,-1.4} => Job { node: 1, job: By(Pid { node: 1, boot: 1, serial: 1 }, Spawn(CapSet { caps: [Plus(Name { node: 1, seq: 4 }), Minus(Name { node: 1, seq: 4 })] })) }
-1 spawn p1.1.1 {} => Job { node: 1, job: By(Pid { node: 1, boot: 1, serial: 1 }, Spawn(CapSet { caps: [] })) }
-1 exit p1.1.1 => Job { node: 1, job: By(Pid { node: 1, boot: 1, serial: 1 }, Exit) }";
+1 spawn p1.1.1 {-1.4,+1.4,-1.4} => Node { node: 1, request: Job(By(Pid { node: 1, boot: 1, serial: 1 }, Spawn(CapSet { caps: [Plus(Name { node: 1, seq: 4 }), Minus(Name { node: 1, seq: 4 })] }))) }
+1 spawn p1.1.1 {} => Node { node: 1, request: Job(By(Pid { node: 1, boot: 1, serial: 1 }, Spawn(CapSet { caps: [] }))) }
+1 exit p1.1.1 => Node { node: 1, request: Job(By(Pid { node: 1, boot: 1, serial: 1 }, Exit)) }";
 
 const WRITINGS: &str = "\
-7 text => Text { node: 7 }
+7 text => Node { node: 7, request: Text }
 aliases => Aliases
 union 2 1 => Union { first: 2, second: 1 }
  union  65535 65535 => Union { first: 65535, second: 65535 }";
@@ -110,10 +110,10 @@ const QUIET: &str = "\
     => Quiet
 # => Quiet
    # 1 proc => Quiet
-1 proc pad..20000 => Job { node: 1, job: Proc }
+1 proc pad..20000 => Node { node: 1, request: Job(Proc) }
 1 proc pad..20001
 # proc pad..20001 => Quiet
-1 label p1.1.1 S {1.1..257} => Job { node: 1, job: By(Pid { node: 1, boot: 1, serial: 1 }, Relabel(Secrecy, Err(TooLong))) }";
+1 label p1.1.1 S {1.1..257} => Node { node: 1, request: Job(By(Pid { node: 1, boot: 1, serial: 1 }, Relabel(Secrecy, Err(TooLong)))) }";
 
 #[test]
 fn lines(rt: HostRuntime) -> Result<(), AllocError> {

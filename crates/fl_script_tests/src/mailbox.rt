@@ -5,18 +5,18 @@ use std::alloc::{AllocError, AllocGlobal};
 use std::process::Abort;
 
 const ENDPOINTS: &str = "\
-7 open p1.2.3 r {} {} => Job { node: 7, job: By(Pid { node: 1, boot: 2, serial: 3 }, Mail(Open(Read, GivenLabels { secrecy: Ok(Label { tags: [] }), integrity: Ok(Label { tags: [] }) }))) }
-7 open p1.2.3 w {1.4} {1.5} => Job { node: 7, job: By(Pid { node: 1, boot: 2, serial: 3 }, Mail(Open(Write, GivenLabels { secrecy: Ok(Label { tags: [Name { node: 1, seq: 4 }] }), integrity: Ok(Label { tags: [Name { node: 1, seq: 5 }] }) }))) }
-7 open p1.2.3 rw {} {1.5} => Job { node: 7, job: By(Pid { node: 1, boot: 2, serial: 3 }, Mail(Open(Both, GivenLabels { secrecy: Ok(Label { tags: [] }), integrity: Ok(Label { tags: [Name { node: 1, seq: 5 }] }) }))) }
-7 tune p1.2.3 e64 {1.4} {} => Job { node: 7, job: By(Pid { node: 1, boot: 2, serial: 3 }, Mail(Tune(Endpoint { number: 64 }, GivenLabels { secrecy: Ok(Label { tags: [Name { node: 1, seq: 4 }] }), integrity: Ok(Label { tags: [] }) }))) }
-7 close p1.2.3 e1 => Job { node: 7, job: By(Pid { node: 1, boot: 2, serial: 3 }, Mail(Close(Endpoint { number: 1 }))) }";
+7 open p1.2.3 r {} {} => Node { node: 7, request: Job(By(Pid { node: 1, boot: 2, serial: 3 }, Mail(Open(Read, GivenLabels { secrecy: Ok(Label { tags: [] }), integrity: Ok(Label { tags: [] }) })))) }
+7 open p1.2.3 w {1.4} {1.5} => Node { node: 7, request: Job(By(Pid { node: 1, boot: 2, serial: 3 }, Mail(Open(Write, GivenLabels { secrecy: Ok(Label { tags: [Name { node: 1, seq: 4 }] }), integrity: Ok(Label { tags: [Name { node: 1, seq: 5 }] }) })))) }
+7 open p1.2.3 rw {} {1.5} => Node { node: 7, request: Job(By(Pid { node: 1, boot: 2, serial: 3 }, Mail(Open(Both, GivenLabels { secrecy: Ok(Label { tags: [] }), integrity: Ok(Label { tags: [Name { node: 1, seq: 5 }] }) })))) }
+7 tune p1.2.3 e64 {1.4} {} => Node { node: 7, request: Job(By(Pid { node: 1, boot: 2, serial: 3 }, Mail(Tune(Endpoint { number: 64 }, GivenLabels { secrecy: Ok(Label { tags: [Name { node: 1, seq: 4 }] }), integrity: Ok(Label { tags: [] }) })))) }
+7 close p1.2.3 e1 => Node { node: 7, request: Job(By(Pid { node: 1, boot: 2, serial: 3 }, Mail(Close(Endpoint { number: 1 })))) }";
 
 const MESSAGES: &str = "\
-7 send p1.2.3 e1 p4.5.6 e2 {} 6869 => Job { node: 7, job: By(Pid { node: 1, boot: 2, serial: 3 }, Mail(Send { from: Endpoint { number: 1 }, receiver: Pid { node: 4, boot: 5, serial: 6 }, to: Endpoint { number: 2 }, message: Message { caps: CapSet { caps: [] }, payload: Payload { bytes: [104, 105] } } })) }
-7 send p1.2.3 e9 p1.2.3 e9 {-1.4,+1.4,-1.4} none => Job { node: 7, job: By(Pid { node: 1, boot: 2, serial: 3 }, Mail(Send { from: Endpoint { number: 9 }, receiver: Pid { node: 1, boot: 2, serial: 3 }, to: Endpoint { number: 9 }, message: Message { caps: CapSet { caps: [Plus(Name { node: 1, seq: 4 }), Minus(Name { node: 1, seq: 4 })] }, payload: Payload { bytes: [] } } })) }
-7 take p1.2.3 => Job { node: 7, job: By(Pid { node: 1, boot: 2, serial: 3 }, Mail(Take)) }
-1 deliver 1 => Deliver { node: 1, packet: 1 }
- 65535  deliver 4294967295  => Deliver { node: 65535, packet: 4294967295 }";
+7 send p1.2.3 e1 p4.5.6 e2 {} 6869 => Node { node: 7, request: Job(By(Pid { node: 1, boot: 2, serial: 3 }, Mail(Send { from: Endpoint { number: 1 }, receiver: Pid { node: 4, boot: 5, serial: 6 }, to: Endpoint { number: 2 }, message: Message { caps: CapSet { caps: [] }, payload: Payload { bytes: [104, 105] } } }))) }
+7 send p1.2.3 e9 p1.2.3 e9 {-1.4,+1.4,-1.4} none => Node { node: 7, request: Job(By(Pid { node: 1, boot: 2, serial: 3 }, Mail(Send { from: Endpoint { number: 9 }, receiver: Pid { node: 1, boot: 2, serial: 3 }, to: Endpoint { number: 9 }, message: Message { caps: CapSet { caps: [Plus(Name { node: 1, seq: 4 }), Minus(Name { node: 1, seq: 4 })] }, payload: Payload { bytes: [] } } }))) }
+7 take p1.2.3 => Node { node: 7, request: Job(By(Pid { node: 1, boot: 2, serial: 3 }, Mail(Take))) }
+1 deliver 1 => Node { node: 1, request: Deliver(1) }
+ 65535  deliver 4294967295  => Node { node: 65535, request: Deliver(4294967295) }";
 
 const NO_ENDPOINTS: &str = "\
 1 open p1.1.1 rw {}
@@ -81,7 +81,8 @@ const SIZES: &str = "\
 1 send p1.1.1 e1 p2.1.1 e1 {+1.64,+1.1..64} none => 64 0 false false
 1 send p1.1.1 e1 p2.1.1 e1 {+1.1..65} none => bad
 1 send p1.1.1 e1 p2.1.1 e1 {} a0..1024 => 0 1024 false false
-1 send p1.1.1 e1 p2.1.1 e1 {} a0..1025 => bad";
+1 send p1.1.1 e1 p2.1.1 e1 {} a0..1025 => bad
+1 check a0..1025 => 0 1025 false false";
 
 #[test]
 fn sizes(rt: HostRuntime) -> Result<(), AllocError> {

@@ -5,11 +5,12 @@ use fl_jobs::job::{Act, Job, Order};
 use fl_jobs::secret::Secret;
 use fl_script::line::Line;
 use fl_script::reading::{Reading, read_line};
+use fl_script::request::Request;
 use std::alloc::{AllocError, Global};
 
 const LINES: &str = "\
-1 make-login p1.1.1 +1.4 000102030405060708090a0b0c0d0e0f101112131415161718191A1B1C1D1E1F => Job { node: 1, job: By(Pid { node: 1, boot: 1, serial: 1 }, Order(MakeLogin(Plus(Name { node: 1, seq: 4 }), Secret))) }
-1 enter p1.1.1 1.4 000102030405060708090a0b0c0d0e0f101112131415161718191A1B1C1D1E1F => Job { node: 1, job: By(Pid { node: 1, boot: 1, serial: 1 }, Enter(Name { node: 1, seq: 4 }, Secret)) }";
+1 make-login p1.1.1 +1.4 000102030405060708090a0b0c0d0e0f101112131415161718191A1B1C1D1E1F => Node { node: 1, request: Job(By(Pid { node: 1, boot: 1, serial: 1 }, Order(MakeLogin(Plus(Name { node: 1, seq: 4 }), Secret)))) }
+1 enter p1.1.1 1.4 000102030405060708090a0b0c0d0e0f101112131415161718191A1B1C1D1E1F => Node { node: 1, request: Job(By(Pid { node: 1, boot: 1, serial: 1 }, Enter(Name { node: 1, seq: 4 }, Secret))) }";
 
 const NO_SECRETS: &str = "\
 1 enter p1.1.1 1.4 000102030405060708090a0b0c0d0e0f101112131415161718191a1b1c1d1e1f0
@@ -50,15 +51,19 @@ fn secret_of_act(act: &Act) -> Option<Secret> {
     }
 }
 
+fn secret_of_request(request: &Request) -> Option<Secret> {
+    match request {
+        Request::Job(Job::By(_, act)) => secret_of_act(act),
+        _ => None,
+    }
+}
+
 fn secret_of_reading(reading: &Reading) -> Option<Secret> {
-    match reading {
-        Reading::Means {
-            line: Line::Job {
-                job: Job::By(_, act),
-                ..
-            },
-            ..
-        } => secret_of_act(act),
+    let Reading::Means { line, .. } = reading else {
+        return None;
+    };
+    match line {
+        Line::Node { request, .. } => secret_of_request(request),
         _ => None,
     }
 }

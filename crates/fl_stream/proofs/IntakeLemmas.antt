@@ -1,18 +1,19 @@
 -- A script is read, some bytes at a time, and answered.
-use Rattle.std.proofs.Common.{◌<◌, ◌≤◌, ◌⊎◌, inl, inr, ◌≡◌, ◌+◌, ◌++◌, ◌∙◌, ◌||◌, refl, sym, ap, List, [], ℕ, Bool, cond, length, take, subst, Option, None, Some, IfSome, arith}
+use Rattle.std.proofs.Common.{◌<◌, ◌≤◌, ◌⊎◌, inl, inr, ◌≡◌, ◌+◌, ◌++◌, ◌∙◌, refl, sym, ap, List, [], ℕ, length, max, take, subst, Option, None, Some, IfSome, arith}
 use lib.Seq.{take-append_seam}
+use Rattle.std.proofs.Math.Nat.{zero-max}
 use Rattle.std.proofs.lemmas.List.{append_assoc, append-nil, length-append}
 use Rattle.std.proofs.KnownBytes.{Appends-trans, Appends-nil, Consumes-nil, Consumes-trans, Consumes-kept, Consumes-whole}
 use Rattle.std.specs.Io.KnownBytes.{Appends, Keeps, Consumes, IsAtEnd, append_known}
 use Rattle.std.specs.Str.Lines.{lines}
-use Rattle.fl_stream.specs.Turns.{Turns, Run, texts, any_bad}
+use Rattle.fl_stream.specs.Turns.{Turns, Run, texts, worst}
 use Rattle.fl_stream.specs.Output.{WritesOutput, WritesFirst}
 use Rattle.fl_stream.specs.Served.{Answered, Served, Outgrows}
 use Rattle.fl_stream.specs.parts.Interpreter.{LinesCut, fresh}
 use Rattle.fl_stream.specs.parts.Stream.{StreamState, BytesPass, BytesCut, EndPasses, EndCuts, fresh_stream}
 use Rattle.fl_stream.specs.parts.Intake.{IsReady, ReadingPasses, ReadingCuts, Overruns}
 use Rattle.fl_stream.proofs.RunLemmas.{Run-append}
-use Rattle.fl_stream.proofs.InterpreterLemmas.{lines_cut_then, texts-append, any_bad-append}
+use Rattle.fl_stream.proofs.InterpreterLemmas.{lines_cut_then, texts-append, worst-append}
 use Rattle.fl_stream.proofs.StreamLemmas.{bytes_pass_split, bytes_pass_none, bytes_pass_then, bytes_cut_then, bytes_cut_passed, bytes_pass_kept}
 
 -- what holds of each value holds of one that may be there
@@ -101,15 +102,15 @@ module _ {M : Type 0} {turns : Turns M} where
   reading_cause p q = elim q [ inl d ↦ inl d | inr more ↦ inr (reading_outgrows p more) ]
 
   -- all that was read was the whole script, and it was answered
-  output_end : {a b : Option (List ℕ)} {start : M} {s : StreamState M} {bad : Bool} (c : Option (List ℕ)) (taken : List ℕ) → BytesPass turns (fresh_stream start) s a b taken → EndPasses turns s b c bad → WritesOutput turns start a c taken (cond bad 1 0)
-  output_end {a} {b} {start} {s} {bad} c taken p q = record {
+  output_end : {a b : Option (List ℕ)} {start : M} {s : StreamState M} {status : ℕ} (c : Option (List ℕ)) (taken : List ℕ) → BytesPass turns (fresh_stream start) s a b taken → EndPasses turns s b c status → WritesOutput turns start a c taken status
+  output_end {a} {b} {start} {s} {status} c taken p q = record {
     text = texts (p.proceeds.outputs ++ q.outputs);
     output = record {
       outputs = p.proceeds.outputs ++ q.outputs;
       end = q.end;
       run = rw (← append-nil taken, bytes_pass_split p [], append-nil s.held) (Run-append turns 1 start p.seen p.proceeds.outputs s.interpreter.machine (lines s.held) q.outputs q.end p.proceeds.run (rw p.proceeds.count at q.run));
       text_is = refl;
-      status_is = ap (λ x. cond x 1 0) (q.bad_is ∙ ap (λ x. x || any_bad q.outputs) p.proceeds.bad_is ∙ sym (any_bad-append p.proceeds.outputs q.outputs));
+      status_is = q.status_is ∙ ap (λ x. max x (worst q.outputs)) (p.proceeds.status_is ∙ zero-max (worst p.proceeds.outputs)) ∙ sym (worst-append p.proceeds.outputs q.outputs);
     };
     written = rw (texts-append p.proceeds.outputs q.outputs, p.proceeds.passed.split, append_assoc p.proceeds.passed.front s.interpreter.pending (texts q.outputs)) (Appends-trans a b c p.proceeds.passed.front (s.interpreter.pending ++ texts q.outputs) p.proceeds.passed.written q.written);
   }
@@ -157,9 +158,9 @@ module _ {M : Type 0} {turns : Turns M} where
       first_stops r m a c (p.bytes ++ q.bytes) (Consumes-trans r l m p.bytes q.bytes p.consumed q.consumed) (subst (λ x. BytesCut turns (fresh_stream start) a c (p.bytes ++ x)) (append-nil q.bytes) (bytes_cut_then c [] p.advance q.stops))
 
   -- there was no more to read, and all was answered
-  pub reading_answered : {r l h k a b : Option (List ℕ)} {start : M} {s : StreamState M} {room less : ℕ} {bad : Bool} (c : Option (List ℕ)) → ReadingPasses turns r l h k a b (fresh_stream start) s room less → IsAtEnd l → EndPasses turns s b c bad → IfSome r (λ script. WritesOutput turns start a c script (cond bad 1 0))
-  reading_answered {r} {l} {h} {k} {a} {b} {start} {s} {room} {less} {bad} c p end e =
-      Consumes-whole r l p.bytes (λ script. WritesOutput turns start a c script (cond bad 1 0)) p.consumed end (output_end c p.bytes p.advance e)
+  pub reading_answered : {r l h k a b : Option (List ℕ)} {start : M} {s : StreamState M} {room less : ℕ} {status : ℕ} (c : Option (List ℕ)) → ReadingPasses turns r l h k a b (fresh_stream start) s room less → IsAtEnd l → EndPasses turns s b c status → IfSome r (λ script. WritesOutput turns start a c script status)
+  reading_answered {r} {l} {h} {k} {a} {b} {start} {s} {room} {less} {status} c p end e =
+      Consumes-whole r l p.bytes (λ script. WritesOutput turns start a c script status) p.consumed end (output_end c p.bytes p.advance e)
 
   -- there was no more to read, and the answers stopped
   pub reading_end_cuts : {r l h k a b : Option (List ℕ)} {start : M} {s : StreamState M} {room less : ℕ} (c : Option (List ℕ)) → ReadingPasses turns r l h k a b (fresh_stream start) s room less → IsAtEnd l → EndCuts turns s b c → IfSome r (λ script. WritesFirst turns start a c script)

@@ -1,29 +1,25 @@
 -- Lines are answered, one after another.
-use Rattle.std.proofs.Common.{◌≡◌, ◌+◌, ◌++◌, ◌∙◌, ◌||◌, refl, sym, ap, List, [], ◌∷◌, ℕ, Bool, true, false, subst, Option, Result, Ok, Err, OnOk, OnErr, arith}
+use Rattle.std.proofs.Common.{◌≡◌, ◌+◌, ◌++◌, ◌∙◌, refl, sym, ap, List, [], ◌∷◌, ℕ, max, subst, Option, Result, Ok, Err, OnOk, OnErr, arith}
 use Rattle.std.proofs.lemmas.List.{append-nil, length-append}
 use Rattle.std.proofs.lemmas.List.Concat.{flat_map-append}
-use Rattle.std.proofs.lemmas.List.Folds.{list_any-append}
+use Rattle.std.proofs.Math.Nat.{max-zero, zero-max}
 use Rattle.std.proofs.KnownBytes.{Appends-kept}
 use Rattle.std.specs.Io.KnownBytes.{Appends, Keeps}
 use Rattle.fl_sink.specs.Sink.{Passes, Cuts, Writes}
 use Rattle.fl_sink.specs.laws.Passing.{passes_then, cuts_then, cuts_passed, passes_none}
-use Rattle.fl_stream.specs.Turns.{Turns, LineOutput, AnswerPasses, AnswerCuts, texts, any_bad}
+use Rattle.fl_stream.specs.Turns.{Turns, LineOutput, AnswerPasses, AnswerCuts, texts, worst}
 use Rattle.fl_stream.specs.parts.Interpreter.{InterpreterState, LinesPass, LinesCut}
 use Rattle.fl_stream.proofs.RunLemmas.{Run-append}
 
-or_false : (x : Bool) → x || false ≡ x
-or_false true = refl
-or_false false = refl
-
-or_assoc : (x y z : Bool) → (x || y) || z ≡ x || (y || z)
-or_assoc true y z = refl
-or_assoc false y z = refl
+max_assoc : (a b c : ℕ) → max (max a b) c ≡ max a (max b c)
+max_assoc a b c = omega arith
 
 pub texts-append : (a b : List LineOutput) → texts (a ++ b) ≡ texts a ++ texts b
 texts-append a b = flat_map-append (λ o. o.text) a b
 
-pub any_bad-append : (a b : List LineOutput) → any_bad (a ++ b) ≡ any_bad a || any_bad b
-any_bad-append a b = list_any-append (λ o. o.bad) a b
+pub worst-append : (a b : List LineOutput) → worst (a ++ b) ≡ max (worst a) (worst b)
+worst-append [] b = sym (zero-max (worst b))
+worst-append (o ∷ a) b = ap (max o.status) (worst-append a b) ∙ sym (max_assoc o.status (worst a) (worst b))
 
 module _ {M : Type 0} {turns : Turns M} where
   -- no line was answered
@@ -32,17 +28,17 @@ module _ {M : Type 0} {turns : Turns M} where
     outputs = [];
     run = refl;
     count = omega arith;
-    bad_is = sym (or_false d.bad);
+    status_is = sym (max-zero d.status);
     passed = subst (λ x. Passes a a d.pending [] x) (append-nil d.pending) (passes_none a d.pending []);
   }
 
   -- one line was answered
-  pub lines_pass_one : {a b : Option (List ℕ)} {line : List ℕ} {bad : Bool} {new : M} {rest : List ℕ} (d : InterpreterState M) → AnswerPasses turns d.number d.machine line bad new a b d.pending rest → LinesPass turns d (record { number = d.number + 1; bad = d.bad || bad; machine = new; pending = rest }) a b (line ∷ [])
-  lines_pass_one {a} {b} {line} {bad} {new} {rest} d t = record {
-    outputs = record { text = t.text; bad = bad } ∷ [];
+  pub lines_pass_one : {a b : Option (List ℕ)} {line : List ℕ} {status worse : ℕ} {new : M} {rest : List ℕ} (d : InterpreterState M) → AnswerPasses turns d.number d.machine line status new a b d.pending rest → worse ≡ max d.status status → LinesPass turns d (record { number = d.number + 1; status = worse; machine = new; pending = rest }) a b (line ∷ [])
+  lines_pass_one {a} {b} {line} {status} {worse} {new} {rest} d t greatest = record {
+    outputs = record { text = t.text; status = status } ∷ [];
     run = (new, t.turn, refl);
     count = refl;
-    bad_is = ap (λ x. d.bad || x) (sym (or_false bad));
+    status_is = greatest ∙ ap (max d.status) (sym (max-zero status));
     passed = rw (append-nil t.text) t.passed;
   }
 
@@ -61,7 +57,7 @@ module _ {M : Type 0} {turns : Turns M} where
     outputs = p.outputs ++ q.outputs;
     run = Run-append turns d.number d.machine ls p.outputs e.machine ms q.outputs f.machine p.run (rw p.count at q.run);
     count = omega (arith, p.count, q.count, length-append ls ms);
-    bad_is = q.bad_is ∙ ap (λ x. x || any_bad q.outputs) p.bad_is ∙ or_assoc d.bad (any_bad p.outputs) (any_bad q.outputs) ∙ ap (λ x. d.bad || x) (sym (any_bad-append p.outputs q.outputs));
+    status_is = q.status_is ∙ ap (λ x. max x (worst q.outputs)) p.status_is ∙ max_assoc d.status (worst p.outputs) (worst q.outputs) ∙ ap (max d.status) (sym (worst-append p.outputs q.outputs));
     passed = rw (texts-append p.outputs q.outputs) (passes_then c (texts q.outputs) f.pending p.passed q.passed);
   }
 
@@ -90,7 +86,7 @@ module _ {M : Type 0} {turns : Turns M} where
     outputs = [];
     run = refl;
     count = omega arith;
-    bad_is = sym (or_false d.bad);
+    status_is = sym (max-zero d.status);
     passed = record { front = d.pending; split = ap (λ x. d.pending ++ x) (sym empty); written = w };
   }
 
@@ -100,7 +96,7 @@ module _ {M : Type 0} {turns : Turns M} where
     outputs = p.outputs;
     run = p.run;
     count = p.count;
-    bad_is = p.bad_is;
+    status_is = p.status_is;
     passed = record { front = p.passed.front; split = p.passed.split; written = Appends-kept a b c p.passed.front p.passed.written k };
   }
 

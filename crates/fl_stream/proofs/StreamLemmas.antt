@@ -125,7 +125,7 @@ module _ {M : Type 0} {turns : Turns M} where
       subst (λ x. BytesPass turns s (record t { held = x }) a b bytes) (sym e) (subst (λ x. BytesPass turns s (record t { held = t.held ++ rest }) a b x) (sym p.cut) (bytes_pass_then b p.advance (bytes_pass_held b t rest)))
 
   -- all lines were answered, and all was written
-  pub end_passes : {a b : Option (List ℕ)} {s : StreamState M} {e f : InterpreterState M} (c : Option (List ℕ)) → LinesPass turns s.interpreter e a b (lines s.held) → LinesPass turns e f b c [] → f.pending ≡ [] → EndPasses turns s a c f.bad
+  pub end_passes : {a b : Option (List ℕ)} {s : StreamState M} {e f : InterpreterState M} (c : Option (List ℕ)) → LinesPass turns s.interpreter e a b (lines s.held) → LinesPass turns e f b c [] → f.pending ≡ [] → EndPasses turns s a c f.status
   end_passes {a} {b} {s} {e} {f} c p q empty =
       let g = lines_pass_then c p q in
       let all : lines s.held ++ [] ≡ lines s.held = append-nil (lines s.held) in
@@ -133,7 +133,7 @@ module _ {M : Type 0} {turns : Turns M} where
         outputs = g.outputs;
         end = f.machine;
         run = subst (λ x. Run turns s.interpreter.number s.interpreter.machine x g.outputs f.machine) all g.run;
-        bad_is = g.bad_is;
+        status_is = g.status_is;
         written = subst (λ x. Appends a c x) (sym (g.passed.split ∙ ap (λ x. g.passed.front ++ x) empty ∙ append-nil g.passed.front)) g.passed.written;
       }
 
@@ -144,18 +144,18 @@ module _ {M : Type 0} {turns : Turns M} where
   pub bytes_pass_kept : {a b : Option (List ℕ)} {s t : StreamState M} {xs : List ℕ} (c : Option (List ℕ)) → BytesPass turns s t a b xs → Keeps b c → BytesPass turns s t a c xs
   bytes_pass_kept c p k = record { seen = p.seen; done = p.done; cut = p.cut; ended = p.ended; split = p.split; proceeds = lines_pass_kept c p.proceeds k }
 
-  pub end_passes_kept : {a b : Option (List ℕ)} {s : StreamState M} {bad : Bool} (c : Option (List ℕ)) → EndPasses turns s a b bad → Keeps b c → EndPasses turns s a c bad
-  end_passes_kept {a} {b} {s} {bad} c p k = record {
+  pub end_passes_kept : {a b : Option (List ℕ)} {s : StreamState M} {status : ℕ} (c : Option (List ℕ)) → EndPasses turns s a b status → Keeps b c → EndPasses turns s a c status
+  end_passes_kept {a} {b} {s} {status} c p k = record {
     outputs = p.outputs;
     end = p.end;
     run = p.run;
-    bad_is = p.bad_is;
+    status_is = p.status_is;
     written = Appends-kept a b c (s.interpreter.pending ++ texts p.outputs) p.written k;
   }
 
   -- all was written, and it stops there
-  pub end_cuts_passed : {a b : Option (List ℕ)} {s : StreamState M} {bad : Bool} → EndPasses turns s a b bad → EndCuts turns s a b
-  end_cuts_passed {a} {b} {s} {bad} p =
+  pub end_cuts_passed : {a b : Option (List ℕ)} {s : StreamState M} {status : ℕ} → EndPasses turns s a b status → EndCuts turns s a b
+  end_cuts_passed {a} {b} {s} {status} p =
       let all = s.interpreter.pending ++ texts p.outputs in record {
         halts = record {
           outputs = p.outputs;

@@ -1,8 +1,8 @@
 -- What is written for a script.
-use Rattle.std.specs.Prelude.{◌≡◌, ◌++◌, ℕ, List, Option, if◌then◌else◌}
+use Rattle.std.specs.Prelude.{◌≡◌, ◌++◌, ℕ, List, Option}
 use Rattle.std.specs.Str.Lines.{lines}
 use Rattle.std.specs.Io.KnownBytes.{Appends}
-use Rattle.fl_stream.specs.Turns.{Turns, LineOutput, Run, texts, any_bad}
+use Rattle.fl_stream.specs.Turns.{Turns, LineOutput, Run, texts, worst}
 
 -- the text is what is written for these lines from this state on, with this status
 pub record Writes {M : Type 0} (turns : Turns M) (start : M) (lines : List (List ℕ)) (text : List ℕ)
@@ -11,7 +11,7 @@ pub record Writes {M : Type 0} (turns : Turns M) (start : M) (lines : List (List
   pub end : M
   pub run : Run turns 1 start lines outputs end
   pub text_is : text ≡ texts outputs
-  pub status_is : status ≡ (if any_bad outputs then 1 else 0)
+  pub status_is : status ≡ worst outputs
 
 -- known bytes grow by what is written for the script, cut into lines, with this status
 pub record WritesOutput {M : Type 0} (turns : Turns M) (start : M) (old new : Option (List ℕ))

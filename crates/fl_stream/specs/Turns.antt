@@ -1,12 +1,12 @@
 -- What answers lines, one after another.
-use Rattle.std.specs.Prelude.{◌≡◌, ◌+◌, [], ◌∷◌, ℕ, List, Option, Bool}
-use Rattle.std.specs.List.{flat_map, list_any}
+use Rattle.std.specs.Prelude.{◌≡◌, ◌+◌, [], ◌∷◌, ℕ, List, Option, max}
+use Rattle.std.specs.List.{flat_map}
 use Rattle.fl_sink.specs.Sink.{Passes, Cuts}
 
--- what a line is answered: its text, and whether the line is none of the script
+-- what a line is answered: its text, and its status, 0 where there is nothing to be told of it
 pub record LineOutput : Type 0 where
   pub text : List ℕ
-  pub bad : Bool
+  pub status : ℕ
 
 -- the line of this number is answered so at the first state, and leaves the second
 abbrev pub Turns : Type 0 → Type 1
@@ -24,15 +24,16 @@ Run turns number old (line ∷ lines) [] new = ⊥
 abbrev pub texts : List LineOutput → List ℕ
 texts outputs = flat_map (λ o. o.text) outputs
 
--- some line was none of the script
-abbrev pub any_bad : List LineOutput → Bool
-any_bad outputs = list_any (λ o. o.bad) outputs
+-- the greatest status, and 0 of no line
+abbrev pub worst : List LineOutput → ℕ
+worst [] = 0
+worst (output ∷ outputs) = max output.status (worst outputs)
 
 -- the number-th line was answered, and its text passed on
-pub record AnswerPasses {M : Type 0} (turns : Turns M) (number : ℕ) (old : M) (line : List ℕ) (bad : Bool)
+pub record AnswerPasses {M : Type 0} (turns : Turns M) (number : ℕ) (old : M) (line : List ℕ) (status : ℕ)
     (new : M) (before after : Option (List ℕ)) (pending rest : List ℕ) : Type 0 where
   pub text : List ℕ
-  pub turn : turns number old line (record { text = text; bad = bad }) new
+  pub turn : turns number old line (record { text = text; status = status }) new
   pub passed : Passes before after pending text rest
 
 -- the number-th line was answered, and a front of its text written

@@ -74,7 +74,7 @@ impl<M: Machine> Intake<M> {
         Ok(true)
     }
 
-    /// Answers the last line, where it did not end, and sends all. Says whether some line was none of the script.
+    /// Answers the last line, where it did not end, and sends all. Gives the greatest status of a line.
     ///
     /// `Write` where a write fails or takes no bytes, or sending fails.
     pub fn close<C: Conversation<W>, W: Writer>(
@@ -82,20 +82,20 @@ impl<M: Machine> Intake<M> {
         alloc: Global,
         input: &C,
         output: &mut W,
-    ) -> Result<bool, RunFault>
+    ) -> Result<u8, RunFault>
         requires { IsReady self.old.stream self.old.room }
-        ensures ok { IfOk result (λ bad. EndPasses M.turns self.old.stream
-            (W.contents output.old) (W.contents output.new) bad) }
+        ensures ok { IfOk result (λ status. EndPasses M.turns self.old.stream
+            (W.contents output.old) (W.contents output.new) status) }
         ensures said { OnOk result (C.said output.new ≡ W.contents output.new) }
         ensures kind { IfErr result (λ e. e ≡ RunFault.Write) }
         ensures cause { OnErr result (W.has_failed output.new) }
         ensures err { OnErr result (EndCuts M.turns self.old.stream
             (W.contents output.old) (W.contents output.new)) }
     {
-        let any_bad = self.stream.finish(alloc, output)?;
+        let status = self.stream.finish(alloc, output)?;
         if input.send(output).is_err() {
             return Err(RunFault::Write);
         }
-        Ok(any_bad)
+        Ok(status)
     }
 }

@@ -13,7 +13,7 @@ use std::marker::Model;
 pub struct Interpreter<M> {
     machine: M,
     number: u64,
-    any_bad: bool,
+    status: u8,
     sink: Sink,
 }
 
@@ -26,7 +26,7 @@ impl<M> Model for Interpreter<M> {
 
     ghost view = { λ i. record {
       number = i.number;
-      bad = i.any_bad;
+      status = i.status;
       machine = i.machine;
       pending = i.sink;
     } };
@@ -40,16 +40,16 @@ impl<M: Machine> Interpreter<M> {
         Interpreter {
             machine,
             number: 1,
-            any_bad: false,
+            status: 0,
             sink: Sink::new(alloc),
         }
     }
 
-    /// Whether some line was none of the script.
-    pub fn any_bad(&self) -> bool
-        ensures { result ≡ self.now.bad }
+    /// The greatest status of a line, 0 before the first.
+    pub fn status(&self) -> u8
+        ensures { result ≡ self.now.status }
     {
-        self.any_bad
+        self.status
     }
 
     /// Answers the next line, given without its line feed. The answer may wait to be written.
@@ -70,10 +70,10 @@ impl<M: Machine> Interpreter<M> {
             (W.contents output.old) (W.contents output.new) (line.now ∷ [])) }
         ensures cause { OnErr result (W.has_failed output.new) }
     {
-        let bad = self
+        let status = self
             .machine
             .answer(alloc, self.number, line, &mut self.sink, output)?;
-        self.any_bad |= bad;
+        self.status = self.status.max(status);
         self.number += 1;
         Ok(())
     }

@@ -11,8 +11,8 @@ pub trait Machine {
     // The line of this number is answered so at the first state, and leaves the second.
     ghost turns: { Turns Self };
 
-    /// Answers the line of this number, given without its end. Its text is put into the sink, and the result says whether the
-    /// line is none of the script.
+    /// Answers the line of this number, given without its end. Its text is put into the sink, and the result is the line's
+    /// status: 0 where there is nothing to be told of it.
     ///
     /// At a fault a front of what waited and the text was written, and the machine is not used again.
     fn answer<W: Writer>(
@@ -22,9 +22,9 @@ pub trait Machine {
         line: &[u8],
         sink: &mut Sink,
         output: &mut W,
-    ) -> Result<bool, WriteFault>
-        ensures ok { IfOk result (λ bad.
-            AnswerPasses turns number self.old line.now bad self.new
+    ) -> Result<u8, WriteFault>
+        ensures ok { IfOk result (λ status.
+            AnswerPasses turns number self.old line.now status self.new
             (W.contents output.old) (W.contents output.new) sink.old sink.new) }
         ensures err { OnErr result (
             AnswerCuts turns number self.old line.now self.new

@@ -1,5 +1,5 @@
 //! A whole run.
-ghost use Rattle.std.specs.Prelude.{◌≡◌, ◌≤◌, ◌⊎◌, ℕ, List, Option, IfErr, IfOk, IfSome, OnErr, OnOk, [], length, vec_len, if◌then◌else◌};
+ghost use Rattle.std.specs.Prelude.{◌≡◌, ◌≤◌, ◌⊎◌, ℕ, List, Option, IfErr, IfOk, IfSome, OnErr, OnOk, [], length, vec_len};
 ghost use Rattle.std.specs.Io.KnownBytes.{IsAtEnd};
 ghost use Rattle.fl_stream.specs.Served.{Answered, Outgrows, Served};
 ghost use Rattle.fl_stream.specs.Output.{WritesFirst, WritesOutput};
@@ -27,18 +27,11 @@ fn zeros(alloc: Global, count: usize) -> Result<Vec<u8>, RunFault>
     vec![in alloc; 0u8; count].map_err(|_| RunFault::Memory)
 }
 
-// The status of a run in which some line was none of the script, or none was.
-fn status_of(any_bad: bool) -> u8
-    ensures { result ≡ (if any_bad then 1 else 0) }
-{
-    if any_bad { 1 } else { 0 }
-}
-
 /// Hears a script of at most 16,777,216 bytes, and says what the machine answers to its lines.
 ///
 /// More is heard only where what was said is exactly the answers to all lines that have ended: [`Conversation::hear`]
-/// requires it. To hear no bytes is the end of the script. The status is 1 where some line was none of the script, and
-/// else 0.
+/// requires it. To hear no bytes is the end of the script. The status is the greatest of
+/// its lines', and 0 where there are none.
 ///
 /// At a fault a front of the answers to the first lines is written: `Read` only where hearing fails or the script is
 /// longer; `Write` where a write fails or takes no bytes, or sending fails; `Memory` where there is no room for the 64 KiB
@@ -75,15 +68,15 @@ pub fn converse<M: Machine + Drop, C: Conversation<W>, W: Writer>(
         room: MOST_BYTES,
     };
     'hearing: while intake.turn(alloc, input, output)? {}
-    let any_bad = intake.close(alloc, input, output)?;
-    Ok(status_of(any_bad))
+    let status = intake.close(alloc, input, output)?;
+    Ok(status)
 }
 
 /// Reads a script of at most 16,777,216 bytes, by at most 16,777,217 reads, and writes what the machine answers to its lines.
 ///
 /// It is [`converse`] with a reader and a writer: before each read but the first, all lines that have ended are answered,
-/// and the answers are written and flushed. A read of no bytes is the end of the script. The status is 1 where some line
-/// was none of the script, and else 0.
+/// and the answers are written and flushed. A read of no bytes is the end of the script. The status is the greatest of
+/// its lines', and 0 where there are none.
 ///
 /// At a fault a front of the answers to the first lines is written: `Read` where a read fails or the script is longer;
 /// `Write` where a write fails or takes no bytes, or a flush fails; `Memory` where there is no room for the 64 KiB that a

@@ -142,19 +142,19 @@ impl<M: Machine> Stream<M> {
         self.interpreter.answer(alloc, &self.held, output)
     }
 
-    /// Answers the last line, where it did not end, and writes all. Says whether some line was none of the script. The
+    /// Answers the last line, where it did not end, and writes all. Gives the greatest status of a line. The
     /// writer is not flushed. At a fault a front of the answers was written.
-    pub fn finish<W: Writer>(&mut self, alloc: Global, output: &mut W) -> Result<bool, WriteFault>
+    pub fn finish<W: Writer>(&mut self, alloc: Global, output: &mut W) -> Result<u8, WriteFault>
         requires number { self.old.interpreter.number ≤ 16777217 }
         requires part { HasNoFeed self.old.held }
-        ensures ok { IfOk result (λ bad. EndPasses M.turns self.old
-            (W.contents output.old) (W.contents output.new) bad) }
+        ensures ok { IfOk result (λ status. EndPasses M.turns self.old
+            (W.contents output.old) (W.contents output.new) status) }
         ensures err { OnErr result (EndCuts M.turns self.old
             (W.contents output.old) (W.contents output.new)) }
         ensures cause { OnErr result (W.has_failed output.new) }
     {
         self.answer_last(alloc, output)?;
         self.interpreter.write_answers(output)?;
-        Ok(self.interpreter.any_bad())
+        Ok(self.interpreter.status())
     }
 }

@@ -50,9 +50,9 @@ message p1.1.1 {} none\nok\ndropped F2 e1\nrefused F19 16\n",
 pub const CAPABILITY_IN_A_MESSAGE: Row<'static> = Row {
     script: b"1 proc\n1 tag p1.1.1 export\n1 open p1.1.1 w {} {}\n2 proc\n2 open p2.1.1 r {} {}\n\
 1 send p1.1.1 e1 p2.1.1 e1 {-1.1} 6869\n2 deliver 1\n2 ask p2.1.1 -1.1\n2 ask p2.1.1 +1.1\n2 take p2.1.1\n\
-2 deliver 1\n",
+2 deliver 1\naudit\n",
     output: b"p1.1.1\nok 1.1\nok e1\np2.1.1\nok e1\nsent 1\narrived p2.1.1\nyes\nnot-yet\nmessage p1.1.1 {-1.1} 6869\n\
-arrived p2.1.1\n",
+arrived p2.1.1\nadmitted 6\n",
     status: 0,
 };
 

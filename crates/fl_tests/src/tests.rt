@@ -7,8 +7,12 @@ use crate::rows::{
 };
 use crate::streams::{AskingReader, FailingReader, FailingWriter, FlushedWriter};
 use fl_cluster::fault::RunFault;
+use fl_cluster::options::Options;
 use fl_cluster::run::run;
+use fl_makers::maker::MakesKeepers;
+use fl_makers::mem::MemMaker;
 use std::cell::Cell;
+use std::io::{Read, Write};
 use std::process::Abort;
 use std::test::Fail;
 
@@ -27,16 +31,30 @@ pub(crate) fn check_row(rt: &(impl Abort + AllocGlobal), row: &Row) -> Result<()
 
 /// The row as it stands.
 pub(crate) fn check_once(rt: &(impl Abort + AllocGlobal), row: &Row) -> Result<(), Fail> {
+    check_over(rt, row, MemMaker)
+}
+
+/// The row as it stands, over these keepers.
+pub(crate) fn check_over<M: MakesKeepers + Drop>(
+    rt: &(impl Abort + AllocGlobal),
+    row: &Row,
+    keepers: M,
+) -> Result<(), Fail> {
+    let mut input = row.script;
     let mut output = Vec::new(rt.alloc());
-    let status = run_on(rt, row.script, &mut output)?;
+    let status = run(rt, &mut input, &mut output, Options::default(), keepers)?;
     assert_eq!(rt; status, row.status);
     assert_eq!(rt; output.as_slice(), row.output);
     Ok(())
 }
 
-fn run_on(rt: &impl AllocGlobal, script: &[u8], output: &mut Vec<u8>) -> Result<u8, RunFault> {
-    let mut input = script;
-    run(rt, &mut input, output)
+// A run over keepers in memory.
+fn run_on<R: Read, W: Write>(
+    rt: &impl AllocGlobal,
+    input: &mut R,
+    output: &mut W,
+) -> Result<u8, RunFault> {
+    run(rt, input, output, Options::default(), MemMaker)
 }
 
 /// In pieces of any size the same is written. Where a read fails, a prefix of it is.
@@ -50,7 +68,7 @@ fn check_pieces(rt: &(impl Abort + AllocGlobal), row: &Row, piece: usize) -> Res
             fail_at,
         };
         let mut output = Vec::new(rt.alloc());
-        assert_eq!(rt; run(rt, &mut input, &mut output), Err(RunFault::Read));
+        assert_eq!(rt; run_on(rt, &mut input, &mut output), Err(RunFault::Read));
         assert!(rt; row.output.starts_with(&output));
     }
     let mut input = FailingReader {
@@ -60,7 +78,7 @@ fn check_pieces(rt: &(impl Abort + AllocGlobal), row: &Row, piece: usize) -> Res
         fail_at: 0,
     };
     let mut output = Vec::new(rt.alloc());
-    assert_eq!(rt; run(rt, &mut input, &mut output)?, row.status);
+    assert_eq!(rt; run_on(rt, &mut input, &mut output)?, row.status);
     assert_eq!(rt; output.as_slice(), row.output);
     Ok(())
 }
@@ -79,7 +97,7 @@ fn check_writes(
         piece: 5,
         fails,
     };
-    assert_eq!(rt; run(rt, &mut input, &mut output), Err(RunFault::Write));
+    assert_eq!(rt; run_on(rt, &mut input, &mut output), Err(RunFault::Write));
     assert!(rt; row.output.starts_with(&output.taken));
     assert_eq!(rt; output.taken.len(), room);
     Ok(())
@@ -195,7 +213,7 @@ fn answers_before_it_reads_on(rt: HostRuntime) -> Result<(), Fail> {
         taken: Vec::new(rt.alloc()),
         flushed: &flushed,
     };
-    assert_eq!(rt; run(&rt, &mut input, &mut output)?, 0);
+    assert_eq!(rt; run_on(&rt, &mut input, &mut output)?, 0);
     assert_eq!(rt;
         output.taken.as_slice(),
         b"p1.1.1\nok 1.1\nyes\nnot-yet\np2.1.1\n1.1 tag read\n".as_slice()

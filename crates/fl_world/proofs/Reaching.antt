@@ -1,9 +1,8 @@
 -- A run goes on by one more moment.
-use Rattle.std.proofs.Common.{◌≡◌, ◌∙◌, ℕ, refl, sym, subst, List, [], ◌∷◌, ◌++◌, ◌≤◌, Option, Some, None, Result, Ok, Err, IfOk, OnErr, length, arith}
+use Rattle.std.proofs.Common.{◌≡◌, ℕ, refl, sym, subst, List, [], ◌∷◌, ◌++◌, ◌≤◌, Option, Some, None, Result, Ok, Err, IfErr, IfOk, OnErr, inl, length, arith}
 use Rattle.std.specs.FinMap as map
-use Rattle.std.specs.FinMap.{nat_cmp-IsAntisymmetric}
-use Rattle.std.specs.Cmp.{nat_cmp_total}
-use Rattle.std.specs.Ordering.{nat_cmp}
+use Rattle.fl_labels.specs.SetBy.{In}
+use Rattle.fl_ops.specs.declared.op.Op.{Op}
 use Rattle.fl_store.specs.Keeping.{Held}
 use Rattle.fl_system.specs.World.{World, KeptNode, empty_world}
 use Rattle.fl_system.specs.declared.reply.Reply.{Reply}
@@ -12,13 +11,14 @@ use Rattle.fl_system.specs.declared.answer.Fault.{Fault}
 use Rattle.fl_system.specs.declared.event.Event.{Event}
 use Rattle.fl_system.specs.Joins.{Joins}
 use Rattle.fl_system.specs.Runs.{Move, Comes, Moment, Moves, IsRun, IsReached, end}
-use Rattle.fl_system.specs.WorldSteps.{Step}
-use Rattle.fl_world_laws.specs.Places.{IsNameRefusal}
+use Rattle.fl_system.specs.WorldSteps.{IsAt, Step}
+use Rattle.fl_world_laws.specs.Places.{IsKnown, IsNameRefusal}
 use Rattle.fl_node.specs.Over.{NodeOver}
 use Rattle.fl_nodes.specs.Over.{WorldOver, empty_over}
-use Rattle.fl_nodes.specs.Joining.{TakesIn}
+use Rattle.fl_nodes.specs.Joining.{DoesJoin, DoesNotJoin, GivesBack, HasNoStray, IsRefused, TakesIn}
 use Rattle.fl_nodes.specs.Whole.{IsWhole}
-use Rattle.fl_nodes.specs.Goes.{MayBeNode, MayBe, Goes}
+use Rattle.fl_nodes.specs.Goes.{Goes}
+use Rattle.fl_nodes.specs.laws.Nothing.{none_is}
 use Rattle.fl_world.specs.Reached.{InEach}
 
 run_on : (w : World) (ms : List Moment) (m : Moment) → IsRun w ms → Moves (end w ms) m.move m.reply m.after
@@ -43,30 +43,11 @@ reached_on w w' move reply r goes =
 empty_reached : (desks : ℕ) → IsReached (empty_world desks)
 empty_reached desks = record { desks = desks; moments = []; is_run = tt; leads = refl }
 
-none_there : {K : Type 0} (may_hold : K → Held) (o : Option KeptNode) → MayBeNode may_hold None o → o ≡ None
-none_there may_hold None h = refl
-none_there may_hold (Some s) h = absurd h
-
-same_at : {K : Type 0} (may_hold : K → Held) (desks : ℕ) (w : World) → MayBe may_hold (empty_over desks) w → (q : ℕ)
-    → map.get (map.empty {X = KeptNode} {R = nat_cmp}) q ≡ map.get w.nodes q
-same_at {K} may_hold desks w is q =
-    let none = none_there may_hold (map.get w.nodes q)
-    (subst (λ o. MayBeNode may_hold o (map.get w.nodes q)) (map.get-empty {X = NodeOver K} nat_cmp q) (is.nodes q)) in
-    map.get-empty {X = KeptNode} nat_cmp q ∙ sym none
-
--- nodes that are none may be the world without a node, and no other
-empty_is : {K : Type 0} (may_hold : K → Held) (desks : ℕ) (w : World) → MayBe may_hold (empty_over desks) w
-    → empty_world desks ≡ w
-empty_is may_hold desks w is =
-    let nodes : map.empty ≡ w.nodes =
-    map.same_map nat_cmp_total nat_cmp-IsAntisymmetric map.empty w.nodes (same_at may_hold desks w is) in
-    λ i. record { desks = (sym is.desks) i; nodes = nodes i; packets = (sym is.packets) i; audit = (sym is.audit) i }
-
 -- the world without a node
 pub none_reached : {K : Type 0} (is_honest : K → Type 0) (may_hold : K → Held) (desks : ℕ)
     → InEach is_honest may_hold (empty_over desks) IsReached
 none_reached is_honest may_hold desks =
-    record { each = λ honest w is. subst IsReached (empty_is may_hold desks w is) (empty_reached desks) }
+    record { each = λ honest w is. subst IsReached (none_is may_hold desks w is) (empty_reached desks) }
 
 -- a call that is a move leads to what a run leads to
 pub each_reached : {K : Type 0} (is_honest : K → Type 0) (may_hold : K → Held) (old new : WorldOver K) (move : Move)
@@ -106,6 +87,35 @@ whole_look {K} over number = by_node (map.get over.nodes number) refl
       λ n is. let same : m ≡ n = cc in
           subst (λ x. length x.node.published ≤ length m.node.published) same (omega arith),
     )
+
+-- in a world that a run leads to each operation that is saved is known to the node whose number it has
+pub no_stray : ((w : World) (op : Op) (s : KeptNode) → IsReached w → IsKnown w op → IsAt w op.name.node s → In s.node.saved op)
+    → (w : World) → IsReached w → HasNoStray w
+no_stray owned w reached name stray = stray.unknown (owned w stray.op stray.owner reached (inl stray.in_world) stray.there)
+
+-- so a joining is one of such a world
+module _ {K : Type 0} (is_honest : K → Type 0) (may_hold : K → Held) (old new : WorldOver K) (number : ℕ) (keeper : K)
+    (known : (w : World) → IsReached w → HasNoStray w) (all : InEach is_honest may_hold old IsReached) where
+  pub joins_known : (result : Result ℕ (Fault × K)) → IfOk result (λ boot. TakesIn is_honest may_hold old keeper new (DoesJoin number boot))
+      → IfOk result (λ boot. TakesIn is_honest may_hold old keeper new (λ w k w'. Joins w number k (replies.Booted boot) w'))
+  joins_known (Ok boot) takes = record {
+    honest = takes.honest;
+    comes = λ honest after is.
+        let b = takes.comes honest after is in
+        (b.0, b.1, b.2, b.3, b.4 (known b.0 (all.each (takes.honest honest).0 b.0 b.2)));
+  }
+  joins_known (Err e) takes = tt
+
+  pub refused_known : (result : Result ℕ (Fault × K))
+      → IfErr result (λ e. GivesBack is_honest may_hold old keeper new e.1 (DoesNotJoin number e.0))
+      → IfErr result (λ e. GivesBack is_honest may_hold old keeper new e.1 (IsRefused number e.0))
+  refused_known (Ok boot) gives = tt
+  refused_known (Err e) gives = record {
+    honest = gives.honest;
+    comes = λ honest left after k' is held.
+        let b = gives.comes honest left after k' is held in
+        (b.0, b.1, b.2, b.3, b.4 (known b.0 (all.each (gives.honest honest left).0 b.0 b.2)));
+  }
 
 -- a node that joins is a move too, and who is refused changes nothing
 pub joined_or_not : {K : Type 0} (is_honest : K → Type 0) (may_hold : K → Held) (old new : WorldOver K) (number : ℕ) (keeper : K)

@@ -125,6 +125,7 @@ impl<K: Keeper> World<K> {
             (IsRefused number e.0)) }
         ensures same { OnErr result (self.new ≡ self.old) }
     {
+        law_names();
         self.nodes.join(alloc, number, keeper)
     }
 

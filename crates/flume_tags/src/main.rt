@@ -1,9 +1,14 @@
 //! `flume-tags`: reads a script from standard input, and writes the answers to its lines to standard output.
 #![tactic(auto)]
 
-use clap::{ArgMatches, Command};
+use clap::builder::ValueParser;
+use clap::{ArgMatches, Command, arg};
 use fl_cluster::fault::RunFault;
+use fl_cluster::options::Options;
 use fl_cluster::run::run;
+use fl_dir_maker::maker::DirMaker;
+use fl_makers::maker::MakesKeepers;
+use fl_makers::mem::MemMaker;
 use std::process::ExitCode;
 use std::{env, io};
 
@@ -13,33 +18,38 @@ const BAD_WORDS: u8 = 2;
 /// The status where a read, a write or memory failed.
 const FAULT: u8 = 3;
 
-/// Reads the words of the program, of which none is wanted.
+/// Reads the words of the program: where its nodes are kept, if they are.
 fn parsed<'a>(rt: &HostRuntime, words: &'a [String]) -> Result<ArgMatches<'a>, clap::Error> {
-    Command::new(rt.alloc(), "flume-tags")
+    let alloc = rt.alloc();
+    let dir = arg!(in alloc; --dir <PATH> "Keep node n in the file node-n.db of this directory");
+    Command::new(alloc, "flume-tags")
         .about("Answers a script of tags, labels and questions, read from standard input")
+        // the files of an empty path would be those of the root
+        .arg(dir.value_parser(ValueParser::NonEmptyString))?
         .try_get_matches_from(words)
 }
 
-/// Whether the program may run. If not, the parser's text was printed.
-fn may_run(rt: &HostRuntime) -> Result<bool, RunFault> {
+/// Runs the script of standard input over these keepers.
+fn answered_over<M: MakesKeepers + Drop>(rt: &HostRuntime, keepers: M) -> Result<u8, RunFault> {
+    let mut input = rt.reader();
+    let mut output = io::writer(rt);
+    run(rt, &mut input, &mut output, Options::default(), keepers)
+}
+
+/// Runs the program, but where the parser gives no matches: then its text was printed.
+fn answered(rt: &HostRuntime) -> Result<u8, RunFault> {
     let words = env::args(rt).map_err(|_| RunFault::Memory)?;
     let words: Vec<String> = words.collect(rt.alloc()).map_err(|_| RunFault::Memory)?;
     match parsed(rt, &words) {
-        Ok(_) => Ok(true),
+        Ok(matches) => match matches.get_str("dir") {
+            Some(dir) => answered_over(rt, DirMaker::new(rt, dir)),
+            None => answered_over(rt, MemMaker),
+        },
         Err(error) => {
             let _ = error.print(rt);
-            Ok(false)
+            Ok(BAD_WORDS)
         }
     }
-}
-
-fn answered(rt: &HostRuntime) -> Result<u8, RunFault> {
-    if !may_run(rt)? {
-        return Ok(BAD_WORDS);
-    }
-    let mut input = rt.reader();
-    let mut output = io::writer(rt);
-    run(rt, &mut input, &mut output)
 }
 
 fn main(rt: HostRuntime) -> ExitCode {

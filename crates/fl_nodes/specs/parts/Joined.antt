@@ -1,16 +1,19 @@
 -- What the nodes of a world have against one another, and what is answered of an opening.
-use Rattle.std.specs.Prelude.{ℕ, List}
+use Rattle.std.specs.Prelude.{◌≡◌, ℕ}
 use Rattle.std.specs.FinMap as map
 use Rattle.std.specs.declared.result.Result.{Result}
 use Rattle.std.specs.declared.result.Result.TheVariants.{Ok, Err}
 use Rattle.fl_labels.specs.SetBy.{SetBy, In}
 use Rattle.fl_labels.specs.declared.name.Name.{Name}
+use Rattle.fl_ops.specs.declared.op.Op.{Op}
 use Rattle.fl_ops.specs.OpOrder.{op_cmp}
-use Rattle.fl_gossip.specs.Meeting.{IsClashOf, IsStrayOf, OfSome}
+use Rattle.fl_gossip.specs.Meeting.{IsClashOf, IsStrayOf}
 use Rattle.fl_system.specs.declared.answer.Fault.{Fault}
 use Rattle.fl_system.specs.declared.reply.Reply.{Reply}
 use Rattle.fl_system.specs.declared.reply.Reply.TheVariants.{Booted, Refused}
-use Rattle.fl_system.specs.World.{World}
+use Rattle.fl_system.specs.Union.{Union}
+use Rattle.fl_system.specs.World.{World, KeptNode}
+use Rattle.fl_system.specs.WorldSteps.{IsAt}
 use Rattle.fl_node.specs.Over.{NodeOver}
 use Rattle.fl_nodes.specs.Over.{WorldOver}
 use Rattle.fl_nodes.specs.Goes.{MayBeNode}
@@ -24,15 +27,19 @@ pub record ClashesWith {K : Type 0} (saved : SetBy op_cmp) (e : ℕ × NodeOver 
     (name : Name) : Type 0 where
   pub clash : IsClashOf (In saved) (In e.1.node.saved) name
 
--- an operation of this name, which has the number of this node, is in the set and not saved there
-pub record IsUnknownTo {K : Type 0} (saved : SetBy op_cmp) (e : ℕ × NodeOver K)
-    (name : Name) : Type 0 where
-  pub stray : IsStrayOf (In saved) (In e.1.node.saved) e.0 name
+-- An operation of this name comes with a newcomer of this number, which has saved these, and the node of its number has not saved
+-- it; or one of the newcomer's number is saved, and not by the newcomer.
+pub data IsStrayWith (w : World) (number : ℕ) (saved : SetBy op_cmp) (name : Name) : Type 0 where
+  brought : (op : Op) {owner : KeptNode} → op.name ≡ name → In saved op
+      → IsAt w op.name.node owner → ¬ In owner.node.saved op → IsStrayWith w number saved name
+  awaited : (op : Op) → op.name ≡ name → op.name.node ≡ number → Union w op → ¬ In saved op
+      → IsStrayWith w number saved name
 
--- one that this node has saved is unknown to one of the nodes
-pub record HasUnknown {K : Type 0} (all : List (ℕ × NodeOver K)) (e : ℕ × NodeOver K)
+-- the same of this node alone
+pub data StraysWith {K : Type 0} (number : ℕ) (saved : SetBy op_cmp) (e : ℕ × NodeOver K)
     (name : Name) : Type 0 where
-  pub unknown : OfSome (IsUnknownTo e.1.node.saved) all name
+  brought : IsStrayOf (In saved) (In e.1.node.saved) e.0 name → StraysWith number saved e name
+  awaited : IsStrayOf (In e.1.node.saved) (In saved) number name → StraysWith number saved e name
 
 -- with a node of this number too
 abbrev pub over_with : {K : Type 0} → WorldOver K → ℕ → NodeOver K → WorldOver K

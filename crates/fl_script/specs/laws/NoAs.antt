@@ -25,16 +25,20 @@ use Rattle.fl_rules.specs.declared.endpoint.Mode.TheVariants.{Read as ReadMode, 
 use Rattle.fl_jobs.specs.declared.job.Side.{Side}
 use Rattle.fl_jobs.specs.declared.job.Side.TheVariants.{Secrecy, Integrity as IntegritySide}
 use Rattle.fl_jobs.specs.declared.job.TooLong.{TooLong}
+use Rattle.fl_jobs.specs.declared.job.Act.TheVariants.{Order as Orders}
 use Rattle.fl_jobs.specs.declared.job.Job.{Job}
+use Rattle.fl_jobs.specs.declared.job.Job.TheVariants.{By}
 use Rattle.fl_aliases.specs.Words.{Word}
-use Rattle.fl_script.specs.Grammar.{Is, Matches, job_forms, forms, Spells}
+use Rattle.fl_script.specs.Grammar.{Is, Matches, job_forms, request_forms, forms, Spells}
 use Rattle.fl_script.specs.Reading.{makes, job_makes}
 use Rattle.hex.specs.Hex.{decode_pairs}
 use Rattle.fl_labels.specs.Cap.{cap_cmp}
 use Rattle.fl_jobs.specs.declared.secret.Secret.{Secret}
 use Rattle.fl_script.specs.Words.{side_text, mode_text, IsLabelWord, IsCapsWord, HasDigits, IsSecretWord, IsBytesWord}
 use Rattle.fl_script.specs.declared.line.Line.{Line}
-use Rattle.fl_script.specs.declared.line.Line.TheVariants.{Job as OfJob, Text, Deliver, Union, Aliases}
+use Rattle.fl_script.specs.declared.line.Line.TheVariants.{Node as OfNode, Union, Audit, Aliases}
+use Rattle.fl_script.specs.declared.request.Request.{Request}
+use Rattle.fl_script.specs.declared.request.Request.TheVariants.{Job as OfJob, Begin, Deliver, BeginDeliver, Tell, Save, Publish, Cancel, Restart, Text, Check}
 use Rattle.fl_script.specs.laws.JobKinds.{Kind, kind_of}
 use Rattle.fl_script.specs.laws.JobKinds.Kind.{proc, tag, group, put, make_login, relabel, ask, spawn, exit, drop, enter, emit, opens, tune, close, send, take, member, arrive}
 
@@ -150,12 +154,26 @@ of_job (take p) = (verb (codes "take") refl, (pid p, tt))
 of_job (member r c) = (verb (codes "member") refl, (cap r, (cap c, tt)))
 of_job (arrive d) = ((λ s. s), tt)
 
+-- the words of what is asked of a node
+of_request : (request : Request) → AllLack (request_forms request)
+of_request (OfJob job) = of_job (kind_of job)
+of_request (Begin p order) = (verb (codes "begin") refl, of_job (kind_of (By p (Orders order))))
+of_request (Deliver k) = (verb (codes "deliver") refl, (packet k, tt))
+of_request (BeginDeliver k) = (verb (codes "begin") refl, (verb (codes "deliver") refl, (packet k, tt)))
+of_request Tell = (verb (codes "tell") refl, tt)
+of_request Save = (verb (codes "save") refl, tt)
+of_request Publish = (verb (codes "publish") refl, tt)
+of_request Cancel = (verb (codes "cancel") refl, tt)
+of_request (Restart false) = (verb (codes "restart") refl, tt)
+of_request (Restart true) = (verb (codes "restart") refl, (verb (codes "kept") refl, tt))
+of_request Text = (verb (codes "text") refl, tt)
+of_request (Check bytes) = (verb (codes "check") refl, (payload bytes, tt))
+
 -- the words of each line
 of_line : (line : Line) → AllLack (forms line)
-of_line (OfJob n job) = (node n, of_job (kind_of job))
-of_line (Text n) = (node n, (verb (codes "text") refl, tt))
-of_line (Deliver n k) = (node n, (verb (codes "deliver") refl, (packet k, tt)))
+of_line (OfNode n request) = (node n, of_request request)
 of_line (Union n m) = (verb (codes "union") refl, (node n, (node m, tt)))
+of_line Audit = (verb (codes "audit") refl, tt)
 of_line Aliases = (verb (codes "aliases") refl, tt)
 
 at_front : (ps : List (Word → Type 0)) (front back : List Word) → AllLack ps → Matches ps (front ++ codes "as" ∷ back) → ⊥
@@ -172,13 +190,6 @@ few : {job : Job} → Kind job → length (job_forms job) ≤ 7
 few proc = omega arith
 few k = omega arith
 
-few_words : (line : Line) → length (forms line) ≤ 8
-few_words (OfJob n job) = omega (arith, few (kind_of job))
-few_words (Text n) = omega arith
-few_words (Deliver n k) = omega arith
-few_words (Union n m) = omega arith
-few_words Aliases = omega arith
-
 -- a job that makes something has at most 5 words
 few_made : {job : Job} → Kind job → job_makes job ≡ true → length (job_forms job) ≤ 5
 few_made proc e = omega arith
@@ -186,12 +197,23 @@ few_made (tune p x given) e = absurd (true≢false (sym e))
 few_made (send p from receiver to m) e = absurd (true≢false (sym e))
 few_made k e = omega arith
 
+few_asked : (request : Request) → length (request_forms request) ≤ 7
+few_asked (OfJob job) = few (kind_of job)
+few_asked (Begin p order) = omega (arith, few_made (kind_of (By p (Orders order))) refl)
+few_asked (Restart false) = omega arith
+few_asked (Restart true) = omega arith
+few_asked request = omega arith
+
+few_words : (line : Line) → length (forms line) ≤ 8
+few_words (OfNode n request) = omega (arith, few_asked request)
+few_words (Union n m) = omega arith
+few_words Audit = omega arith
+few_words Aliases = omega arith
+
+-- a line that makes something has at most 6 words
 few_words_made : (line : Line) → makes line ≡ true → length (forms line) ≤ 6
-few_words_made (OfJob n job) e = omega (arith, few_made (kind_of job) e)
-few_words_made (Text n) e = omega arith
-few_words_made (Deliver n k) e = omega arith
-few_words_made (Union n m) e = omega arith
-few_words_made Aliases e = omega arith
+few_words_made (OfNode n (OfJob job)) e = omega (arith, few_made (kind_of job) e)
+few_words_made line e = absurd (true≢false (sym e))
 
 same_length : (ps : List (Word → Type 0)) (words : List Word) → Matches ps words → length words ≡ length ps
 same_length [] [] s = refl

@@ -1,22 +1,22 @@
 -- Lines are answered, one after another, and their texts passed on.
-use Rattle.std.specs.Prelude.{◌≡◌, ◌+◌, ◌||◌, [], ℕ, List, Option, Bool, false, length, refl}
-use Rattle.std.specs.Coded.{Coded, code_by, coded×, coded_ℕ, coded_bool, coded_list}
+use Rattle.std.specs.Prelude.{◌≡◌, ◌+◌, [], ℕ, List, Option, length, max, refl}
+use Rattle.std.specs.Coded.{Coded, code_by, coded×, coded_ℕ, coded_list}
 use Rattle.fl_sink.specs.Sink.{Passes, Cuts}
-use Rattle.fl_stream.specs.Turns.{Turns, LineOutput, Run, texts, any_bad}
+use Rattle.fl_stream.specs.Turns.{Turns, LineOutput, Run, texts, worst}
 
 -- between two lines
 pub record InterpreterState (M : Type 0) : Type 0 where
   -- the number of the next line
   pub number : ℕ
-  -- some line was none of the script
-  pub bad : Bool
+  -- the greatest of a line
+  pub status : ℕ
   pub machine : M
   -- what waits to be written
   pub pending : List ℕ
 
 -- before the first line
 abbrev pub fresh : {M : Type 0} → M → InterpreterState M
-fresh machine = record { number = 1; bad = false; machine = machine; pending = [] }
+fresh machine = record { number = 1; status = 0; machine = machine; pending = [] }
 
 -- these lines were answered, and their text passed on
 pub record LinesPass {M : Type 0} (turns : Turns M) (old new : InterpreterState M)
@@ -24,7 +24,7 @@ pub record LinesPass {M : Type 0} (turns : Turns M) (old new : InterpreterState 
   pub outputs : List LineOutput
   pub run : Run turns old.number old.machine lines outputs new.machine
   pub count : new.number ≡ old.number + length lines
-  pub bad_is : new.bad ≡ old.bad || any_bad outputs
+  pub status_is : new.status ≡ max old.status (worst outputs)
   pub passed : Passes before after old.pending (texts outputs) new.pending
 
 -- these lines were answered, and a front of their text written
@@ -38,7 +38,7 @@ pub record LinesCut {M : Type 0} (turns : Turns M) (old : InterpreterState M) (b
 -- a state is stored as the tuple of its fields
 abbrev pub coded_interpreter : {M : Type 0} → Coded M → Coded (InterpreterState M)
 coded_interpreter {M} code =
-    code_by (ℕ × (Bool × (M × List ℕ))) (coded× coded_ℕ (coded× coded_bool (coded× code (coded_list coded_ℕ))))
-    (λ i. (i.number, (i.bad, (i.machine, i.pending))))
-    (λ t. record { number = t.0; bad = t.1.0; machine = t.1.1.0; pending = t.1.1.1 })
+    code_by (ℕ × (ℕ × (M × List ℕ))) (coded× coded_ℕ (coded× coded_ℕ (coded× code (coded_list coded_ℕ))))
+    (λ i. (i.number, (i.status, (i.machine, i.pending))))
+    (λ t. record { number = t.0; status = t.1.0; machine = t.1.1.0; pending = t.1.1.1 })
     (λ _. refl)

@@ -1,9 +1,9 @@
 -- A script is taken some bytes at a time, and each line is answered once it has ended.
-use Rattle.std.specs.Prelude.{◌≡◌, ◌++◌, ◌||◌, [], List, ℕ, Option, Bool, refl}
+use Rattle.std.specs.Prelude.{◌≡◌, ◌++◌, [], List, ℕ, Option, max, refl}
 use Rattle.std.specs.Coded.{Coded, code_by, coded×, coded_ℕ, coded_list}
 use Rattle.std.specs.Str.Lines.{lines}
 use Rattle.std.specs.Io.KnownBytes.{Appends}
-use Rattle.fl_stream.specs.Turns.{Turns, LineOutput, Run, texts, any_bad}
+use Rattle.fl_stream.specs.Turns.{Turns, LineOutput, Run, texts, worst}
 use Rattle.fl_stream.specs.Served.{IsEnded}
 use Rattle.fl_stream.specs.parts.Interpreter.{InterpreterState, coded_interpreter, LinesPass, LinesCut, fresh}
 
@@ -34,13 +34,13 @@ pub record BytesCut {M : Type 0} (turns : Turns M) (old : StreamState M) (before
   pub split : (later : List ℕ) → lines (old.held ++ (bytes ++ later)) ≡ seen ++ lines (left ++ later)
   pub halts : LinesCut turns old.interpreter before after seen
 
--- the bytes are the end: all lines were answered and written, and some was none of the script or none was
+-- the bytes are the end: all lines were answered and written, and this is the greatest status
 pub record EndPasses {M : Type 0} (turns : Turns M) (old : StreamState M) (before after : Option (List ℕ))
-    (bad : Bool) : Type 0 where
+    (status : ℕ) : Type 0 where
   pub outputs : List LineOutput
   pub end : M
   pub run : Run turns old.interpreter.number old.interpreter.machine (lines old.held) outputs end
-  pub bad_is : bad ≡ old.interpreter.bad || any_bad outputs
+  pub status_is : status ≡ max old.interpreter.status (worst outputs)
   pub written : Appends before after (old.interpreter.pending ++ texts outputs)
 
 -- the bytes are the end: all lines were answered, and a front of their text written

@@ -47,15 +47,15 @@ returns-in_err-turn-clause-cause g c =
 pub returns-in_err-turn-clause-err : goal.returns-in_err-turn-clause-err
 returns-in_err-turn-clause-err g c = on_err_always _ (reading_cuts c.hearing.invariant.reads c.in_err-turn.ensures.err)
 
-pub returns-in_err-any_bad-clause-err : goal.returns-in_err-any_bad-clause-err
-returns-in_err-any_bad-clause-err g c =
+pub returns-in_err-status-clause-err : goal.returns-in_err-status-clause-err
+returns-in_err-status-clause-err g c =
     let read = reading_then c.hearing.invariant.reads c.in_ok-turn.ensures.reads in
-    on_err_always _ (reading_end_cuts _ read (c.in_ok-turn.ensures.end c.if-branch.false) c.in_err-any_bad.ensures.err)
+    on_err_always _ (reading_end_cuts _ read (c.in_ok-turn.ensures.end c.if-branch.false) c.in_err-status.ensures.err)
 
 pub returns-clause-ok : goal.returns-clause-ok
 returns-clause-ok g c =
     let read = reading_then c.hearing.invariant.reads c.in_ok-turn.ensures.reads in
-    rw c.status_of.ensures (reading_answered _ read (c.in_ok-turn.ensures.end c.if-branch.false) c.in_ok-any_bad.ensures.ok)
+    (reading_answered _ read (c.in_ok-turn.ensures.end c.if-branch.false) c.in_ok-status.ensures.ok)
 
 pub returns-clause-short : goal.returns-clause-short
 returns-clause-short g c =

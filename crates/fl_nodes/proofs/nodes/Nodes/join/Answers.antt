@@ -1,10 +1,9 @@
 use Rattle.std.proofs.Common.{◌∙◌, refl, sym, subst}
-use Rattle.std.specs.Prelude.{IsSome}
 use Rattle.fl_gossip.specs.Meeting.{FindsLeast}
-use Rattle.fl_system.specs.Joins.{IsClashAt, IsStray}
-use Rattle.fl_nodes.specs.Joining.{GivesBack, IsRefused}
-use Rattle.fl_nodes.specs.parts.Joined.{AreNodes}
-use Rattle.fl_nodes.proofs.Newcomers.{handed_on, is_not_there, is_there, it_is_there, refused_clash, refused_memory, refused_opening, refused_stray, refused_there, some_none, takes_in}
+use Rattle.fl_system.specs.Joins.{IsClashAt}
+use Rattle.fl_nodes.specs.Joining.{DoesNotJoin, GivesBack}
+use Rattle.fl_nodes.specs.parts.Joined.{IsStrayWith}
+use Rattle.fl_nodes.proofs.Newcomers.{handed_on, is_not_there, is_there, refused_clash, refused_memory, refused_opening, refused_stray, refused_there, some_none, takes_in}
 use Rattle.fl_nodes.proofs.nodes.Nodes.join.Goals as goal
 
 pub returns-then-has-clause-refused : goal.returns-then-has-clause-refused
@@ -14,7 +13,7 @@ returns-then-has-clause-refused g c =
 
 pub returns-in_err-node-clause-refused : goal.returns-in_err-node-clause-refused
 returns-in_err-node-clause-refused g c =
-    handed_on c.from_residual.result (λ e. GivesBack g.K.Keeper.is_honest g.K.Keeper.may_hold c.args.self.now c.args.keeper c.args.self.now e.1 (IsRefused c.args.number e.0)) c.in_err-node.field-0.0
+    handed_on c.from_residual.result (λ e. GivesBack g.K.Keeper.is_honest g.K.Keeper.may_hold c.args.self.now c.args.keeper c.args.self.now e.1 (DoesNotJoin c.args.number e.0)) c.in_err-node.field-0.0
     c.from_residual.ensures.1 (refused_opening g.K.Keeper.is_honest g.K.Keeper.may_hold c.args.self.now c.has.ensures.desks c.args.number c.args.keeper
     (is_not_there _ _ c.has.ensures.there c.if-has.false) _ refl _ _ c.in_err-node.ensures.err)
 
@@ -27,31 +26,26 @@ returns-in-Some-clause-refused g c =
 
 pub returns-in_err-take_in-clause-refused : goal.returns-in_err-take_in-clause-refused
 returns-in_err-take_in-clause-refused g c =
-    handed_on c.from_residual-in_err-take_in.result (λ e. GivesBack g.K.Keeper.is_honest g.K.Keeper.may_hold c.args.self.now c.args.keeper c.take_in.new.self e.1 (IsRefused c.args.number e.0)) c.in_err-take_in.field-0.0
+    handed_on c.from_residual-in_err-take_in.result (λ e. GivesBack g.K.Keeper.is_honest g.K.Keeper.may_hold c.args.self.now c.args.keeper c.take_in.new.self e.1 (DoesNotJoin c.args.number e.0)) c.in_err-take_in.field-0.0
     c.from_residual-in_err-take_in.ensures.1 (refused_memory g.K.Keeper.is_honest g.K.Keeper.may_hold c.args.self.now c.has.ensures.desks c.args.number c.args.keeper
     (is_not_there _ _ c.has.ensures.there c.if-has.false) c.in_ok-node.node c.in_ok-node.ensures.ok
     _ c.in_err-take_in.ensures.same _ c.in_err-take_in.ensures.given _ c.in_err-take_in.ensures.fault)
 
-pub take_out-requires : goal.take_out-requires
-take_out-requires g c =
-    subst IsSome (sym (it_is_there c.args.self.now c.take_in.new.self c.args.number c.in_ok-node.node c.in_ok-take_in.ensures.ok)) refl
-
-pub returns-in-None-clause-joins : goal.returns-in-None-clause-joins
-returns-in-None-clause-joins g c =
+pub returns-clause-joins : goal.returns-clause-joins
+returns-clause-joins g c =
     takes_in g.K.Keeper.is_honest g.K.Keeper.may_hold c.args.self.now c.has.ensures.desks c.args.number c.args.keeper
     (is_not_there _ _ c.has.ensures.there c.if-has.false) c.in_ok-node.node c.in_ok-node.ensures.ok
     (λ w are. subst (FindsLeast (IsClashAt w c.in_ok-node.node.node.saved)) c.in_default.is (subst (λ s. FindsLeast (IsClashAt w s) c.clash.result) c.saved.ensures.saved (c.clash.ensures w are)))
     _ c.in_ok-take_in.ensures.ok c.boot-boot.result c.boot-boot.ensures.boot c.saved.ensures.names
-    (λ w are. subst (FindsLeast (IsStray w)) c.in-None.is (c.stray.ensures w (subst (λ n. AreNodes n w) (sym c.in_ok-take_in.ensures.ok) are)))
+    (λ w are. subst (FindsLeast (IsStrayWith w c.args.number c.in_ok-node.node.node.saved)) c.in_default-stray.is (subst (λ s. FindsLeast (IsStrayWith w c.args.number s) c.stray.result) c.saved-2.ensures.saved (c.stray.ensures w are)))
 
 pub returns-in-Some-stray-clause-refused : goal.returns-in-Some-stray-clause-refused
 returns-in-Some-stray-clause-refused g c =
     refused_stray g.K.Keeper.is_honest g.K.Keeper.may_hold c.args.self.now c.has.ensures.desks c.args.number c.args.keeper
     (is_not_there _ _ c.has.ensures.there c.if-has.false) c.in_ok-node.node c.in_ok-node.ensures.ok
     (λ w are. subst (FindsLeast (IsClashAt w c.in_ok-node.node.node.saved)) c.in_default.is (subst (λ s. FindsLeast (IsClashAt w s) c.clash.result) c.saved.ensures.saved (c.clash.ensures w are)))
-    _ (c.take_out.ensures.out c.args.self.now c.in_ok-node.node c.in_ok-take_in.ensures.ok (is_not_there _ _ c.has.ensures.there c.if-has.false))
-    _ (c.take_out.ensures.keeper c.in_ok-node.node (it_is_there c.args.self.now c.take_in.new.self c.args.number c.in_ok-node.node c.in_ok-take_in.ensures.ok))
-    c.in-Some-stray.name (λ w are. subst (FindsLeast (IsStray w)) c.in-Some-stray.is (c.stray.ensures w (subst (λ n. AreNodes n w) (sym c.in_ok-take_in.ensures.ok) are)))
+    _ refl c.into_keeper-in-Some-stray.result c.into_keeper-in-Some-stray.ensures c.in-Some-stray.name
+    (λ w are. subst (FindsLeast (IsStrayWith w c.args.number c.in_ok-node.node.node.saved)) c.in-Some-stray.is (subst (λ s. FindsLeast (IsStrayWith w c.args.number s) c.stray.result) c.saved-2.ensures.saved (c.stray.ensures w are)))
 
 pub returns-in_err-node-clause-there : goal.returns-in_err-node-clause-there
 returns-in_err-node-clause-there g c n at = absurd (some_none n (sym at ∙ is_not_there _ _ c.has.ensures.there c.if-has.false))
@@ -62,8 +56,8 @@ returns-in-Some-clause-there g c n at = absurd (some_none n (sym at ∙ is_not_t
 pub returns-in_err-take_in-clause-there : goal.returns-in_err-take_in-clause-there
 returns-in_err-take_in-clause-there g c n at = absurd (some_none n (sym at ∙ is_not_there _ _ c.has.ensures.there c.if-has.false))
 
-pub returns-in-None-clause-there : goal.returns-in-None-clause-there
-returns-in-None-clause-there g c n at = absurd (some_none n (sym at ∙ is_not_there _ _ c.has.ensures.there c.if-has.false))
+pub returns-clause-there : goal.returns-clause-there
+returns-clause-there g c n at = absurd (some_none n (sym at ∙ is_not_there _ _ c.has.ensures.there c.if-has.false))
 
 pub returns-in-Some-stray-clause-there : goal.returns-in-Some-stray-clause-there
 returns-in-Some-stray-clause-there g c n at = absurd (some_none n (sym at ∙ is_not_there _ _ c.has.ensures.there c.if-has.false))

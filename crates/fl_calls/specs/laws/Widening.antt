@@ -1,0 +1,48 @@
+-- What may be opened by a maker may be opened by one that makes no less.
+use Rattle.std.specs.Prelude.{ℕ}
+use Rattle.std.specs.declared.result.Result.{Result}
+use Rattle.fl_store.specs.Kept.{Kept}
+use Rattle.fl_store.specs.Keeping.{Held}
+use Rattle.fl_system.specs.declared.answer.Fault.{Fault}
+use Rattle.fl_system.specs.World.{World}
+use Rattle.fl_calls.specs.Answer.{Answer}
+use Rattle.fl_calls.specs.Entering.{Openings, Enters, is_there, joins, is_refused, OnceOpen, shut, opened}
+use Rattle.fl_calls.specs.Over.{none_made, not_joined, openings_of}
+
+-- the second ones find and refuse no less
+pub record OpensMore (less more : Openings) : Type 0 where
+  pub finds : (number : ℕ) (k : Kept) → less.finds number k → more.finds number k
+  pub refuses : (w : World) (number : ℕ) (fault : Fault) → less.refuses w number fault
+      → more.refuses w number fault
+
+-- those of a maker that makes no more than another
+pub opens_more : {K : Type 0} (is_honest : K → Type 0) (may_hold : K → Held) (finds finds' : ℕ → Kept → Type 0)
+    (refuses refuses' : ℕ → Fault → Type 0) → ((n : ℕ) (k : Kept) → finds' n k → finds n k)
+    → ((n : ℕ) (fault : Fault) → refuses' n fault → refuses n fault)
+    → OpensMore (openings_of is_honest may_hold finds' refuses') (openings_of is_honest may_hold finds refuses)
+opens_more {K} is_honest may_hold finds finds' refuses refuses' f r =
+    record { finds = f; refuses = refuses_more }
+  where
+    refuses_more : (w : World) (number : ℕ) (fault : Fault)
+        → (openings_of is_honest may_hold finds' refuses').refuses w number fault
+        → (openings_of is_honest may_hold finds refuses).refuses w number fault
+    refuses_more w number fault (none_made why) = none_made (r number fault why)
+    refuses_more w number fault (not_joined keeper over) =
+        not_joined keeper (λ trusted. let k = over trusted in (k.0, f number k.0 k.1, k.2))
+
+module _ (less more : Openings) (wider : OpensMore less more) where
+  pub enters_more : (w w' : World) (number : ℕ) (result : Result (Unit {0}) Fault)
+      → Enters less w number result w' → Enters more w number result w'
+  enters_more w w' number result (is_there at) = is_there at
+  enters_more w w' number result (joins none found step) =
+      joins none (wider.finds number _ found) step
+  enters_more w w' number result (is_refused none why) =
+      is_refused none (wider.refuses w number _ why)
+
+  pub once_open_more : (w w' : World) (number : ℕ) (does does' : World → Answer → World → Type 0) (answer : Answer)
+      → ((v : World) (answer : Answer) (v' : World) → does v answer v' → does' v answer v')
+      → OnceOpen less w number does answer w' → OnceOpen more w number does' answer w'
+  once_open_more w w' number does does' answer leads (shut entered) =
+      shut (enters_more w _ number _ entered)
+  once_open_more w w' number does does' answer leads (opened entered done) =
+      opened (enters_more w _ number _ entered) (leads _ _ _ done)

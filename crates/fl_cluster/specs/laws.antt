@@ -1,3 +1,0 @@
--- Lemmas that proofs of the crates above cite.
-pub mod NodePuts
-pub mod Sessions

@@ -1,0 +1,76 @@
+//! What a line asks of the world.
+ghost use Rattle.std.specs.Prelude.{◌≡◌, ◌<◌, All};
+ghost use Rattle.fl_script.specs.Grammar.{nodes_of};
+ghost use Rattle.fl_calls.specs.Answer.{shown};
+ghost use Rattle.fl_calls.specs.Over.{GoesOn};
+ghost use Rattle.fl_turns.specs.Turn.{AsksNode, job_at};
+ghost use Rattle.fl_cluster.specs.parts.Answering.{RespondsTo};
+
+use crate::response::Response;
+use fl_calls::cluster::Cluster;
+use fl_calls::response::Response as Said;
+use fl_jobs::job::{Act, Job};
+use fl_makers::maker::MakesKeepers;
+use fl_script::line::Line;
+use fl_script::request::Request;
+use fl_system::event::Event;
+use std::alloc::Global;
+
+/// The only desk of a node.
+const DESK: u8 = 1;
+
+// The job at the node's only desk, which looks at all that is published.
+fn job_at(node: u16, job: Job) -> Event
+    ensures { result ≡ job_at node job }
+{
+    Event::Job {
+        node,
+        desk: DESK,
+        upto: u64::MAX,
+        job,
+    }
+}
+
+// What is asked of the node is answered.
+fn respond_for<M: MakesKeepers>(
+    alloc: Global,
+    cluster: &mut Cluster<M>,
+    node: u16,
+    request: Request,
+) -> Said
+    requires { 0 < node }
+    ensures { GoesOn M.K.is_honest M.K.may_hold M.finds M.refuses cluster.old cluster.new
+        (λ openings w w'. AsksNode openings w node request (shown cluster.new.world result) w') }
+{
+    match request {
+        Request::Job(job) => cluster.ask(alloc, job_at(node, job)),
+        Request::Begin(pid, order) => {
+            cluster.begin(alloc, job_at(node, Job::By(pid, Act::Order(order))))
+        }
+        Request::Deliver(packet) => cluster.deliver(alloc, node, packet),
+        Request::BeginDeliver(packet) => cluster.begin_to_take(alloc, node, packet),
+        Request::Tell => cluster.ask(alloc, Event::Tell(node)),
+        Request::Save => cluster.ask(alloc, Event::Save(node)),
+        Request::Publish => cluster.ask(alloc, Event::Publish(node)),
+        Request::Cancel => cluster.ask(alloc, Event::Cancel(node)),
+        Request::Restart { kept } => cluster.ask(alloc, Event::Restart(node, kept)),
+        Request::Text => cluster.text(alloc, node),
+        Request::Check(bytes) => cluster.check(alloc, node, bytes.as_slice()),
+    }
+}
+
+/// Answers the line, whatever the aliases are.
+pub fn respond_to<M: MakesKeepers>(alloc: Global, cluster: &mut Cluster<M>, line: Line) -> Response
+    requires { All (λ node. 0 < node) (nodes_of line) }
+    ensures { RespondsTo M.K.is_honest M.K.may_hold M.finds M.refuses
+        cluster.old line result cluster.new }
+{
+    match line {
+        Line::Node { node, request } => {
+            Response::Said(respond_for(alloc, cluster, node, request))
+        }
+        Line::Union { first, second } => Response::Said(cluster.union(alloc, first, second)),
+        Line::Audit => Response::Said(cluster.audit()),
+        Line::Aliases => Response::Aliases,
+    }
+}

@@ -1,7 +1,0 @@
-use Rattle.fl_nodes.specs.parts.Joined.{HasUnknown}
-use Rattle.fl_nodes.proofs.Meets.{LeastSoFar}
-use Rattle.fl_nodes.proofs.joining.least_stray_of.Given as goal
-
--- the least of those so far was found
-abbrev pub invariant-loop-node : goal.invariant-loop-node
-invariant-loop-node g l = LeastSoFar (HasUnknown l.all.entries) l.all.entries l.node-iterator l.least

@@ -1,0 +1,16 @@
+use Rattle.std.proofs.lemmas.Map.Iter.{rest_all, rest_more}
+use Rattle.std.specs.Map.Iter.{deref_pair}
+use Rattle.fl_nodes.specs.parts.Joined.{StraysWith}
+use Rattle.fl_nodes.proofs.Meets.{least_end, least_step}
+use Rattle.fl_nodes.proofs.joining.least_stray_with.Goals as goal
+
+pub loop-other-preserved : goal.loop-other-preserved
+loop-other-preserved g c =
+    least_step (StraysWith c.args.number c.args.saved.now) c.args.all.now.entries c.loop-other.other-iterator c.next.new.self (deref_pair (c.in-Some.other, c.in-Some.node))
+    c.loop-other.least _ c.lesser-least.result (rest_more deref_pair _ _ _ _ c.in-Some.is c.next.ensures.steps) c.lesser-least.ensures.value
+    c.loop-other.invariant c.stray_between.ensures
+
+pub returns-clause-least : goal.returns-clause-least
+returns-clause-least g c =
+    least_end (StraysWith c.args.number c.args.saved.now) c.args.all.now.entries c.loop-other.other-iterator c.loop-other.least
+    (rest_all deref_pair _ _ _ c.in-None.is c.next.ensures.steps) c.loop-other.invariant

@@ -1,0 +1,9 @@
+mod Places
+mod Staying
+mod Pending
+mod Catching
+mod Idle
+mod Holding
+mod Between
+mod Wider
+mod Plain

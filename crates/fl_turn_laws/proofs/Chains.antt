@@ -1,0 +1,111 @@
+-- Lines over keepers, one after another, in each world that their nodes may be.
+use Rattle.std.proofs.Common.{◌≡◌, ◌+◌, ℕ, refl, sym, ap, subst, List, [], ◌∷◌}
+use Rattle.fl_store.specs.Kept.{Kept}
+use Rattle.fl_store.specs.Keeping.{Held}
+use Rattle.fl_stream.specs.Turns.{LineOutput, Run as Lines}
+use Rattle.fl_system.specs.declared.answer.Fault.{Fault}
+use Rattle.fl_system.specs.World.{World}
+use Rattle.fl_nodes.specs.Goes.{Goes}
+use Rattle.fl_nodes.specs.laws.Nothing.{none_is}
+use Rattle.fl_calls.specs.Entering.{Openings}
+use Rattle.fl_calls.specs.Over.{openings_of}
+use Rattle.fl_calls.specs.laws.Widening.{OpensMore, opens_more}
+use Rattle.fl_turns.specs.Over.{SessionOver, begun_over, TurnsOver}
+use Rattle.fl_turns.specs.Run.{output_of, outputs_from}
+use Rattle.fl_turns.specs.Session.{Session, begun}
+use Rattle.fl_world.specs.Reached.{InEach}
+use Rattle.fl_turn_laws.specs.Answered.{IsAnswered}
+use Rattle.fl_turn_laws.proofs.Widening.{turn_too}
+
+module _ {K M : Type 0} (is_honest : K → Type 0) (may_hold : K → Held) (finds : M → ℕ → Kept → Type 0)
+    (refuses : M → ℕ → Fault → Type 0) (start : M) where
+  -- the openings of this maker
+  from : M → Openings
+  from maker = openings_of is_honest may_hold (finds maker) (refuses maker)
+
+  -- the session over one of the worlds that its nodes may be
+  seen : SessionOver K M → World → Session
+  seen over w = record { world = w; aliases = over.aliases }
+
+  -- a maker that makes no more than the first one
+  record IsLess (maker : M) : Type 0 where
+    pub finds_less : (number : ℕ) (k : Kept) → finds maker number k → finds start number k
+    pub refuses_less : (number : ℕ) (fault : Fault) → refuses maker number fault → refuses start number fault
+
+  wider : (maker : M) → IsLess maker → OpensMore (from maker) (from start)
+  unfolding from
+  wider maker less =
+      opens_more is_honest may_hold (finds start) (finds maker) (refuses start) (refuses maker) less.finds_less less.refuses_less
+
+  -- the lines are answered so in each world that the nodes may be
+  Answers : ℕ → SessionOver K M → List (List ℕ) → List LineOutput → SessionOver K M → Type 0
+  Answers number old lines outputs new = Goes is_honest may_hold old.cluster.world new.cluster.world
+      (λ w w'. IsAnswered (from start) number (seen old w) lines outputs (seen new w'))
+
+  no_line : (number : ℕ) (over : SessionOver K M) → Answers number over [] [] over
+  unfolding Answers seen
+  no_line number over = record {
+    honest = λ all. all;
+    comes = λ all w is. (w, is, record { answers = []; run = refl; outputs_are = refl });
+  }
+
+  one_line : (number : ℕ) (old mid new : SessionOver K M) (line : List ℕ) (lines : List (List ℕ)) (output : LineOutput)
+      (outputs : List LineOutput) → IsLess old.cluster.maker
+      → TurnsOver is_honest may_hold finds refuses number old line output mid
+      → Answers (number + 1) mid lines outputs new → Answers number old (line ∷ lines) (output ∷ outputs) new
+  unfolding Answers from seen
+  one_line number old mid new line lines output outputs less turns rest = record {
+    honest = λ all. turns.turn.goes.honest (rest.honest all);
+    comes = λ all after is.
+        let between = rest.comes all after is in
+        let before = turns.turn.goes.comes (rest.honest all) between.0 between.1 in
+        let done = between.2 in (
+          before.0,
+          before.1,
+          record {
+            answers = turns.answer ∷ done.answers;
+            run = (
+              seen mid between.0,
+              turn_too (from old.cluster.maker) (from start) (wider old.cluster.maker less) (seen old before.0) line turns.answer
+                  (seen mid between.0) before.2,
+              done.run,
+            );
+            outputs_are = subst (λ o. o ∷ outputs ≡ output_of number turns.answer ∷ outputs_from (number + 1) done.answers)
+                (sym turns.output_is) (ap (λ os. output_of number turns.answer ∷ os) done.outputs_are);
+          },
+        );
+  }
+
+  less_after : (number : ℕ) (old mid : SessionOver K M) (line : List ℕ) (output : LineOutput) → IsLess old.cluster.maker
+      → TurnsOver is_honest may_hold finds refuses number old line output mid → IsLess mid.cluster.maker
+  less_after number old mid line output less turns = record {
+    finds_less = λ n k found. less.finds_less n k (turns.turn.finds_less n k found);
+    refuses_less = λ n fault why. less.refuses_less n fault (turns.turn.refuses_less n fault why);
+  }
+
+  chained : (number : ℕ) (old new : SessionOver K M) (lines : List (List ℕ)) (outputs : List LineOutput)
+      → IsLess old.cluster.maker → Lines (TurnsOver is_honest may_hold finds refuses) number old lines outputs new
+      → Answers number old lines outputs new
+  chained number old new [] [] less h = subst (λ x. Answers number old [] [] x) (sym h) (no_line number old)
+  chained number old new [] (output ∷ outputs) less h = absurd h
+  chained number old new (line ∷ lines) [] less h = absurd h
+  chained number old new (line ∷ lines) (output ∷ outputs) less h =
+      one_line number old h.0 new line lines output outputs less h.1
+      (chained (number + 1) h.0 new lines outputs (less_after number old h.0 line output less h.1) h.2)
+
+  -- from the world without a node on
+  pub script_answered : (lines : List (List ℕ)) (outputs : List LineOutput) (new : SessionOver K M)
+      → Lines (TurnsOver is_honest may_hold finds refuses) 1 (begun_over start) lines outputs new
+      → InEach is_honest may_hold new.cluster.world (λ w. IsAnswered
+      (openings_of is_honest may_hold (finds start) (refuses start)) 1 begun lines outputs
+      (record { world = w; aliases = new.aliases }))
+  unfolding Answers from seen
+  script_answered lines outputs new h =
+      let less : IsLess start = record { finds_less = λ n k found. found; refuses_less = λ n fault why. why } in
+      let all = chained 1 (begun_over start) new lines outputs less h in
+      record {
+        each = λ honest w is.
+            let before = all.comes honest w is in
+            subst (λ x. IsAnswered (from start) 1 (record { world = x; aliases = [] }) lines outputs (seen new w))
+            (sym (none_is may_hold 1 before.0 before.1)) before.2;
+      }

@@ -1,0 +1,24 @@
+use Rattle.fl_turns.specs.Session.{begun}
+use Rattle.fl_turn_laws.proofs.Chains.{script_answered}
+use Rattle.fl_turn_laws.proofs.Leads.{run_leads, is_reached}
+use Rattle.fl_turn_laws.proofs.laws.law_script_safe.Goals as goal
+
+pub returns-clause-safe : goal.returns-clause-safe
+returns-clause-safe g c = λ maker lines outputs end h.
+    let all = script_answered g.M.K.Keeper.is_honest g.M.K.Keeper.may_hold g.M.MakesKeepers.finds g.M.MakesKeepers.refuses
+    maker lines outputs end h in
+    record {
+      each = λ honest w is.
+          let answered = all.each honest w is in
+          c.law_headline.ensures w (is_reached w (run_leads _ begun lines answered.answers _ answered.run));
+    }
+
+pub returns-clause-lasting : goal.returns-clause-lasting
+returns-clause-lasting g c = λ maker lines outputs end h.
+    let all = script_answered g.M.K.Keeper.is_honest g.M.K.Keeper.may_hold g.M.MakesKeepers.finds g.M.MakesKeepers.refuses
+    maker lines outputs end h in
+    record {
+      each = λ honest w is.
+          let answered = all.each honest w is in
+          c.law_lasting.ensures w (is_reached w (run_leads _ begun lines answered.answers _ answered.run));
+    }

@@ -1,0 +1,31 @@
+-- When a script has one run.
+use Rattle.std.specs.Prelude.{◌≡◌, ℕ}
+use Rattle.fl_store.specs.Kept.{Kept}
+use Rattle.fl_store.specs.Keeping.{Held}
+use Rattle.fl_makers.specs.Making.{IsKeeperFault}
+use Rattle.fl_system.specs.declared.answer.Fault.{Fault}
+use Rattle.fl_system.specs.declared.reply.Reply.{Reply}
+use Rattle.fl_system.specs.declared.reply.Reply.TheVariants.{Refused}
+use Rattle.fl_one_laws.specs.Ample.{IsAmple, HasBoot}
+use Rattle.fl_calls.specs.Answer.{replied, dropped}
+use Rattle.fl_calls.specs.Over.{Trusts}
+use Rattle.fl_turns.specs.Answer.{Answer, said}
+
+-- nothing was refused for want of memory, of a name or of a boot, no keeper failed, and none was another node's
+pub record IsSureReply (reply : Reply) : Type 0 where
+  pub ample : IsAmple reply
+  pub boot : HasBoot reply
+
+-- no line was
+abbrev pub IsSure : Answer → Type 0
+IsSure (said (replied reply)) = IsSureReply reply
+IsSure (said (dropped fault)) = IsSureReply (Refused fault)
+IsSure answer = Unit {0}
+
+-- All keepers may be trusted, those that are made for a node hold one thing, and none is made only where memory is wanted, it
+-- fails, or is another node's.
+pub record OpenOneWay {K : Type 0} (is_honest : K → Type 0) (may_hold : K → Held)
+    (finds : ℕ → Kept → Type 0) (refuses : ℕ → Fault → Type 0) : Type 0 where
+  pub trusted : (keeper : K) → Trusts is_honest may_hold keeper
+  pub one_kept : (number : ℕ) (k other : Kept) → finds number k → finds number other → k ≡ other
+  pub fails : (number : ℕ) (fault : Fault) → refuses number fault → IsKeeperFault fault

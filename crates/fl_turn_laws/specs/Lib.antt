@@ -1,0 +1,5 @@
+pub mod Answered
+pub mod Beginning
+pub mod Certain
+pub mod InMemory
+pub mod Leading

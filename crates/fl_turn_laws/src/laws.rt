@@ -1,0 +1,136 @@
+//! Laws of scripts. A run is that of a script over the keepers of some maker, as `fl_cluster::run::run` answers it.
+ghost use Rattle.std.specs.Prelude.{◌≡◌, ◌≢◌, ◌++◌, ℕ, All, List, Option, None, Some, length, take};
+ghost use Rattle.fl_aliases.specs.declared.target.Target.{Target};
+ghost use Rattle.fl_calls.specs.Over.{openings_of};
+ghost use Rattle.fl_script.specs.Reading.{IsReading};
+ghost use Rattle.fl_script.specs.declared.line.Line.{Line};
+ghost use Rattle.fl_script.specs.declared.reading.Reading.TheVariants.{Means};
+ghost use Rattle.fl_stream.specs.Turns.{LineOutput, Run as Lines};
+ghost use Rattle.fl_system.specs.Runs.{IsReached};
+ghost use Rattle.fl_turn_laws.specs.Answered.{IsAnswered};
+ghost use Rattle.fl_turn_laws.specs.Beginning.{Begins};
+ghost use Rattle.fl_turn_laws.specs.Certain.{IsSure, OpenOneWay};
+ghost use Rattle.fl_turn_laws.specs.InMemory.{in_memory};
+ghost use Rattle.fl_turn_laws.specs.Leading.{Leads};
+ghost use Rattle.fl_turns.specs.Answer.{Answer, starved_line};
+ghost use Rattle.fl_turns.specs.Naming.{SetsAlias, made_by};
+ghost use Rattle.fl_turns.specs.Over.{SessionOver, TurnsOver, begun_over};
+ghost use Rattle.fl_turns.specs.Run.{Run};
+ghost use Rattle.fl_turns.specs.Session.{Session, begun};
+ghost use Rattle.fl_turns.specs.Turn.{Turn};
+ghost use Rattle.fl_world.specs.Headline.{IsSafeWorld};
+ghost use Rattle.fl_world.specs.Lasting.{IsLastingWorld};
+ghost use Rattle.fl_world.specs.Reached.{InEach};
+
+use fl_makers::maker::MakesKeepers;
+use fl_makers::mem::MemMaker;
+use fl_wire::laws::law_one_packet;
+use fl_world::laws::{law_headline, law_lasting};
+
+/// Where all keepers are honest, the lines of a script were answered, in each world that its nodes may be at the end, from the
+/// world without a node on, with what the keepers may hold that the maker makes from the start.
+pub fn law_script<M: MakesKeepers>()
+    ensures { (maker : M) (lines : List (List ℕ)) (outputs : List LineOutput)
+        (end : SessionOver M.K M) → Lines (TurnsOver M.K.is_honest M.K.may_hold M.finds M.refuses)
+        1 (begun_over maker) lines outputs end →
+        InEach M.K.is_honest M.K.may_hold end.cluster.world (λ w. IsAnswered
+        (openings_of M.K.is_honest M.K.may_hold (M.finds maker) (M.refuses maker))
+        1 begun lines outputs (record { world = w; aliases = end.aliases })) }
+{}
+
+/// The answer to a line is a run of worlds: so is that to all lines of a script, and each law of worlds that a run leads to
+/// holds of scripts.
+pub fn law_worlds<M: MakesKeepers>()
+    ensures turn { (maker : M) (old new : Session) (line : List ℕ) (answer : Answer) →
+        Turn (openings_of M.K.is_honest M.K.may_hold (M.finds maker) (M.refuses maker))
+        old line answer new → Leads old.world new.world }
+    ensures script { (maker : M) (lines : List (List ℕ)) (answers : List Answer) (end : Session) →
+        Run (openings_of M.K.is_honest M.K.may_hold (M.finds maker) (M.refuses maker))
+        begun lines answers end → IsReached end.world }
+{}
+
+/// The headline, and what lasts, of scripts: in each world that the nodes of a script may be after any of its lines, names are
+/// unique, what is published is saved, each open endpoint and each thing that was admitted is safe by all that is saved, whatever
+/// happens from then on, no yes is withdrawn, what is published grows by the node's own publications alone, and a tag is confined.
+pub fn law_script_safe<M: MakesKeepers>()
+    ensures safe { (maker : M) (lines : List (List ℕ)) (outputs : List LineOutput)
+        (end : SessionOver M.K M) → Lines (TurnsOver M.K.is_honest M.K.may_hold M.finds M.refuses)
+        1 (begun_over maker) lines outputs end →
+        InEach M.K.is_honest M.K.may_hold end.cluster.world IsSafeWorld }
+    ensures lasting { (maker : M) (lines : List (List ℕ)) (outputs : List LineOutput)
+        (end : SessionOver M.K M) → Lines (TurnsOver M.K.is_honest M.K.may_hold M.finds M.refuses)
+        1 (begun_over maker) lines outputs end →
+        InEach M.K.is_honest M.K.may_hold end.cluster.world IsLastingWorld }
+{
+    law_headline();
+    law_lasting();
+}
+
+/// What the first lines are answered is a run of them alone; and, where the keepers open one way and no line is answered that
+/// something was wanting, the same whatever comes later.
+pub fn law_first_lines<M: MakesKeepers>()
+    ensures begins { (maker : M) (first later : List (List ℕ)) (outputs : List LineOutput)
+        (end : SessionOver M.K M) → Lines (TurnsOver M.K.is_honest M.K.may_hold M.finds M.refuses)
+        1 (begun_over maker) (first ++ later) outputs end →
+        Begins (TurnsOver M.K.is_honest M.K.may_hold M.finds M.refuses)
+        1 (begun_over maker) first later outputs end }
+    ensures same { (maker : M) (first later other : List (List ℕ)) (a b : List Answer)
+        (m n : Session) →
+        OpenOneWay M.K.is_honest M.K.may_hold (M.finds maker) (M.refuses maker) →
+        Run (openings_of M.K.is_honest M.K.may_hold (M.finds maker) (M.refuses maker))
+        begun (first ++ later) a m →
+        Run (openings_of M.K.is_honest M.K.may_hold (M.finds maker) (M.refuses maker))
+        begun (first ++ other) b n → All IsSure a → All IsSure b →
+        take (length first) a ≡ take (length first) b }
+{
+    law_one_packet();
+}
+
+/// Where the keepers of a script's nodes open one way, as those in memory do, and no line is answered that memory, a name, a boot
+/// or a keeper was wanting, a script has one run: the same answers, and the same nodes at the end.
+pub fn law_output<M: MakesKeepers>()
+    ensures { (maker : M) (lines : List (List ℕ)) (a b : List Answer) (m n : Session) →
+        OpenOneWay M.K.is_honest M.K.may_hold (M.finds maker) (M.refuses maker) →
+        Run (openings_of M.K.is_honest M.K.may_hold (M.finds maker) (M.refuses maker))
+        begun lines a m →
+        Run (openings_of M.K.is_honest M.K.may_hold (M.finds maker) (M.refuses maker))
+        begun lines b n → All IsSure a → All IsSure b → (a ≡ b) × (m ≡ n) }
+{
+    law_one_packet();
+}
+
+/// So it is over keepers in memory, which open one way.
+pub fn law_in_memory()
+    ensures { (lines : List (List ℕ)) (a b : List Answer) (m n : Session) →
+        Run in_memory begun lines a m → Run in_memory begun lines b n → All IsSure a → All IsSure b →
+        (a ≡ b) × (m ≡ n) }
+{
+    law_output::<MemMaker>();
+}
+
+/// An alias stands for what its line made: a line sets its own alias alone, and only where it made something,
+/// in the place that the alias had, if it was set. Else a line leaves all aliases. Lines that say the same
+/// where these aliases are set are answered alike, unless memory is wanted.
+pub fn law_aliases<M: MakesKeepers>()
+    ensures kept { (maker : M) (old new : Session) (line : List ℕ) (answer : Answer) →
+        Turn (openings_of M.K.is_honest M.K.may_hold (M.finds maker) (M.refuses maker))
+        old line answer new → made_by answer ≡ None → new.aliases ≡ old.aliases }
+    ensures unnamed { (maker : M) (old new : Session) (line : List ℕ) (said : Line)
+        (answer : Answer) → IsReading old.aliases line (Means said None) →
+        Turn (openings_of M.K.is_honest M.K.may_hold (M.finds maker) (M.refuses maker))
+        old line answer new → new.aliases ≡ old.aliases }
+    ensures set { (maker : M) (old new : Session) (line : List ℕ) (said : Line) (alias : List ℕ)
+        (answer : Answer) (target : Target) →
+        IsReading old.aliases line (Means said (Some alias)) →
+        Turn (openings_of M.K.is_honest M.K.may_hold (M.finds maker) (M.refuses maker))
+        old line answer new → made_by answer ≡ Some target →
+        SetsAlias old.aliases alias target new.aliases }
+    ensures alike { (maker : M) (old new : Session) (line other : List ℕ) (said : Line)
+        (alias : Option (List ℕ)) (answer : Answer) →
+        IsReading old.aliases line (Means said alias) →
+        IsReading old.aliases other (Means said alias) → answer ≢ starved_line →
+        Turn (openings_of M.K.is_honest M.K.may_hold (M.finds maker) (M.refuses maker))
+        old line answer new →
+        Turn (openings_of M.K.is_honest M.K.may_hold (M.finds maker) (M.refuses maker))
+        old other answer new }
+{}
