@@ -23,9 +23,10 @@ monitor = Monitor()
 [alice] = monitor.ask("1 proc")
 tag = monitor.ask(f"1 tag {alice} export")[0].split()[1]
 [plugin] = monitor.ask(f"1 spawn {alice} {{}}")
-# the label comes first, and then what it stands for
+# the label comes first, and then what it stands for; a real driver starts the plug-in in a sandbox
 assert monitor.ask(f"1 label {plugin} S {{{tag}}}") == ["ok"]
 found = subprocess.run(["tr", "a-z", "A-Z"], input=b"friday", stdout=subprocess.PIPE, check=True).stdout
+# the plug-in may not let out what it found, and Alice may
 for pid in (plugin, alice):
     [verdict] = monitor.ask(f"1 emit {pid} none")
     print(pid, verdict, found.decode() if verdict.startswith("out ") else "(held back)")
