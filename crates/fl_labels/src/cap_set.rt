@@ -201,9 +201,9 @@ impl CapSet {
         other.caps.iter().all(|cap| self.contains(*cap))
     }
 
-    /// Adds each member of the other set, in place. Fails only where one of them is new and there is not enough memory, and then
-    /// leaves the set. Where none is new it takes no memory. Two binary searches for each member of the other; each that is new
-    /// moves the capabilities above it, and is appended where it is above all.
+    /// Adds each member of the other set, in place. Fails only where one of them is new and there is not enough
+    /// memory, and then leaves the set. Where none is new it takes no memory. Two binary searches for each member of
+    /// the other; each that is new moves the capabilities above it, and so is appended where it is above all.
     pub fn insert_all(&mut self, other: &CapSet) -> Result<(), AllocError>
         ensures ok { OnOk result (self.new ≡ set.union self.old other.now) }
         ensures err { OnErr result (self.new ≡ self.old) }
@@ -217,9 +217,9 @@ impl CapSet {
         Ok(())
     }
 
-    /// Removes a capability where the judge is content with what is left, and else leaves the set; answers what the judge answers.
-    /// The judge is asked once, also of a capability that is no member. Takes no memory of its own. A binary search, and moves the
-    /// capabilities above it, twice where the judge refuses.
+    /// Removes a capability where the judge is content with the rest, and else leaves the set. Answers what the judge
+    /// answers, which is asked once, also of a capability that is no member. Takes no memory of its own. A binary
+    /// search; moves the capabilities above, and back where the judge refuses.
     pub fn remove_if<C, E, J: FnOnce(&mut C, &CapSet) -> Result<(), E>>(
         &mut self,
         cap: Cap,
