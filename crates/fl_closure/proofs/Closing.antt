@@ -3,7 +3,7 @@ use Rattle.std.specs.Prelude.{◌≡◌, ◌⊎◌, ◌↔◌, List, [], ◌∷�
 use Rattle.std.proofs.Common.{inl, inr, sym, ap, subst, ◌∙◌}
 use Rattle.std.specs.List.{Contains}
 use Rattle.std.proofs.lemmas.List.{take_more}
-use Rattle.std.proofs.lemmas.List.Elements.{Contains-push, Contains-push_cases, Contains-append_left, Contains-get_or}
+use Rattle.std.proofs.lemmas.List.Elements.{Contains-push, Contains-push_cases, Contains-append_left}
 use Rattle.fl_labels.specs.SetBy.{SetBy, In}
 use Rattle.fl_labels.specs.declared.name.Name.{Name}
 use Rattle.fl_labels.specs.declared.cap.Cap.{Cap}
@@ -13,10 +13,7 @@ use Rattle.fl_ops.specs.declared.op.Body.TheVariants.{MakeTag, MakeGroup, Put, M
 use Rattle.fl_ops.specs.OpOrder.{op_cmp}
 use Rattle.fl_ops.specs.Registry.{Puts}
 use Rattle.fl_closure.specs.declared.rows.Rows.{Rows}
-use Rattle.fl_closure.specs.declared.closed.Entry.{Entry}
-use Rattle.fl_closure.specs.parts.Rows.{Holds}
-use Rattle.fl_closure.specs.parts.Closed.{IsPut, AreClosed, Renews, With, ClosesWith, PutsMore}
-use Rattle.fl_closure.specs.parts.Noted.{Gains}
+use Rattle.fl_closure.specs.parts.Closed.{IsPut, AreClosed, Renews, With, ClosesWith}
 use Rattle.fl_closure.proofs.Members.{none}
 use Rattle.fl_closure.proofs.Growing.{HasPutMore, renewed, same_puts}
 
@@ -78,15 +75,3 @@ module _ (old mid : Rows) (ops : List Op) (i : ℕ) (op : Op) where
       → ClosesWith old (take i ops) mid → ClosesWith old (take (i + 1) ops) mid
   closes_other within at never closes =
       on_to mid within at (λ s k. same_puts (with_more s (take i ops) op) (no_put s (take i ops) op never) (closes s k))
-
-pub puts_more : (old mid : Rows) (news : List Entry) (ops : List Op) (i : ℕ) (op : Op) (group : Name) (c : Cap)
-    → i < length ops → op ≡ get_or ops i op → op.body ≡ Put group c → Gains old news mid → ¬ Holds mid group c
-    → PutsMore old ops
-puts_more old mid news ops i op group c within at is gains more = record {
-  op = op;
-  member = subst (Contains ops) (sym at) (Contains-get_or ops i op within);
-  group = group;
-  c = c;
-  puts = subst (λ b. Puts b group c) (sym is) (refl, refl);
-  more = λ h. more ((gains.holds group c).1 (inl h));
-}

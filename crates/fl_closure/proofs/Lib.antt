@@ -7,3 +7,4 @@ mod Noting
 mod Growing
 mod Adding
 mod Closing
+mod Indexing

@@ -6,7 +6,7 @@ ghost use Rattle.fl_labels.specs.declared.name.Name.{Name};
 ghost use Rattle.fl_labels.specs.declared.cap.Cap.{Cap};
 ghost use Rattle.fl_labels.specs.declared.cap.Cap.TheVariants.{Use};
 ghost use Rattle.fl_closure.specs.parts.Rows.{has, Holds, Adds, Takes, IsSameRows};
-ghost use Rattle.fl_closure.specs.parts.Closed.{Leads, IsAbove, AreTransitive, AddsAll, AddsToEach, IsFirstOf, Renews, ClosesWith, PutsMore};
+ghost use Rattle.fl_closure.specs.parts.Closed.{Leads, IsAbove, AreTransitive, AddsAll, AddsToEach, IsFirstOf, Renews, ClosesWith};
 ghost use Rattle.fl_closure.specs.parts.Noted.{Gains, Loses, Notes};
 
 use crate::rows::Rows;
@@ -198,12 +198,11 @@ impl ClosedRows {
         Ok(())
     }
 
-    // Puts a capability into a group, and notes what that adds to the rows. Only a put of what the group does not reach can fail.
+    // Puts a capability into a group, and notes what that adds to the rows.
     fn put(&mut self, group: Name, cap: Cap, news: &mut Vec<Entry>) -> Result<(), AllocError>
         requires { AreTransitive self.old }
         ensures ok { OnOk result (Renews self.old group cap self.new) }
         ensures news { Notes news.old.items self.old news.new.items self.new }
-        ensures absent { OnErr result (¬ Holds self.old group cap) }
     {
         if self.reached.has(group, cap) {
             return Ok(());
@@ -214,13 +213,11 @@ impl ClosedRows {
     }
 
     /// Puts what the operations put, and notes what that adds to the rows: after an error too, so that it can be taken out again.
-    /// Only a put of what its group does not reach can fail.
     pub fn put_all(&mut self, ops: &[Op], news: &mut Vec<Entry>) -> Result<(), AllocError>
         requires transitive { AreTransitive self.old }
         requires none { news.old.items ≡ [] }
         ensures ok { OnOk result (ClosesWith self.old ops.now self.new) }
         ensures news { Gains self.old news.new.items self.new }
-        ensures absent { OnErr result (PutsMore self.old ops.now) }
     {
         for op in ops {
             if let Body::Put(group, cap) = op.body {

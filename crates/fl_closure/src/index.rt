@@ -1,8 +1,10 @@
 //! The index of who reaches what.
 ghost use Rattle.std.specs.Prelude.{◌≡◌, MatchOption, OnOk, OnErr, false};
+ghost use Rattle.std.specs.List.{Contains};
 ghost use Rattle.fl_labels.specs.Found.{Tells};
 ghost use Rattle.fl_labels.specs.SetBy as set;
-ghost use Rattle.fl_labels.specs.SetBy.{In};
+ghost use Rattle.fl_labels.specs.SetBy.{In, IsMissing};
+ghost use Rattle.fl_ops.specs.declared.op.Op.{Op};
 ghost use Rattle.fl_ops.specs.OpOrder.{op_cmp};
 ghost use Rattle.fl_ops.specs.Logins.{IsFirstLogin, HasNoLogin};
 ghost use Rattle.fl_ops.specs.Registry as spec;
@@ -55,6 +57,18 @@ fn tag_op(name: Name, policy: Policy) -> Op
     }
 }
 
+// Whether one of these operations is no member.
+fn lacks_one_of(ops: &OpSet, others: &[Op]) -> bool
+    ensures { Tells result ((op : Op) × Contains others.now op × (set.contains ops.now op ≡ false)) }
+{
+    for op in others {
+        if !ops.contains(op) {
+            return true;
+        }
+    }
+    false
+}
+
 impl Index {
     /// The index of no operation. Takes no memory.
     pub fn new(alloc: Global) -> Self
@@ -93,6 +107,9 @@ impl Index {
         ensures err { OnErr result (self.new ≡ self.old) }
         ensures absent { OnErr result (set.contains self.old op.now ≡ false) }
     {
+        if self.ops.contains(op) {
+            return Ok(());
+        }
         let mut news = Vec::new(self.alloc);
         if let Err(error) = self.rows.put_all(&[*op], &mut news) {
             self.rows.take_all(&news);
@@ -105,14 +122,19 @@ impl Index {
         Ok(())
     }
 
-    /// Adds operations, all or none: an error says that there was not enough memory, and leaves the index.
+    /// Adds operations, all or none. Fails only where one of them is new and there is not enough memory, and then leaves the index.
     ///
-    /// As `OpSet::merge` for the operations, and for each put as `absorb` for the rows. Until it ends, what is new in the rows is
+    /// A binary search for each up to the first that is new; then as `OpSet::merge` for the operations, and for each put as `absorb`
+    /// for the rows. Until it ends, what is new in the rows is
     /// also in a list, so that it can be taken out again without memory.
     pub fn absorb_all(&mut self, ops: &OpSet) -> Result<(), AllocError>
         ensures ok { OnOk result (self.new ≡ set.union self.old ops.now) }
         ensures err { OnErr result (self.new ≡ self.old) }
+        ensures absent { OnErr result ((op : Op) × IsMissing ops.now self.old op) }
     {
+        if !lacks_one_of(&self.ops, ops.as_slice()) {
+            return Ok(());
+        }
         let mut news = Vec::new(self.alloc);
         if let Err(error) = self.rows.put_all(ops.as_slice(), &mut news) {
             self.rows.take_all(&news);
@@ -151,6 +173,9 @@ impl Index {
     pub fn effective(&self, owned: &CapSet, cap: Cap) -> bool
         ensures { Tells result (InEffect (In self.now) (In owned.now) cap) }
     {
-        owned.contains(cap) || self.global(cap) || self.rows.one_leads(owned.as_slice(), cap)
+        if owned.contains(cap) || self.global(cap) {
+            return true;
+        }
+        self.rows.one_leads(owned.as_slice(), cap)
     }
 }

@@ -70,12 +70,3 @@ With s ops op = In s op ⊎ Contains ops op
 -- rows that were closed under a set are closed under it and the operations
 abbrev pub ClosesWith : Rows → List Op → Rows → Type 0
 ClosesWith old ops new = (s : SetBy op_cmp) → AreClosed (In s) old → AreClosed (With s ops) new
-
--- an operation of the list puts what its group did not reach
-pub record PutsMore (rows : Rows) (ops : List Op) : Type 0 where
-  pub op : Op
-  pub member : Contains ops op
-  pub group : Name
-  pub c : Cap
-  pub puts : Puts op.body group c
-  pub more : ¬ Holds rows group c

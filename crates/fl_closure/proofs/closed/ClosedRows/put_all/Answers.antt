@@ -1,7 +1,6 @@
-use Rattle.fl_closure.proofs.Rowing.{on_err}
 use Rattle.fl_closure.proofs.Noting.{gains_none}
 use Rattle.fl_closure.proofs.Growing.{transitive_after}
-use Rattle.fl_closure.proofs.Closing.{closes_none, closes_put, closes_other, puts_more}
+use Rattle.fl_closure.proofs.Closing.{closes_none, closes_put, closes_other}
 use Rattle.fl_closure.proofs.closed.ClosedRows.put_all.Goals.{in-Put+in_ok-put, in_default}
 use Rattle.fl_closure.proofs.closed.ClosedRows.put_all.Goals as goal
 
@@ -11,10 +10,6 @@ loop-op-init c = record {
   closes = closes_none c.args.self.now;
   gains = gains_none _ _ c.requires.none;
 }
-
-pub returns-in_err-put-clause-absent : goal.returns-in_err-put-clause-absent
-returns-in_err-put-clause-absent c =
-    on_err _ (puts_more _ _ _ _ _ c.op-item.result c.in-Put.group c.in-Put.cap c.loop-op-test.true c.op-item.is c.in-Put.is c.loop-op.invariant.gains c.in_err-put.ensures.absent)
 
 pub loop-op-preserved : goal.loop-op-preserved
 loop-op-preserved c = elim c.match-op.branch [
