@@ -1,7 +1,6 @@
 -- Rows closed under one operation more.
-use Rattle.std.specs.Prelude.{◌≡◌, ◌⊎◌, ◌↔◌, List, [], ◌∷◌, ◌++◌, ℕ, ◌+◌, ◌<◌, length, get_or, take, refl}
+use Rattle.std.specs.Prelude.{◌≡◌, ◌⊎◌, List, [], ◌∷◌, ◌++◌, ℕ, ◌+◌, ◌<◌, length, get_or, take, refl}
 use Rattle.std.proofs.Common.{inl, inr, sym, ap, subst, ◌∙◌}
-use Rattle.std.specs.List.{Contains}
 use Rattle.std.proofs.lemmas.List.{take_more}
 use Rattle.std.proofs.lemmas.List.Elements.{Contains-push, Contains-push_cases, Contains-append_left}
 use Rattle.fl_labels.specs.SetBy.{SetBy, In}
@@ -13,7 +12,7 @@ use Rattle.fl_ops.specs.declared.op.Body.TheVariants.{MakeTag, MakeGroup, Put, M
 use Rattle.fl_ops.specs.OpOrder.{op_cmp}
 use Rattle.fl_ops.specs.Registry.{Puts}
 use Rattle.fl_closure.specs.declared.rows.Rows.{Rows}
-use Rattle.fl_closure.specs.parts.Closed.{IsPut, AreClosed, Renews, With, ClosesWith}
+use Rattle.fl_closure.specs.parts.Closed.{IsPut, Renews, With, ClosesWith}
 use Rattle.fl_closure.proofs.Members.{none}
 use Rattle.fl_closure.proofs.Growing.{HasPutMore, renewed, same_puts}
 

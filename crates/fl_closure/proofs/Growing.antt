@@ -1,14 +1,12 @@
 -- What one put more lets a group reach.
 use Rattle.std.specs.Prelude.{◌≡◌, ◌⊎◌, ◌↔◌, List, Result, Ok, Err, OnOk, refl}
-use Rattle.std.proofs.Common.{inl, inr, sym, ap, subst, ◌∙◌}
+use Rattle.std.proofs.Common.{inl, inr, sym, subst}
 use Rattle.std.specs.List.{Contains}
-use Rattle.fl_labels.specs.Cap.{cap_name}
 use Rattle.fl_labels.specs.Found.{Within}
 use Rattle.fl_labels.specs.declared.name.Name.{Name}
 use Rattle.fl_labels.specs.declared.cap.Cap.{Cap}
 use Rattle.fl_labels.specs.declared.cap.Cap.TheVariants.{Plus, Minus, Use, Grow}
-use Rattle.fl_ops.specs.declared.op.Op.{Op}
-use Rattle.fl_ops.specs.Registry.{Registry, Puts, Chain, here, into}
+use Rattle.fl_ops.specs.Registry.{Registry, Chain, here, into}
 use Rattle.fl_ops.specs.laws.Reaching.{chain_on, chain_more}
 use Rattle.fl_closure.specs.declared.rows.Rows.{Rows}
 use Rattle.fl_closure.specs.parts.Rows.{Holds}

@@ -7,10 +7,9 @@ use Rattle.std.specs.Ordering.{eq_by_cmp, is_eq}
 use Rattle.std.proofs.lemmas.Bool.{or_cases, false≢true}
 use Rattle.std.proofs.lemmas.List.{take_more}
 use Rattle.std.proofs.lemmas.List.Elements.{Contains-get_or, Contains-append_cases}
-use Rattle.fl_labels.specs.Caps.{Caps}
 use Rattle.fl_labels.specs.Cap.{cap_cmp}
 use Rattle.fl_labels.specs.CapOrder.{cap_total, cap_exact}
-use Rattle.fl_labels.specs.Found.{Tells, Within}
+use Rattle.fl_labels.specs.Found.{Tells}
 use Rattle.fl_labels.specs.SetBy as set
 use Rattle.fl_labels.specs.SetBy.{SetBy, In, IsMissing, members, contains-empty, contains-insert, contains-union, contains-members, same_set}
 use Rattle.fl_labels.specs.declared.name.Name.{Name}
@@ -29,7 +28,7 @@ use Rattle.fl_closure.specs.parts.Noted.{Gains, Loses}
 use Rattle.fl_closure.proofs.Members.{none, one, first, in_all, in_has, has_in}
 use Rattle.fl_closure.proofs.Noting.{taken_back}
 use Rattle.fl_closure.proofs.Growing.{same_puts, leads_chain, chain_leads}
-use Rattle.fl_closure.proofs.Leading.{told, told_yes, told_no}
+use Rattle.fl_closure.proofs.Leading.{told, told_yes}
 
 -- the same operations
 same_ops : {U V : Registry} {rows : Rows} → ((op : Op) → U op ↔ V op) → AreClosed U rows → AreClosed V rows

@@ -16,7 +16,7 @@ use Rattle.fl_labels.specs.declared.cap.Cap.TheVariants.{Plus, Minus, Use, Grow}
 use Rattle.fl_labels.specs.declared.name.Name.{Name}
 use Rattle.fl_closure.specs.declared.rows.Rows.{Rows}
 use Rattle.fl_closure.specs.parts.Rows.{Holds}
-use Rattle.fl_closure.specs.parts.Closed.{Behind, Leads, IsAbove, AreMirrored}
+use Rattle.fl_closure.specs.parts.Closed.{Leads, IsAbove, AreMirrored}
 use Rattle.fl_closure.proofs.Members.{none, one, first, in_all}
 
 pub same_cap : (a b : Cap) (r : Bool) → r ≡ caps.ghosts.eq a b → r ≡ true → a ≡ b

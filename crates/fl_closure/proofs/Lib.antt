@@ -2,9 +2,9 @@ mod Rowing
 mod Members
 mod Listing
 mod Leading
-mod Mirroring
 mod Noting
 mod Growing
 mod Adding
 mod Closing
 mod Indexing
+mod Looks

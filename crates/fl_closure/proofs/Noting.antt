@@ -1,5 +1,5 @@
 -- What is added and noted, and taken out again.
-use Rattle.std.specs.Prelude.{◌≡◌, ◌⊎◌, ◌↔◌, Bool, true, false, List, [], ◌∷◌, ◌++◌, ℕ, ◌+◌, ◌<◌, length, get_or, take, refl}
+use Rattle.std.specs.Prelude.{◌≡◌, ◌⊎◌, false, List, [], ◌∷◌, ◌++◌, ℕ, ◌+◌, ◌<◌, length, get_or, take}
 use Rattle.std.proofs.Common.{inl, inr, sym, ap, subst, ◌∙◌}
 use Rattle.std.specs.List.{Contains}
 use Rattle.std.proofs.lemmas.Bool.{false≢true}
@@ -10,7 +10,7 @@ use Rattle.fl_labels.specs.declared.cap.Cap.{Cap}
 use Rattle.fl_closure.specs.declared.rows.Rows.{Rows}
 use Rattle.fl_closure.specs.declared.closed.Entry.{Entry}
 use Rattle.fl_closure.specs.parts.Rows.{has, Holds, IsPair, Adds, Takes, IsSameRows}
-use Rattle.fl_closure.specs.parts.Noted.{Into, Gains, Loses, Notes}
+use Rattle.fl_closure.specs.parts.Noted.{Into, Gains, Loses}
 use Rattle.fl_closure.proofs.Members.{none}
 
 abbrev pub entry : Name → Cap → Entry

@@ -1,12 +1,12 @@
 //! The index of who reaches what.
-ghost use Rattle.std.specs.Prelude.{◌≡◌, MatchOption, OnOk, OnErr, false};
+ghost use Rattle.std.specs.Prelude.{◌≡◌, OnOk, OnErr, false};
 ghost use Rattle.std.specs.List.{Contains};
 ghost use Rattle.fl_labels.specs.Found.{Tells};
 ghost use Rattle.fl_labels.specs.SetBy as set;
 ghost use Rattle.fl_labels.specs.SetBy.{In, IsMissing};
 ghost use Rattle.fl_ops.specs.declared.op.Op.{Op};
 ghost use Rattle.fl_ops.specs.OpOrder.{op_cmp};
-ghost use Rattle.fl_ops.specs.Logins.{IsFirstLogin, HasNoLogin};
+ghost use Rattle.fl_ops.specs.Logins.{FindsLogin};
 ghost use Rattle.fl_ops.specs.Registry as spec;
 ghost use Rattle.fl_ops.specs.Registry.{Reach, From, IsGlobal, InEffect};
 
@@ -90,8 +90,7 @@ impl Index {
 
     /// The least login of this name, as its capability and the digest of its secret, or none. A binary search; takes no memory.
     pub fn login(&self, name: Name) -> Option<(Cap, Digest)>
-        ensures { MatchOption result (HasNoLogin (In self.now) name)
-            (λ login. IsFirstLogin (In self.now) name login.0 login.1) }
+        ensures { FindsLogin (In self.now) name result }
     {
         self.ops.first_login(name)
     }

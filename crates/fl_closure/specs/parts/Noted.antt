@@ -1,5 +1,5 @@
 -- What was added to rows, noted so that it can be taken out again.
-use Rattle.std.specs.Prelude.{◌≡◌, ◌⊎◌, ◌↔◌, List}
+use Rattle.std.specs.Prelude.{◌⊎◌, ◌↔◌, List}
 use Rattle.std.specs.List.{Contains}
 use Rattle.fl_labels.specs.declared.name.Name.{Name}
 use Rattle.fl_labels.specs.declared.cap.Cap.{Cap}

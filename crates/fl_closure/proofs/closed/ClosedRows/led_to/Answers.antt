@@ -1,4 +1,4 @@
-use Rattle.std.proofs.Common.{ap, ◌∙◌, Vec, Global}
+use Rattle.std.proofs.Common.{ap, Vec, Global}
 use Rattle.fl_labels.specs.declared.cap.Cap.{Cap}
 use Rattle.fl_closure.proofs.Leading.{led_by_use, led_alone}
 use Rattle.fl_closure.proofs.closed.ClosedRows.led_to.Goals.{in-Use+in_ok-push_row, in_default}

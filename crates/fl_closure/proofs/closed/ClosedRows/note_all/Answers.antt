@@ -1,4 +1,4 @@
-use Rattle.fl_closure.proofs.Adding.{adds_none, adds_at, adds_whole}
+use Rattle.fl_closure.proofs.Adding.{adds_at}
 use Rattle.fl_closure.proofs.closed.ClosedRows.note_all.Goals as goal
 
 pub returns-in_err-note-clause-news : goal.returns-in_err-note-clause-news

@@ -1,4 +1,4 @@
-use Rattle.fl_closure.proofs.Noting.{loses_none, loses_at}
+use Rattle.fl_closure.proofs.Noting.{loses_at}
 use Rattle.fl_closure.proofs.closed.ClosedRows.take_all.Goals as goal
 
 pub loop-entry-preserved : goal.loop-entry-preserved
