@@ -1,8 +1,8 @@
 -- The loops that add to the rows.
-use Rattle.std.specs.Prelude.{◌≡◌, ◌⊎◌, List, [], ◌∷◌, ◌++◌, ℕ, ◌+◌, ◌<◌, ◌≤◌, length, get_or, take}
+use Rattle.std.specs.Prelude.{◌≡◌, ◌⊎◌, List, [], ◌∷◌, ◌++◌, ℕ, ◌+◌, ◌<◌, length, get_or, take}
 use Rattle.std.proofs.Common.{inl, inr, sym, ap, subst, ◌∙◌}
 use Rattle.std.specs.List.{Contains}
-use Rattle.std.proofs.lemmas.List.{take_more, take_all}
+use Rattle.std.proofs.lemmas.List.{take_more}
 use Rattle.std.proofs.lemmas.List.Elements.{Contains-push, Contains-push_cases, Contains-append_left}
 use Rattle.fl_labels.specs.Cap.{cap_name}
 use Rattle.fl_labels.specs.declared.name.Name.{Name}
@@ -10,13 +10,9 @@ use Rattle.fl_labels.specs.declared.cap.Cap.{Cap}
 use Rattle.fl_labels.specs.declared.cap.Cap.TheVariants.{Use}
 use Rattle.fl_closure.specs.declared.rows.Rows.{Rows}
 use Rattle.fl_closure.specs.parts.Rows.{Holds, IsPair, Adds}
-use Rattle.fl_closure.specs.parts.Closed.{AddsAll, AddsToEach, IsFirstOf}
-use Rattle.fl_closure.proofs.Members.{none}
+use Rattle.fl_closure.specs.parts.Closed.{AddsAll, AddsToEach}
 
 -- ---- to one row
-
-pub adds_none : (old : Rows) (group : Name) → AddsAll old group [] old
-adds_none old group = record { holds = λ g x. (λ h. inl h, λ h. elim h [ inl m ↦ m | inr two ↦ absurd (none _ two.1) ]) }
 
 adds_one : (old mid new : Rows) (group : Name) (caps : List Cap) (c : Cap) → AddsAll old group caps mid → Adds mid group c new
     → AddsAll old group (caps ++ c ∷ []) new
@@ -48,28 +44,7 @@ adds_at old mid new group caps i c within at adds one =
     subst (λ xs. AddsAll old group xs new) (sym (take_more caps i c within ∙ ap (λ x. take i caps ++ x ∷ []) (sym at)))
     (adds_one old mid new group (take i caps) c adds one)
 
-pub adds_whole : (old new : Rows) (group : Name) (caps : List Cap) (i : ℕ) → length caps ≤ i
-    → AddsAll old group (take i caps) new → AddsAll old group caps new
-adds_whole old new group caps i whole adds = subst (λ xs. AddsAll old group xs new) (take_all i caps whole) adds
-
--- a row that has the first of these
-pub adds_nothing : (old : Rows) (group : Name) (first : Cap) (caps : List Cap) → IsFirstOf old first caps
-    → Holds old group first → AddsAll old group caps old
-adds_nothing old group first caps is h = record {
-  holds = λ g x. (λ m. inl m, λ m. elim m [ inl k ↦ k | inr two ↦ subst (λ n. Holds old n x) (sym two.0) (is.all group x h two.1) ]);
-}
-
 -- ---- to each row
-
-pub each_none : (old : Rows) (caps : List Cap) → AddsToEach old [] caps old
-each_none old caps = record { holds = λ g x. (λ h. inl h, λ h. elim h [ inl m ↦ m | inr two ↦ absurd (none _ two.0) ]) }
-
--- the first of these leads to all of them also after some rows gained them all
-pub first_still : (old mid : Rows) (uses caps : List Cap) (first : Cap) → IsFirstOf old first caps
-    → AddsToEach old uses caps mid → IsFirstOf mid first caps
-first_still old mid uses caps first is adds = record {
-  all = λ g x h m. (adds.holds g x).1 (elim ((adds.holds g first).0 h) [ inl k ↦ inl (is.all g x k m) | inr two ↦ inr (two.0, m) ]);
-}
 
 each_one : (old mid new : Rows) (uses caps : List Cap) (group : Name) (this : Cap) → this ≡ Use group
     → AddsToEach old uses caps mid → AddsAll mid group caps new → AddsToEach old (uses ++ this ∷ []) caps new
@@ -127,7 +102,3 @@ module _ (old mid : Rows) (uses caps : List Cap) (i : ℕ) (this : Cap) (within 
 
   pub each_at_other : ((g : Name) → ¬ (this ≡ Use g)) → AddsToEach old (take (i + 1) uses) caps mid
   each_at_other no_use = on_to mid (each_other old mid (take i uses) caps this no_use adds)
-
-pub each_whole : (old new : Rows) (uses caps : List Cap) (i : ℕ) → length uses ≤ i → AddsToEach old (take i uses) caps new
-    → AddsToEach old uses caps new
-each_whole old new uses caps i whole adds = subst (λ xs. AddsToEach old xs caps new) (take_all i uses whole) adds

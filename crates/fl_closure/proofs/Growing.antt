@@ -123,12 +123,6 @@ module _ (rows : Rows) (transitive : AreTransitive rows) where
   on_above group user c (inl e) h = subst (λ k. Holds rows k c) (sym e) h
   on_above group user c (inr m) h = transitive.on user group c m h
 
-  -- a put of what the group reaches already
-  pub renews_nothing : (group : Name) (b : Cap) → Holds rows group b → Renews rows group b rows
-  renews_nothing group b h = record {
-    holds = λ user c. (λ m. inl m, λ m. elim m [ inl k ↦ k | inr two ↦ on_above group user c two.0 (on_leads group b c h two.1) ]);
-  }
-
   pub first_of_led : (b : Cap) (caps : List Cap) → ((c : Cap) → Contains caps c ↔ Leads rows b c) → IsFirstOf rows b caps
   first_of_led b caps is = record { all = λ group c h m. on_leads group b c h ((is c).0 m) }
 

@@ -137,10 +137,13 @@ nothing_new inside s more ops view listed never = subst (λ t. t ≡ set.union t
 
 pub one_is_new : (inside s more : SetBy op_cmp) (ops : List Op) → inside ≡ s → ops ≡ members more
     → (op : Op) × Contains ops op × (set.contains inside op ≡ false) → (op : Op) × IsMissing more s op
-one_is_new inside s more ops view listed h = (h.0, record {
-  here = has_in op_total op_exact more h.0 (subst (λ l. Contains l h.0) listed h.1);
-  not_there = subst (λ t. set.contains t h.0 ≡ false) view h.2;
-})
+one_is_new inside s more ops view listed h = (
+  h.0,
+  record {
+    here = has_in op_total op_exact more h.0 (subst (λ l. Contains l h.0) listed h.1);
+    not_there = subst (λ t. set.contains t h.0 ≡ false) view h.2;
+  },
+)
 
 pub known_already : (inside s : SetBy op_cmp) (op : Op) → inside ≡ s → set.contains inside op ≡ true → s ≡ set.insert s op
 known_already inside s op view there =

@@ -1,14 +1,13 @@
 -- What a look into a row tells.
 use Rattle.std.specs.Prelude.{◌≡◌, ◌⊎◌, ◌↔◌, Bool, true, false, List, ℕ, ◌+◌, ◌<◌, ◌≤◌, ◌++◌, [], ◌∷◌, length, get_or, take, refl}
 use Rattle.std.proofs.Common.{inl, inr, sym, ap, subst, ◌∙◌}
-use Rattle.std.specs.Cmp.{Equal-is, tied_itself}
-use Rattle.std.specs.Ordering.{is_eq}
+use Rattle.std.specs.Cmp.{Equal-is}
 use Rattle.std.specs.List.{Contains}
 use Rattle.std.proofs.lemmas.Bool.{false≢true}
 use Rattle.std.proofs.lemmas.List.{take_more}
 use Rattle.std.proofs.lemmas.List.Elements.{Contains-get_or, Contains-append_cases}
 use Rattle.fl_labels.specs.Cap.{cap_name, cap_cmp}
-use Rattle.fl_labels.specs.CapOrder.{cap_total, cap_exact, cap_tied}
+use Rattle.fl_labels.specs.CapOrder.{cap_exact, cap_tied}
 use Rattle.fl_labels.specs.Found.{Tells}
 use Rattle.fl_labels.specs.contracts.cap.CapPartialEq.TheImpl as caps
 use Rattle.fl_labels.specs.declared.cap.Cap.{Cap}
@@ -21,10 +20,6 @@ use Rattle.fl_closure.proofs.Members.{none, one, first, in_all}
 
 pub same_cap : (a b : Cap) (r : Bool) → r ≡ caps.ghosts.eq a b → r ≡ true → a ≡ b
 same_cap a b r e h = cap_exact a b ((Equal-is (cap_cmp a b)).0 (sym (cap_tied a b) ∙ sym e ∙ h))
-
-pub other_cap : (a b : Cap) (r : Bool) → r ≡ caps.ghosts.eq a b → r ≡ false → b ≡ a → ⊥
-other_cap a b r e h same =
-    false≢true (sym h ∙ e ∙ cap_tied a b ∙ ap (λ x. is_eq (cap_cmp a x)) same ∙ ap is_eq (tied_itself cap_total a))
 
 pub told_yes : {P : Type 0} → P → Tells true P
 told_yes p = record { holds = λ _. p; fails = λ never. absurd (false≢true (sym never)) }

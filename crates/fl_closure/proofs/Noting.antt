@@ -25,12 +25,6 @@ gains_none rows news e = subst (λ l. Gains rows l rows) (sym e) (record {
   fresh = λ g x h. absurd (none _ h);
 })
 
-pub gains_same : (old mid new : Rows) (news : List Entry) → Gains old news mid → IsSameRows mid new → Gains old news new
-gains_same old mid new news gains same = record {
-  holds = λ g x. (λ h. (gains.holds g x).0 ((same.holds g x).0 h), λ h. (same.holds g x).1 ((gains.holds g x).1 h));
-  fresh = gains.fresh;
-}
-
 pub gains_one : (old mid new : Rows) (news : List Entry) (group : Name) (c : Cap) → Gains old news mid → Adds mid group c new
     → has mid group c ≡ false → Gains old (news ++ entry group c ∷ []) new
 gains_one old mid new news group c gains adds absent = record {
@@ -61,10 +55,6 @@ gains_one old mid new news group c gains adds absent = record {
     by_fresh g x (inl m) there = gains.fresh g x m there
     by_fresh g x (inr e) there =
         false≢true (sym absent ∙ subst (λ (p : Entry). Holds mid p.group p.cap) (sym e) ((gains.holds g x).1 (inl there)))
-
--- what is taken out
-pub loses_none : (rows : Rows) → Loses rows [] rows
-loses_none rows = record { holds = λ g x. (λ h. (h, λ p. none _ p), λ h. h.0) }
 
 loses_one : (old mid new : Rows) (entries : List Entry) (this : Entry) → Loses old entries mid
     → Takes mid this.group this.cap new → Loses old (entries ++ this ∷ []) new

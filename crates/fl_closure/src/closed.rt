@@ -150,7 +150,12 @@ impl ClosedRows {
     }
 
     // Adds capabilities to the row of the group, and notes what is new there.
-    fn note_all(&mut self, group: Name, caps: &[Cap], news: &mut Vec<Entry>) -> Result<(), AllocError>
+    fn note_all(
+        &mut self,
+        group: Name,
+        caps: &[Cap],
+        news: &mut Vec<Entry>,
+    ) -> Result<(), AllocError>
         ensures ok { OnOk result (AddsAll self.old group caps.now self.new) }
         ensures news { Notes news.old.items self.old news.new.items self.new }
     {
