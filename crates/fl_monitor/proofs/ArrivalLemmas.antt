@@ -72,7 +72,7 @@ module _ (p : Process) (d : Data) where
 
           -- there is no memory for what it brings
           pub comes_starved : (inbox : List Letter) → inbox ≡ p.mailbox.inbox → Arrives p d (Err Memory) (record p { owned = Idle owned; mailbox = record p.mailbox { inbox = inbox } })
-          comes_starved inbox e = subst (Arrives p d (Err Memory)) (λ i. record p { owned = is i; mailbox = record p.mailbox { inbox = sym e i } }) (Arrives.no_room (ap is_under_way is) all_pass)
+          comes_starved inbox e = subst (Arrives p d (Err Memory)) (λ i. record p { owned = is i; mailbox = record p.mailbox { inbox = sym e i } }) (Arrives.no_room (not_busy, all_pass))
 
           pub comes_in : (joined : SetBy cap_cmp) → joined ≡ set.union owned d.message.caps → (inbox : List Letter) → inbox ≡ p.mailbox.inbox ++ record { sender = d.sender; message = d.message } ∷ []
               → Arrives p d (Ok (Outcome.Reply (Arrived d.receiver))) (record p { owned = Idle joined; mailbox = record p.mailbox { inbox = inbox } })

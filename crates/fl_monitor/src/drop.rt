@@ -5,18 +5,15 @@ ghost use Rattle.fl_rules.specs.Labels.{sets_of};
 ghost use Rattle.fl_monitor.specs.parts.Acts.{Drops};
 
 use crate::demand::{Demand, check};
-use crate::view::View;
 use fl_jobs::answer::{Outcome, Refusal, Reply};
 use fl_labels::cap::Cap;
 use fl_labels::cap_set::CapSet;
 use fl_mailbox::endpoints::Endpoints;
+use fl_ops::view::View;
 use fl_rules::labels::LabelsRef;
-use std::alloc::Global;
 
 /// Takes the capability away, where it is owned, and each endpoint of its owner, who has these labels, stays safe.
-/// Takes no memory where no endpoint is open.
 pub(crate) fn drop_cap<V: View>(
-    alloc: Global,
     view: &mut V,
     labels: LabelsRef<'_>,
     endpoints: &Endpoints,
@@ -30,15 +27,6 @@ pub(crate) fn drop_cap<V: View>(
     if !owned.contains(cap) {
         return Err(Refusal::NotOwned(cap));
     }
-    if endpoints.is_empty() {
-        owned.remove(cap);
-        return Ok(Outcome::Reply(Reply::Done));
-    }
-    let Ok(mut rest) = owned.copy(alloc) else {
-        return Err(Refusal::Memory);
-    };
-    rest.remove(cap);
-    check(alloc, view, &rest, Demand::Endpoints(labels, endpoints))?;
-    *owned = rest;
+    check(view, owned, Demand::Endpoints(labels, endpoints))?;
     Ok(Outcome::Reply(Reply::Done))
 }
