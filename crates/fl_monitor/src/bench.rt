@@ -174,7 +174,7 @@ impl Bench {
             Job::Proc => self.bear(Ok(Process::new(alloc))),
             Job::By(pid, act) => self.act(alloc, view, pid, act),
             Job::Member(root, cap) => Ok(Outcome::Reply(reply_of(view.reaches(root, cap)))),
-            Job::Arrive(data) => self.processes.arrive(alloc, data),
+            Job::Arrive(data) => self.processes.arrive(data),
         }
     }
 

@@ -93,13 +93,13 @@ impl Processes {
     }
 
     /// Brings a message to its receiver.
-    pub fn arrive(&mut self, alloc: Global, data: Data) -> Result<Outcome, Refusal>
+    pub fn arrive(&mut self, data: Data) -> Result<Outcome, Refusal>
         ensures { ArrivesAt self.old «data» result self.new }
     {
         let Some(process) = self.all.get_mut(&data.receiver) else {
             return Err(Refusal::NoProcess(data.receiver));
         };
-        arrive(process, alloc, data)
+        arrive(process, data)
     }
 
     /// Gives a process what the operation gives its maker, if there is that process and its operation is under way.
