@@ -1,5 +1,5 @@
 -- What the acts of a process owe.
-use Rattle.std.proofs.Common.{◌≡◌, ◌⊎◌, inl, inr, Bool, true, false, cond, refl, sym, ap, ◌∙◌, subst, Option, Result, Ok, Err, None, Some}
+use Rattle.std.proofs.Common.{◌≡◌, inl, inr, Bool, true, false, cond, refl, sym, ap, ◌∙◌, subst, Option, Result, Ok, Err, None, Some}
 use Rattle.std.specs.Result.{IsErr, IsErrAnd}
 use Rattle.std.specs.Prelude.{List, ℕ, IfOk}
 use Rattle.std.specs.declared.alloc.AllocError.{AllocError}
@@ -34,10 +34,9 @@ use Rattle.fl_jobs.specs.declared.answer.Reply.{Reply}
 use Rattle.fl_jobs.specs.declared.answer.Reply.TheVariants.{Done, Yes, NotYet, Emitted}
 use Rattle.fl_jobs.specs.declared.answer.Outcome.{Outcome}
 use Rattle.fl_rules.specs.declared.labels.Labels.{Labels}
-use Rattle.fl_mailbox.specs.Mailbox.{closed}
 use Rattle.fl_mailbox.specs.declared.mailbox.Mailbox.{Mailbox}
-use Rattle.fl_bench.specs.Process.{is_busy, is_under_way, ordering, child_of, with_side, body_of, OneOf, PutTakes}
-use Rattle.fl_bench.specs.Checks.{Check, demand, with, ◌then◌}
+use Rattle.fl_bench.specs.Process.{is_under_way, ordering, child_of, with_side, body_of, OneOf, PutTakes}
+use Rattle.fl_bench.specs.Checks.{demand, with, ◌then◌}
 use Rattle.fl_bench.specs.Guards.{grant_check}
 use Rattle.fl_bench.specs.Bench.{BenchState, has_at, gone}
 use Rattle.fl_bench.specs.Jobs.{Answers, order_checks, emission_check, checks_of, act_checks, bench_checks, checks, Performs, NeedsRoom, serials_left, Does}

@@ -22,8 +22,8 @@ use Rattle.fl_jobs.specs.declared.answer.Reply.TheVariants.{Arrived}
 use Rattle.fl_jobs.specs.declared.answer.Outcome.{Outcome}
 use Rattle.fl_bench.specs.Checks.{refuse_if, ◌then◌}
 use Rattle.fl_bench.specs.Guards.{sent_from, entry_refusal, pair_check}
-use Rattle.fl_bench.specs.Mailbox.{arrival_checks, entered}
-use Rattle.fl_bench.specs.Process.{held, is_under_way, is_busy, receiving}
+use Rattle.fl_bench.specs.Mailbox.{arrival_checks}
+use Rattle.fl_bench.specs.Process.{held, is_under_way, is_busy}
 use Rattle.fl_monitor.specs.parts.Acts.{Arrives}
 use Rattle.fl_bench.specs.declared.process.Holding.{Holding}
 use Rattle.fl_bench.specs.declared.process.Holding.TheVariants.{Idle, Ordering}

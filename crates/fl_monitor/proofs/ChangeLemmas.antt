@@ -1,24 +1,22 @@
 -- What changes of labels, and of what is owned, owe.
-use Rattle.std.proofs.Common.{◌≡◌, ◌∙◌, ◌⊎◌, inl, inr, refl, sym, ap, subst, Bool, true, false, cond, List, Option, Result, Ok, Err, None, Some}
+use Rattle.std.proofs.Common.{◌≡◌, ◌∙◌, inl, inr, sym, ap, subst, Bool, true, false, cond, List, Result, Ok, Err, None, Some}
 use Rattle.std.specs.Prelude.{not}
-use Rattle.std.specs.FinMap as map
 use Rattle.std.specs.Result.{IsErr, IsErrAnd}
 use Rattle.fl_labels.specs.Name.{name_cmp}
 use Rattle.fl_labels.specs.Cap.{cap_cmp}
 use Rattle.fl_labels.specs.SetBy as set
 use Rattle.fl_labels.specs.SetBy.{SetBy, In}
 use Rattle.fl_labels.specs.declared.cap.Cap.{Cap}
-use Rattle.fl_labels.specs.declared.endpoint.Endpoint.{Endpoint}
 use Rattle.fl_ops.specs.declared.op.Op.{Op}
 use Rattle.fl_ops.specs.Registry.{InEffect, Listed}
 use Rattle.fl_jobs.specs.declared.job.Side.{Side}
 use Rattle.fl_jobs.specs.declared.job.TooLong.{TooLong}
 use Rattle.fl_jobs.specs.declared.answer.Refusal.{Refusal}
-use Rattle.fl_jobs.specs.declared.answer.Refusal.TheVariants.{Memory, NotOwned}
+use Rattle.fl_jobs.specs.declared.answer.Refusal.TheVariants.{NotOwned}
 use Rattle.fl_jobs.specs.declared.answer.Reply.TheVariants.{Done}
 use Rattle.fl_jobs.specs.declared.answer.Outcome.{Outcome}
 use Rattle.fl_rules.specs.declared.labels.Labels.{Labels}
-use Rattle.fl_mailbox.specs.Endpoints.{Table, IsOpen}
+use Rattle.fl_mailbox.specs.Endpoints.{Table}
 use Rattle.fl_bench.specs.Process.{side_of, with_side}
 use Rattle.fl_bench.specs.Guards.{endpoints_check}
 use Rattle.fl_bench.specs.Jobs.{change_check}

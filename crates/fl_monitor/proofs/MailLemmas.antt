@@ -1,5 +1,5 @@
 -- What the work of a process with its mailbox owes.
-use Rattle.std.proofs.Common.{◌≡◌, ◌∙◌, ◌⊎◌, inl, inr, refl, sym, ap, subst, Bool, true, false, cond, List, Option, Result, Ok, Err, None, Some}
+use Rattle.std.proofs.Common.{◌≡◌, ◌∙◌, inl, inr, refl, sym, ap, subst, Bool, true, false, cond, Option, Result, Ok, Err, None, Some}
 use Rattle.std.specs.Prelude.{not, is_some}
 use Rattle.std.specs.Cmp.{IsTotalOrder, Equal-is}
 use Rattle.std.specs.Ordering.{eq_by_cmp}
@@ -8,7 +8,7 @@ use Rattle.std.specs.declared.cmp.Ordering.{Ordering}
 use Rattle.std.specs.FinMap as map
 use Rattle.std.specs.FinMap.{IsAntisymmetric}
 use Rattle.fl_labels.specs.Cap.{cap_cmp}
-use Rattle.fl_labels.specs.Endpoint.{endpoint_cmp, endpoint_total, endpoint_exact}
+use Rattle.fl_labels.specs.Endpoint.{endpoint_total, endpoint_exact}
 use Rattle.fl_labels.specs.SetBy.{SetBy, In}
 use Rattle.fl_labels.specs.declared.endpoint.Endpoint.{Endpoint}
 use Rattle.fl_labels.specs.declared.pid.Pid.{Pid}
@@ -34,7 +34,7 @@ use Rattle.fl_jobs.specs.declared.answer.Reply.TheVariants.{Done, Opened as Answ
 use Rattle.fl_jobs.specs.declared.answer.Outcome.{Outcome}
 use Rattle.fl_bench.specs.Checks.{refuse_if, ◌then◌}
 use Rattle.fl_bench.specs.Guards.{grant_check, endpoint_check}
-use Rattle.fl_bench.specs.Mailbox.{IsSent, taken, mail_checks, MailDoes}
+use Rattle.fl_bench.specs.Mailbox.{IsSent, taken, mail_checks}
 use Rattle.fl_monitor.specs.parts.Acts.{Closes, Mails}
 use Rattle.fl_monitor.specs.parts.Checked.{Checked}
 use Rattle.fl_monitor.proofs.ActLemmas.{passed_on}

@@ -76,7 +76,8 @@ fn require_both<V: View>(
     require(view, owned, greater)
 }
 
-// Whether the owner of these capabilities may put this one into the group. Either of the two that it takes may be the lesser.
+// Whether the owner of these capabilities may put this one into the group. Either of the two that it takes may be the
+// lesser.
 fn check_put<V: View>(view: &mut V, owned: &CapSet, group: Name, cap: Cap) -> Result<(), Refusal>
     ensures checked { let E = InEffect (Listed (V.list view.old)) (In owned.now) in
         Checked (demand cap_cmp (PutTakes group cap) E MissingCap) result }

@@ -47,16 +47,18 @@ fn take_in(inbox: &mut Inbox, owned: &mut CapSet, letter: Letter) -> Result<(), 
     ensures owns { OnOk result (owned.new ≡ set.union owned.old letter.message.caps) }
     ensures err { OnErr result ((inbox.new ≡ inbox.old) × (owned.new ≡ owned.old)) }
 {
-    inbox.push_with(letter, owned, |owned, letter|
-        ensures ok { OnOk result (owned.new ≡ set.union owned.old letter.now.message.caps) }
-        ensures err { OnErr result (owned.new ≡ owned.old) }
-    {
-        owned.insert_all(&letter.message.caps)
-    })
+    inbox.push_with(
+        letter,
+        owned,
+        |owned, letter|
+            ensures ok { OnOk result (owned.new ≡ set.union owned.old letter.now.message.caps) }
+            ensures err { OnErr result (owned.new ≡ owned.old) }
+        { owned.insert_all(&letter.message.caps) },
+    )
 }
 
-/// Takes a message in, where it may enter the endpoint that it is for: its capabilities are then owned, and it waits behind those
-/// that came before. Looks along the labels of both ends.
+/// Takes a message in, where it may enter the endpoint that it is for: its capabilities are then owned, and it waits
+/// behind those that came before. Looks along the labels of both ends, and copies nothing that is owned.
 pub(crate) fn arrive(process: &mut Process, data: Data) -> Result<Outcome, Refusal>
     ensures { Arrives process.old «data» result process.new }
 {

@@ -72,8 +72,8 @@ impl Bench {
         }
     }
 
-    /// Each process stands under a pid that this bench gave: of its node and boot, with a serial below the next one and some
-    /// strides away from it.
+    /// Each process stands under a pid that this bench gave: of its node and boot, with a serial below the next one
+    /// and some strides away from it.
     pub fn law_orderly(&self)
         ensures { IsOrderly self.now }
     {

@@ -34,15 +34,19 @@ impl<'a, V: View> Judge<'a, V> {
         ensures same { V.list self.new.view.now ≡ V.list self.old.view.now }
         ensures view { self.new.view.ghost_name ≡ self.old.view.ghost_name }
     {
-        owned.remove_if(cap, self, |judge, rest|
-            ensures checked { CheckedBy (V.list judge.old.view.now) rest.now
-                (λ E. endpoints_check E (sets_of judge.old.labels) judge.old.endpoints.now) result }
-            ensures same { V.list judge.new.view.now ≡ V.list judge.old.view.now }
-            ensures view { judge.new.view.ghost_name ≡ judge.old.view.ghost_name }
-        {
-            let demand = Demand::Endpoints(judge.labels, judge.endpoints);
-            check(judge.view, rest, demand)
-        })
+        owned.remove_if(
+            cap,
+            self,
+            |judge, rest|
+                ensures checked { CheckedBy (V.list judge.old.view.now) rest.now
+                    (λ E. endpoints_check E (sets_of judge.old.labels) judge.old.endpoints.now) result }
+                ensures same { V.list judge.new.view.now ≡ V.list judge.old.view.now }
+                ensures view { judge.new.view.ghost_name ≡ judge.old.view.ghost_name }
+            {
+                let demand = Demand::Endpoints(judge.labels, judge.endpoints);
+                check(judge.view, rest, demand)
+            },
+        )
     }
 }
 

@@ -1,5 +1,5 @@
 -- What the parts of a bench do: one process by itself, all of them with it, and a birth.
-use Rattle.std.specs.Prelude.{◌≡◌, ◌≢◌, false, not}
+use Rattle.std.specs.Prelude.{◌≡◌, ◌≢◌, not}
 use Rattle.std.specs.declared.alloc.AllocError.{AllocError}
 use Rattle.std.specs.declared.option.Option.TheVariants.{None, Some}
 use Rattle.std.specs.declared.result.Result.{Result}
@@ -34,7 +34,7 @@ use Rattle.fl_mailbox.specs.Endpoints.{Table}
 use Rattle.fl_mailbox.specs.Mailbox.{closed as no_mail}
 use Rattle.fl_mailbox.specs.declared.mailbox.Mailbox.{Mailbox}
 use Rattle.fl_mailbox.specs.declared.endpoints.OpenEndpoint.{OpenEndpoint}
-use Rattle.fl_bench.specs.Checks.{Check, refuse_if, ◌then◌}
+use Rattle.fl_bench.specs.Checks.{refuse_if, ◌then◌}
 use Rattle.fl_bench.specs.Guards.{grant_check, endpoints_check}
 use Rattle.fl_bench.specs.Mailbox.{mail_checks, arrival_checks, MailDoes, MailNeedsRoom}
 use Rattle.fl_bench.specs.Secrets.{digest_of}
@@ -64,7 +64,8 @@ pub data Spawns (E : Caps) (labels : Labels) (caps : SetBy cap_cmp) : Result Seq
   no_room : {e : AllocError} → grant_check E caps None → Spawns E labels caps (Ok (Birth (Err e)))
 
 -- the label of a side is set by who owns these and has these endpoints, or the labels stay
-pub data Relabels (V : Registry) (owned : SetBy cap_cmp) (table : Table) (old : Labels) (side : Side) (given : Result (SetBy name_cmp) TooLong) : Result Outcome Refusal → Labels → Type 0 where
+pub data Relabels (V : Registry) (owned : SetBy cap_cmp) (table : Table) (old : Labels) (side : Side)
+    (given : Result (SetBy name_cmp) TooLong) : Result Outcome Refusal → Labels → Type 0 where
   safe : {label : SetBy name_cmp} → given ≡ Ok label
       → (change_check (InEffect V (In owned)) (side_of side old) label
       then endpoints_check (InEffect V (In owned)) (with_side side label old) table) None
@@ -76,7 +77,8 @@ pub data Relabels (V : Registry) (owned : SetBy cap_cmp) (table : Table) (old : 
   too_long : {e : TooLong} → given ≡ Err e → Relabels V owned table old side given (Err LabelTooLong) old
 
 -- who owns these and has these labels and endpoints drops c, or keeps it
-pub data Drops (V : Registry) (labels : Labels) (table : Table) (owned : SetBy cap_cmp) (c : Cap) : Result Outcome Refusal → SetBy cap_cmp → Type 0 where
+pub data Drops (V : Registry) (labels : Labels) (table : Table) (owned : SetBy cap_cmp) (c : Cap)
+    : Result Outcome Refusal → SetBy cap_cmp → Type 0 where
   dropped : (refuse_if (not (set.contains owned c)) (NotOwned c)
       then endpoints_check (InEffect V (In (set.remove owned c))) labels table) None
       → Drops V labels table owned c (Ok (Outcome.Reply Done)) (set.remove owned c)
@@ -96,7 +98,8 @@ pub data Enters (V : Registry) (owned : SetBy cap_cmp) (login : Name) (secret : 
       → Enters V owned login secret (Err Memory) owned
 
 -- who owns these, a process of these labels, uses its mailbox
-pub data Mails (V : Registry) (owned : SetBy cap_cmp) (pid : Pid) (labels : Labels) (ch : Mailbox) (mail : Mail) : Result Outcome Refusal → Mailbox → Type 0 where
+pub data Mails (V : Registry) (owned : SetBy cap_cmp) (pid : Pid) (labels : Labels) (ch : Mailbox) (mail : Mail)
+    : Result Outcome Refusal → Mailbox → Type 0 where
   passed : {outcome : Outcome} {ch' : Mailbox} → mail_checks (InEffect V (In owned)) labels ch mail None
       → MailDoes pid ch mail outcome ch'
       → Mails V owned pid labels ch mail (Ok outcome) ch'

@@ -1,4 +1,4 @@
-use Rattle.std.proofs.Common.{refl, sym}
+use Rattle.std.proofs.Common.{sym}
 use Rattle.fl_monitor.proofs.ArrivalLemmas.{comes_busy, comes_nowhere, comes_unsafe, comes_full, comes_starved, comes_in}
 use Rattle.fl_monitor.proofs.arrive.arrive.Goals as goal
 
