@@ -126,7 +126,7 @@ impl Index {
     /// A binary search for each up to the first that is new; then as `OpSet::merge` for the operations, and for each put as `absorb`
     /// for the rows. Until it ends, what is new in the rows is
     /// also in a list, so that it can be taken out again without memory.
-    pub fn absorb_all(&mut self, ops: &OpSet) -> Result<(), AllocError>
+    pub fn absorb_all(&mut self, alloc: Global, ops: &OpSet) -> Result<(), AllocError>
         ensures ok { OnOk result (self.new ≡ set.union self.old ops.now) }
         ensures err { OnErr result (self.new ≡ self.old) }
         ensures absent { OnErr result ((op : Op) × IsMissing ops.now self.old op) }
@@ -134,7 +134,7 @@ impl Index {
         if !lacks_one_of(&self.ops, ops.as_slice()) {
             return Ok(());
         }
-        let mut news = Vec::new(self.alloc);
+        let mut news = Vec::new(alloc);
         if let Err(error) = self.rows.put_all(ops.as_slice(), &mut news) {
             self.rows.take_all(&news);
             return Err(error);
