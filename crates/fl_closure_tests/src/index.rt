@@ -299,8 +299,8 @@ fn a_batch_is_added_whole(rt: HostRuntime) -> Result<(), Fail> {
     let mut batch = OpSet::new(alloc);
     batch.add(first)?;
     batch.add(second)?;
-    index.absorb_all(&batch)?;
-    index.absorb_all(&batch)?;
+    index.absorb_all(alloc, &batch)?;
+    index.absorb_all(alloc, &batch)?;
     assert!(rt; index.ops().as_slice() == [first, second].as_slice());
     assert!(rt; index.reaches(Cap::Use(FIRST), Cap::Plus(NINTH)));
     Ok(())
