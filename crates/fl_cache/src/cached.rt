@@ -84,12 +84,12 @@ impl CachedIndex {
     }
 
     /// Adds operations, all or none, as [`Index::absorb_all`] does. What the cache keeps stays.
-    pub fn absorb_all(&mut self, ops: &OpSet) -> Result<(), AllocError>
+    pub fn absorb_all(&mut self, alloc: Global, ops: &OpSet) -> Result<(), AllocError>
         ensures ok { OnOk result (self.new ≡ set.union self.old ops.now) }
         ensures err { OnErr result (self.new ≡ self.old) }
         ensures absent { OnErr result ((op : Op) × IsMissing ops.now self.old op) }
     {
-        self.index.absorb_all(ops)
+        self.index.absorb_all(alloc, ops)
     }
 
     /// Whether the owner of the one capability reaches the other, as [`YesCache::ask`] answers. Never fails.
