@@ -124,8 +124,7 @@ impl Index {
     /// Adds operations, all or none. Fails only where one of them is new and there is not enough memory, and then leaves the index.
     ///
     /// A binary search for each up to the first that is new; then as `OpSet::merge` for the operations, and for each put as `absorb`
-    /// for the rows. Until it ends, what is new in the rows is
-    /// also in a list, so that it can be taken out again without memory.
+    /// for the rows. Until it ends, what is new in the rows is also in a list, so that it can be taken out again without memory.
     pub fn absorb_all(&mut self, alloc: Global, ops: &OpSet) -> Result<(), AllocError>
         ensures ok { OnOk result (self.new ≡ set.union self.old ops.now) }
         ensures err { OnErr result (self.new ≡ self.old) }
