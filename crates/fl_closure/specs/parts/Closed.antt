@@ -49,11 +49,13 @@ pub record AreTransitive (rows : Rows) : Type 0 where
 
 -- one row has these capabilities, and all else is as it was
 pub record AddsAll (old : Rows) (group : Name) (caps : List Cap) (new : Rows) : Type 0 where
-  pub holds : (other : Name) (c : Cap) → Holds new other c ↔ (Holds old other c ⊎ ((other ≡ group) × Contains caps c))
+  pub holds : (other : Name) (c : Cap)
+      → Holds new other c ↔ (Holds old other c ⊎ ((other ≡ group) × Contains caps c))
 
 -- the row of each group that is used here has these capabilities, and all else is as it was
 pub record AddsToEach (old : Rows) (uses caps : List Cap) (new : Rows) : Type 0 where
-  pub holds : (other : Name) (c : Cap) → Holds new other c ↔ (Holds old other c ⊎ (Contains uses (Use other) × Contains caps c))
+  pub holds : (other : Name) (c : Cap)
+      → Holds new other c ↔ (Holds old other c ⊎ (Contains uses (Use other) × Contains caps c))
 
 -- a row with the first of these has all of them
 pub record IsFirstOf (rows : Rows) (first : Cap) (caps : List Cap) : Type 0 where
@@ -61,7 +63,8 @@ pub record IsFirstOf (rows : Rows) (first : Cap) (caps : List Cap) : Type 0 wher
 
 -- after a put of b into the group, those above it reach what b leads to
 pub record Renews (old : Rows) (group : Name) (b : Cap) (new : Rows) : Type 0 where
-  pub holds : (user : Name) (c : Cap) → Holds new user c ↔ (Holds old user c ⊎ (IsAbove old group user × Leads old b c))
+  pub holds : (user : Name) (c : Cap)
+      → Holds new user c ↔ (Holds old user c ⊎ (IsAbove old group user × Leads old b c))
 
 -- the members of the set and of the list
 abbrev pub With : SetBy op_cmp → List Op → Registry
