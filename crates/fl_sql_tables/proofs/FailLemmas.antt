@@ -22,7 +22,7 @@ use Rattle.sqlite.specs.Command.TheVariants.{Select}
 use Rattle.sqlite_resolve.specs.declared.compiled.Compiled.{Compiled}
 use Rattle.sqlite_resolve.specs.declared.error.CompileError.{CompileError}
 use Rattle.sqlite.proofs.Callers.{command_of}
-use Rattle.fl_sql_tables.specs.Tables.{keeper_schema, select_self_text, select_ops_text, select_whole_text, insert_op_text, raise_boot_text}
+use Rattle.fl_sql_tables.specs.Tables.{keeper_schema, select_self_text, insert_op_text, raise_boot_text}
 use Rattle.sqlite.specs.Command.TheVariants.{Update, Insert}
 use Rattle.sqlite.specs.Reading.{IsReadError}
 use Rattle.sqlite.specs.Order.{column}
@@ -36,11 +36,15 @@ use Rattle.std.specs.Prelude.{◌&&◌, is_some, IsErrAnd}
 use Rattle.sqlite.specs.Effect.{is_query}
 use Rattle.sqlite.specs.State.{mode_of, is_pragma, QueriesRow, Shown, ExecutesIn, ExecutesInside, EndsScope, Escapes, IsMisplaced, shows_rows, RunsCommand, RunsAlone, text_of}
 use Rattle.std.proofs.lemmas.Bool.{cases_Bool}
-use Rattle.fl_sql_tables.specs.Stored.{self_row}
+use Rattle.fl_sql_tables.specs.Stored.{self_row, AddsOps, PutsIn, IsOurs, ops_in}
+use Rattle.std.proofs.Common.{take, drop, drop-cons, get_or, suc, ◌++◌}
+use Rattle.std.proofs.lemmas.List.{take-append-drop}
+use Rattle.fl_sql_tables.proofs.StateLemmas.{zero_or}
+use Rattle.fl_sql_tables.proofs.SetLemmas.{with_none}
 use Rattle.fl_sql_tables.specs.Spelling.{row_of}
-use Rattle.fl_sql_tables.specs.Failing.{IsFault, IsRefused, FailsToRaise, FailsToPut}
+use Rattle.fl_sql_tables.specs.Failing.{IsFault, IsRefused, FailsToRaise, FailsToPut, FailsToSave}
 use Rattle.fl_sql_tables.proofs.BootLemmas.{shown_self, selects_self}
-use Rattle.fl_sql_tables.proofs.Texts.{self_query, select_self_is, ops_query, select_ops_is, plain_1, plain_3, plain_4, plain_5, unlisted_3, unlisted_5, raise_boot_is, insert_op_is}
+use Rattle.fl_sql_tables.proofs.Texts.{self_query, select_self_is, plain_1, plain_4, plain_5, unlisted_5, raise_boot_is, insert_op_is}
 
 -- the text is one statement, with so many parameters
 abbrev pub IsWhole : List ℕ → ℕ → Result Compiled CompileError → Type 0
@@ -50,10 +54,6 @@ IsWhole sql count (Err e) = ⊥
 pub whole_self : IsWhole select_self_text 0 (understood keeper_schema select_self_text)
 unfolding understood everything
 whole_self = (refl, refl)
-
-pub whole_ops : IsWhole select_ops_text 0 (understood keeper_schema select_ops_text)
-unfolding understood everything
-whole_ops = (refl, refl)
 
 pub whole_raise : IsWhole raise_boot_text 1 (understood keeper_schema raise_boot_text)
 unfolding understood everything
@@ -72,10 +72,6 @@ self_accepted : accepts_program keeper_schema [] self_query [] ≡ true
 unfolding understood everything
 self_accepted = refl
 
-ops_accepted : accepts_program keeper_schema [] ops_query [] ≡ true
-unfolding understood everything
-ops_accepted = refl
-
 -- one table is read, nothing is summed
 reads_always : (query : Query) (names : List (List ℕ)) → accepts_program keeper_schema [] query [] ≡ true → ((trees : Trees) → ¬ QueryOverflows query (overlay trees []) [])
     → IsReadAlways (Select (record { lets = []; body = query }) names)
@@ -87,15 +83,8 @@ self_never : (trees : Trees) → ¬ QueryOverflows self_query (overlay trees [])
 self_never trees (inl over) = over
 self_never trees (inr over) = over.4
 
-ops_never : (trees : Trees) → ¬ QueryOverflows ops_query (overlay trees []) []
-ops_never trees (inl over) = over
-ops_never trees (inr over) = over.4
-
 pub read_self : IsReadAlways (command_of (understood keeper_schema select_self_text))
 read_self = subst IsReadAlways (sym select_self_is) (reads_always self_query (codes "node" ∷ codes "boot" ∷ codes "format" ∷ []) self_accepted self_never)
-
-pub read_ops : IsReadAlways (command_of (understood keeper_schema select_ops_text))
-read_ops = subst IsReadAlways (sym select_ops_is) (reads_always ops_query (codes "node" ∷ codes "seq" ∷ codes "bytes" ∷ []) ops_accepted ops_never)
 
 -- the store failed: that is a fault, or the write was too big
 pub fails_fault : (old new : State) (too_big : Type 0) (e : Error) → IsTrue old.is_open → Fails old new too_big e → IsFault old new e ⊎ too_big
@@ -264,3 +253,42 @@ commit_fault old new e is_open inside (inr h) = absurd (let wrong : false ≡ tr
 pub handed_on : {T E : Type 0} (r : Result T E) (e : E) (P : E → Type 0) → IsErrAnd r (λ f. f ≡ e) → P e → IfErr r P
 handed_on (Ok x) e P is p = absurd is
 handed_on (Err f) e P is p = subst P (sym is) p
+
+-- ---- operations
+
+-- the next operation is not put, after those before it
+pub save_fault : (old mid new : State) (ops : List Op) (i : ℕ) (d : Op) → i < length ops → (i ≡ 0 → mid ≡ old) → (0 < i → PutsIn (take i ops) old mid)
+    → IsOurs old → IsTrue old.is_open → old.faults ≤ mid.faults → mid.step_limit ≡ old.step_limit → (e : Error) → FailsToPut (get_or ops i d) mid new e → FailsToSave ops old new e
+save_fault old mid new ops i d within first so_far ours is_open counts limit e (inl h) = inl (fault_within old mid new new e counts (omega arith) limit h)
+save_fault old mid new ops i d within first so_far ours is_open counts limit e (inr h) =
+    let split : ops ≡ take i ops ++ get_or ops i d ∷ drop (suc i) ops = sym (take-append-drop i ops) ∙ ap (λ l. take i ops ++ l) (drop-cons ops i d within) in
+    let added : AddsOps (take i ops) old.now mid.now = elim (zero_or i) [
+      | inl start ↦
+          subst₂ (λ xs (m : State). AddsOps xs old.now m.now) (sym (ap (λ n. take n ops) start)) (sym (first start))
+          (record { schema = ours is_open; itself = refl; catalog = refl; added = sym (with_none (ops_in (old.now.trees 1))) })
+      | inr more ↦ (so_far more).added
+    ] in
+    let refused = subst (λ limit. IsRefused (record mid { step_limit = limit }) mid.now insert_op_text (row_of (get_or ops i d)) (understood keeper_schema insert_op_text)) limit h in
+    inr (take i ops, get_or ops i d, drop (suc i) ops, split, mid.now, added, refused)
+
+-- and within more calls
+pub save_within : (a b c d : State) (ops : List Op) (e : Error) → b.now ≡ a.now → a.faults ≤ b.faults → c.faults ≤ d.faults → b.step_limit ≡ a.step_limit → FailsToSave ops b c e → FailsToSave ops a d e
+save_within a b c d ops e same first last limit (inl h) = inl (fault_within a b c d e first last limit h)
+save_within a b c d ops e same first last limit (inr h) =
+    inr (
+      h.0,
+      h.1,
+      h.2,
+      h.3,
+      h.4,
+      subst (λ now. AddsOps h.0 now h.4) same h.5,
+      subst (λ limit. IsRefused (record b { step_limit = limit }) h.4 insert_op_text (row_of h.1) (understood keeper_schema insert_op_text)) limit h.6,
+    )
+
+-- where it is put, the transaction goes on over the same tables
+pub goes_on : (old mid : State) (xs : List Op) (i : ℕ) → (i ≡ 0 → mid ≡ old) → (0 < i → PutsIn xs old mid) → IsTrue old.in_transaction → IsOurs old → IsTrue old.is_open
+    → IsTrue mid.in_transaction × IsOurs mid × IsTrue mid.is_open
+goes_on old mid xs i first so_far inside ours is_open = elim (zero_or i) [
+  | inl start ↦ subst (λ (m : State). IsTrue m.in_transaction × IsOurs m × IsTrue m.is_open) (sym (first start)) (inside, ours, is_open)
+  | inr more ↦ let before = so_far more in (before.shown.mode, (λ _. before.added.schema), before.shown.is_open)
+]

@@ -1,11 +1,11 @@
 -- Why a call over a keeper's database fails.
-use Rattle.std.specs.Prelude.{◌≡◌, ◌⊎◌, ◌+◌, ◌≤◌, ◌^◌, ℕ, pos, List, [], ◌∷◌, ◌++◌, length, Option, None, Result, Ok, Err, IsTrue, IsSome}
+use Rattle.std.specs.Prelude.{◌≡◌, ◌⊎◌, ℕ, pos, List, [], ◌∷◌, ◌++◌, Option, None, Result, Ok, Err, IsTrue, IsSome}
 use Rattle.sqlite.specs.Disk.{MoreFaults}
 use Rattle.sqlite.specs.declared.types.Value.TheVariants.{Int}
 use Rattle.sqlite.specs.Order.{Row}
 use Rattle.sqlite.specs.declared.error.Error.{Error}
 use Rattle.sqlite.specs.declared.error.Error.TheVariants.{SqliteFailure}
-use Rattle.sqlite.specs.declared.error.ErrorCode.TheVariants.{OutOfMemory, OperationInterrupted, TooBig}
+use Rattle.sqlite.specs.declared.error.ErrorCode.TheVariants.{OutOfMemory, OperationInterrupted}
 use Rattle.sqlite.specs.Effect.{Database}
 use Rattle.sqlite.specs.Listing.{understood}
 use Rattle.sqlite.specs.Does.{Does}
@@ -28,10 +28,6 @@ IsFault old new e =
 abbrev pub IsRefused : State → Database → List ℕ → Row → Result Compiled CompileError → Type 0
 IsRefused s db sql params (Ok c) = (why : Option Error) × Does s.step_limit (mode_of s) params db (text_of sql c) None c.command (Err why)
 IsRefused s db sql params (Err e) = ⊥
-
--- why no operations were loaded: a fault, or there are more rows than can be counted
-abbrev pub FailsToLoad : State → State → Error → Type 0
-FailsToLoad old new e = IsFault old new e ⊎ ((e ≡ SqliteFailure TooBig) × (2 ^ 64 ≤ length (old.now.trees 1) + 1))
 
 -- why the boot was not set: a fault, or the table of the node itself does not take it
 abbrev pub FailsToRaise : ℕ → State → State → Error → Type 0
