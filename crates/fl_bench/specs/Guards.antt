@@ -4,7 +4,6 @@ use Rattle.std.specs.declared.option.Option.TheVariants.{None, Some}
 use Rattle.fl_labels.specs.Cap.{cap_cmp}
 use Rattle.fl_labels.specs.Name.{name_cmp}
 use Rattle.fl_labels.specs.SetBy.{SetBy, In}
-use Rattle.fl_labels.specs.declared.cap.Cap.{Cap}
 use Rattle.fl_labels.specs.declared.endpoint.Endpoint.{Endpoint}
 use Rattle.fl_rules.specs.Endpoint.{Crosses}
 use Rattle.fl_rules.specs.Pair as pairs

@@ -1,5 +1,5 @@
 -- What a bench does with a job: the checks of each, in their order, and what it leaves and answers where none fails.
-use Rattle.std.specs.Prelude.{◌≡◌, ◌≢◌, ◌⊎◌, false, nat_lt, not}
+use Rattle.std.specs.Prelude.{◌≡◌, ◌≢◌, ◌⊎◌, nat_lt, not}
 use Rattle.std.specs.declared.option.Option.TheVariants.{None, Some}
 use Rattle.std.specs.declared.result.Result.{Result}
 use Rattle.std.specs.declared.result.Result.TheVariants.{Ok, Err}
@@ -10,13 +10,10 @@ use Rattle.fl_labels.specs.SetBy as set
 use Rattle.fl_labels.specs.SetBy.{SetBy, In}
 use Rattle.fl_labels.specs.declared.name.Name.{Name}
 use Rattle.fl_labels.specs.declared.cap.Cap.{Cap}
-use Rattle.fl_labels.specs.declared.endpoint.Endpoint.{Endpoint}
 use Rattle.fl_labels.specs.declared.pid.Pid.{Pid}
 use Rattle.fl_ops.specs.declared.digest.Digest.{Digest}
-use Rattle.fl_ops.specs.declared.op.Op.{Op}
-use Rattle.fl_ops.specs.Registry.{Registry, Reach, From, IsGlobal, InEffect}
+use Rattle.fl_ops.specs.Registry.{Registry, Reach, From, InEffect}
 use Rattle.fl_ops.specs.Logins.{IsFirstLogin, HasNoLogin}
-use Rattle.fl_jobs.specs.declared.job.Side.{Side}
 use Rattle.fl_jobs.specs.declared.job.Order as orders
 use Rattle.fl_jobs.specs.declared.job.Order.TheVariants.{Tag, Group, Put, MakeLogin}
 use Rattle.fl_jobs.specs.declared.job.Act.{Act}
@@ -32,16 +29,13 @@ use Rattle.fl_jobs.specs.declared.answer.Reply.TheVariants.{Made, Done, Yes, Not
 use Rattle.fl_jobs.specs.declared.answer.Outcome.{Outcome}
 use Rattle.fl_rules.specs.Safety.{Takes}
 use Rattle.fl_labels.specs.Caps.{Caps, Dual}
-use Rattle.fl_rules.specs.declared.labels.Labels.{Labels}
-use Rattle.fl_mailbox.specs.Endpoints.{Table, IsOpen}
 use Rattle.fl_mailbox.specs.declared.mailbox.Mailbox.{Mailbox}
 use Rattle.fl_bench.specs.Checks.{Check, no_check, fails, refuse_if, demand, with, ◌then◌}
 use Rattle.fl_bench.specs.Secrets.{digest_of}
 use Rattle.fl_bench.specs.Guards.{grant_check, endpoints_check}
-use Rattle.fl_bench.specs.Mailbox.{mail_checks, arrival_checks, MailDoes, MailTakesMemory}
+use Rattle.fl_bench.specs.Mailbox.{mail_checks, arrival_checks, MailDoes, MailNeedsRoom}
 use Rattle.fl_bench.specs.Process.{newborn, owns, is_busy, ordering, owning, child_of, effective}
 use Rattle.fl_bench.specs.Process.{side_of, with_side, body_of, receiving, PutTakes}
-use Rattle.fl_bench.specs.Hand.{AtHand, Refuses, Searches, SearchesFrom}
 use Rattle.fl_bench.specs.Bench.{BenchState, has_at, gone, IsNext, born}
 use Rattle.fl_bench.specs.declared.process.Process.{Process}
 
@@ -145,34 +139,25 @@ Effect V b (Arrive d) outcome b' = (q : Process) × (map.get b.processes d.recei
 
 -- ---- when a job may want memory
 
--- the change of a label by who owns these and has these labels and endpoints: what it takes is not at hand, or what
--- the endpoints then need
-abbrev pub RelabelTakesMemory : Registry → SetBy cap_cmp → Labels → Table → Side → SetBy name_cmp → Type 0
-RelabelTakesMemory V owned labels table side label =
-    Refuses (change_check (AtHand V owned) (side_of side labels) label)
-    ⊎ Refuses (endpoints_check (AtHand V owned) (with_side side label labels) table)
+-- What a process does that needs room: it gives an order, bears a child, enters for what it does not own yet, opens an
+-- endpoint, or sends a message.
+abbrev pub NeedsRoom : Registry → Process → Act → Type 0
+NeedsRoom V p (Order order) = Unit {0}
+NeedsRoom V p (Spawn caps) = Unit {0}
+NeedsRoom V p (Enter login secret) = (c : Cap) × IsFirstLogin V login c (digest_of secret) × (¬ In (owns p) c)
+NeedsRoom V p (Mail c) = MailNeedsRoom c
+NeedsRoom V p act = ⊥
 
--- an act of the process p
-abbrev pub ActTakesMemory : Registry → Process → Act → Type 0
-ActTakesMemory V p (Order order) = Unit {0}
-ActTakesMemory V p (Relabel side (Err e)) = ⊥
-ActTakesMemory V p (Relabel side (Ok label)) = RelabelTakesMemory V (owns p) p.labels p.mailbox.endpoints side label
-ActTakesMemory V p (Ask c) = Searches V (owns p) c
-ActTakesMemory V p (Spawn caps) = Unit {0}
-ActTakesMemory V p Exit = ⊥
-ActTakesMemory V p (Drop c) = In (owns p) c × (e : Endpoint) × IsOpen p.mailbox.endpoints e
-ActTakesMemory V p (Enter login secret) =
-    (c : Cap) × IsFirstLogin V login c (digest_of secret) × (¬ In (owns p) c)
-ActTakesMemory V p (Emit bytes) = Refuses (emission_check (AtHand V (owns p)) p.labels.secrecy)
-ActTakesMemory V p (Mail c) = MailTakesMemory (AtHand V (owns p)) p.labels p.mailbox c
+-- What is done at a bench that needs room: a process is born, does something of these, or gets a message.
+abbrev pub JobNeedsRoom : Registry → BenchState → Job → Type 0
+JobNeedsRoom V b Proc = Unit {0}
+JobNeedsRoom V b (By pid act) = (p : Process) × (map.get b.processes pid ≡ Some p) × NeedsRoom V p act
+JobNeedsRoom V b (Member root c) = ⊥
+JobNeedsRoom V b (Arrive d) = Unit {0}
 
+-- the job needs room, and all of its checks pass
 abbrev pub TakesMemory : Registry → BenchState → Job → Type 0
-TakesMemory V b Proc = serials_left b None
-TakesMemory V b (By pid act) =
-    (p : Process) × (map.get b.processes pid ≡ Some p) × (is_busy p ≡ false) × ActTakesMemory V p act
-TakesMemory V b (Member root c) = SearchesFrom root c
-TakesMemory V b (Arrive d) =
-    (q : Process) × (map.get b.processes d.receiver ≡ Some q) × (is_busy q ≡ false) × arrival_checks q.mailbox d None
+TakesMemory V b job = checks V b job None × JobNeedsRoom V b job
 
 -- ---- a job
 

@@ -1,6 +1,5 @@
 pub mod Checks
 pub mod Secrets
-pub mod Hand
 pub mod Guards
 pub mod Mailbox
 pub mod Process

@@ -1,10 +1,9 @@
 -- What a process does with its endpoints and messages.
-use Rattle.std.specs.Prelude.{◌≡◌, ◌∷◌, [], ◌++◌, true, not, nat_le, length}
+use Rattle.std.specs.Prelude.{◌≡◌, ◌∷◌, [], ◌++◌, not, nat_le, length}
 use Rattle.std.specs.declared.option.Option.{Option}
 use Rattle.std.specs.declared.option.Option.TheVariants.{None, Some}
 use Rattle.std.specs.FinMap as map
 use Rattle.fl_labels.specs.Caps.{Caps}
-use Rattle.fl_labels.specs.declared.cap.Cap.{Cap}
 use Rattle.fl_labels.specs.declared.endpoint.Endpoint.{Endpoint}
 use Rattle.fl_labels.specs.declared.pid.Pid.{Pid}
 use Rattle.fl_rules.specs.Endpoint.{writes}
@@ -26,7 +25,6 @@ use Rattle.fl_jobs.specs.declared.answer.Reply.TheVariants.{Done, Opened as Answ
 use Rattle.fl_jobs.specs.declared.answer.Outcome.{Outcome}
 use Rattle.fl_bench.specs.Checks.{Check, no_check, refuse_if, with, with_found, ◌then◌}
 use Rattle.fl_bench.specs.Guards.{grant_check, endpoint_check, pair_check}
-use Rattle.fl_bench.specs.Hand.{Refuses}
 
 -- ---- checks
 
@@ -92,16 +90,10 @@ MailDoes pid ch Take outcome ch' =
 abbrev pub entered : Mailbox → Data → Mailbox
 entered ch d = record ch { inbox = ch.inbox ++ record { sender = d.sender; message = d.message } ∷ [] }
 
--- ---- when memory may be wanted
+-- ---- what needs room
 
--- by a process of these labels and mailbox, with H at hand
-abbrev pub MailTakesMemory : Caps → Labels → Mailbox → Mail → Type 0
-MailTakesMemory H process ch (Open mode given) =
-    (labels : Labels) × (labels_of given ≡ Some labels) × (e : Endpoint) × IsLeastFree ch.endpoints (Some e)
-MailTakesMemory H process ch (Tune e given) =
-    (labels : Labels) × (labels_of given ≡ Some labels) × (opened : OpenEndpoint)
-    × (map.get ch.endpoints e ≡ Some opened) × Refuses (endpoint_check H process e opened.mode labels)
-MailTakesMemory H process ch (Close e) = ⊥
-MailTakesMemory H process ch (Send from receiver to message) =
-    (opened : OpenEndpoint) × (map.get ch.endpoints from ≡ Some opened) × (writes opened.mode ≡ true)
-MailTakesMemory H process ch Take = ⊥
+-- it opens an endpoint, or sends a message
+abbrev pub MailNeedsRoom : Mail → Type 0
+MailNeedsRoom (Open mode given) = Unit {0}
+MailNeedsRoom (Send from receiver to message) = Unit {0}
+MailNeedsRoom mail = ⊥

@@ -1,8 +1,10 @@
+mod Rowing
 mod Members
-mod Meeting
-mod Putting
-mod Giving
-mod Batching
-mod Searching
-mod Ending
-pub mod Uses
+mod Listing
+mod Leading
+mod Noting
+mod Growing
+mod Adding
+mod Closing
+mod Indexing
+mod Looks

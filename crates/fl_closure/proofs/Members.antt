@@ -1,5 +1,5 @@
 -- Members of lists, and of sets as lists.
-use Rattle.std.specs.Prelude.{◌≡◌, ◌⊎◌, ◌↔◌, Bool, true, false, not, List, [], ◌∷◌, ℕ, ◌≤◌, length, take, drop, refl}
+use Rattle.std.specs.Prelude.{◌≡◌, Bool, true, false, not, List, [], ◌∷◌, ℕ, ◌≤◌, length, take, refl}
 use Rattle.std.proofs.Common.{inl, inr, sym, subst, ◌∙◌, arith}
 use Rattle.std.specs.Cmp.{IsTotalOrder, Equal-is, eq_by_cmp_equiv}
 use Rattle.std.specs.FinMap.{IsAntisymmetric}
@@ -7,10 +7,10 @@ use Rattle.std.specs.List.{Contains, list_any}
 use Rattle.std.specs.Ordering.{eq_by_cmp}
 use Rattle.std.specs.declared.cmp.Ordering.{Ordering}
 use Rattle.std.proofs.lemmas.Bool.{false≢true}
-use Rattle.std.proofs.lemmas.List.{take_all, take-append-drop}
-use Rattle.std.proofs.lemmas.List.Elements.{Contains-push, Contains-push_cases, Contains-append_left, Contains-append_right, Contains-append_cases}
+use Rattle.std.proofs.lemmas.List.{take_all}
+use Rattle.std.proofs.lemmas.List.Elements.{Contains-push, Contains-push_cases, Contains-append_left}
 use Rattle.std.proofs.lemmas.Map.Views.{Contains-from_any, list_any-from_Contains}
-use Rattle.fl_labels.specs.SetBy.{SetBy, In, members, of_list, contains-members, contains-of_list}
+use Rattle.fl_labels.specs.SetBy.{SetBy, In, members, contains-members}
 
 module _ {A : Type 0} where
   pub none : (x : A) → Contains [] x → ⊥
@@ -23,18 +23,8 @@ module _ {A : Type 0} where
   pub first : {x y : A} (xs : List A) → x ≡ y → Contains (x ∷ xs) y
   first {x} {y} xs e = Contains-append_left (x ∷ []) xs y (subst (Contains (x ∷ [])) e (Contains-push [] x))
 
-  pub later : (x : A) (xs : List A) {y : A} → Contains xs y → Contains (x ∷ xs) y
-  later x xs {y} h = Contains-append_right (x ∷ []) xs y h
-
-  pub first_or_later : (x : A) (xs : List A) (y : A) → Contains (x ∷ xs) y → (x ≡ y) ⊎ Contains xs y
-  first_or_later x xs y h = elim (Contains-append_cases (x ∷ []) xs y h) [ inl a ↦ inl (one a) | inr b ↦ inr b ]
-
   pub in_all : (xs : List A) (i : ℕ) (x : A) → length xs ≤ i → Contains xs x → Contains (take i xs) x
   in_all xs i x whole h = subst (λ l. Contains l x) (sym (take_all i xs whole)) h
-
-  pub of_taken : (xs : List A) (i : ℕ) (x : A) → Contains (take i xs) x → Contains xs x
-  of_taken xs i x h =
-      subst (λ l. Contains l x) (take-append-drop i xs) (Contains-append_left (take i xs) (drop i xs) x h)
 
 module _ {K : Type 0} {R : K → K → Ordering} (o : IsTotalOrder R) (exact : IsAntisymmetric R) where
   -- by the test of the order
@@ -49,10 +39,6 @@ module _ {K : Type 0} {R : K → K → Ordering} (o : IsTotalOrder R) (exact : I
 
   pub has_in : (s : SetBy R) (q : K) → Contains (members s) q → In s q
   has_in s q h = contains-members s q ∙ has_any (members s) q h
-
-  pub in_listed : (xs : List K) (q : K) → In (of_list {R = R} xs) q ↔ Contains xs q
-  in_listed xs q =
-      (λ h. any_has xs q (sym (contains-of_list o xs q) ∙ h), λ h. contains-of_list o xs q ∙ has_any xs q h)
 
 -- what an answer `new` says of the set before
 pub fresh : (new there : Bool) → new ≡ not there → new ≡ true → there ≡ false

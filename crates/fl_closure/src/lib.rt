@@ -1,7 +1,7 @@
 //! What the owners of capabilities reach through the puts of a registry.
 #![tactic(auto)]
 
-mod globals;
+mod closed;
 pub mod index;
-mod met;
 mod rows;
+mod view;

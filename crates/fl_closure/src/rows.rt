@@ -1,37 +1,26 @@
-//! What is put into each group.
-ghost use Rattle.std.specs.Option.{option_copied};
-ghost use Rattle.std.specs.Prelude.{◌≡◌, IfOk, OnOk, OnErr, [], not};
-ghost use Rattle.fl_labels.specs.SetBy as set;
+//! Rows of capabilities.
+ghost use Rattle.std.specs.Prelude.{◌≡◌, ◌↔◌, ◌⊎◌, IfOk, OnOk, OnErr, not};
+ghost use Rattle.std.specs.List.{Contains};
 ghost use Rattle.fl_labels.specs.declared.name.Name.{Name};
-ghost use Rattle.fl_ops.specs.Registry.{Listed};
-ghost use Rattle.fl_closure.specs.parts.Rows.{or_empty, row_of, row_behind, IsSameRows, PutsInto, TakesFrom};
-ghost use Rattle.fl_closure.specs.parts.Puts.{AddsPuts, Gains, Loses};
+ghost use Rattle.fl_labels.specs.declared.cap.Cap.{Cap};
+ghost use Rattle.fl_closure.specs.parts.Rows.{has, Holds, Adds, Takes, IsSameRows};
 
 use fl_labels::cap::Cap;
-use fl_labels::cap_set::CapSet;
 use fl_labels::name::Name;
-use fl_ops::op::{Body, Op};
 use std::alloc::{AllocError, Global};
-use std::collections::BTreeMap;
+use std::collections::{BTreeMap, BTreeSet};
 
-/// A capability that is put into a group.
-#[derive(Clone, Copy, Debug)]
-pub struct Put {
-    pub group: Name,
-    pub cap: Cap,
-}
-
-/// The capabilities put into each group.
+/// A row of capabilities for each name, in order.
 #[derive(Debug, Drop)]
 pub struct Rows {
-    rows: BTreeMap<Name, CapSet>,
+    rows: BTreeMap<Name, BTreeSet<Cap>>,
     alloc: Global,
 }
 
 impl Rows {
-    /// Nothing in any group. Takes no memory.
+    /// Nothing in any row. Takes no memory.
     pub fn new(alloc: Global) -> Self
-        ensures { (group : Name) → row_of result group ≡ set.empty }
+        ensures { (name : Name) (c : Cap) → ¬ Holds result name c }
     {
         Rows {
             rows: BTreeMap::new(alloc),
@@ -39,66 +28,52 @@ impl Rows {
         }
     }
 
-    /// What was put into the group of which this is the use. A search by order.
-    pub fn behind(&self, cap: Cap) -> Option<&CapSet>
-        ensures { or_empty (option_copied result) ≡ row_behind self.now cap }
+    /// Whether the row of this name has the capability. Two searches by order.
+    pub fn has(&self, name: Name, cap: Cap) -> bool
+        ensures { result ≡ has self.now name cap }
     {
-        let Cap::Use(group) = cap else {
-            return None;
-        };
-        self.rows.get(&group)
+        match self.rows.get(&name) {
+            Some(row) => row.contains(&cap),
+            None => false,
+        }
     }
 
-    /// Puts a capability into a group, and answers whether it is new there. A search by order, and the capabilities above it
-    /// in the group move. An error leaves the rows.
-    pub fn put(&mut self, group: Name, cap: Cap) -> Result<bool, AllocError>
-        ensures ok { OnOk result (PutsInto self.old group cap self.new) }
-        ensures new { IfOk result (λ new. new ≡ not (set.contains (row_of self.old group) cap)) }
+    /// Adds a capability to the row of this name, and answers whether it is new there. Two searches by order. An error leaves
+    /// the rows.
+    pub fn add(&mut self, name: Name, cap: Cap) -> Result<bool, AllocError>
+        ensures ok { OnOk result (Adds self.old name cap self.new) }
+        ensures new { IfOk result (λ new. new ≡ not (has self.old name cap)) }
         ensures err { OnErr result (IsSameRows self.old self.new) }
     {
-        let Some(row) = self.rows.get_mut(&group) else {
-            let mut row = CapSet::new(self.alloc);
+        let Some(row) = self.rows.get_mut(&name) else {
+            let mut row = BTreeSet::new(self.alloc);
             let new = row.insert(cap)?;
-            self.rows.insert(group, row)?;
+            self.rows.insert(name, row)?;
             return Ok(new);
         };
         let new = row.insert(cap)?;
         Ok(new)
     }
 
-    /// Takes a capability out of a group. A search by order, and the capabilities above it in the group move. Takes no memory.
-    pub fn take(&mut self, group: Name, cap: Cap)
-        ensures { TakesFrom self.old group cap self.new }
+    /// Takes a capability out of the row of this name. Two searches by order; takes no memory.
+    pub fn take(&mut self, name: Name, cap: Cap)
+        ensures { Takes self.old name cap self.new }
     {
-        if let Some(row) = self.rows.get_mut(&group) {
-            row.remove(cap);
+        if let Some(row) = self.rows.get_mut(&name) {
+            row.remove(&cap);
         }
     }
 
-    /// Puts what the operations put, and adds to the list what is new in its group: after an error too, so that it can be taken
-    /// out again.
-    pub fn put_all(&mut self, ops: &[Op], news: &mut Vec<Put>) -> Result<(), AllocError>
-        requires { news.old.items ≡ [] }
-        ensures ok { OnOk result (AddsPuts (Listed ops.now) self.old self.new) }
-        ensures news { Gains self.old news.new.items self.new }
+    /// Adds the row of this name to a list, at the end. Fails only where there is not enough memory.
+    pub fn push_row(&self, name: Name, caps: &mut Vec<Cap>) -> Result<(), AllocError>
+        ensures { OnOk result ((c : Cap) →
+            Contains caps.new.items c ↔ (Contains caps.old.items c ⊎ Holds self.now name c)) }
     {
-        for op in ops {
-            if let Body::Put(group, cap) = op.body {
-                news.try_reserve(1)?;
-                if self.put(group, cap)? {
-                    news.push(Put { group, cap })?;
-                }
+        if let Some(row) = self.rows.get(&name) {
+            for cap in row {
+                caps.push(*cap)?;
             }
         }
         Ok(())
-    }
-
-    /// Takes each of these out. Takes no memory.
-    pub fn take_all(&mut self, puts: &[Put])
-        ensures { Loses self.old puts.now self.new }
-    {
-        for put in puts {
-            self.take(put.group, put.cap);
-        }
     }
 }

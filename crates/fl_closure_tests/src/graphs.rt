@@ -1,5 +1,5 @@
-//! Tests of the index by random graphs, against a plain fixpoint over a table of pairs.
-use crate::made::{name, put};
+//! Tests of the index by random graphs, beside a plain fixpoint over a table of pairs.
+use crate::made::{draw, name, put};
 use fl_closure::index::Index;
 use fl_labels::cap::Cap;
 use fl_labels::cap_set::CapSet;
@@ -21,14 +21,6 @@ fn cap_of(number: u16) -> Cap {
         1 => Cap::Minus(name(number)),
         _ => Cap::Grow(name(number - GROUPS)),
     }
-}
-
-// One of the numbers below a bound, by a linear congruential generator.
-fn draw(state: &mut u64, bound: u16) -> u16 {
-    *state = state
-        .wrapping_mul(6364136223846793005)
-        .wrapping_add(1442695040888963407);
-    (*state >> 33).checked_rem(bound as u64).unwrap_or(0) as u16
 }
 
 fn place(from: u16, to: u16) -> usize {
@@ -93,20 +85,20 @@ fn random_graph(alloc: Global, seed: u64, uses: u16) -> Result<(Index, Vec<bool>
 }
 
 // Whether the index answers as the table for each pair that begins so.
-fn row_alike(alloc: Global, index: &Index, pairs: &[bool], from: u16) -> Result<bool, AllocError> {
+fn row_alike(index: &Index, pairs: &[bool], from: u16) -> bool {
     let mut alike = true;
     for to in 0..CAPS {
-        let reached = index.reaches(alloc, cap_of(from), cap_of(to))?;
+        let reached = index.reaches(cap_of(from), cap_of(to));
         alike = alike && reached == is_marked(pairs, from, to);
     }
-    Ok(alike)
+    alike
 }
 
 fn graph_alike(alloc: Global, seed: u64, uses: u16) -> Result<bool, AllocError> {
     let (index, pairs) = random_graph(alloc, seed, uses)?;
     let mut alike = true;
     for from in 0..CAPS {
-        alike = alike && row_alike(alloc, &index, &pairs, from)?;
+        alike = alike && row_alike(&index, &pairs, from);
     }
     Ok(alike)
 }
@@ -154,21 +146,16 @@ fn set_of(alloc: Global, numbers: &[u16]) -> Result<CapSet, AllocError> {
 }
 
 // Whether the index answers `effective` for each capability as these do.
-fn effective_alike(
-    alloc: Global,
-    index: &Index,
-    owned: &CapSet,
-    expected: &CapSet,
-) -> Result<bool, AllocError> {
+fn effective_alike(index: &Index, owned: &CapSet, expected: &CapSet) -> bool {
     let mut alike = true;
     for to in 0..CAPS {
-        let effective = index.effective(alloc, owned, cap_of(to))?;
+        let effective = index.effective(owned, cap_of(to));
         alike = alike && effective == expected.contains(cap_of(to));
     }
-    Ok(alike)
+    alike
 }
 
-fn closed_alike(
+fn set_alike(
     alloc: Global,
     index: &Index,
     pairs: &[bool],
@@ -176,13 +163,10 @@ fn closed_alike(
 ) -> Result<bool, AllocError> {
     let owned = set_of(alloc, roots)?;
     let expected = in_effect(alloc, pairs, roots)?;
-    if index.closed(alloc, &owned)?.as_slice() != expected.as_slice() {
-        return Ok(false);
-    }
-    effective_alike(alloc, index, &owned, &expected)
+    Ok(effective_alike(index, &owned, &expected))
 }
 
-// Whether the index closes 20 random sets as the table does.
+// Whether the index tells what is in effect for 20 random sets as the table does.
 fn sets_alike(alloc: Global, seed: u64, uses: u16, state: &mut u64) -> Result<bool, AllocError> {
     let (mut index, pairs) = random_graph(alloc, seed, uses)?;
     add_tags(&mut index)?;
@@ -191,13 +175,13 @@ fn sets_alike(alloc: Global, seed: u64, uses: u16, state: &mut u64) -> Result<bo
         let first = draw(state, CAPS);
         let second = draw(state, CAPS);
         let third = draw(state, GROUPS);
-        alike = alike && closed_alike(alloc, &index, &pairs, &[first, second, third])?;
+        alike = alike && set_alike(alloc, &index, &pairs, &[first, second, third])?;
     }
     Ok(alike)
 }
 
 #[test]
-fn random_sets_close_as_a_fixpoint_does(rt: HostRuntime) -> Result<(), Fail> {
+fn random_sets_lead_as_a_fixpoint_does(rt: HostRuntime) -> Result<(), Fail> {
     let mut state = 7;
     for (seed, uses) in [(11, 40), (12, 60), (13, 75), (14, 120)] {
         assert!(rt; sets_alike(rt.alloc(), seed, uses, &mut state)?);

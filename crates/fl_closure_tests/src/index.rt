@@ -6,6 +6,8 @@ use fl_labels::cap_set::CapSet;
 use fl_labels::name::Name;
 use fl_ops::digest::Digest;
 use fl_ops::op::{Body, Op, Policy};
+use fl_ops::view::View;
+use fl_opset::set::OpSet;
 use std::alloc::{AllocError, Global};
 use std::test::Fail;
 
@@ -37,7 +39,7 @@ fn index_of(alloc: Global, ops: &[Op]) -> Result<Index, AllocError> {
 fn reached(alloc: Global, index: &Index, root: Cap, among: &str) -> Result<String, Fail> {
     let mut found = CapSet::new(alloc);
     for cap in CapSet::from_text(alloc, among)?.iter() {
-        if index.reaches(alloc, root, *cap)? {
+        if index.reaches(root, *cap) {
             found.insert(*cap)?;
         }
     }
@@ -49,7 +51,7 @@ fn effective(alloc: Global, index: &Index, owned: &str, among: &str) -> Result<S
     let owned = CapSet::from_text(alloc, owned)?;
     let mut found = CapSet::new(alloc);
     for cap in CapSet::from_text(alloc, among)?.iter() {
-        if index.effective(alloc, &owned, *cap)? {
+        if index.effective(&owned, *cap) {
             found.insert(*cap)?;
         }
     }
@@ -67,13 +69,6 @@ fn global(alloc: Global, index: &Index, among: &str) -> Result<String, Fail> {
     Ok(format!(in alloc; "{found}")?)
 }
 
-// All that is in effect for the owner of these capabilities.
-fn closed(alloc: Global, index: &Index, owned: &str) -> Result<String, Fail> {
-    let owned = CapSet::from_text(alloc, owned)?;
-    let closed = index.closed(alloc, &owned)?;
-    Ok(format!(in alloc; "{closed}")?)
-}
-
 // Two groups, 1.4 and 1.5, each with the use of the other, and a capability in the second.
 fn two_groups(alloc: Global) -> Result<Index, AllocError> {
     let ops = [
@@ -85,7 +80,7 @@ fn two_groups(alloc: Global) -> Result<Index, AllocError> {
 }
 
 #[test]
-fn two_groups_hold_each_other(rt: HostRuntime) -> Result<(), Fail> {
+fn cycle_of_groups(rt: HostRuntime) -> Result<(), Fail> {
     let index = two_groups(rt.alloc())?;
     for (root, among, expected) in [
         (
@@ -119,7 +114,7 @@ fn chain(alloc: Global) -> Result<Index, AllocError> {
 }
 
 #[test]
-fn a_chain_leads_one_way(rt: HostRuntime) -> Result<(), Fail> {
+fn chain_of_hundred_groups(rt: HostRuntime) -> Result<(), Fail> {
     let alloc = rt.alloc();
     let index = chain(alloc)?;
     let found = reached(alloc, &index, Cap::Use(FIRST), "{+1.1,-1.1,*1.101}")?;
@@ -135,8 +130,6 @@ fn a_chain_is_in_effect(rt: HostRuntime) -> Result<(), Fail> {
     let index = chain(alloc)?;
     let found = effective(alloc, &index, "{*1.51}", "{*1.1,*1.101}")?;
     assert_eq!(rt; found.as_str(), "{*1.101}");
-    let owned = CapSet::from_text(alloc, "{*1.51}")?;
-    assert_eq!(rt; index.closed(alloc, &owned)?.len(), 52);
     Ok(())
 }
 
@@ -176,8 +169,6 @@ fn what_everybody_has_is_in_effect(rt: HostRuntime) -> Result<(), Fail> {
     let index = three_tags(rt.alloc())?;
     let found = effective(rt.alloc(), &index, "{}", ON_TAGS)?;
     assert_eq!(rt; found.as_str(), "{+1.1,-1.3}");
-    let all = closed(rt.alloc(), &index, "{}")?;
-    assert_eq!(rt; all.as_str(), "{+1.1,-1.3}");
     Ok(())
 }
 
@@ -229,8 +220,8 @@ fn an_operation_counts_once(rt: HostRuntime) -> Result<(), Fail> {
     };
     let index = index_of(alloc, &[first, second, first, group])?;
     assert!(rt; index.ops().as_slice() == [group, first, second].as_slice());
-    let all = closed(alloc, &index, "{*1.4}")?;
-    assert_eq!(rt; all.as_str(), "{+1.1,*1.4}");
+    let found = effective(alloc, &index, "{*1.4}", "{+1.1,-1.1,*1.4}")?;
+    assert_eq!(rt; found.as_str(), "{+1.1,*1.4}");
     Ok(())
 }
 
@@ -251,9 +242,66 @@ fn nested_groups(alloc: Global) -> Result<Index, AllocError> {
 }
 
 #[test]
-fn what_is_owned_is_closed(rt: HostRuntime) -> Result<(), Fail> {
+fn what_is_owned_leads_on(rt: HostRuntime) -> Result<(), Fail> {
     let index = nested_groups(rt.alloc())?;
-    let all = closed(rt.alloc(), &index, "{+1.6,*1.11}")?;
-    assert_eq!(rt; all.as_str(), "{+1.1,-1.1,+1.6,*1.11,*1.12,^1.13}");
+    let among = "{+1.1,-1.1,+1.2,-1.2,+1.6,*1.11,^1.11,*1.12,^1.12,*1.13,^1.13}";
+    let found = effective(rt.alloc(), &index, "{+1.6,*1.11}", among)?;
+    assert_eq!(rt; found.as_str(), "{+1.1,-1.1,+1.6,*1.11,*1.12,^1.13}");
+    Ok(())
+}
+
+// The last of four groups in a row grows after the others were put into one another.
+#[test]
+fn row_is_renewed_upstream(rt: HostRuntime) -> Result<(), Fail> {
+    let alloc = rt.alloc();
+    let ops = [
+        put(0, 0, Cap::Use(SECOND)),
+        put(1, 1, Cap::Use(THIRD)),
+        put(2, 2, Cap::Use(FOURTH)),
+        put(3, 3, Cap::Plus(NINTH)),
+    ];
+    let index = index_of(alloc, &ops)?;
+    assert!(rt; index.reaches(Cap::Use(FIRST), Cap::Plus(NINTH)));
+    assert!(rt; !index.reaches(Cap::Use(FOURTH), Cap::Use(THIRD)));
+    Ok(())
+}
+
+// What a view answers, through the trait.
+fn looks<V: View>(view: &mut V, owned: &CapSet) -> bool {
+    view.seen() == 4
+        && view.reaches(Cap::Use(FIRST), Cap::Use(FOURTH))
+        && view.effective(owned, Cap::Plus(NINTH))
+        && view.login(FIFTH).is_none()
+}
+
+#[test]
+fn an_index_is_a_view(rt: HostRuntime) -> Result<(), Fail> {
+    let alloc = rt.alloc();
+    let ops = [
+        put(0, 0, Cap::Use(SECOND)),
+        put(1, 1, Cap::Use(THIRD)),
+        put(2, 2, Cap::Use(FOURTH)),
+        put(3, 3, Cap::Plus(NINTH)),
+    ];
+    let mut index = index_of(alloc, &ops)?;
+    let owned = CapSet::from_text(alloc, "{*1.2}")?;
+    assert!(rt; looks(&mut index, &owned));
+    Ok(())
+}
+
+// A batch with an operation that is there already, and then the same batch again.
+#[test]
+fn a_batch_is_added_whole(rt: HostRuntime) -> Result<(), Fail> {
+    let alloc = rt.alloc();
+    let first = put(0, 0, Cap::Use(SECOND));
+    let second = put(1, 1, Cap::Plus(NINTH));
+    let mut index = index_of(alloc, &[first])?;
+    let mut batch = OpSet::new(alloc);
+    batch.add(first)?;
+    batch.add(second)?;
+    index.absorb_all(alloc, &batch)?;
+    index.absorb_all(alloc, &batch)?;
+    assert!(rt; index.ops().as_slice() == [first, second].as_slice());
+    assert!(rt; index.reaches(Cap::Use(FIRST), Cap::Plus(NINTH)));
     Ok(())
 }

@@ -7,3 +7,5 @@ mod graphs;
 mod index;
 #[cfg(test)]
 mod made;
+#[cfg(test)]
+mod steps;

@@ -21,3 +21,11 @@ pub fn put(number: u16, group: u16, cap: Cap) -> Op {
         body: Body::Put(name(group), cap),
     }
 }
+
+/// One of the numbers below a bound, by a linear congruential generator.
+pub fn draw(state: &mut u64, bound: u16) -> u16 {
+    *state = state
+        .wrapping_mul(6364136223846793005)
+        .wrapping_add(1442695040888963407);
+    (*state >> 33).checked_rem(bound as u64).unwrap_or(0) as u16
+}

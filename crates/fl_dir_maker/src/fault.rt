@@ -1,6 +1,6 @@
 //! Why no keeper was opened.
 ghost use Rattle.std.specs.Prelude.{◌≡◌};
-ghost use Rattle.fl_dir_maker.specs.Failing.{fault_of};
+ghost use Rattle.fl_dir_maker.specs.Failing.{fault_of, cause_of, database_cause};
 
 use fl_jobs::answer::Refusal;
 use fl_store::keeper::KeeperFault;
@@ -71,7 +71,9 @@ pub fn of_files(error: OpenError) -> Cause {
 }
 
 /// What a refusal to open the database comes to.
-pub fn of_database(error: sqlite::Error) -> Cause {
+pub fn of_database(error: sqlite::Error) -> Cause
+    ensures { result ≡ database_cause error }
+{
     match error {
         sqlite::Error::SqliteFailure(sqlite::ErrorCode::OutOfMemory) => Cause::Memory,
         other => Cause::Database(other),
@@ -79,7 +81,9 @@ pub fn of_database(error: sqlite::Error) -> Cause {
 }
 
 /// What a refusal to open the keeper comes to.
-pub fn of_keeper(fault: KeeperFault) -> Cause {
+pub fn of_keeper(fault: KeeperFault) -> Cause
+    ensures { result ≡ cause_of fault }
+{
     match fault {
         KeeperFault::Memory => Cause::Memory,
         KeeperFault::WrongNode => Cause::WrongNode,

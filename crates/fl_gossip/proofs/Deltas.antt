@@ -1,11 +1,12 @@
 -- Operations cut into deltas.
-use Rattle.std.proofs.Common.{◌≡◌, ◌<◌, Bool, true, false, cond, List, [], ◌∷◌, ◌++◌, length, take, drop, refl, sym, ap, subst, ◌∙◌, arith, append_assoc, append-nil, Ordering, Less, Equal, Greater}
+use Rattle.std.proofs.Common.{◌≡◌, ◌<◌, nat_le, ◌&&◌, not, Bool, true, false, cond, List, [], ◌∷◌, ◌++◌, length, take, drop, refl, sym, ap, subst, ◌∙◌, arith, append_assoc, append-nil, Ordering, Less, Equal, Greater}
 use Rattle.std.specs.Cmp.{tied_itself}
-use Rattle.std.specs.List.{Contains, filter, flat_map, AllByRecursion}
+use Rattle.std.specs.List.{Contains, filter, flat_map, list_any, AllByRecursion}
 use Rattle.std.specs.List.Sorted.{IsStrictlySortedBy}
 use Rattle.std.specs.Ordering.{ordering_then}
 use Rattle.std.proofs.lemmas.List.{take-append-drop, length-take-le, flat_map_more, nil_from_length}
 use Rattle.std.proofs.lemmas.List.Elements.{recursion_from_All, All-contains_itself}
+use Rattle.std.proofs.lemmas.Bool.{le-leb}
 use Rattle.fl_labels.specs.NameOrder.{name_exact}
 use Rattle.fl_labels.specs.SetBy.{SetBy, In, members, members_rise}
 use Rattle.fl_ops.specs.declared.op.Op.{Op}
@@ -13,12 +14,15 @@ use Rattle.fl_ops.specs.OpOrder.{op_cmp}
 use Rattle.fl_ops.specs.OpLaws.{op_total}
 use Rattle.fl_opset.specs.declared.intervals.Intervals.{Intervals}
 use Rattle.fl_opset.specs.Catching.{HaveNoClash}
+use Rattle.fl_opset.specs.Rank.{name_rank}
+use Rattle.fl_opset.specs.Spans.{in_span}
 use Rattle.fl_opset.specs.Windows.{is_lacking, lacking}
 use Rattle.fl_opset.specs.laws.Members.{lacking_member}
 use Rattle.fl_wire.specs.declared.packet.Packet.{Packet}
 use Rattle.fl_wire.specs.NameOrder.{by_name}
 use Rattle.fl_gossip.specs.Taking.{ops_of}
 use Rattle.fl_gossip.specs.Replying.{IsDelta, AreDeltas, AreInDeltas}
+use Rattle.fl_gossip.specs.parts.Nothing.{IsOfNothing}
 
 -- what rises, in part
 module _ {K : Type 0} (R : K → K → Ordering) where
@@ -84,6 +88,21 @@ pub lacking_rises : (s : SetBy op_cmp) (w : Intervals) → HaveNoClash (In s) (I
 lacking_rises s w single =
     let all = all_weaker (Contains (lacking s w)) (In s) (lacking_member s w) (lacking s w) (recursion_from_All (Contains (lacking s w)) (lacking s w) (All-contains_itself (lacking s w))) in
     names_rise (In s) single (lacking s w) all (kept_rises op_cmp (is_lacking w) (members s) (members_rise s))
+
+-- the window of nothing lacks each operation
+module _ (w : Intervals) (nothing : IsOfNothing w) where
+  each_lacking : (op : Op) → is_lacking w op ≡ true
+  each_lacking op =
+      let above : nat_le (name_rank w.from) (name_rank op.name) ≡ true = le-leb (name_rank w.from) (name_rank op.name) (omega (arith, nothing.starts, op.name.node_in_range.0, op.name.seq_in_range.0)) in
+      let below : nat_le (name_rank op.name) (name_rank w.to) ≡ true = le-leb (name_rank op.name) (name_rank w.to) (omega (arith, nothing.ends, op.name.node_in_range.1, op.name.seq_in_range.1)) in
+      λ i. (above i && below i) && not (list_any (λ s. in_span s op.name) (nothing.none i))
+
+  all_lacking : (ops : List Op) → filter (is_lacking w) ops ≡ ops
+  all_lacking [] = refl
+  all_lacking (op ∷ ops) = λ i. cond (each_lacking op i) (op ∷ all_lacking ops i) (all_lacking ops i)
+
+  pub nothing_lacks : (s : SetBy op_cmp) → lacking s w ≡ members s
+  nothing_lacks s = all_lacking (members s)
 
 -- deltas of 64 operations each
 abbrev pub AreFull : List Packet → Type 0

@@ -1,2 +1,3 @@
 -- Relations that join functions, and that no public clause needs.
 pub mod Ahead
+pub mod Nothing

@@ -1,19 +1,27 @@
 //! What is answered to a window.
 ghost use Rattle.std.specs.Prelude.{◌≡◌, ◌<◌, ◌≤◌, length, IfOk};
 ghost use Rattle.std.specs.List.Sorted.{IsStrictlySortedBy};
+ghost use Rattle.fl_labels.specs.Found.{Tells};
 ghost use Rattle.fl_labels.specs.SetBy.{In};
 ghost use Rattle.fl_opset.specs.Catching.{HaveNoClash};
 ghost use Rattle.fl_opset.specs.Windows.{lacking};
 ghost use Rattle.fl_wire.specs.NameOrder.{by_name};
 ghost use Rattle.fl_gossip.specs.Replying.{IsDelta, AreInDeltas};
 ghost use Rattle.fl_gossip.specs.Taking.{ops_of};
+ghost use Rattle.fl_gossip.specs.parts.Nothing.{IsOfNothing};
 
 use fl_ops::op::Op;
 use fl_opset::intervals::Intervals;
+use fl_opset::rank::rank;
 use fl_opset::set::OpSet;
 use fl_wire::batch::{Batch, MOST_OPS, OpList};
 use fl_wire::packet::Packet;
 use std::alloc::{AllocError, Global};
+
+// The ranks of the first name of all, 1.1, and of the last.
+const LEAST_RANK: u64 = 0x1_0000_0001;
+
+const GREATEST_RANK: u64 = 0xffff_ffff_ffff;
 
 // The delta of these operations, which are copied.
 fn delta_of(alloc: Global, ops: &[Op]) -> Result<Packet, AllocError>
@@ -31,7 +39,7 @@ fn deltas_of(alloc: Global, ops: &[Op]) -> Result<Vec<Packet>, AllocError>
     requires { IsStrictlySortedBy by_name ops.now }
     ensures { IfOk result (λ packets. AreInDeltas ops.now packets.items) }
 {
-    let mut packets = Vec::new(alloc);
+    let mut packets = Vec::with_capacity(alloc, ops.len() / MOST_OPS + 1)?;
     let mut rest = ops;
     while rest.len() > MOST_OPS {
         let (front, back) = rest.split_at(MOST_OPS);
@@ -45,12 +53,24 @@ fn deltas_of(alloc: Global, ops: &[Op]) -> Result<Vec<Packet>, AllocError>
     Ok(packets)
 }
 
-/// What the window lacks of the set, which has each name once: deltas of 64 operations, the last one shorter, rising. Two
-/// binary searches a span, and then linear in what is lacking. An error says that there was no memory for it.
+// Whether the window is over all names and has none, so that it lacks each operation.
+fn is_of_nothing(window: &Intervals) -> bool
+    ensures { Tells result (IsOfNothing window.now) }
+{
+    window.spans.as_slice().is_empty()
+        && rank(window.from) == LEAST_RANK
+        && rank(window.to) == GREATEST_RANK
+}
+
+/// What the window lacks of the set, which has each name once: deltas of 64 operations, the last one shorter, rising. Linear in what is
+/// lacking, which is copied once where the window has nothing, and else twice, after two searches a span. An error says that there was no memory for it.
 pub fn reply(alloc: Global, saved: &OpSet, window: &Intervals) -> Result<Vec<Packet>, AllocError>
     requires { HaveNoClash (In saved.now) (In saved.now) }
     ensures { IfOk result (λ packets. AreInDeltas (lacking saved.now window.now) packets.items) }
 {
+    if is_of_nothing(window) {
+        return deltas_of(alloc, saved.as_slice());
+    }
     let ops = saved.lacking(alloc, window)?;
     deltas_of(alloc, &ops)
 }

@@ -1,4 +1,5 @@
 pub mod Unions
+pub mod PutBack
 pub mod Written
 pub mod Numbers
 pub mod Cut

@@ -12,6 +12,7 @@ pub mod Endpoint
 pub mod Text
 pub mod Words
 pub mod ItemText
+pub mod Judged
 pub mod Arranged
 pub mod Error
 pub mod parts

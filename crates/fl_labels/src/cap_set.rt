@@ -1,7 +1,8 @@
 //! Sets of capabilities.
 ghost use Rattle.std.specs.Prelude.{◌≡◌, IfOk, IfErr, OnOk, OnErr, IsErrOf, IsTrue, ◌↔◌, not, false};
 ghost use Rattle.fl_labels.specs.Cap.{cap_cmp};
-ghost use Rattle.fl_labels.specs.Found.{Found};
+ghost use Rattle.fl_labels.specs.Found.{Found, Tells, Within};
+ghost use Rattle.fl_labels.specs.Judged.{Judges};
 ghost use Rattle.fl_labels.specs.Text.{cap_text};
 ghost use Rattle.fl_labels.specs.Words.{IsListing};
 ghost use Rattle.fl_labels.specs.SetBy as set;
@@ -9,7 +10,7 @@ ghost use Rattle.fl_labels.specs.SetBy as set;
 use crate::cap::Cap;
 use crate::error::SetError;
 use crate::list::read_items;
-use crate::roomy::RoomyCapSet;
+use crate::roomy::{RoomyCapSet, put_all};
 use crate::sorted::{arrange, first_outside};
 use std::alloc::{AllocError, Global};
 use std::fmt;
@@ -193,14 +194,54 @@ impl CapSet {
         Ok(CapSet { caps })
     }
 
-    /// All members of both sets. Linear where those of the other are the greater ones, and else with a sort. Fails only where there is
-    /// not enough memory.
-    pub fn union(&self, alloc: Global, other: &CapSet) -> Result<Self, AllocError>
-        ensures { IfOk result (λ made. made ≡ set.union self.now other.now) }
+    // Whether each member of the other is one of this set. A binary search for each.
+    fn has_each(&self, other: &CapSet) -> bool
+        ensures { Tells result (Within (set.In other.now) (set.In self.now)) }
     {
-        let mut caps = Vec::from_slice(alloc, &self.caps)?;
-        caps.extend_from_slice(&other.caps)?;
-        Ok(CapSet::from_vec(caps))
+        other.caps.iter().all(|cap| self.contains(*cap))
+    }
+
+    /// Adds each member of the other set, in place. Fails only where one of them is new and there is not enough
+    /// memory, and then leaves the set. Where none is new it takes no memory. Two binary searches for each member of
+    /// the other; each that is new moves the capabilities above it, and so is appended where it is above all.
+    pub fn insert_all(&mut self, other: &CapSet) -> Result<(), AllocError>
+        ensures ok { OnOk result (self.new ≡ set.union self.old other.now) }
+        ensures err { OnErr result (self.new ≡ self.old) }
+        ensures new { OnErr result (¬ Within (set.In other.now) (set.In self.old)) }
+    {
+        if self.has_each(other) {
+            return Ok(());
+        }
+        self.caps.reserve(other.caps.len())?;
+        put_all(&mut self.caps, &other.caps);
+        Ok(())
+    }
+
+    /// Removes a capability where the judge is content with the rest, and else leaves the set. Answers what the judge
+    /// answers, which is asked once, also of a capability that is no member. Takes no memory of its own. A binary
+    /// search; moves the capabilities above, and back where the judge refuses.
+    pub fn remove_if<C, E, J: FnOnce(&mut C, &CapSet) -> Result<(), E>>(
+        &mut self,
+        cap: Cap,
+        asked: &mut C,
+        judge: J,
+    ) -> Result<(), E>
+        requires { J.IsAlwaysCallable judge }
+        ensures ok { OnOk result (self.new ≡ set.remove self.old cap) }
+        ensures err { OnErr result (self.new ≡ self.old) }
+        ensures judged { Judges J.FnOnce judge asked.old (set.remove self.old cap) result asked.new }
+    {
+        let Ok(place) = self.caps.binary_search(&cap) else {
+            return judge(asked, self);
+        };
+        self.caps.remove(place);
+        if let Err(refused) = judge(asked, self) {
+            let Ok(()) = self.caps.insert(place, cap) else {
+                unreachable!("what was taken out left room");
+            };
+            return Err(refused);
+        }
+        Ok(())
     }
 
     /// The same set with room for two more. An error says that there was not enough memory, and gives the set back.

@@ -1,5 +1,7 @@
 //! Sets of capabilities with room for more.
-ghost use Rattle.std.specs.Prelude.{◌≡◌, ◌∷◌, [], ◌+◌, ◌<◌, ◌≤◌};
+ghost use Rattle.std.specs.Prelude.{◌≡◌, ◌∷◌, [], ◌+◌, ◌<◌, ◌≤◌, ◌||◌, length};
+ghost use Rattle.std.specs.List.{list_any};
+ghost use Rattle.std.specs.Ordering.{eq_by_cmp};
 ghost use Rattle.std.specs.Vec.{vec_len, vec_capacity};
 ghost use Rattle.std.specs.List.Sorted.{IsStrictlySortedBy};
 ghost use Rattle.fl_labels.specs.Cap.{cap_cmp};
@@ -34,7 +36,7 @@ impl Model for RoomyCapSet {
 }
 
 // Adds a capability in the room that there is.
-fn put(caps: &mut Vec<Cap>, cap: Cap)
+pub(crate) fn put(caps: &mut Vec<Cap>, cap: Cap)
     requires rises { IsStrictlySortedBy cap_cmp caps.old.items }
     requires room { vec_len caps.old < vec_capacity caps.old }
     ensures rises { IsStrictlySortedBy cap_cmp caps.new.items }
@@ -46,6 +48,19 @@ fn put(caps: &mut Vec<Cap>, cap: Cap)
         let Ok(()) = caps.insert(place, cap) else {
             unreachable!("there is room");
         };
+    }
+}
+
+// Adds each of some capabilities in the room that there is.
+pub(crate) fn put_all(caps: &mut Vec<Cap>, others: &[Cap])
+    requires rises { IsStrictlySortedBy cap_cmp caps.old.items }
+    requires room { vec_len caps.old + length others.now ≤ vec_capacity caps.old }
+    ensures rises { IsStrictlySortedBy cap_cmp caps.new.items }
+    ensures members { (cap : Cap) → set.contains (set.of_list {R = cap_cmp} caps.new.items) cap
+        ≡ (set.contains (set.of_list {R = cap_cmp} caps.old.items) cap || list_any (eq_by_cmp cap_cmp cap) others.now) }
+{
+    for cap in others {
+        put(caps, *cap);
     }
 }
 

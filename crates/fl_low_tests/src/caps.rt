@@ -2,6 +2,7 @@
 use crate::rows::{check, parts};
 use fl_labels::cap::Cap;
 use fl_labels::cap_set::CapSet;
+use fl_labels::error::SetError;
 use fl_labels::list::read_items;
 use fl_labels::roomy::RoomyCapSet;
 use fl_labels::sorted::{arrange, rises};
@@ -31,7 +32,8 @@ fn ask(
         "remove" => remove(out, caps, word),
         "lacking" => lacking(alloc, out, caps, word),
         "copy" => copy(alloc, out, caps),
-        "union" => union(alloc, out, caps, word),
+        "insert_all" => insert_all(alloc, out, caps, word),
+        "remove_if" => remove_if(out, caps, word),
         _ => list(out, caps),
     }
 }
@@ -66,22 +68,36 @@ fn copy(alloc: Global, out: &mut String, caps: &CapSet) -> Result<(), AllocError
     write!(out, "{copy}")
 }
 
-// All members of both.
-fn union(alloc: Global, out: &mut String, caps: &CapSet, other: &str) -> Result<(), AllocError> {
+// With each member of another set.
+fn insert_all(
+    alloc: Global,
+    out: &mut String,
+    caps: &mut CapSet,
+    other: &str,
+) -> Result<(), AllocError> {
     match CapSet::from_text(alloc, other) {
-        Ok(other) => union_text(alloc, out, caps, &other),
+        Ok(other) => {
+            caps.insert_all(&other)?;
+            write!(out, "{caps}")
+        }
         Err(error) => write!(out, "{error:?}"),
     }
 }
 
-fn union_text(
-    alloc: Global,
-    out: &mut String,
-    caps: &CapSet,
-    other: &CapSet,
-) -> Result<(), AllocError> {
-    let union = caps.union(alloc, other)?;
-    write!(out, "{union}")
+// Without a capability, unless nothing were left: the answer, how many the judge saw, and the set.
+fn remove_if(out: &mut String, caps: &mut CapSet, word: &str) -> Result<(), AllocError> {
+    let Some(cap) = read_cap(word) else {
+        return out.push_str("no capability");
+    };
+    let mut seen = 9;
+    let answer = caps.remove_if(cap, &mut seen, |seen: &mut usize, rest: &CapSet| {
+        *seen = rest.len();
+        if rest.is_empty() {
+            return Err(SetError::TooLong);
+        }
+        Ok(())
+    });
+    write!(out, "{answer:?} {seen} {caps}")
 }
 
 // Whether it is empty, how many there are, and each of them.
@@ -163,8 +179,14 @@ caps remove {} +1.1 => false {}
 caps lacking {+1.1,-1.1} {-1.1} => Some(Plus(Name { node: 1, seq: 1 }))
 caps lacking {-1.1} {+1.1,-1.1} => None
 caps copy {+1.1,-1.1} => {+1.1,-1.1}
-caps union {} {-1.1,+1.2} => {-1.1,+1.2}
-caps union {-1.1} {+1.1} => {+1.1,-1.1}
+caps insert_all {} {-1.1,+1.2} => {-1.1,+1.2}
+caps insert_all {-1.1} {+1.1} => {+1.1,-1.1}
+caps insert_all {+1.1,-1.1} {-1.1} => {+1.1,-1.1}
+caps insert_all {+1.1,+1.3} {+1.2,+1.3,+1.4} => {+1.1,+1.2,+1.3,+1.4}
+caps remove_if {+1.1,-1.1,+1.2} -1.1 => Ok(()) 2 {+1.1,+1.2}
+caps remove_if {+1.1,+1.2} -1.1 => Ok(()) 2 {+1.1,+1.2}
+caps remove_if {-1.1} -1.1 => Err(TooLong) 0 {-1.1}
+caps remove_if {} -1.1 => Err(TooLong) 0 {}
 caps list {+1.1,-1.1} => false 2 2 +1.1 -1.1
 caps list {} => true 0 0
 room {-1.2} *1.2 +1.2 => {+1.2,-1.2,*1.2}

@@ -1,6 +1,7 @@
 //! The messages that wait for a process.
 ghost use Rattle.std.specs.Prelude.{◌≡◌, ◌++◌, ◌∷◌, [], length, nat_le, OnOk, OnErr};
 ghost use Rattle.fl_mailbox.specs.Mailbox.{oldest, without_oldest};
+ghost use Rattle.fl_mailbox.specs.Pushes.{Pushes};
 
 use fl_message::message::Letter;
 use std::alloc::{AllocError, Global};
@@ -52,6 +53,26 @@ impl Inbox {
         ensures err { OnErr result (self.new ≡ self.old) }
     {
         self.letters.push_back(letter)?;
+        Ok(())
+    }
+
+    /// Has the owner receive a message, which then waits behind the others: both, or an error. The room is taken first,
+    /// so that after an error the others wait as before, and the owner is as what received left it, or as it was where
+    /// there was no memory for the room.
+    pub fn push_with<C, F: FnOnce(&mut C, &Letter) -> Result<(), AllocError>>(
+        &mut self,
+        letter: Letter,
+        owner: &mut C,
+        receive: F,
+    ) -> Result<(), AllocError>
+        requires { F.IsAlwaysCallable receive }
+        ensures { Pushes F.FnOnce receive letter self.old owner.old result self.new owner.new }
+    {
+        self.letters.reserve(1)?;
+        receive(owner, &letter)?;
+        let Ok(()) = self.letters.push_back(letter) else {
+            unreachable!("there is room");
+        };
         Ok(())
     }
 

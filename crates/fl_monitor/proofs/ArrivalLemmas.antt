@@ -1,6 +1,9 @@
 -- What the arrival of a message owes.
-use Rattle.std.proofs.Common.{◌≡◌, ◌∙◌, inl, inr, refl, sym, ap, subst, Bool, true, false, cond, List, [], ◌∷◌, ◌++◌, length, Option, Some, None, Ok, Err}
+use Rattle.std.proofs.Common.{◌≡◌, ◌∙◌, inl, inr, refl, sym, ap, subst, Bool, true, false, cond, List, [], ◌∷◌, ◌++◌, length, Option, Some, None, Result, Ok, Err, OnOk, OnErr}
 use Rattle.std.specs.Prelude.{nat_le}
+use Rattle.std.specs.Fn.{Once}
+use denote.Ref.{Bor, MutBor}
+use Rattle.std.specs.declared.alloc.AllocError.{AllocError}
 use Rattle.std.specs.FinMap as map
 use Rattle.fl_labels.specs.Cap.{cap_cmp}
 use Rattle.fl_labels.specs.SetBy as set
@@ -11,6 +14,7 @@ use Rattle.fl_rules.specs.declared.pair.PairFault.{PairFault}
 use Rattle.fl_message.specs.declared.message.Data.{Data}
 use Rattle.fl_message.specs.declared.message.Letter.{Letter}
 use Rattle.fl_mailbox.specs.Endpoints.{end_of}
+use Rattle.fl_mailbox.specs.Pushes.{Pushes}
 use Rattle.fl_mailbox.specs.declared.endpoints.OpenEndpoint.{OpenEndpoint}
 use Rattle.fl_jobs.specs.declared.answer.Refusal.{Refusal}
 use Rattle.fl_jobs.specs.declared.answer.Refusal.TheVariants.{Busy, NoEndpoint, InboxFull, Memory}
@@ -18,8 +22,8 @@ use Rattle.fl_jobs.specs.declared.answer.Reply.TheVariants.{Arrived}
 use Rattle.fl_jobs.specs.declared.answer.Outcome.{Outcome}
 use Rattle.fl_bench.specs.Checks.{refuse_if, ◌then◌}
 use Rattle.fl_bench.specs.Guards.{sent_from, entry_refusal, pair_check}
-use Rattle.fl_bench.specs.Mailbox.{arrival_checks, entered}
-use Rattle.fl_bench.specs.Process.{held, is_under_way, is_busy, receiving}
+use Rattle.fl_bench.specs.Mailbox.{arrival_checks}
+use Rattle.fl_bench.specs.Process.{held, is_under_way, is_busy}
 use Rattle.fl_monitor.specs.parts.Acts.{Arrives}
 use Rattle.fl_bench.specs.declared.process.Holding.{Holding}
 use Rattle.fl_bench.specs.declared.process.Holding.TheVariants.{Idle, Ordering}
@@ -71,11 +75,36 @@ module _ (p : Process) (d : Data) where
           all_pass = checks_are None (may_enter, sym (ap (λ b. cond b (Some InboxFull) None) (sym told ∙ room)))
 
           -- there is no memory for what it brings
-          pub comes_starved : (inbox : List Letter) → inbox ≡ p.mailbox.inbox → Arrives p d (Err Memory) (record p { owned = Idle owned; mailbox = record p.mailbox { inbox = inbox } })
-          comes_starved inbox e = subst (Arrives p d (Err Memory)) (λ i. record p { owned = is i; mailbox = record p.mailbox { inbox = sym e i } }) (Arrives.no_room (ap is_under_way is) all_pass)
+          pub comes_starved : (after : SetBy cap_cmp) → after ≡ owned → (inbox : List Letter) → inbox ≡ p.mailbox.inbox
+              → Arrives p d (Err Memory) (record p { owned = Idle after; mailbox = record p.mailbox { inbox = inbox } })
+          comes_starved after still inbox e = subst (Arrives p d (Err Memory)) (λ i. record p { owned = (is ∙ ap Idle (sym still)) i; mailbox = record p.mailbox { inbox = sym e i } }) (Arrives.no_room (not_busy, all_pass))
 
           pub comes_in : (joined : SetBy cap_cmp) → joined ≡ set.union owned d.message.caps → (inbox : List Letter) → inbox ≡ p.mailbox.inbox ++ record { sender = d.sender; message = d.message } ∷ []
               → Arrives p d (Ok (Outcome.Reply (Arrived d.receiver))) (record p { owned = Idle joined; mailbox = record p.mailbox { inbox = inbox } })
           comes_in joined union inbox behind =
               let owned_are : set.union (held p.owned) d.message.caps ≡ joined = ap (λ h. set.union (held h) d.message.caps) is ∙ sym union in
               subst (Arrives p d (Ok (Outcome.Reply (Arrived d.receiver)))) (λ i. record p { owned = Idle (owned_are i); mailbox = record p.mailbox { inbox = sym behind i } }) (Arrives.arrives (not_busy, all_pass))
+
+-- ---- a message and its capabilities come together
+
+module _ {F : Type 0} (g : Once F (MutBor (SetBy cap_cmp) × (Bor Letter × Unit {0})) (Result (Unit {0}) AllocError × (MutBor (SetBy cap_cmp) × Unit {0})))
+    (receive : F) (letter : Letter) (waiting : List Letter) (owned : SetBy cap_cmp) where
+  -- a call that went well took the capabilities in
+  abbrev TakesIn : Type 0
+  TakesIn = (before later : MutBor (SetBy cap_cmp)) (shown : Bor Letter) → g.post receive (before, (shown, tt)) (Ok tt, (later, tt)) → later.now ≡ set.union before.now shown.now.message.caps
+
+  -- one that did not changed nothing
+  abbrev LeavesAll : Type 0
+  LeavesAll = (before later : MutBor (SetBy cap_cmp)) (shown : Bor Letter) (e : AllocError) → g.post receive (before, (shown, tt)) (Err e, (later, tt)) → later.now ≡ before.now
+
+  pub both_in : TakesIn → (r : Result (Unit {0}) AllocError) (left : List Letter) (after : SetBy cap_cmp) → Pushes g receive letter waiting owned r left after
+      → OnOk r (left ≡ waiting ++ letter ∷ []) × OnOk r (after ≡ set.union owned letter.message.caps)
+  both_in takes r left after (Pushes.pushed h) = (refl, sym h.leaves ∙ takes h.owner h.left h.shown h.met ∙ (λ i. set.union (h.owns i) (h.shows i).message.caps))
+  both_in takes r left after (Pushes.refused h) = (tt, tt)
+  both_in takes r left after Pushes.no_room = (tt, tt)
+
+  pub none_in : LeavesAll → (r : Result (Unit {0}) AllocError) (left : List Letter) (after : SetBy cap_cmp) → Pushes g receive letter waiting owned r left after
+      → OnErr r ((left ≡ waiting) × (after ≡ owned))
+  none_in leaves r left after (Pushes.pushed h) = tt
+  none_in leaves r left after (Pushes.refused {e} h) = (refl, sym h.leaves ∙ leaves h.owner h.left h.shown e h.met ∙ h.owns)
+  none_in leaves r left after Pushes.no_room = (refl, refl)

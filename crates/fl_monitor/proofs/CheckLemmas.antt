@@ -1,25 +1,22 @@
 -- What checks that were made tell.
-use Rattle.std.proofs.Common.{◌≡◌, ◌⊎◌, inl, inr, refl, sym, ap, subst, Option, Some, None, Result, Ok, Err}
+use Rattle.std.proofs.Common.{◌≡◌, refl, sym, ap, subst, Option, Some, None, Result, Ok, Err}
 use Rattle.fl_jobs.specs.declared.answer.Refusal.{Refusal}
-use Rattle.fl_jobs.specs.declared.answer.Refusal.TheVariants.{Memory}
 use Rattle.fl_bench.specs.Checks.{Check, with}
 use Rattle.fl_monitor.specs.parts.Checked.{Checked}
 
 same_refusal : {T : Type 0} {f g : Refusal} → ◌≡◌ {A = Result T Refusal} (Err f) (Err g) → f ≡ g
 same_refusal {f} e = ap (λ r. elim r [ Ok u ↦ f | Err g ↦ g ]) e
 
-module _ {check : Check} {Q : Type 0} where
-  -- what was refused failed, or there was no memory
-  pub why_refused : {r : Result (Unit {0}) Refusal} → Checked check Q r → (f : Refusal) → r ≡ Err f → check (Some f) ⊎ ((f ≡ Memory) × Q)
-  why_refused (Checked.passed h) f e = absurd (cc)
-  why_refused (Checked.failed h) f e = inl (subst (λ g. check (Some g)) (same_refusal e) h)
-  why_refused (Checked.no_room h) f e = inr (sym (same_refusal e), h)
+module _ {check : Check} where
+  -- what was refused failed
+  pub has_failed : {r : Result (Unit {0}) Refusal} → Checked check r → (f : Refusal) → r ≡ Err f → check (Some f)
+  has_failed (Checked.passed h) f e = absurd (cc)
+  has_failed (Checked.failed h) f e = subst (λ g. check (Some g)) (same_refusal e) h
 
   -- what was let through passed
-  pub has_passed : {r : Result (Unit {0}) Refusal} → Checked check Q r → (u : Unit {0}) → r ≡ Ok u → check None
+  pub has_passed : {r : Result (Unit {0}) Refusal} → Checked check r → (u : Unit {0}) → r ≡ Ok u → check None
   has_passed (Checked.passed h) u e = h
   has_passed (Checked.failed h) u e = absurd (cc)
-  has_passed (Checked.no_room h) u e = absurd (cc)
 
 -- a check of a value that is not there, and of one that is
 pub fails_without : {A : Type 0} (found : Option A) (f : Refusal) (more : A → Check) → found ≡ None → with found f more (Some f)

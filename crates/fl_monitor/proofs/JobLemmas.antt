@@ -1,6 +1,7 @@
 -- What the jobs of a bench owe.
-use Rattle.std.proofs.Common.{arith, ℕ, ◌+◌, ◌<◌, ◌≤◌, ◌≡◌, ◌≢◌, ◌∙◌, inl, inr, Bool, true, false, refl, sym, ap, subst, Option, Some, None, Result, Ok, Err}
+use Rattle.std.proofs.Common.{arith, ℕ, ◌+◌, ◌<◌, ◌≤◌, ◌≡◌, true, false, refl, sym, ap, subst, Option, Some, None, Result, Ok, Err}
 use Rattle.std.specs.Result.{IsErr, IsErrAnd}
+use Rattle.std.specs.declared.alloc.AllocError.{AllocError}
 use Rattle.std.specs.FinMap as map
 use Rattle.std.specs.Prelude.{nat_lt}
 use Rattle.fl_labels.specs.Pid.{pid_cmp}
@@ -18,10 +19,9 @@ use Rattle.fl_bench.specs.Mailbox.{arrival_checks}
 use Rattle.fl_bench.specs.Checks.{with, refuse_if, ◌then◌}
 use Rattle.fl_bench.specs.Process.{newborn, is_busy}
 use Rattle.fl_bench.specs.Bench.{BenchState, IsNext, has_at}
-use Rattle.fl_bench.specs.Hand.{SearchesFrom}
-use Rattle.fl_bench.specs.Jobs.{act_checks, bench_checks, checks, Does, serials_left}
+use Rattle.fl_bench.specs.Jobs.{act_checks, bench_checks, checks, Answers, Does, serials_left}
 use Rattle.fl_bench.specs.declared.process.Process.{Process}
-use Rattle.fl_monitor.specs.parts.Acts.{Acts, ActsAt, Births, Settles, Arrives, ArrivesAt, Replies}
+use Rattle.fl_monitor.specs.parts.Acts.{Acts, ActsAt, Births, Settles, Arrives, ArrivesAt}
 use Rattle.fl_monitor.specs.declared.sequel.Sequel.{Sequel}
 use Rattle.fl_monitor.specs.declared.sequel.Sequel.TheVariants.{End}
 use Rattle.fl_monitor.proofs.ActLemmas.{passed_on, stays}
@@ -64,13 +64,13 @@ module _ (V : Registry) (a b : BenchState) (is : a ≡ b) (pid : Pid) (act : Act
   pub end_does : r ≡ Ok End → (n : map.FinMap pid_cmp Process) → n ≡ map.remove m pid → Does V b (By pid act) (Ok (Outcome.Reply Done)) (record a { processes = n })
   end_does e n removed = settled_does End e (Ok (Outcome.Reply Done)) (record a { processes = n }) (refl, ap (λ m. record a { processes = m }) removed)
 
-pub births_does : (V : Registry) (b : BenchState) (p : Process) → p ≡ newborn → {r : Result Outcome Refusal} {b' : BenchState} → Births b p r b' → Does V b Proc r b'
-births_does V b p is {r} {b'} h = alone (subst (λ p. Births b p r b') is h)
+pub births_does : (V : Registry) (b : BenchState) (p : Process) → p ≡ newborn → {r : Result Outcome Refusal} {b' : BenchState} → Births b (Ok p) r b' → Does V b Proc r b'
+births_does V b p is {r} {b'} h = alone (subst (λ p. Births b (Ok p) r b') is h)
   where
-    alone : {r : Result Outcome Refusal} {b' : BenchState} → Births b newborn r b' → Does V b Proc r b'
+    alone : {r : Result Outcome Refusal} {b' : BenchState} → Births b (Ok newborn) r b' → Does V b Proc r b'
     alone (Births.made {pid} c next) = Does.passed c (pid, next, refl, refl)
     alone (Births.spent c) = Does.failed c
-    alone (Births.full left) = Does.no_room left
+    alone (Births.full left) = Does.no_room (left, tt)
 
 -- a message that comes to the processes of a bench is a job
 module _ (V : Registry) (b : BenchState) (d : Data) where
@@ -88,7 +88,7 @@ module _ (V : Registry) (b : BenchState) (d : Data) where
   received : (q : Process) → map.get b.processes d.receiver ≡ Some q → {r : Result Outcome Refusal} {q' : Process} → Arrives q d r q' → Does V b (Arrive d) r (has_at b d.receiver q')
   received q e (Arrives.arrives h) = Does.passed (comes q e None h) (q, e, refl, refl)
   received q e (Arrives.refused {f} h) = put_back q e (Does.failed (comes q e (Some f) h))
-  received q e (Arrives.no_room idle h) = put_back q e (Does.no_room (q, e, idle, h))
+  received q e (Arrives.no_room h) = put_back q e (Does.no_room (comes q e None h, tt))
 
   arrives : {r : Result Outcome Refusal} {m : map.FinMap pid_cmp Process} → ArrivesAt b.processes d r m → Does V b (Arrive d) r (record b { processes = m })
   arrives (ArrivesAt.nobody e) = Does.failed (nobody_receives e)
@@ -98,9 +98,8 @@ pub arrives_does : (V : Registry) (a b : BenchState) → a ≡ b → (d : Data) 
 arrives_does V a b is d {r} {m} h = subst (λ x. Does V x (Arrive d) r (record a { processes = m })) is (arrives V a d h)
 
 -- the reply to a question whether a capability is reached is a job
-pub replies_does : (V : Registry) (b : BenchState) (root c : Cap) {r : Result Outcome Refusal} → Replies (Reach V (From root) c) (SearchesFrom root c) r → Does V b (Member root c) r b
-replies_does V b root c (Replies.replied h) = Does.passed refl (h, refl)
-replies_does V b root c (Replies.no_room h) = Does.no_room h
+pub reaches_does : (V : Registry) (b : BenchState) (root c : Cap) (outcome : Outcome) → Answers outcome (Reach V (From root) c) → Does V b (Member root c) (Ok outcome) b
+reaches_does V b root c outcome h = Does.passed refl (h, refl)
 
 is_above : (a b : ℕ) → a < b → nat_lt a b ≡ true
 is_above a b h = grind (arith)
@@ -108,17 +107,23 @@ is_above a b h = grind (arith)
 not_above : (a b : ℕ) → b ≤ a → nat_lt a b ≡ false
 not_above a b h = grind (arith)
 
-module _ (a b : BenchState) (is : a ≡ b) (p : Process) where
-  pub spent_births : ¬ (a.next < 4294967296) → Births b p (Err NamesSpent) b
-  spent_births h = subst (λ x. Births x p (Err NamesSpent) x) is (Births.spent (subst (λ t. refuse_if t NamesSpent (Some NamesSpent)) (sym (is_above 4294967295 a.next (omega (arith, h)))) refl))
+module _ (a b : BenchState) (is : a ≡ b) where
+  pub spent_births : (child : Result Process AllocError) → ¬ (a.next < 4294967296) → Births b child (Err NamesSpent) b
+  spent_births child h = subst (λ x. Births x child (Err NamesSpent) x) is (Births.spent (subst (λ t. refuse_if t NamesSpent (Some NamesSpent)) (sym (is_above 4294967295 a.next (omega (arith, h)))) refl))
 
   left : a.next < 4294967296 → serials_left a None
   left h = subst (λ t. refuse_if t NamesSpent None) (sym (not_above 4294967295 a.next (omega (arith, h)))) refl
 
-  pub full_births : (m : map.FinMap pid_cmp Process) → a.next < 4294967296 → m ≡ a.processes → Births b p (Err Memory) (record a { processes = m })
-  full_births m h e = subst (λ x. Births b p (Err Memory) (record a { processes = x })) (sym e) (subst (λ x. Births x p (Err Memory) a) is (Births.full (left h)))
+  -- there was no memory for a process, or is no room
+  pub starved_births : (child : Result Process AllocError) → a.next < 4294967296 → Births b child (Err Memory) b
+  starved_births child h = subst (λ x. Births x child (Err Memory) x) is (Births.full (left h))
 
-  pub made_births : (pid : Pid) (m : map.FinMap pid_cmp Process) (n : ℕ) → a.next < 4294967296 → IsNext a pid → m ≡ map.insert a.processes pid p → n ≡ a.stride → Births b p (Ok (Outcome.Reply (Made pid))) (record a { next = a.next + n; processes = m })
-  made_births pid m n h next e f =
-      subst (λ x. Births x p (Ok (Outcome.Reply (Made pid))) (record a { next = a.next + n; processes = m })) is
-      (subst (Births a p (Ok (Outcome.Reply (Made pid)))) (λ i. record a { next = a.next + sym f i; processes = sym e i }) (Births.made (left h) next))
+  pub full_births : (child : Result Process AllocError) (m : map.FinMap pid_cmp Process) → a.next < 4294967296 → m ≡ a.processes → Births b child (Err Memory) (record a { processes = m })
+  full_births child m h e = subst (λ x. Births b child (Err Memory) (record a { processes = x })) (sym e) (subst (λ x. Births x child (Err Memory) a) is (Births.full (left h)))
+
+  module _ (child : Result Process AllocError) (p : Process) (there : child ≡ Ok p) where
+    pub made_births : (pid : Pid) (m : map.FinMap pid_cmp Process) (n : ℕ) → a.next < 4294967296 → IsNext a pid → m ≡ map.insert a.processes pid p → n ≡ a.stride → Births b child (Ok (Outcome.Reply (Made pid))) (record a { next = a.next + n; processes = m })
+    made_births pid m n h next e f =
+        subst (λ c. Births b c (Ok (Outcome.Reply (Made pid))) (record a { next = a.next + n; processes = m })) (sym there)
+        (subst (λ x. Births x (Ok p) (Ok (Outcome.Reply (Made pid))) (record a { next = a.next + n; processes = m })) is
+        (subst (Births a (Ok p) (Ok (Outcome.Reply (Made pid)))) (λ i. record a { next = a.next + sym f i; processes = sym e i }) (Births.made (left h) next)))

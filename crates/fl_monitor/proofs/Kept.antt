@@ -1,5 +1,5 @@
 -- What the parts of a bench do keeps it orderly.
-use Rattle.std.proofs.Common.{◌≡◌, ◌+◌, ◌≤◌, ◌<◌, sym, subst, List, ℕ, Result, arith}
+use Rattle.std.proofs.Common.{◌≡◌, ◌+◌, ◌≤◌, sym, subst, List, ℕ, Result, arith}
 use Rattle.std.specs.FinMap as map
 use Rattle.fl_labels.specs.Pid.{pid_cmp}
 use Rattle.fl_labels.specs.declared.cap.Cap.{Cap}

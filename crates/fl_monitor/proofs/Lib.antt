@@ -1,5 +1,4 @@
 pub mod Looks
-pub mod Hand
 pub mod Given
 pub mod ActLemmas
 pub mod JobLemmas

@@ -1,5 +1,5 @@
 -- What the work of a process with its mailbox owes.
-use Rattle.std.proofs.Common.{◌≡◌, ◌∙◌, ◌⊎◌, inl, inr, refl, sym, ap, subst, Bool, true, false, cond, List, Option, Result, Ok, Err, None, Some}
+use Rattle.std.proofs.Common.{◌≡◌, ◌∙◌, inl, inr, refl, sym, ap, subst, Bool, true, false, cond, Option, Result, Ok, Err, None, Some}
 use Rattle.std.specs.Prelude.{not, is_some}
 use Rattle.std.specs.Cmp.{IsTotalOrder, Equal-is}
 use Rattle.std.specs.Ordering.{eq_by_cmp}
@@ -8,7 +8,7 @@ use Rattle.std.specs.declared.cmp.Ordering.{Ordering}
 use Rattle.std.specs.FinMap as map
 use Rattle.std.specs.FinMap.{IsAntisymmetric}
 use Rattle.fl_labels.specs.Cap.{cap_cmp}
-use Rattle.fl_labels.specs.Endpoint.{endpoint_cmp, endpoint_total, endpoint_exact}
+use Rattle.fl_labels.specs.Endpoint.{endpoint_total, endpoint_exact}
 use Rattle.fl_labels.specs.SetBy.{SetBy, In}
 use Rattle.fl_labels.specs.declared.endpoint.Endpoint.{Endpoint}
 use Rattle.fl_labels.specs.declared.pid.Pid.{Pid}
@@ -34,12 +34,11 @@ use Rattle.fl_jobs.specs.declared.answer.Reply.TheVariants.{Done, Opened as Answ
 use Rattle.fl_jobs.specs.declared.answer.Outcome.{Outcome}
 use Rattle.fl_bench.specs.Checks.{refuse_if, ◌then◌}
 use Rattle.fl_bench.specs.Guards.{grant_check, endpoint_check}
-use Rattle.fl_bench.specs.Mailbox.{IsSent, taken, mail_checks, MailDoes}
-use Rattle.fl_bench.specs.Hand.{AtHand, Refuses}
+use Rattle.fl_bench.specs.Mailbox.{IsSent, taken, mail_checks}
 use Rattle.fl_monitor.specs.parts.Acts.{Closes, Mails}
 use Rattle.fl_monitor.specs.parts.Checked.{Checked}
 use Rattle.fl_monitor.proofs.ActLemmas.{passed_on}
-use Rattle.fl_monitor.proofs.CheckLemmas.{why_refused, has_passed, fails_without, goes_on_with}
+use Rattle.fl_monitor.proofs.CheckLemmas.{has_failed, has_passed, fails_without, goes_on_with}
 
 -- to remove what is not there changes nothing
 module _ {K X : Type 0} {R : K → K → Ordering} (o : IsTotalOrder R) (exact : IsAntisymmetric R) where
@@ -70,16 +69,13 @@ module _ (ch : Mailbox) (e : Endpoint) (table : Table) (removed : table ≡ map.
 -- ---- an endpoint of a process, as it is checked
 
 module _ (V : Registry) (owned : SetBy cap_cmp) (process : Labels) where
-  -- what is in effect, and what is at hand
+  -- what is in effect
   abbrev E : Caps
   E = InEffect V (In owned)
 
-  abbrev H : Caps
-  H = AtHand V owned
-
   -- one of this mode and these labels
   abbrev pub EndpointChecked : Endpoint → pairs.End → Result (Unit {0}) Refusal → Type 0
-  EndpointChecked e end = Checked (endpoint_check E process e end.mode end.labels) (Refuses (endpoint_check H process e end.mode end.labels))
+  EndpointChecked e end = Checked (endpoint_check E process e end.mode end.labels)
 
   module _ (pid : Pid) (ch : Mailbox) where
     abbrev IsDone : mailbox.Mail → Result Outcome Refusal → Mailbox → Type 0
@@ -96,25 +92,26 @@ module _ (V : Registry) (owned : SetBy cap_cmp) (process : Labels) where
         open_full h = Mails.failed (goes_on_with (labels_of given) LabelTooLong _ labels fits (Some EndpointsFull) (None, h, refl))
 
         module _ (e : Endpoint) (least : IsLeastFree ch.endpoints (Some e)) where
-          -- there is no memory for it
-          pub open_starved : (table : Table) → table ≡ ch.endpoints → IsDone (Open mode given) (Err Memory) (record ch { endpoints = table })
-          open_starved table same = subst (λ m. IsDone (Open mode given) (Err Memory) (record ch { endpoints = m })) (sym same) (Mails.no_room (labels, fits, e, least))
-
           module _ (end : pairs.End) (is : end ≡ record { mode = mode; labels = labels }) {r : Result (Unit {0}) Refusal} (checked : EndpointChecked e end r) where
             endpoint_checked : EndpointChecked e (record { mode = mode; labels = labels }) r
             endpoint_checked = subst (λ end. EndpointChecked e end r) is checked
 
-            open_fails : (f : Refusal) → endpoint_check E process e mode labels (Some f) ⊎ ((f ≡ Memory) × Refuses (endpoint_check H process e mode labels)) → IsDone (Open mode given) (Err f) ch
-            open_fails f (inl h) = Mails.failed (goes_on_with (labels_of given) LabelTooLong _ labels fits (Some f) (Some e, least, h))
-            open_fails f (inr h) = subst (λ f. IsDone (Open mode given) (Err f) ch) (sym h.0) (Mails.no_room (labels, fits, e, least))
+            opens_as : (verdict : Option Refusal) → endpoint_check E process e mode labels verdict → mail_checks E process ch (Open mode given) verdict
+            opens_as verdict h = goes_on_with (labels_of given) LabelTooLong _ labels fits verdict (Some e, least, h)
 
             pub open_unsafe : (f : Refusal) → r ≡ Err f → (q : Result Outcome Refusal) → IsErr q × IsErrAnd q (λ g. g ≡ f) → IsDone (Open mode given) q ch
-            open_unsafe f u q s = subst (λ q. IsDone (Open mode given) q ch) (sym (passed_on q f s)) (open_fails f (why_refused endpoint_checked f u))
+            open_unsafe f u q s = subst (λ q. IsDone (Open mode given) q ch) (sym (passed_on q f s)) (Mails.failed (opens_as (Some f) (has_failed endpoint_checked f u)))
 
-            pub open_done : (u : Unit {0}) → r ≡ Ok u → (table : Table) → table ≡ map.insert ch.endpoints e (record { mode = mode; labels = labels }) → IsDone (Open mode given) (Ok (Outcome.Reply (Answers_opened e))) (record ch { endpoints = table })
-            open_done u passes table put = Mails.passed
-                (goes_on_with (labels_of given) LabelTooLong _ labels fits None (Some e, least, has_passed endpoint_checked u passes))
-                (labels, fits, e, least, refl, ap (λ m. record ch { endpoints = m }) put)
+            module _ (u : Unit {0}) (passes : r ≡ Ok u) (table : Table) where
+              all_pass : mail_checks E process ch (Open mode given) None
+              all_pass = opens_as None (has_passed endpoint_checked u passes)
+
+              -- there is no memory for it
+              pub open_starved : table ≡ ch.endpoints → IsDone (Open mode given) (Err Memory) (record ch { endpoints = table })
+              open_starved same = subst (λ m. IsDone (Open mode given) (Err Memory) (record ch { endpoints = m })) (sym same) (Mails.no_room all_pass tt)
+
+              pub open_done : table ≡ map.insert ch.endpoints e (record { mode = mode; labels = labels }) → IsDone (Open mode given) (Ok (Outcome.Reply (Answers_opened e))) (record ch { endpoints = table })
+              open_done put = Mails.passed all_pass (labels, fits, e, least, refl, ap (λ m. record ch { endpoints = m }) put)
 
     -- ---- the labels of an endpoint become others
 
@@ -133,12 +130,8 @@ module _ (V : Registry) (owned : SetBy cap_cmp) (process : Labels) where
           verdict_is : (verdict : Option Refusal) → endpoint_check E process e opened.mode labels verdict → mail_checks E process ch (Tune e given) verdict
           verdict_is verdict h = goes_on_with (labels_of given) LabelTooLong _ labels fits verdict (goes_on_with (map.get ch.endpoints e) (NoEndpoint e) _ opened there verdict h)
 
-          tune_fails : (f : Refusal) → endpoint_check E process e opened.mode labels (Some f) ⊎ ((f ≡ Memory) × Refuses (endpoint_check H process e opened.mode labels)) → IsDone (Tune e given) (Err f) ch
-          tune_fails f (inl h) = Mails.failed (verdict_is (Some f) h)
-          tune_fails f (inr h) = subst (λ f. IsDone (Tune e given) (Err f) ch) (sym h.0) (Mails.no_room (labels, fits, opened, there, h.1))
-
           pub tune_unsafe : (f : Refusal) → r ≡ Err f → (q : Result Outcome Refusal) → IsErr q × IsErrAnd q (λ g. g ≡ f) → IsDone (Tune e given) q ch
-          tune_unsafe f u q s = subst (λ q. IsDone (Tune e given) q ch) (sym (passed_on q f s)) (tune_fails f (why_refused tuned_checked f u))
+          tune_unsafe f u q s = subst (λ q. IsDone (Tune e given) q ch) (sym (passed_on q f s)) (Mails.failed (verdict_is (Some f) (has_failed tuned_checked f u)))
 
           pub tune_done : (u : Unit {0}) → r ≡ Ok u → (table : Table) → table ≡ map.insert ch.endpoints e (record opened { labels = labels }) → IsDone (Tune e given) (Ok (Outcome.Reply Done)) (record ch { endpoints = table })
           tune_done u passes table put = Mails.passed (verdict_is None (has_passed tuned_checked u passes)) (labels, fits, opened, there, refl, ap (λ m. record ch { endpoints = m }) put)
@@ -160,19 +153,20 @@ module _ (V : Registry) (owned : SetBy cap_cmp) (process : Labels) where
           is_writable : refuse_if (not (writes opened.mode)) (NotWritable from) None
           is_writable = sym (ap (λ b. cond (not b) (Some (NotWritable from)) None) (sym told ∙ e))
 
-          pub send_starved : IsDone (Send from receiver to message) (Err Memory) ch
-          send_starved = Mails.no_room (opened, there, sym told ∙ e)
-
-          module _ {Q : Type 0} {r : Result (Unit {0}) Refusal} (checked : Checked (grant_check E message.caps) Q r) where
-            send_fails : (f : Refusal) → grant_check E message.caps (Some f) ⊎ ((f ≡ Memory) × Q) → IsDone (Send from receiver to message) (Err f) ch
-            send_fails f (inl h) = Mails.failed (verdict_of (Some f) (inr (is_writable, h)))
-            send_fails f (inr h) = subst (λ f. IsDone (Send from receiver to message) (Err f) ch) (sym h.0) send_starved
-
+          module _ {r : Result (Unit {0}) Refusal} (checked : Checked (grant_check E message.caps) r) where
             pub send_ungranted : (f : Refusal) → r ≡ Err f → (q : Result Outcome Refusal) → IsErr q × IsErrAnd q (λ g. g ≡ f) → IsDone (Send from receiver to message) q ch
-            send_ungranted f u q s = subst (λ q. IsDone (Send from receiver to message) q ch) (sym (passed_on q f s)) (send_fails f (why_refused checked f u))
+            send_ungranted f u q s = subst (λ q. IsDone (Send from receiver to message) q ch) (sym (passed_on q f s)) (Mails.failed (verdict_of (Some f) (inr (is_writable, has_failed checked f u))))
 
-            pub send_done : (u : Unit {0}) → r ≡ Ok u → (d : Data) → IsSent pid from opened.labels receiver to message d → IsDone (Send from receiver to message) (Ok (Outcome.Out d)) ch
-            send_done u passes d sent = Mails.passed (verdict_of None (is_writable, has_passed checked u passes)) (opened, there, d, sent, refl, refl)
+            module _ (u : Unit {0}) (passes : r ≡ Ok u) where
+              may_go : mail_checks E process ch (Send from receiver to message) None
+              may_go = verdict_of None (is_writable, has_passed checked u passes)
+
+              -- there is no memory for its packet
+              pub send_starved : IsDone (Send from receiver to message) (Err Memory) ch
+              send_starved = Mails.no_room may_go tt
+
+              pub send_done : (d : Data) → IsSent pid from opened.labels receiver to message d → IsDone (Send from receiver to message) (Ok (Outcome.Out d)) ch
+              send_done d sent = Mails.passed may_go (opened, there, d, sent, refl, refl)
 
     -- ---- by what is asked for
 

@@ -1,4 +1,4 @@
 pub mod Checked
 pub mod Demand
 pub mod Acts
-pub mod Hand
+pub mod Holder

@@ -1,5 +1,5 @@
 //! What a process does by itself.
-ghost use Rattle.std.specs.Prelude.{◌≡◌, ⊤, false, cond};
+ghost use Rattle.std.specs.Prelude.{◌≡◌, false, cond};
 ghost use Rattle.std.specs.Ordering.{is_gt};
 ghost use Rattle.fl_labels.specs.Cap.{cap_cmp};
 ghost use Rattle.fl_labels.specs.SetBy.{In};
@@ -8,9 +8,8 @@ ghost use Rattle.fl_jobs.specs.declared.answer.Refusal.TheVariants.{MissingCap};
 ghost use Rattle.fl_jobs.specs.declared.answer.Reply.TheVariants.{Yes, NotYet};
 ghost use Rattle.fl_bench.specs.Process.{body_of, OneOf, PutTakes};
 ghost use Rattle.fl_bench.specs.Checks.{demand};
-ghost use Rattle.fl_bench.specs.Hand.{Searches};
 ghost use Rattle.fl_bench.specs.Jobs.{order_checks};
-ghost use Rattle.fl_monitor.specs.parts.Acts.{Required, Replies, Acts};
+ghost use Rattle.fl_monitor.specs.parts.Acts.{Required, Acts};
 ghost use Rattle.fl_monitor.specs.parts.Checked.{Checked};
 
 use crate::demand::{Demand, check};
@@ -20,7 +19,6 @@ use crate::mail::do_mail;
 use crate::relabel::relabel;
 use crate::sequel::{Sequel, answer_alone};
 use crate::spawn::spawn;
-use crate::view::View;
 use fl_bench::process::{Holding, Process};
 use fl_jobs::answer::{Outcome, Refusal, Reply};
 use fl_jobs::job::{Act, Order};
@@ -29,6 +27,7 @@ use fl_labels::cap_set::CapSet;
 use fl_labels::name::Name;
 use fl_labels::pid::Pid;
 use fl_ops::op::Body;
+use fl_ops::view::View;
 use std::alloc::Global;
 
 // What an order asks to be made.
@@ -51,20 +50,18 @@ pub(crate) fn reply_of(yes: bool) -> Reply
 }
 
 // Whether a capability is in effect, or else that it is missing.
-fn require<V: View>(alloc: Global, view: &mut V, owned: &CapSet, cap: Cap) -> Result<(), Refusal>
+fn require<V: View>(view: &mut V, owned: &CapSet, cap: Cap) -> Result<(), Refusal>
     ensures required { Required (InEffect (Listed (V.list view.old)) (In owned.now)) cap result }
     ensures same { V.list view.new ≡ V.list view.old }
 {
-    match view.effective(alloc, owned, cap) {
-        Ok(true) => Ok(()),
-        Ok(false) => Err(Refusal::MissingCap(cap)),
-        Err(_) => Err(Refusal::Memory),
+    if !view.effective(owned, cap) {
+        return Err(Refusal::MissingCap(cap));
     }
+    Ok(())
 }
 
 // Whether both capabilities are in effect, or else which is missing. The lesser is asked for first.
 fn require_both<V: View>(
-    alloc: Global,
     view: &mut V,
     owned: &CapSet,
     lesser: Cap,
@@ -72,61 +69,39 @@ fn require_both<V: View>(
 ) -> Result<(), Refusal>
     requires in_order { is_gt (cap_cmp lesser greater) ≡ false }
     ensures checked { let E = InEffect (Listed (V.list view.old)) (In owned.now) in
-        Checked (demand cap_cmp (OneOf lesser greater) E MissingCap) ⊤ result }
+        Checked (demand cap_cmp (OneOf lesser greater) E MissingCap) result }
     ensures same { V.list view.new ≡ V.list view.old }
 {
-    require(alloc, view, owned, lesser)?;
-    require(alloc, view, owned, greater)
+    require(view, owned, lesser)?;
+    require(view, owned, greater)
 }
 
-// Whether the owner of these capabilities may put this one into the group. Either of the two that it takes may be the lesser.
-fn check_put<V: View>(
-    alloc: Global,
-    view: &mut V,
-    owned: &CapSet,
-    group: Name,
-    cap: Cap,
-) -> Result<(), Refusal>
+// Whether the owner of these capabilities may put this one into the group. Either of the two that it takes may be the
+// lesser.
+fn check_put<V: View>(view: &mut V, owned: &CapSet, group: Name, cap: Cap) -> Result<(), Refusal>
     ensures checked { let E = InEffect (Listed (V.list view.old)) (In owned.now) in
-        Checked (demand cap_cmp (PutTakes group cap) E MissingCap) ⊤ result }
+        Checked (demand cap_cmp (PutTakes group cap) E MissingCap) result }
     ensures same { V.list view.new ≡ V.list view.old }
 {
     let grow = Cap::Grow(group);
     if cap < grow {
-        require_both(alloc, view, owned, cap, grow)
+        require_both(view, owned, cap, grow)
     } else {
-        require_both(alloc, view, owned, grow, cap)
+        require_both(view, owned, grow, cap)
     }
 }
 
 // Whether the owner of these capabilities may give this order.
-fn check_order<V: View>(
-    alloc: Global,
-    view: &mut V,
-    owned: &CapSet,
-    order: Order,
-) -> Result<(), Refusal>
-    ensures checked { Checked (order_checks (InEffect (Listed (V.list view.old)) (In owned.now)) order) ⊤ result }
+fn check_order<V: View>(view: &mut V, owned: &CapSet, order: Order) -> Result<(), Refusal>
+    ensures checked { Checked (order_checks (InEffect (Listed (V.list view.old)) (In owned.now)) order) result }
     ensures same { V.list view.new ≡ V.list view.old }
 {
     match order {
         Order::Tag(_) => Ok(()),
         Order::Group => Ok(()),
-        Order::Put(group, cap) => check_put(alloc, view, owned, group, cap),
-        Order::MakeLogin(cap, _) => require(alloc, view, owned, cap),
+        Order::Put(group, cap) => check_put(view, owned, group, cap),
+        Order::MakeLogin(cap, _) => require(view, owned, cap),
     }
-}
-
-// The reply to whether the capability is in effect.
-fn ask<V: View>(alloc: Global, view: &mut V, owned: &CapSet, cap: Cap) -> Result<Outcome, Refusal>
-    ensures replies { let registry = Listed (V.list view.old) in
-        Replies (InEffect registry (In owned.now) cap) (Searches registry owned.now cap) result }
-    ensures same { V.list view.new ≡ V.list view.old }
-{
-    let Ok(yes) = view.effective(alloc, owned, cap) else {
-        return Err(Refusal::Memory);
-    };
-    Ok(Outcome::Reply(reply_of(yes)))
 }
 
 /// Does what the process asks for by itself, unless an operation of it is under way, and answers what follows.
@@ -145,7 +120,7 @@ pub(crate) fn act_alone<V: View>(
     };
     match act {
         Act::Order(order) => {
-            check_order(alloc, view, owned, order)?;
+            check_order(view, owned, order)?;
             let Ok(()) = process.owned.begin(alloc) else {
                 return Err(Refusal::Memory);
             };
@@ -154,24 +129,22 @@ pub(crate) fn act_alone<V: View>(
         Act::Relabel(side, label) => {
             let endpoints = &process.mailbox.endpoints;
             let labels = &mut process.labels;
-            answer_alone(relabel(alloc, view, owned, endpoints, labels, side, label))
+            answer_alone(relabel(view, owned, endpoints, labels, side, label))
         }
-        Act::Ask(cap) => answer_alone(ask(alloc, view, owned, cap)),
-        Act::Spawn(caps) => spawn(alloc, view, &process.labels, owned, caps),
+        Act::Ask(cap) => {
+            let reply = reply_of(view.effective(owned, cap));
+            Ok(Sequel::Answer(Outcome::Reply(reply)))
+        }
+        Act::Spawn(caps) => spawn(alloc, view, owned, &process.labels, caps),
         Act::Exit => Ok(Sequel::End),
         Act::Drop(cap) => {
             let endpoints = &process.mailbox.endpoints;
             let labels = process.labels.lend();
-            answer_alone(drop_cap(alloc, view, labels, endpoints, owned, cap))
+            answer_alone(drop_cap(view, labels, endpoints, owned, cap))
         }
         Act::Enter(login, secret) => answer_alone(enter(view, owned, login, secret)),
         Act::Emit(bytes) => {
-            check(
-                alloc,
-                view,
-                owned,
-                Demand::Emission(&process.labels.secrecy),
-            )?;
+            check(view, owned, Demand::Emission(&process.labels.secrecy))?;
             Ok(Sequel::Answer(Outcome::Reply(Reply::Emitted(bytes))))
         }
         Act::Mail(mail) => {

@@ -1,17 +1,20 @@
 //! Messages that come.
-ghost use Rattle.std.specs.Prelude.{◌≡◌};
+ghost use Rattle.std.specs.Prelude.{◌≡◌, ◌++◌, ◌∷◌, [], OnOk, OnErr};
+ghost use Rattle.fl_labels.specs.SetBy as set;
 ghost use Rattle.fl_rules.specs.Pair as pairs;
 ghost use Rattle.fl_bench.specs.Guards.{sent_from, entry_refusal};
 ghost use Rattle.fl_monitor.specs.parts.Acts.{Arrives};
 
 use fl_bench::process::{Holding, Process};
 use fl_jobs::answer::{Outcome, Refusal, Reply};
+use fl_labels::cap_set::CapSet;
 use fl_labels::endpoint::Endpoint;
+use fl_mailbox::inbox::Inbox;
 use fl_message::message::{Data, Letter};
 use fl_rules::endpoint::Mode;
 use fl_rules::labels::LabelsRef;
 use fl_rules::pair::{EndRef, PairFault, safe_pair};
-use std::alloc::Global;
+use std::alloc::AllocError;
 
 // The end that a message left, which was for writing.
 fn end_left(data: &Data) -> EndRef<'_>
@@ -38,9 +41,25 @@ fn refused_entry(endpoint: Endpoint, fault: PairFault) -> Refusal
     }
 }
 
-/// Takes a message in, where it may enter the endpoint that it is for: its capabilities are then owned, and it waits behind those
-/// that came before. Looks along the labels of both ends.
-pub(crate) fn arrive(process: &mut Process, alloc: Global, data: Data) -> Result<Outcome, Refusal>
+// Makes the message wait, once its capabilities are owned: both, or an error, which leaves all as it was.
+fn take_in(inbox: &mut Inbox, owned: &mut CapSet, letter: Letter) -> Result<(), AllocError>
+    ensures waits { OnOk result (inbox.new ≡ inbox.old ++ letter ∷ []) }
+    ensures owns { OnOk result (owned.new ≡ set.union owned.old letter.message.caps) }
+    ensures err { OnErr result ((inbox.new ≡ inbox.old) × (owned.new ≡ owned.old)) }
+{
+    inbox.push_with(
+        letter,
+        owned,
+        |owned, letter|
+            ensures ok { OnOk result (owned.new ≡ set.union owned.old letter.now.message.caps) }
+            ensures err { OnErr result (owned.new ≡ owned.old) }
+        { owned.insert_all(&letter.message.caps) },
+    )
+}
+
+/// Takes a message in, where it may enter the endpoint that it is for: its capabilities are then owned, and it waits
+/// behind those that came before. Looks along the labels of both ends, and copies nothing that is owned.
+pub(crate) fn arrive(process: &mut Process, data: Data) -> Result<Outcome, Refusal>
     ensures { Arrives process.old «data» result process.new }
 {
     let Holding::Idle(owned) = &mut process.owned else {
@@ -52,19 +71,16 @@ pub(crate) fn arrive(process: &mut Process, alloc: Global, data: Data) -> Result
     if let Some(fault) = safe_pair(end_left(&data), opened.lend()) {
         return Err(refused_entry(data.to, fault));
     }
-    if process.mailbox.inbox.is_full() {
+    let inbox = &mut process.mailbox.inbox;
+    if inbox.is_full() {
         return Err(Refusal::InboxFull);
     }
-    let Ok(joined) = owned.union(alloc, &data.message.caps) else {
-        return Err(Refusal::Memory);
-    };
     let letter = Letter {
         sender: data.sender,
         message: data.message,
     };
-    let Ok(()) = process.mailbox.inbox.push(letter) else {
+    let Ok(()) = take_in(inbox, owned, letter) else {
         return Err(Refusal::Memory);
     };
-    *owned = joined;
     Ok(Outcome::Reply(Reply::Arrived(data.receiver)))
 }

@@ -2,26 +2,24 @@
 ghost use Rattle.std.specs.Option.{option_copied};
 ghost use Rattle.std.specs.Prelude.{◌≡◌, ◌≤◌, ◌<◌};
 ghost use Rattle.std.specs.FinMap as map;
-ghost use Rattle.fl_ops.specs.Registry.{Reach, From, Listed};
+ghost use Rattle.fl_ops.specs.Registry.{Listed};
 ghost use Rattle.fl_jobs.specs.declared.job.Job.TheVariants.{By};
 ghost use Rattle.fl_bench.specs.Bench.{new_bench};
-ghost use Rattle.fl_bench.specs.Hand.{SearchesFrom};
 ghost use Rattle.fl_bench.specs.Jobs.{Does};
 ghost use Rattle.fl_bench.specs.Orderly.{IsOrderly};
-ghost use Rattle.fl_monitor.specs.parts.Acts.{Births, Replies};
+ghost use Rattle.fl_monitor.specs.parts.Acts.{Births};
 ghost use Rattle.fl_bench.specs.Gifts.{finished, cancelled};
 
 use crate::act::reply_of;
 use crate::processes::Processes;
 use crate::sequel::Sequel;
-use crate::view::View;
 use fl_bench::process::Process;
 use fl_jobs::answer::{Outcome, Refusal, Reply};
 use fl_jobs::job::{Act, Job};
-use fl_labels::cap::Cap;
 use fl_labels::pid::Pid;
 use fl_ops::op::Op;
-use std::alloc::Global;
+use fl_ops::view::View;
+use std::alloc::{AllocError, Global};
 use std::marker::Model;
 
 /// One of a node's benches: its processes, and the serial of the next.
@@ -74,8 +72,8 @@ impl Bench {
         }
     }
 
-    /// Each process stands under a pid that this bench gave: of its node and boot, with a serial below the next one and some
-    /// strides away from it.
+    /// Each process stands under a pid that this bench gave: of its node and boot, with a serial below the next one
+    /// and some strides away from it.
     pub fn law_orderly(&self)
         ensures { IsOrderly self.now }
     {
@@ -89,12 +87,15 @@ impl Bench {
         self.processes.get(pid)
     }
 
-    // A new process, under the next serial.
-    fn bear(&mut self, process: Process) -> Result<Outcome, Refusal>
+    // A new process, under the next serial, where there was memory for it.
+    fn bear(&mut self, process: Result<Process, AllocError>) -> Result<Outcome, Refusal>
         ensures { Births self.old process result self.new }
     {
         let Ok(serial) = u32::try_from(self.next) else {
             return Err(Refusal::NamesSpent);
+        };
+        let Ok(process) = process else {
+            return Err(Refusal::Memory);
         };
         let pid = Pid {
             node: self.node,
@@ -152,15 +153,14 @@ impl Bench {
     /// - `Integrity`: the least tag of integrity that the receiver's endpoint has and a message has not.
     /// - `InboxFull`: 256 messages wait for the receiver.
     /// - `NamesSpent`: the next process would get a serial above 4,294,967,295.
-    /// - `Memory`: there was not enough for a new process, for an order, for the change of a label, for an
-    ///   entry, for a new endpoint, a packet or a message that comes, or to search for a capability that is
-    ///   neither owned nor everybody's.
+    /// - `Memory`: all of this passed, and there was not enough for a new process, an order, an entry for what is
+    ///   not owned yet, a new endpoint, or a message that goes or comes. No other job takes memory.
     ///
     /// An order becomes the body of an operation and its maker, whose operation is then under way, to be
-    /// finished or cancelled: there is room for what it gives. The change of a label, a birth, an emission,
-    /// an endpoint and a message look at each tag or capability that they take, and where what is at hand
-    /// does not do ask the view once for all that is in effect, and look again; any other job asks the view
-    /// two questions at most. A message that comes looks along the labels of both ends.
+    /// finished or cancelled: there is room for what it gives. The change of a label, a drop, a birth, an emission,
+    /// an endpoint and a message ask the view once for each tag or capability that they take, and twice for a tag
+    /// that has to be both added and removed; any other job asks it two questions at most. A message that comes
+    /// looks along the labels of both ends.
     pub fn job<V: View>(
         &mut self,
         alloc: Global,
@@ -171,10 +171,10 @@ impl Bench {
         ensures same { V.list view.new ≡ V.list view.old }
     {
         match job {
-            Job::Proc => self.bear(Process::new(alloc)),
+            Job::Proc => self.bear(Ok(Process::new(alloc))),
             Job::By(pid, act) => self.act(alloc, view, pid, act),
-            Job::Member(root, cap) => member(alloc, view, root, cap),
-            Job::Arrive(data) => self.processes.arrive(alloc, data),
+            Job::Member(root, cap) => Ok(Outcome::Reply(reply_of(view.reaches(root, cap)))),
+            Job::Arrive(data) => self.processes.arrive(data),
         }
     }
 
@@ -194,16 +194,4 @@ impl Bench {
     {
         self.processes.cancel(pid)
     }
-}
-
-// The reply to whether the capability is reached from the root.
-fn member<V: View>(alloc: Global, view: &mut V, root: Cap, cap: Cap) -> Result<Outcome, Refusal>
-    ensures replies { let registry = Listed (V.list view.old) in
-        Replies (Reach registry (From root) cap) (SearchesFrom root cap) result }
-    ensures same { V.list view.new ≡ V.list view.old }
-{
-    let Ok(yes) = view.reaches(alloc, root, cap) else {
-        return Err(Refusal::Memory);
-    };
-    Ok(Outcome::Reply(reply_of(yes)))
 }

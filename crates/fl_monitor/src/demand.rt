@@ -1,25 +1,24 @@
 //! What is demanded of who asks for something, and whether it is met.
 ghost use Rattle.std.specs.Prelude.{◌≡◌};
-ghost use Rattle.fl_ops.specs.Registry.{Listed};
-ghost use Rattle.fl_bench.specs.Hand.{AtHand};
+ghost use Rattle.fl_labels.specs.SetBy.{In};
+ghost use Rattle.fl_ops.specs.Registry.{InEffect, Listed};
 ghost use Rattle.fl_monitor.specs.parts.Demand.{demanded};
 ghost use Rattle.fl_monitor.specs.parts.Checked.{CheckedBy};
 
 use crate::grant::first_unheld;
-use crate::held::Held;
-use crate::view::View;
+use crate::holder::Holder;
 use fl_jobs::answer::Refusal;
 use fl_labels::cap_set::CapSet;
 use fl_labels::endpoint::Endpoint;
 use fl_labels::label::Label;
 use fl_mailbox::endpoints::Endpoints;
 use fl_mailbox::offender::first_unsafe;
+use fl_ops::view::View;
 use fl_rules::change::safe_change;
 use fl_rules::emission::safe_emit;
 use fl_rules::endpoint::safe_endpoint;
 use fl_rules::labels::LabelsRef;
 use fl_rules::pair::EndRef;
-use std::alloc::Global;
 
 /// What something takes of the capabilities of who asks for it.
 #[derive(Clone, Copy)]
@@ -36,31 +35,29 @@ pub enum Demand<'a, 'b> {
     Endpoints(LabelsRef<'a>, &'b Endpoints),
 }
 
-// Why who has these capabilities and everybody's does not meet the demand, or none where that does. Takes no memory.
-fn first_refusal<V: View>(view: &mut V, caps: &CapSet, demand: Demand<'_, '_>) -> Option<Refusal>
-    ensures refuses { demanded demand.entry (AtHand (Listed (V.list view.old)) caps.now) result }
+// Why the owner of these capabilities does not meet the demand, or none where that does.
+fn first_refusal<V: View>(view: &mut V, owned: &CapSet, demand: Demand<'_, '_>) -> Option<Refusal>
+    ensures refuses { demanded demand.entry (InEffect (Listed (V.list view.old)) (In owned.now)) result }
     ensures same { V.list view.new ≡ V.list view.old }
 {
-    let mut held = Held { view, caps };
+    let mut holder = Holder { view, owned };
     Some(match demand {
-        Demand::Change(from, to) => Refusal::MissingCap(safe_change(&mut held, from, to)?),
-        Demand::Emission(secrecy) => Refusal::Secrecy(safe_emit(&mut held, secrecy)?),
-        Demand::Grant(caps) => Refusal::MissingCap(first_unheld(&mut held, caps.as_slice())?),
+        Demand::Change(from, to) => Refusal::MissingCap(safe_change(&mut holder, from, to)?),
+        Demand::Emission(secrecy) => Refusal::Secrecy(safe_emit(&mut holder, secrecy)?),
+        Demand::Grant(caps) => Refusal::MissingCap(first_unheld(&mut holder, caps.as_slice())?),
         Demand::Endpoint(process, number, end) => {
-            let tag = safe_endpoint(&mut held, end.mode, process, end.labels)?;
+            let tag = safe_endpoint(&mut holder, end.mode, process, end.labels)?;
             Refusal::UnsafeEndpoint(number, tag)
         }
         Demand::Endpoints(process, endpoints) => {
-            let found = first_unsafe(&mut held, process, endpoints)?;
+            let found = first_unsafe(&mut holder, process, endpoints)?;
             Refusal::UnsafeEndpoint(found.endpoint, found.tag)
         }
     })
 }
 
-/// Whether the owner of these capabilities meets the demand, or else why not. What is owned or everybody's is looked at first,
-/// which takes no memory, and all that is reached only where that does not do.
+/// Whether the owner of these capabilities meets the demand, or else why not. Takes no memory.
 pub(crate) fn check<V: View>(
-    alloc: Global,
     view: &mut V,
     owned: &CapSet,
     demand: Demand<'_, '_>,
@@ -68,13 +65,7 @@ pub(crate) fn check<V: View>(
     ensures checked { CheckedBy (V.list view.old) owned.now (demanded demand.entry) result }
     ensures same { V.list view.new ≡ V.list view.old }
 {
-    if first_refusal(view, owned, demand).is_none() {
-        return Ok(());
-    }
-    let Ok(reached) = view.reached(alloc, owned) else {
-        return Err(Refusal::Memory);
-    };
-    match first_refusal(view, &reached, demand) {
+    match first_refusal(view, owned, demand) {
         None => Ok(()),
         Some(refusal) => Err(refusal),
     }

@@ -1,22 +1,58 @@
 //! Capabilities that are dropped.
-ghost use Rattle.std.specs.Prelude.{◌≡◌};
+ghost use Rattle.std.specs.Prelude.{◌≡◌, OnOk, OnErr};
+ghost use Rattle.fl_labels.specs.SetBy as set;
 ghost use Rattle.fl_ops.specs.Registry.{Listed};
 ghost use Rattle.fl_rules.specs.Labels.{sets_of};
+ghost use Rattle.fl_bench.specs.Guards.{endpoints_check};
 ghost use Rattle.fl_monitor.specs.parts.Acts.{Drops};
+ghost use Rattle.fl_monitor.specs.parts.Checked.{CheckedBy};
 
 use crate::demand::{Demand, check};
-use crate::view::View;
 use fl_jobs::answer::{Outcome, Refusal, Reply};
 use fl_labels::cap::Cap;
 use fl_labels::cap_set::CapSet;
 use fl_mailbox::endpoints::Endpoints;
+use fl_ops::view::View;
 use fl_rules::labels::LabelsRef;
-use std::alloc::Global;
+
+// Who judges whether the endpoints of a process of these labels stay safe.
+#[derive(Drop)]
+struct Judge<'a, V: View> {
+    view: &'a mut V,
+    labels: LabelsRef<'a>,
+    endpoints: &'a Endpoints,
+}
+
+impl<'a, V: View> Judge<'a, V> {
+    // Takes the capability out, or says why not and leaves it.
+    fn take(&mut self, owned: &mut CapSet, cap: Cap) -> Result<(), Refusal>
+        ensures checked { let rest = set.remove owned.old cap in
+            CheckedBy (V.list self.old.view.now) rest
+            (λ E. endpoints_check E (sets_of self.old.labels) self.old.endpoints.now) result }
+        ensures ok { OnOk result (owned.new ≡ set.remove owned.old cap) }
+        ensures err { OnErr result (owned.new ≡ owned.old) }
+        ensures same { V.list self.new.view.now ≡ V.list self.old.view.now }
+        ensures view { self.new.view.ghost_name ≡ self.old.view.ghost_name }
+    {
+        owned.remove_if(
+            cap,
+            self,
+            |judge, rest|
+                ensures checked { CheckedBy (V.list judge.old.view.now) rest.now
+                    (λ E. endpoints_check E (sets_of judge.old.labels) judge.old.endpoints.now) result }
+                ensures same { V.list judge.new.view.now ≡ V.list judge.old.view.now }
+                ensures view { judge.new.view.ghost_name ≡ judge.old.view.ghost_name }
+            {
+                let demand = Demand::Endpoints(judge.labels, judge.endpoints);
+                check(judge.view, rest, demand)
+            },
+        )
+    }
+}
 
 /// Takes the capability away, where it is owned, and each endpoint of its owner, who has these labels, stays safe.
-/// Takes no memory where no endpoint is open.
+/// Takes no memory.
 pub(crate) fn drop_cap<V: View>(
-    alloc: Global,
     view: &mut V,
     labels: LabelsRef<'_>,
     endpoints: &Endpoints,
@@ -30,15 +66,11 @@ pub(crate) fn drop_cap<V: View>(
     if !owned.contains(cap) {
         return Err(Refusal::NotOwned(cap));
     }
-    if endpoints.is_empty() {
-        owned.remove(cap);
-        return Ok(Outcome::Reply(Reply::Done));
-    }
-    let Ok(mut rest) = owned.copy(alloc) else {
-        return Err(Refusal::Memory);
+    let mut judge = Judge {
+        view,
+        labels,
+        endpoints,
     };
-    rest.remove(cap);
-    check(alloc, view, &rest, Demand::Endpoints(labels, endpoints))?;
-    *owned = rest;
+    judge.take(owned, cap)?;
     Ok(Outcome::Reply(Reply::Done))
 }

@@ -4,12 +4,12 @@ ghost use Rattle.fl_ops.specs.Registry.{Listed};
 ghost use Rattle.fl_bench.specs.Secrets.{digest_of};
 ghost use Rattle.fl_monitor.specs.parts.Acts.{Enters};
 
-use crate::view::View;
 use fl_jobs::answer::{Outcome, Refusal, Reply};
 use fl_jobs::secret::Secret;
 use fl_labels::cap_set::CapSet;
 use fl_labels::name::Name;
 use fl_ops::digest::Digest;
+use fl_ops::view::View;
 use sha2::{Digest as Hasher, Sha256};
 
 /// What is kept of a secret: its digest by SHA-256.

@@ -9,7 +9,6 @@ ghost use Rattle.fl_bench.specs.Mailbox.{IsSent, taken};
 ghost use Rattle.fl_monitor.specs.parts.Acts.{Closes, Mails};
 
 use crate::demand::{Demand, check};
-use crate::view::View;
 use fl_jobs::answer::{Outcome, Refusal, Reply};
 use fl_jobs::job::{GivenLabels, Mail};
 use fl_labels::cap_set::CapSet;
@@ -18,6 +17,7 @@ use fl_labels::pid::Pid;
 use fl_mailbox::endpoints::OpenEndpoint;
 use fl_mailbox::mailbox::Mailbox;
 use fl_message::message::{Data, Message};
+use fl_ops::view::View;
 use fl_rules::endpoint::Mode;
 use fl_rules::labels::{Labels, LabelsRef};
 use fl_rules::pair::EndRef;
@@ -25,7 +25,6 @@ use std::alloc::{AllocError, Global};
 
 // The least endpoint that is not open is opened, where it is safe.
 fn open<V: View>(
-    alloc: Global,
     view: &mut V,
     owned: &CapSet,
     process: LabelsRef<'_>,
@@ -46,7 +45,7 @@ fn open<V: View>(
     };
     let opened = OpenEndpoint { mode, labels };
     let end = opened.lend();
-    check(alloc, view, owned, Demand::Endpoint(process, endpoint, end))?;
+    check(view, owned, Demand::Endpoint(process, endpoint, end))?;
     let Ok(()) = mailbox.endpoints.insert(endpoint, opened) else {
         return Err(Refusal::Memory);
     };
@@ -55,7 +54,6 @@ fn open<V: View>(
 
 // The labels of an endpoint become others, where it is then safe.
 fn tune<V: View>(
-    alloc: Global,
     view: &mut V,
     owned: &CapSet,
     process: LabelsRef<'_>,
@@ -78,12 +76,7 @@ fn tune<V: View>(
         mode: opened.mode,
         labels: labels.lend(),
     };
-    check(
-        alloc,
-        view,
-        owned,
-        Demand::Endpoint(process, endpoint, tuned),
-    )?;
+    check(view, owned, Demand::Endpoint(process, endpoint, tuned))?;
     mailbox.endpoints.set_labels(endpoint, labels);
     Ok(Outcome::Reply(Reply::Done))
 }
@@ -150,7 +143,7 @@ fn send<V: View>(
     if !opened.mode.writes() {
         return Err(Refusal::NotWritable(route.from));
     }
-    check(alloc, view, owned, Demand::Grant(&message.caps))?;
+    check(view, owned, Demand::Grant(&message.caps))?;
     match packet_of(alloc, route, &opened.labels, message) {
         Ok(data) => Ok(Outcome::Out(data)),
         Err(_) => Err(Refusal::Memory),
@@ -183,10 +176,8 @@ pub(crate) fn do_mail<V: View>(
     ensures same { V.list view.new ≡ V.list view.old }
 {
     match mail {
-        Mail::Open(mode, given) => open(alloc, view, owned, process, mailbox, mode, given),
-        Mail::Tune(endpoint, given) => {
-            tune(alloc, view, owned, process, mailbox, endpoint, given)
-        }
+        Mail::Open(mode, given) => open(view, owned, process, mailbox, mode, given),
+        Mail::Tune(endpoint, given) => { tune(view, owned, process, mailbox, endpoint, given) }
         Mail::Close(endpoint) => close(mailbox, endpoint),
         Mail::Send {
             from,

@@ -9,13 +9,13 @@ ghost use Rattle.fl_bench.specs.Gifts.{given, receives};
 use crate::act::act_alone;
 use crate::arrive::arrive;
 use crate::sequel::Sequel;
-use crate::view::View;
 use fl_bench::process::Process;
 use fl_jobs::answer::{Outcome, Refusal};
 use fl_jobs::job::Act;
 use fl_labels::pid::Pid;
 use fl_message::message::Data;
 use fl_ops::op::Op;
+use fl_ops::view::View;
 use std::alloc::{AllocError, Global};
 use std::collections::BTreeMap;
 use std::marker::Model;
@@ -93,13 +93,13 @@ impl Processes {
     }
 
     /// Brings a message to its receiver.
-    pub fn arrive(&mut self, alloc: Global, data: Data) -> Result<Outcome, Refusal>
+    pub fn arrive(&mut self, data: Data) -> Result<Outcome, Refusal>
         ensures { ArrivesAt self.old «data» result self.new }
     {
         let Some(process) = self.all.get_mut(&data.receiver) else {
             return Err(Refusal::NoProcess(data.receiver));
         };
-        arrive(process, alloc, data)
+        arrive(process, data)
     }
 
     /// Gives a process what the operation gives its maker, if there is that process and its operation is under way.

@@ -6,14 +6,13 @@ ghost use Rattle.fl_bench.specs.Process.{side_of, with_side};
 ghost use Rattle.fl_monitor.specs.parts.Acts.{Relabels};
 
 use crate::demand::{Demand, check};
-use crate::view::View;
 use fl_jobs::answer::{Outcome, Refusal, Reply};
 use fl_jobs::job::{Side, TooLong};
 use fl_labels::cap_set::CapSet;
 use fl_labels::label::Label;
 use fl_mailbox::endpoints::Endpoints;
+use fl_ops::view::View;
 use fl_rules::labels::{Labels, LabelsRef};
-use std::alloc::Global;
 
 fn label_of(labels: &Labels, side: Side) -> &Label
     ensures { result.now ≡ side_of side labels.now }
@@ -49,10 +48,9 @@ fn set_label(labels: &mut Labels, side: Side, label: Label)
     }
 }
 
-/// Sets the label of a side, where the owner of these capabilities may change it so, and each of its endpoints stays safe. A
-/// label of too many tags is refused before anything is asked.
+/// Sets the label of a side, where the owner of these capabilities may change it so, and each of its endpoints stays
+/// safe. A label of too many tags is refused before anything is asked. Takes no memory.
 pub(crate) fn relabel<V: View>(
-    alloc: Global,
     view: &mut V,
     owned: &CapSet,
     endpoints: &Endpoints,
@@ -68,9 +66,9 @@ pub(crate) fn relabel<V: View>(
         return Err(Refusal::LabelTooLong);
     };
     let old = label_of(labels, side);
-    check(alloc, view, owned, Demand::Change(old, &label))?;
+    check(view, owned, Demand::Change(old, &label))?;
     let as_changed = with_label(labels, side, &label);
-    check(alloc, view, owned, Demand::Endpoints(as_changed, endpoints))?;
+    check(view, owned, Demand::Endpoints(as_changed, endpoints))?;
     set_label(labels, side, label);
     Ok(Outcome::Reply(Reply::Done))
 }

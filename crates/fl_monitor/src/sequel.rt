@@ -4,14 +4,15 @@ ghost use Rattle.fl_monitor.specs.parts.Acts.{answered};
 
 use fl_bench::process::Process;
 use fl_jobs::answer::{Outcome, Refusal};
+use std::alloc::AllocError;
 
 /// What follows at a bench from an act of one of its processes.
 #[derive(Debug, Drop)]
 pub enum Sequel {
     /// The act is answered, and nothing else follows.
     Answer(Outcome),
-    /// This process is to be the next.
-    Birth(Process),
+    /// This process is to be the next, or there was not enough memory for it.
+    Birth(Result<Process, AllocError>),
     /// The process that acted is to go.
     End,
 }

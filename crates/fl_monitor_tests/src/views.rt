@@ -3,9 +3,9 @@ use fl_closure::index::Index;
 use fl_labels::cap::Cap;
 use fl_labels::cap_set::CapSet;
 use fl_labels::name::Name;
-use fl_monitor::view::View;
 use fl_ops::digest::Digest;
 use fl_ops::op::{Body, Op, Policy};
+use fl_ops::view::View;
 use std::alloc::Global;
 use std::test::Fail;
 
@@ -32,31 +32,21 @@ fn absorb(index: &mut Index, name: Name, body: Body) -> Result<(), Fail> {
     Ok(index.absorb(&Op { name, body })?)
 }
 
-// Whether the owner of the group's use has the capability in effect, the use reaches it, and everybody has it.
-fn told(alloc: Global, cap: Cap) -> Result<[bool; 3], Fail> {
+// Whether the owner of the group's use has the capability in effect, and whether the use reaches it.
+fn told(alloc: Global, cap: Cap) -> Result<[bool; 2], Fail> {
     let mut index = known(alloc)?;
     let owned = CapSet::from_text(alloc, "{*1.2}")?;
-    let effective = View::effective(&mut index, alloc, &owned, cap)?;
-    let reached = View::reaches(&mut index, alloc, Cap::Use(GROUP), cap)?;
-    Ok([effective, reached, View::global(&mut index, cap)])
+    let effective = View::effective(&mut index, &owned, cap);
+    let reached = View::reaches(&mut index, Cap::Use(GROUP), cap);
+    Ok([effective, reached])
 }
 
 #[test]
 fn looks_at_operations(rt: HostRuntime) -> Result<(), Fail> {
     let alloc = rt.alloc();
-    assert_eq!(rt; told(alloc, Cap::Minus(TAG))?, [true, false, true]);
-    assert_eq!(rt; told(alloc, Cap::Use(TAG))?, [true, true, false]);
-    assert_eq!(rt; told(alloc, Cap::Plus(TAG))?, [false, false, false]);
-    Ok(())
-}
-
-#[test]
-fn collects_what_is_reached(rt: HostRuntime) -> Result<(), Fail> {
-    let alloc = rt.alloc();
-    let mut index = known(alloc)?;
-    let owned = CapSet::from_text(alloc, "{*1.2}")?;
-    let reached = View::reached(&mut index, alloc, &owned)?;
-    assert!(rt; reached == CapSet::from_text(alloc, "{*1.1,*1.2}")?);
+    assert_eq!(rt; told(alloc, Cap::Minus(TAG))?, [true, false]);
+    assert_eq!(rt; told(alloc, Cap::Use(TAG))?, [true, true]);
+    assert_eq!(rt; told(alloc, Cap::Plus(TAG))?, [false, false]);
     Ok(())
 }
 

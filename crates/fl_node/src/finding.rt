@@ -5,7 +5,7 @@ ghost use Rattle.fl_store.specs.Kept.{HasNamesOnce};
 ghost use Rattle.fl_node.specs.Causes.{KeeperFails};
 ghost use Rattle.fl_node.specs.parts.Finding.{Finds, Raises, shown_as};
 
-use fl_closure::index::Index;
+use fl_cache::cached::CachedIndex;
 use fl_jobs::answer::Refusal;
 use fl_ops::op::Op;
 use fl_opset::set::OpSet;
@@ -63,12 +63,12 @@ pub fn raise<K: Keeper>(keeper: &mut K) -> Result<u32, Fault>
 }
 
 /// The operations of a set, rising, and their index.
-pub fn listed(alloc: Global, saved: &OpSet) -> Result<(Vec<Op>, Index), AllocError>
+pub fn listed(alloc: Global, saved: &OpSet) -> Result<(Vec<Op>, CachedIndex), AllocError>
     ensures list { IfOk result (λ found. found.0.items ≡ set.members saved.now) }
     ensures index { IfOk result (λ found. found.1 ≡ set.of_list (set.members saved.now)) }
 {
     let list = Vec::from_slice(alloc, saved.as_slice())?;
-    let mut index = Index::new(alloc);
+    let mut index = CachedIndex::new(alloc);
     index.absorb_all(alloc, saved)?;
     Ok((list, index))
 }

@@ -23,7 +23,7 @@ use crate::publishing::{append, give, release, tell};
 use crate::recovering::recover;
 use crate::state::{doubt, doubted, due, halt, idle, running, saved, unsaved};
 use fl_bench::process::Process;
-use fl_closure::index::Index;
+use fl_cache::cached::CachedIndex;
 use fl_jobs::answer::{Outcome, Refusal};
 use fl_jobs::job::Job;
 use fl_labels::name::Name;
@@ -48,7 +48,7 @@ pub struct Node<K: Keeper> {
     pub(crate) boot: u32,
     pub(crate) saved: OpSet,
     pub(crate) published: Vec<Op>,
-    pub(crate) index: Index,
+    pub(crate) index: CachedIndex,
     pub(crate) seen: u64,
     pub(crate) state: State,
     pub(crate) bench: Bench,
@@ -296,7 +296,7 @@ impl<K: Keeper> Node<K> {
     /// - `Busy`: nothing is due.
     /// - `Memory`: there was not enough; it stays due.
     ///
-    /// Costs what the batch does, as `Index::absorb` and `Index::absorb_all` have it; nothing that was published is copied for it
+    /// Costs what the batch does, as `CachedIndex::absorb` and `CachedIndex::absorb_all` have it; nothing that was published is copied for it
     /// but where these move it.
     pub fn publish(&mut self, alloc: Global) -> Result<u64, Fault>
         ensures publishes { Publishes self.old.node result self.new.node }

@@ -4,7 +4,7 @@ ghost use Rattle.fl_labels.specs.SetBy as set;
 ghost use Rattle.fl_system.specs.State.{ops_of};
 ghost use Rattle.fl_system.specs.Publishes.{given_to, released, told};
 
-use fl_closure::index::Index;
+use fl_cache::cached::CachedIndex;
 use fl_monitor::bench::Bench;
 use fl_ops::op::Op;
 use fl_opset::set::OpSet;
@@ -12,7 +12,7 @@ use fl_system::state::Batch;
 use std::alloc::{AllocError, Global};
 
 // Puts one operation at the end of the list, and into the index. An error leaves both.
-fn append_one(list: &mut Vec<Op>, index: &mut Index, op: &Op) -> Result<(), AllocError>
+fn append_one(list: &mut Vec<Op>, index: &mut CachedIndex, op: &Op) -> Result<(), AllocError>
     requires { index.old ≡ set.of_list list.old.items }
     ensures list { OnOk result (list.new.items ≡ list.old.items ++ op.now ∷ []) }
     ensures index { OnOk result (index.new ≡ set.of_list list.new.items) }
@@ -31,7 +31,7 @@ fn append_one(list: &mut Vec<Op>, index: &mut Index, op: &Op) -> Result<(), Allo
 fn append_all(
     alloc: Global,
     list: &mut Vec<Op>,
-    index: &mut Index,
+    index: &mut CachedIndex,
     ops: &OpSet,
 ) -> Result<(), AllocError>
     requires { index.old ≡ set.of_list list.old.items }
@@ -53,7 +53,7 @@ fn append_all(
 pub fn append(
     alloc: Global,
     list: &mut Vec<Op>,
-    index: &mut Index,
+    index: &mut CachedIndex,
     batch: &Batch,
 ) -> Result<(), AllocError>
     requires { index.old ≡ set.of_list list.old.items }

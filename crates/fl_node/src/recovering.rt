@@ -11,7 +11,7 @@ ghost use Rattle.fl_node.specs.Causes.{KeeperFails};
 
 use crate::finding::{find, listed, raise};
 use crate::keeping::add_batch;
-use fl_closure::index::Index;
+use fl_cache::cached::CachedIndex;
 use fl_jobs::answer::Refusal;
 use fl_ops::op::Op;
 use fl_opset::set::OpSet;
@@ -26,7 +26,7 @@ pub struct Recovered {
     pub boot: u32,
     pub saved: OpSet,
     pub published: Vec<Op>,
-    pub index: Index,
+    pub index: CachedIndex,
 }
 
 /// Whether both sets are the same.

@@ -1,5 +1,6 @@
 pub mod Lifting
 pub mod Entries
+pub mod Highs
 pub mod CallLemmas
 pub mod WorkLemmas
 pub mod JobLemmas

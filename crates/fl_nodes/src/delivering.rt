@@ -6,6 +6,7 @@ ghost use Rattle.fl_nodes.specs.Goes.{Goes};
 ghost use Rattle.fl_nodes.specs.parts.Delivering.{packet_of};
 
 use crate::bringing::{bring, receive};
+use crate::highest::raised;
 use crate::nodes::Nodes;
 use crate::sending::send_all;
 use fl_store::keeper::Keeper;
@@ -60,7 +61,7 @@ impl<K: Keeper> Nodes<K> {
         let Some(sent) = packet_at(&self.sent, packet) else {
             return Reply::NoSuch;
         };
-        match &sent.packet {
+        let answer = match &sent.packet {
             Packet::Full(_) => receive(alloc, node, &sent.packet),
             Packet::Delta(_) => receive(alloc, node, &sent.packet),
             Packet::Have(window) => match node.reply(alloc, window) {
@@ -68,6 +69,8 @@ impl<K: Keeper> Nodes<K> {
                 Err(fault) => Reply::Refused(fault),
             },
             Packet::Data(message) => bring(alloc, node, &sent.sender, message, &mut self.audit),
-        }
+        };
+        self.highest = raised(self.highest, node.saved());
+        answer
     }
 }

@@ -14,6 +14,7 @@ ghost use Rattle.fl_nodes.specs.Joining.{DoesJoin, DoesNotJoin, GivesBack, Takes
 ghost use Rattle.fl_nodes.specs.parts.Joined.{AreNodes, ClashesWith, IsStrayWith, StraysWith};
 ghost use Rattle.fl_nodes.specs.parts.Joined.{opened_reply, over_with};
 
+use crate::highest::raised;
 use crate::nodes::Nodes;
 use fl_gossip::meeting::{least_clash, least_stray, lesser};
 use fl_jobs::answer::Refusal;
@@ -87,6 +88,9 @@ impl<K: Keeper> Nodes<K> {
     fn clash(&self, saved: &OpSet) -> Option<Name>
         ensures { (w : World) → AreNodes self.now w → FindsLeast (IsClashAt w saved.now) result }
     {
+        if saved.len() == 0 {
+            return None;
+        }
         least_clash_with(&self.all, saved)
     }
 
@@ -96,6 +100,9 @@ impl<K: Keeper> Nodes<K> {
         ensures { (w : World) → AreNodes self.now w
             → FindsLeast (IsStrayWith w number saved.now) result }
     {
+        if saved.len() == 0 && self.highest < number {
+            return None;
+        }
         least_stray_with(&self.all, number, saved)
     }
 
@@ -107,8 +114,12 @@ impl<K: Keeper> Nodes<K> {
         ensures given { IfErr result (λ e. e.1 ≡ node.keeper) }
         ensures same { OnErr result (self.new ≡ self.old) }
     {
+        let highest = raised(self.highest, node.saved());
         match self.all.insert(number, node) {
-            Ok(None) => Ok(()),
+            Ok(None) => {
+                self.highest = highest;
+                Ok(())
+            }
             Ok(Some(_other)) => unreachable!("the number is not there"),
             Err(failed) => {
                 let (_, node) = failed.value;
@@ -127,8 +138,9 @@ impl<K: Keeper> Nodes<K> {
     ///
     /// That all that is saved here is saved by the node whose number it has, if that is there, is not looked at again: it is so in
     /// each world that a run leads to. A refused joining may have raised the boot, but where the number is a node's. Costs what the
-    /// opening does; and for each node that is there a binary search for each operation of the smaller of its set and the new
-    /// one's, two in each of them, and one for each operation of the one that has the number of the other.
+    /// opening does. Where nothing is saved by the newcomer, and nothing by anyone with its number or a greater one, no other node is
+    /// looked at; else for each node that is there a binary search for each operation of the smaller of its set and the new one's, two in
+    /// each of them, and one for each operation of the one that has the number of the other.
     pub fn join(&mut self, alloc: Global, number: u16, keeper: K) -> Result<u32, (Fault, K)>
         requires { 0 < number }
         ensures joins { IfOk result (λ boot. TakesIn K.is_honest K.may_hold self.old keeper self.new
@@ -166,6 +178,7 @@ impl<K: Keeper> Nodes<K> {
             return (Reply::NoSuch, keeper);
         };
         let (result, given) = node.reopen_over(alloc, keeper);
+        self.highest = raised(self.highest, node.saved());
         (opened(result), given)
     }
 }

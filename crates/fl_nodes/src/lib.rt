@@ -3,6 +3,7 @@
 
 mod bringing;
 mod delivering;
+mod highest;
 mod joining;
 pub mod nodes;
 mod sending;

@@ -11,6 +11,7 @@ ghost use Rattle.fl_nodes.specs.Whole.{IsWhole};
 ghost use Rattle.fl_nodes.specs.parts.There.{IsNoSuch, IsThere};
 ghost use Rattle.fl_nodes.specs.parts.Published.{published_reply};
 
+use crate::highest::raised;
 use crate::working::work;
 use fl_jobs::job::Job;
 use fl_node::node::Node;
@@ -61,11 +62,14 @@ pub struct Nodes<K: Keeper> {
     pub(crate) all: BTreeMap<u16, Node<K>>,
     pub(crate) sent: Vec<Sent>,
     pub(crate) audit: Vec<Admission>,
+    // No operation that is saved at a node has the number of a node above this one.
+    pub(crate) highest: u16,
 }
 
 impl<K: Keeper> Model for Nodes<K> {
     ghost use Rattle.std.specs.FinMap as map;
     ghost use Rattle.fl_nodes.specs.Over.{WorldOver, coded_world_over};
+    ghost use Rattle.fl_nodes.specs.parts.Highest.{AreUpTo};
 
     ghost Value = { WorldOver K };
 
@@ -77,6 +81,8 @@ impl<K: Keeper> Model for Nodes<K> {
       packets = n.sent.items;
       audit = n.audit.items;
     } };
+
+    ghost invariant = { λ n. AreUpTo n.highest (map.from_entries n.all.entries) };
 }
 
 impl<K: Keeper + Drop> Drop for Nodes<K> {
@@ -85,6 +91,7 @@ impl<K: Keeper + Drop> Drop for Nodes<K> {
             all: _,
             sent: _,
             audit: _,
+            highest: _,
         } = self;
     }
 }
@@ -98,6 +105,7 @@ impl<K: Keeper> Nodes<K> {
             all: BTreeMap::new(alloc),
             sent: Vec::new(alloc),
             audit: Vec::new(alloc),
+            highest: 0,
         }
     }
 
@@ -131,10 +139,12 @@ impl<K: Keeper> Nodes<K> {
         let Some(node) = self.all.get_mut(&number) else {
             return Reply::NoSuch;
         };
-        match node.save() {
+        let answer = match node.save() {
             Ok(()) => Reply::Done,
             Err(fault) => Reply::Refused(fault),
-        }
+        };
+        self.highest = raised(self.highest, node.saved());
+        answer
     }
 
     /// Gives up what is to be saved at the node, as `Node::cancel` has it, and answers `Done`, or why not. Takes no memory.
@@ -145,10 +155,12 @@ impl<K: Keeper> Nodes<K> {
         let Some(node) = self.all.get_mut(&number) else {
             return Reply::NoSuch;
         };
-        match node.cancel() {
+        let answer = match node.cancel() {
             Ok(()) => Reply::Done,
             Err(fault) => Reply::Refused(fault),
-        }
+        };
+        self.highest = raised(self.highest, node.saved());
+        answer
     }
 
     /// Publishes what is due at the node, as `Node::publish` has it, and answers the name of an order, or how many operations
@@ -161,10 +173,12 @@ impl<K: Keeper> Nodes<K> {
             return Reply::NoSuch;
         };
         let reply = once_published(node.state());
-        match node.publish(alloc) {
+        let answer = match node.publish(alloc) {
             Ok(_) => reply,
             Err(fault) => Reply::Refused(fault),
-        }
+        };
+        self.highest = raised(self.highest, node.saved());
+        answer
     }
 
     /// Restarts the node, as `Node::restart` has it, and answers its boot, or why not.
@@ -175,10 +189,12 @@ impl<K: Keeper> Nodes<K> {
         let Some(node) = self.all.get_mut(&number) else {
             return Reply::NoSuch;
         };
-        match node.come_back(alloc, keeps) {
+        let answer = match node.come_back(alloc, keeps) {
             Ok(boot) => Reply::Booted(boot),
             Err(fault) => Reply::Refused(fault),
-        }
+        };
+        self.highest = raised(self.highest, node.saved());
+        answer
     }
 
     /// Does the job at the desk of the node, which first looks at the whole list, as `Node::job` has it; sends the message that it
@@ -197,7 +213,9 @@ impl<K: Keeper> Nodes<K> {
         if lacks(node, desk, &job) {
             return Reply::NoSuch;
         }
-        work(alloc, number, node, job, &mut self.audit, &mut self.sent)
+        let answer = work(alloc, number, node, job, &mut self.audit, &mut self.sent);
+        self.highest = raised(self.highest, node.saved());
+        answer
     }
 
     /// Writes the text of the node's published operations, as `Node::text` has it, or nothing where it is not there.

@@ -7,4 +7,5 @@ pub mod fields;
 pub mod laws;
 pub mod op;
 pub mod reading;
+pub mod view;
 pub mod writing;

@@ -141,6 +141,31 @@ fn letters_in_order(rt: HostRuntime) -> Result<(), Fail> {
 }
 
 #[test]
+fn a_letter_waits_once_received(rt: HostRuntime) -> Result<(), Fail> {
+    let alloc = rt.alloc();
+    let mut inbox = Inbox::new(alloc);
+    let mut sender = 0;
+    inbox.push_with(
+        letter(alloc, 3)?,
+        &mut sender,
+        |sender: &mut u32, letter: &Letter| {
+            *sender = letter.sender.serial;
+            Ok(())
+        },
+    )?;
+    assert_eq!(rt; sender, 4);
+    let refused = inbox.push_with(
+        letter(alloc, 5)?,
+        &mut sender,
+        |_: &mut u32, _: &Letter| Err(AllocError),
+    );
+    assert!(rt; refused.is_err());
+    assert!(rt; inbox.take() == Some(letter(alloc, 3)?));
+    assert!(rt; inbox.take().is_none());
+    Ok(())
+}
+
+#[test]
 fn a_new_mailbox_is_empty(rt: HostRuntime) {
     let mut mailbox = Mailbox::new(rt.alloc());
     assert!(rt; mailbox.endpoints.is_empty());

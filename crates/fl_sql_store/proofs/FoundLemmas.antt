@@ -1,5 +1,5 @@
 -- What an opening leaves to the next.
-use Rattle.std.proofs.Common.{◌≡◌, ◌⊎◌, inl, inr, ℕ, List, [], ◌∷◌, Bool, true, false, not, ◌||◌, cond, IsTrue, refl, sym, ap, subst, ◌∙◌, arith, filter}
+use Rattle.std.proofs.Common.{◌≡◌, ◌<◌, ◌⊎◌, inl, inr, ℕ, List, [], ◌∷◌, Bool, true, false, not, ◌||◌, cond, IsTrue, refl, sym, ap, subst, ◌∙◌, arith, filter}
 use Rattle.std.specs.List.{AllZip}
 use Rattle.std.proofs.lemmas.Bool.{cases_Bool}
 use Rattle.sqlite.specs.Order.{Row}
@@ -10,6 +10,14 @@ use Rattle.sqlite_catalog.specs.Listing.{AreListed, IsTableRow, IsIndexRow, IsVi
 use Rattle.sqlite.specs.Effect.{Database, IsDatabase}
 use Rattle.sqlite.specs.State.{State, HasCleanDisk, IsLive, IsUnchanged, Survives}
 use Rattle.fl_sql_tables.specs.Tables.{keeper_schema, no_schema}
+use Rattle.sqlite.specs.State.{FailsToQuery}
+use Rattle.sqlite.specs.declared.error.Error.{Error}
+use Rattle.sqlite.specs.declared.error.Error.TheVariants.{SqliteFailure}
+use Rattle.sqlite.specs.declared.error.ErrorCode.TheVariants.{OutOfMemory}
+use Rattle.fl_store.specs.declared.keeper.KeeperFault.{KeeperFault}
+use Rattle.fl_store.specs.declared.keeper.KeeperFault.TheVariants.{Memory, Broken}
+use Rattle.fl_sql_tables.specs.Tables.{select_whole_text}
+use Rattle.fl_sql_store.specs.Opening.{IsFailure, RefusesToOpen}
 use Rattle.fl_store.specs.Kept.{Kept}
 use Rattle.fl_sql_tables.specs.Stored.{IsListed, if_listed, nothing_kept, kept_by, kept_in, ops_in, boot_in, self_row}
 use Rattle.fl_store.specs.Keeping.{Stays}
@@ -60,12 +68,32 @@ module _ (number : ℕ) (old : State) (blank : old.now.schema ≡ no_schema) (li
     | inr made ↦ (after, nothing_held made.0 after (it.2 ∙ ap (kept_in number) made.3 ∙ kept_founded number made.1 made.2), refl)
   ]
 
-pub ready_found : (number boot : ℕ) (old new : State) → old.now.schema ≡ keeper_schema → IsLive old → IsSettled old → IsUnchanged old new → old.now.trees 0 ≡ self_row number boot ∷ [] → IsReady number new
-ready_found number boot old new ours live settled h one = record {
+pub ready_found : (number boot : ℕ) (old new : State) → boot < 4294967296 → old.now.schema ≡ keeper_schema → IsLive old → IsSettled old → IsUnchanged old new → old.now.trees 0 ≡ self_row number boot ∷ [] → IsReady number new
+ready_found number boot old new low ours live settled h one = record {
   is_open = h.0.is_open;
   schema = ap (λ d. d.schema) h.0.now_is ∙ ours;
   settled = h.0.now_is ∙ settled h.0.was_open ∙ sym h.0.committed_is;
   listed = subst (λ (d : Database). IsListed d.trees) (sym h.0.now_is) (listed_if_sound old.now (live h.0.was_open).0 ours);
   boot = boot;
+  in_range = low;
   itself = ap (λ d. d.trees 0) h.0.now_is ∙ one;
 }
+
+-- a new database is ready
+pub ready_founded : (number : ℕ) (old new : State) → Founds number old new → IsReady number new
+ready_founded number old new h = record {
+  is_open = h.shown.is_open;
+  schema = h.founded.schema;
+  settled = sym h.shown.committed_is;
+  listed = h.founded.listed;
+  boot = 0;
+  in_range = omega arith;
+  itself = h.founded.itself;
+}
+
+-- the row of the node was not shown
+pub not_shown : (number : ℕ) (old new : State) (e : Error) (fault : KeeperFault) → old.now.schema ≡ keeper_schema → (fault ≡ Memory) ⊎ (fault ≡ Broken)
+    → (fault ≡ Memory → e ≡ SqliteFailure OutOfMemory) → (fault ≡ Broken → IsFailure e) → FailsToQuery select_whole_text [] old new e → RefusesToOpen number old new fault
+not_shown number old new e fault has (inl is) wants fails h =
+    subst (RefusesToOpen number old new) (sym is) (inl (has, subst (FailsToQuery select_whole_text [] old new) (wants is) h))
+not_shown number old new e fault has (inr is) wants fails h = subst (RefusesToOpen number old new) (sym is) (inr (inl (has, (e, fails is, h))))

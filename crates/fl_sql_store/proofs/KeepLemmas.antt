@@ -1,10 +1,11 @@
 -- What the calls of a keeper over a database leave to the next opening.
-use Rattle.std.proofs.Common.{◌≡◌, ◌⊎◌, inl, inr, ℕ, ◌+◌, ◌-◌, ◌^◌, pos, List, [], ◌∷◌, Bool, true, false, IsTrue, Ok, Err, Result, OnOk, IfOk, IfErr, refl, sym, ap, subst, ◌∙◌, arith}
+use Rattle.std.proofs.Common.{◌≡◌, ◌<◌, ◌⊎◌, inl, inr, ℕ, ◌+◌, ◌-◌, ◌^◌, pos, List, [], ◌∷◌, Bool, true, false, IsTrue, Ok, Err, Result, OnOk, IfOk, IfErr, refl, sym, ap, subst, ◌∙◌, arith}
 use Rattle.fl_labels.specs.SetBy.{SetBy, empty, contains, same_set, contains-empty, contains-union}
 use Rattle.std.specs.Prelude.{◌||◌}
 use Rattle.fl_ops.specs.OpLaws.{op_total, op_exact}
 use Rattle.sqlite.proofs.StateLemmas.{survives_then}
 use Rattle.fl_ops.specs.OpOrder.{op_cmp}
+use Rattle.sqlite.specs.Order.{Row}
 use Rattle.sqlite.specs.Tree.{Trees}
 use Rattle.sqlite.specs.State.{State, HasCleanDisk, IsUnchanged, Survives}
 use Rattle.fl_ops.specs.declared.op.Op.{Op}
@@ -35,6 +36,7 @@ ready_unchanged number old new r h = record {
   settled = h.0.now_is ∙ r.settled ∙ sym h.0.committed_is;
   listed = listed_by old.now.trees new.now.trees r.listed (ap (λ d. d.trees catalog_tree) h.0.now_is);
   boot = r.boot;
+  in_range = r.in_range;
   itself = ap (λ d. d.trees 0) h.0.now_is ∙ r.itself;
 }
 
@@ -47,6 +49,7 @@ ready_as_committed number old new r h =
       settled = h.now_is ∙ sym h.committed_is;
       listed = listed_by old.now.trees new.now.trees r.listed (ap (λ d. d.trees catalog_tree) now);
       boot = r.boot;
+      in_range = r.in_range;
       itself = ap (λ d. d.trees 0) now ∙ r.itself;
     }
 
@@ -57,16 +60,18 @@ ready_saved number ops old new r h = record {
   settled = sym h.shown.committed_is;
   listed = listed_by old.now.trees new.now.trees r.listed h.added.catalog;
   boot = r.boot;
+  in_range = r.in_range;
   itself = h.added.itself ∙ r.itself;
 }
 
-pub ready_raised : (number boot : ℕ) (old new : State) → IsReady number old → Raises number boot old new → IsReady number new
-ready_raised number boot old new r h = record {
+pub ready_raised : (number boot : ℕ) (old new : State) → boot < 4294967296 → IsReady number old → Raises number boot old new → IsReady number new
+ready_raised number boot old new low r h = record {
   is_open = h.shown.is_open;
   schema = h.raised.schema;
   settled = sym h.shown.committed_is;
   listed = listed_by old.now.trees new.now.trees r.listed h.raised.catalog;
   boot = boot;
+  in_range = low;
   itself = h.raised.itself;
 }
 
@@ -167,3 +172,17 @@ with_none saved = same_set op_total op_exact _ _ (λ q. contains-union op_total 
     or_none : (a : Bool) → (a || false) ≡ a
     or_none true = refl
     or_none false = refl
+
+one_boot : (number a b : ℕ) (rows : List Row) → rows ≡ self_row number a ∷ [] → rows ≡ self_row number b ∷ [] → a ≡ b
+one_boot number a b rows p q = ap boot_in (sym p ∙ q)
+
+-- the boot is read and then raised, and the next call commits nothing
+pub survives_raising : (number before boot : ℕ) (a b c d : State) → a.now.trees 0 ≡ self_row number before ∷ [] → Survives a b (λ _. ⊥) → (HasCleanDisk b → a.now.trees 0 ≡ self_row number boot ∷ [])
+    → (HasCleanDisk b → b.now ≡ a.now) → Survives b c (RaisesTo number (boot + 1) b.now) → Survives c d (λ _. ⊥) → Survives a d (RaisesTo number (before + 1) a.now)
+survives_raising number before boot a b c d one first told same second third =
+    let raises = RaisesTo number (before + 1) a.now in
+    let both : Survives a c raises = survives_then a b c _ _ raises (λ _ db none. absurd none) (λ clean db it.
+    let here = clean_before b c _ second clean in
+    let boots : before ≡ boot = one_boot number before boot (a.now.trees 0) one (told here) in
+    subst (λ n. RaisesTo number (n + 1) a.now db) (sym boots) (subst (λ now. RaisesTo number (boot + 1) now db) (same here) it)) first second in
+    survives_then a c d _ _ raises (λ _ db it. it) (λ _ db none. absurd none) both third

@@ -1,2 +1,3 @@
 pub mod SqlKeeping
 pub mod Opening
+pub mod Breaking

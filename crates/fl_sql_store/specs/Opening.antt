@@ -39,9 +39,15 @@ CannotServe old new =
     IsTrue old.in_transaction
     ⊎ (((old.now.schema ≡ keeper_schema) × FailsToShowItself old new) ⊎ (old.now.schema ≡ no_schema))
 
+-- there was not enough memory to show the row, or to make the tables
+abbrev pub LacksMemory : State → State → Type 0
+LacksMemory old new =
+    ((old.now.schema ≡ keeper_schema) × FailsToQuery select_whole_text [] old new (SqliteFailure OutOfMemory))
+    ⊎ (old.now.schema ≡ no_schema)
+
 -- why no keeper was opened
 abbrev pub RefusesToOpen : ℕ → State → State → KeeperFault → Type 0
-RefusesToOpen number old new Memory = Unit {0}
+RefusesToOpen number old new Memory = LacksMemory old new
 RefusesToOpen number old new Broken = CannotServe old new
 RefusesToOpen number old new WrongNode = IsAnothers number old × IsUnchanged old new
 RefusesToOpen number old new BadRow = IsForeign number old

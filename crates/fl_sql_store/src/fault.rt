@@ -6,6 +6,7 @@ ghost use Rattle.sqlite.specs.View.{doubt};
 ghost use Rattle.fl_sql_tables.specs.Stored.{IsOurs, Saves, AddsTo, self_row};
 ghost use Rattle.fl_sql_tables.specs.Serving.{IsServing, Raises, RaisesTo};
 ghost use Rattle.fl_sql_store.specs.SqlKeeping.{IsAsCommitted};
+ghost use Rattle.fl_sql_store.specs.Breaking.{Breaks};
 
 use fl_ops::op::Op;
 use fl_sql_tables::boot::{raise_boot, read_boot};
@@ -14,13 +15,17 @@ use fl_store::keeper::KeeperFault;
 use sqlite::{Alter, Connection, Error, ErrorCode};
 use std::alloc::Global;
 
-/// What an error comes to. It is want of memory only where the connection still serves.
+/// What an error comes to: want of memory where it says so and the connection still serves, and else a break.
 pub fn fault_of<S: Alter>(conn: &mut Connection<S>, error: Error) -> KeeperFault
     requires { conn.old.in_transaction ≡ false }
     ensures idle { conn.new.in_transaction ≡ false }
     ensures either { (result ≡ KeeperFault.Memory) ⊎ (result ≡ KeeperFault.Broken) }
+    ensures want { result ≡ KeeperFault.Memory
+        → error ≡ Error.SqliteFailure ErrorCode.OutOfMemory }
     ensures memory { HasCleanDisk (state S.Store conn.new) → result ≡ KeeperFault.Memory
         → IsUnchanged (state S.Store conn.old) (state S.Store conn.new) }
+    ensures broken { HasCleanDisk (state S.Store conn.new) → result ≡ KeeperFault.Broken
+        → Breaks (state S.Store conn.old) (state S.Store conn.new) error }
     ensures survives { Survives (state S.Store conn.old) (state S.Store conn.new) (λ _. ⊥) }
 {
     if error != Error::SqliteFailure(ErrorCode::OutOfMemory) {

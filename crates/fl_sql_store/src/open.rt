@@ -18,6 +18,8 @@ use sqlite::{Alter, Connection, Error, ErrorCode};
 // What an error comes to as a keeper is opened.
 fn refusal(error: Error) -> KeeperFault
     ensures either { (result ≡ KeeperFault.Memory) ⊎ (result ≡ KeeperFault.Broken) }
+    ensures want { result ≡ KeeperFault.Memory
+        → error ≡ Error.SqliteFailure ErrorCode.OutOfMemory }
     ensures failure { result ≡ KeeperFault.Broken → IsFailure error }
 {
     match error {

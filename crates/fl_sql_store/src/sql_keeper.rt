@@ -41,7 +41,8 @@ impl<S: Alter> Model for SqlKeeper<S> {
 
     ghost invariant = { λ k. (k.conn.in_transaction ≡ false)
         × (k.is_broken ≡ false → IsServing k.number (state S.Store k.conn))
-        × (IsTrue k.is_broken → 0 < k.failures) };
+        × (k.is_broken ≡ false → k.failures ≡ 0)
+        × (IsTrue k.is_broken → k.failures ≡ 1) };
 }
 
 impl<S: Alter + Drop> Drop for SqlKeeper<S> {
@@ -163,7 +164,7 @@ impl<S: Alter> Keeper for SqlKeeper<S> {
             KeeperFault::Memory => Err(KeeperFault::Memory),
             _ => {
                 self.is_broken = true;
-                self.failures = self.failures.saturating_add(1);
+                self.failures = 1;
                 Err(KeeperFault::Broken)
             }
         }
@@ -179,7 +180,7 @@ impl<S: Alter> Keeper for SqlKeeper<S> {
             Err(KeeperFault::NamesSpent) => Err(KeeperFault::NamesSpent),
             Err(_) => {
                 self.is_broken = true;
-                self.failures = self.failures.saturating_add(1);
+                self.failures = 1;
                 Err(KeeperFault::Broken)
             }
         }
@@ -197,7 +198,7 @@ impl<S: Alter> Keeper for SqlKeeper<S> {
             Err(KeeperFault::Memory) => Err(KeeperFault::Memory),
             Err(_) => {
                 self.is_broken = true;
-                self.failures = self.failures.saturating_add(1);
+                self.failures = 1;
                 Err(KeeperFault::Broken)
             }
         }

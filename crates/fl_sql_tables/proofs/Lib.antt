@@ -11,5 +11,6 @@ pub mod OpLemmas
 pub mod StateLemmas
 pub mod QueryLemmas
 pub mod ItselfLemmas
+pub mod FailLemmas
 pub mod LoadLemmas
 pub mod OwnLemmas

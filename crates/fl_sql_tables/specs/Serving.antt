@@ -1,5 +1,5 @@
 -- A database that serves as a keeper's, and what calls make of it.
-use Rattle.std.specs.Prelude.{◌≡◌, ℕ, true, false, [], ◌∷◌, IsTrue, Some, None}
+use Rattle.std.specs.Prelude.{◌≡◌, ◌<◌, ℕ, true, false, [], ◌∷◌, IsTrue, Some, None}
 use Rattle.sqlite.specs.Tree.{Trees}
 use Rattle.sqlite_trees.specs.Objects.{catalog_tree}
 use Rattle.sqlite.specs.Effect.{Database}
@@ -21,6 +21,7 @@ pub record IsReady (number : ℕ) (s : State) : Type 0 where
   pub settled : s.now ≡ s.committed
   pub listed : IsListed s.now.trees
   pub boot : ℕ
+  pub in_range : boot < 4294967296
   pub itself : s.now.trees 0 ≡ self_row number boot ∷ []
 
 -- as far as the disk has been honest

@@ -4,10 +4,12 @@ ghost use Rattle.sqlite.specs.Held.{state};
 ghost use Rattle.sqlite.specs.State.{HasCleanDisk, IsUnchanged, KeepsCommit, Survives};
 ghost use Rattle.fl_sql_tables.specs.Stored.{IsUndone, self_row};
 ghost use Rattle.fl_sql_tables.specs.Serving.{IsServing, SetsBoot, Raises, RaisesTo};
+ghost use Rattle.fl_sql_tables.specs.Failing.{IsFault, FailsToRaise};
 
 use sqlite::{Alter, Connection, Error, Transaction, params};
 
-/// The boot of the node itself.
+/// The boot of the node itself. Refused only where memory is, or the disk fails, or the limit on steps is met: the row is there, and its
+/// boot in its range.
 pub fn read_boot<S: Alter>(conn: &mut Connection<S>, number: u16) -> Result<u32, Error>
     requires idle { conn.old.in_transaction ≡ false }
     requires serving { IsServing number (state S.Store conn.old) }
@@ -17,6 +19,8 @@ pub fn read_boot<S: Alter>(conn: &mut Connection<S>, number: u16) -> Result<u32,
     ensures same { HasCleanDisk (state S.Store conn.new) → OnOk result (IsUnchanged
         (state S.Store conn.old) (state S.Store conn.new)) }
     ensures err { HasCleanDisk (state S.Store conn.new) → OnErr result (IsUndone
+        (state S.Store conn.old) (state S.Store conn.new)) }
+    ensures fails { HasCleanDisk (state S.Store conn.new) → IfErr result (IsFault
         (state S.Store conn.old) (state S.Store conn.new)) }
     ensures survives { Survives (state S.Store conn.old) (state S.Store conn.new) (λ _. ⊥) }
 {
@@ -34,6 +38,10 @@ fn set_boot<S: Alter>(tx: &mut Transaction<'_, S>, number: u16, boot: u32) -> Re
         (state S.Store tx.old.conn.now).in_transaction
         → OnOk result (SetsBoot number boot (state S.Store tx.old.conn.now)
         (state S.Store tx.new.conn.now)) }
+    ensures fails { HasCleanDisk (state S.Store tx.new.conn.now) → IsTrue
+        (state S.Store tx.old.conn.now).in_transaction
+        → IfErr result (FailsToRaise boot (state S.Store tx.old.conn.now)
+        (state S.Store tx.new.conn.now)) }
     ensures kept { HasCleanDisk (state S.Store tx.new.conn.now) → KeepsCommit
         (state S.Store tx.old.conn.now) (state S.Store tx.new.conn.now) }
     ensures survives { Survives (state S.Store tx.old.conn.now)
@@ -43,7 +51,7 @@ fn set_boot<S: Alter>(tx: &mut Transaction<'_, S>, number: u16, boot: u32) -> Re
     Ok(())
 }
 
-/// Sets the boot.
+/// Sets the boot. Refused where memory is, or the disk fails, or the limit on steps is met, or where the table does not take it.
 pub fn raise_boot<S: Alter>(conn: &mut Connection<S>, number: u16, boot: u32) -> Result<(), Error>
     requires idle { conn.old.in_transaction ≡ false }
     requires serving { IsServing number (state S.Store conn.old) }
@@ -51,6 +59,8 @@ pub fn raise_boot<S: Alter>(conn: &mut Connection<S>, number: u16, boot: u32) ->
     ensures ok { HasCleanDisk (state S.Store conn.new) → OnOk result (Raises number boot
         (state S.Store conn.old) (state S.Store conn.new)) }
     ensures err { HasCleanDisk (state S.Store conn.new) → OnErr result (IsUndone
+        (state S.Store conn.old) (state S.Store conn.new)) }
+    ensures fails { HasCleanDisk (state S.Store conn.new) → IfErr result (FailsToRaise boot
         (state S.Store conn.old) (state S.Store conn.new)) }
     ensures survives { Survives (state S.Store conn.old)
         (state S.Store conn.new) (RaisesTo number boot (state S.Store conn.old).now) }

@@ -1,9 +1,10 @@
 //! Adding operations.
-ghost use Rattle.std.specs.Prelude.{◌≡◌, ◌<◌, ◌≤◌, [], ◌∷◌, length, IsTrue, OnOk, OnErr, false};
+ghost use Rattle.std.specs.Prelude.{◌≡◌, ◌<◌, ◌≤◌, [], ◌∷◌, length, IsTrue, IfErr, OnOk, OnErr, false};
 ghost use Rattle.sqlite.specs.Held.{state};
 ghost use Rattle.sqlite.specs.State.{HasCleanDisk, KeepsCommit, Survives};
 ghost use Rattle.sqlite.specs.View.{doubt};
 ghost use Rattle.fl_sql_tables.specs.Stored.{IsOurs, PutsIn, Saves, IsUndone, AddsTo};
+ghost use Rattle.fl_sql_tables.specs.Failing.{FailsToPut, FailsToSave};
 
 use fl_ops::op::Op;
 use fl_ops::writing::encode;
@@ -17,6 +18,10 @@ fn put_op<S: Alter>(alloc: Global, tx: &mut Transaction<'_, S>, op: &Op) -> Resu
         (state S.Store tx.old.conn.now).in_transaction → IsOurs (state S.Store tx.old.conn.now)
         → OnOk result (PutsIn (op.now ∷ []) (state S.Store tx.old.conn.now)
         (state S.Store tx.new.conn.now)) }
+    ensures fails { HasCleanDisk (state S.Store tx.new.conn.now) → IsTrue
+        (state S.Store tx.old.conn.now).in_transaction → IsOurs (state S.Store tx.old.conn.now)
+        → IsTrue (state S.Store tx.old.conn.now).is_open → IfErr result (FailsToPut op.now
+        (state S.Store tx.old.conn.now) (state S.Store tx.new.conn.now)) }
     ensures kept { HasCleanDisk (state S.Store tx.new.conn.now) → KeepsCommit
         (state S.Store tx.old.conn.now) (state S.Store tx.new.conn.now) }
     ensures survives { Survives (state S.Store tx.old.conn.now)
@@ -38,6 +43,10 @@ fn put_ops<S: Alter>(alloc: Global, tx: &mut Transaction<'_, S>, ops: &[Op]) -> 
         → 0 < length ops.now
         → OnOk result (PutsIn ops.now (state S.Store tx.old.conn.now)
         (state S.Store tx.new.conn.now)) }
+    ensures fails { HasCleanDisk (state S.Store tx.new.conn.now) → IsTrue
+        (state S.Store tx.old.conn.now).in_transaction → IsOurs (state S.Store tx.old.conn.now)
+        → IsTrue (state S.Store tx.old.conn.now).is_open → IfErr result (FailsToSave ops.now
+        (state S.Store tx.old.conn.now) (state S.Store tx.new.conn.now)) }
     ensures kept { HasCleanDisk (state S.Store tx.new.conn.now) → KeepsCommit
         (state S.Store tx.old.conn.now) (state S.Store tx.new.conn.now) }
     ensures survives { Survives (state S.Store tx.old.conn.now)
@@ -49,7 +58,8 @@ fn put_ops<S: Alter>(alloc: Global, tx: &mut Transaction<'_, S>, ops: &[Op]) -> 
     Ok(())
 }
 
-/// Adds the operations in one transaction.
+/// Adds the operations in one transaction. Refused, with none added, where memory is, or the disk fails, or the limit on steps is met, or
+/// where the table does not take one of them after those before it.
 pub fn save_ops<S: Alter>(alloc: Global, conn: &mut Connection<S>, ops: &[Op]) -> Result<(), Error>
     requires idle { conn.old.in_transaction ≡ false }
     requires some { 0 < length ops.now }
@@ -60,6 +70,9 @@ pub fn save_ops<S: Alter>(alloc: Global, conn: &mut Connection<S>, ops: &[Op]) -
         → OnOk result (Saves ops.now (state S.Store conn.old) (state S.Store conn.new)) }
     ensures err { HasCleanDisk (state S.Store conn.new) → IsOurs (state S.Store conn.old)
         → OnErr result (IsUndone (state S.Store conn.old) (state S.Store conn.new)) }
+    ensures fails { HasCleanDisk (state S.Store conn.new) → IsOurs (state S.Store conn.old)
+        → IsTrue (state S.Store conn.old).is_open → IfErr result (FailsToSave ops.now
+        (state S.Store conn.old) (state S.Store conn.new)) }
     ensures survives { IsOurs (state S.Store conn.old) → Survives (state S.Store conn.old)
         (state S.Store conn.new) (AddsTo ops.now (state S.Store conn.old).now) }
 {

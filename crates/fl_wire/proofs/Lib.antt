@@ -10,3 +10,4 @@ pub mod SpansRead
 pub mod NextOp
 pub mod OpsRead
 pub mod NoFault
+pub mod Added

@@ -87,7 +87,7 @@ then_then Less p q = refl
 then_then Equal p q = refl
 then_then Greater p q = refl
 
-name_rising : (b : Option Name) (x : Name) → is_lt (slice_cmp nat_cmp (key_before name_key b) (name_key x)) ≡ is_above name_cmp b x
+pub name_rising : (b : Option Name) (x : Name) → is_lt (slice_cmp nat_cmp (key_before name_key b) (name_key x)) ≡ is_above name_cmp b x
 name_rising None x = refl
 name_rising (Some y) x = ap (λ o. is_lt (ordering_then (nat_cmp y.node x.node) o)) (then_level (nat_cmp y.seq x.seq))
 
@@ -180,7 +180,7 @@ names_all [] s = tt
 names_all (x ∷ xs) s = (refl, names_from x xs s.0 s.1)
 
 module _ (bs : List ℕ) where
-  next_is : (at : ℕ) (before : Option Name) (x : Op) (rest : List ℕ) → is_above name_cmp before x.name ≡ true → drop at bs ≡ op_bytes x ++ rest → IsNextOp bs at before x (at + length (op_bytes x))
+  pub next_is : (at : ℕ) (before : Option Name) (x : Op) (rest : List ℕ) → is_above name_cmp before x.name ≡ true → drop at bs ≡ op_bytes x ++ rest → IsNextOp bs at before x (at + length (op_bytes x))
   next_is at before x rest above e =
       let format = byte_is bs at 1 (kind_byte x.body ∷ (name_bytes x.name ++ body_bytes x.body) ++ rest) 1 1 (lit≤ tt) (lit≤ tt) e in
       let range = kind_range x.body in

@@ -1,6 +1,7 @@
 -- Operations that are read one after another.
-use Rattle.std.proofs.Common.{◌≡◌, ℕ, suc, ◌+◌, ◌*◌, ◌<◌, ◌≤◌, true, false, if◌then◌else◌, List, [], ◌∷◌, ◌++◌, length, drop, Option, Some, None, refl, sym, ap, subst, ◌∙◌, arith, leb, append_assoc, append-nil, length-append}
+use Rattle.std.proofs.Common.{◌≡◌, ℕ, suc, ◌+◌, ◌*◌, ◌-◌, slice_get, ◌<◌, ◌≤◌, true, false, if◌then◌else◌, List, [], ◌∷◌, ◌++◌, length, drop, Option, Some, None, refl, sym, ap, subst, ◌∙◌, arith, leb, append_assoc, append-nil, length-append}
 use Rattle.std.specs.List.{flat_map}
+use Rattle.std.specs.Option.{option_map}
 use Rattle.std.specs.List.Sorted.{IsStrictlySortedBy}
 use Rattle.std.proofs.lemmas.Bool.{le-leb}
 use Rattle.std.proofs.lemmas.Bool.Decides.{nat_tests}
@@ -15,7 +16,7 @@ use Rattle.fl_wire.specs.declared.fault.ReadFault.TheVariants.{BadPacket, Memory
 use Rattle.fl_wire.specs.Faults.{IsBad, IsBadOrMemory}
 use Rattle.fl_wire.specs.parts.Items.{name_key, key_before, is_above}
 use Rattle.fl_wire.specs.NameOrder.{by_name, by_name_total}
-use Rattle.fl_wire.specs.parts.Ops.{IsNextOp, AreOps}
+use Rattle.fl_wire.specs.parts.Ops.{IsNextOp, AreOps, AddsNextOp, last_name}
 use Rattle.fl_wire.specs.PacketGrammar.{next_op, ops_fields}
 use Rattle.fl_wire.proofs.Faults.{fault_rest, bad_front, bad_only}
 use Rattle.fl_wire.proofs.Sets.{less_of, rises_more}
@@ -29,8 +30,19 @@ pub record OpsTo (bytes : List ℕ) (at count place left : ℕ) (xs : List Op) (
   pub above : (x : Op) → is_above name_cmp before x.name ≡ true → IsStrictlySortedBy by_name (xs ++ x ∷ [])
   pub near : place + 47 * left ≤ at + 47 * count
 
+-- the last of one operation more
+last_more : (xs : List Op) (x : Op) → last_name (xs ++ x ∷ []) ≡ Some x.name
+last_more xs x = ap (λ n. option_map (λ op. op.name) (slice_get (xs ++ x ∷ []) n)) (before (length-append xs (x ∷ []))) ∙ ap (option_map (λ op. op.name)) (at_end xs)
+  where
+    before : {n k : ℕ} → n ≡ k + 1 → n - 1 ≡ k
+    before e = omega (arith, e)
+
+    at_end : (ys : List Op) → slice_get (ys ++ x ∷ []) (length ys) ≡ Some x
+    at_end [] = refl
+    at_end (y ∷ ys) = at_end ys
+
 module _ {bytes : List ℕ} {at count : ℕ} where
-  pub ops_none : (left : ℕ) (xs : List Op) → left ≡ count → xs ≡ [] → OpsTo bytes at count at left xs None
+  ops_none : (left : ℕ) (xs : List Op) → left ≡ count → xs ≡ [] → OpsTo bytes at count at left xs None
   unfolding IsStrictlySortedBy
   ops_none left xs q none = subst (λ l. OpsTo bytes at count at left l None) (sym none) (record {
     faults = ap (λ n. first_fault (ops_fields bytes at [] n)) (sym q);
@@ -41,7 +53,10 @@ module _ {bytes : List ℕ} {at count : ℕ} where
     near = omega (arith, q);
   })
 
-  pub ops_more : (place left : ℕ) (xs ys : List Op) (before : Option Name) (x : Op) (end less : ℕ) → OpsTo bytes at count place left xs before → IsNextOp bytes place before x end
+  pub ops_start : (left : ℕ) (xs : List Op) → left ≡ count → xs ≡ [] → OpsTo bytes at count at left xs (last_name xs)
+  ops_start left xs q none = subst (OpsTo bytes at count at left xs) (sym (ap last_name none)) (ops_none left xs q none)
+
+  ops_more : (place left : ℕ) (xs ys : List Op) (before : Option Name) (x : Op) (end less : ℕ) → OpsTo bytes at count place left xs before → IsNextOp bytes place before x end
       → left ≡ suc less → ys ≡ xs ++ x ∷ [] → OpsTo bytes at count end less ys (Some x.name)
   ops_more place left xs ys before x end less r n q new = subst (λ l. OpsTo bytes at count end less l (Some x.name)) (sym new) (record {
     faults = r.faults ∙ ap (λ m. first_fault (ops_fields bytes place (key_before name_key before) m)) q
@@ -54,6 +69,11 @@ module _ {bytes : List ℕ} {at count : ℕ} where
     above = λ y h. rises_more by_name_total xs x y (r.above x n.above) (less_of (by_name x y) h);
     near = omega (arith, r.near, n.short, q);
   })
+
+  pub ops_added : (place left : ℕ) (xs ys : List Op) (end less : ℕ) → OpsTo bytes at count place left xs (last_name xs) → AddsNextOp bytes place xs ys end
+      → left ≡ suc less → OpsTo bytes at count end less ys (last_name ys)
+  ops_added place left xs ys end less r n q =
+      subst (OpsTo bytes at count end less ys) (sym (ap last_name n.added ∙ last_more xs n.op)) (ops_more place left xs ys (last_name xs) n.op end less r n.next q n.added)
 
   pub ops_bad : (place left : ℕ) (xs : List Op) (before : Option Name) (less : ℕ) (f : ReadFault) → OpsTo bytes at count place left xs before → left ≡ suc less
       → IsBad (next_op bytes place (key_before name_key before)) f → IsBadOrMemory (ops_fields bytes at [] count) f

@@ -31,7 +31,7 @@ fn rises_above<T: Ord + Copy + Drop>(before: Option<T>, item: &T) -> bool
 }
 
 // The tag at a place, above the one before it.
-pub(crate) fn tag_above(bytes: &[u8], at: usize, before: Option<Name>) -> Result<Name, ReadFault>
+fn tag_above(bytes: &[u8], at: usize, before: Option<Name>) -> Result<Name, ReadFault>
     requires { at < 2 ^ 32 }
     ensures { MatchResult result
         (IsNext name_cmp name_bytes name_key

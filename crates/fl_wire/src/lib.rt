@@ -9,5 +9,6 @@ pub mod laws;
 mod ops;
 pub mod packet;
 pub mod reading;
+mod whole;
 mod window;
 pub mod writing;

@@ -1,6 +1,6 @@
 -- What keeps a bench orderly: a process that is put in the place of another, one that is born or
 -- gone, and the end of an operation.
-use Rattle.std.proofs.Common.{◌≡◌, ◌<◌, ◌≤◌, ◌+◌, ◌%◌, ◌∙◌, ◌⊎◌, inl, inr, refl, sym, ap, subst}
+use Rattle.std.proofs.Common.{◌≡◌, ◌<◌, ◌+◌, ◌%◌, ◌∙◌, ◌⊎◌, inl, inr, refl, sym, ap, subst}
 use Rattle.std.proofs.Common.{List, ℕ, Option, Some, None, arith}
 use native.Mathlib.Nat.{add-mod_right}
 use Rattle.std.specs.FinMap as map

@@ -13,10 +13,8 @@ use Rattle.fl_labels.specs.declared.cap.Cap.TheVariants.{Plus, Minus, Use, Grow}
 use Rattle.fl_labels.specs.declared.endpoint.Endpoint.{Endpoint}
 use Rattle.fl_labels.specs.declared.pid.Pid.{Pid}
 use Rattle.fl_ops.specs.declared.op.Op.{Op}
-use Rattle.fl_ops.specs.declared.op.Body.{Body}
 use Rattle.fl_jobs.specs.declared.job.Side.{Side}
 use Rattle.fl_jobs.specs.declared.job.Side.TheVariants.{Secrecy, Integrity}
-use Rattle.fl_jobs.specs.declared.job.Order as order
 use Rattle.fl_jobs.specs.declared.job.Act.{Act}
 use Rattle.fl_jobs.specs.declared.job.Act.TheVariants.{Order, Relabel, Ask, Spawn, Exit, Drop, Enter, Emit, Mail}
 use Rattle.fl_jobs.specs.declared.job.Job.{Job}
@@ -36,16 +34,16 @@ use Rattle.fl_mailbox.specs.declared.endpoints.OpenEndpoint.{OpenEndpoint}
 use Rattle.fl_bench.specs.Checks.{refuse_if, with, ◌then◌}
 use Rattle.fl_bench.specs.Guards.{grant_check}
 use Rattle.fl_bench.specs.Mailbox.{mail_checks, IsSent}
-use Rattle.fl_bench.specs.Process.{newborn, owns, is_busy, ordering, owning, child_of, effective}
-use Rattle.fl_bench.specs.Process.{side_of, with_side, body_of, receiving}
-use Rattle.fl_bench.specs.Bench.{BenchState, has_at, gone, born}
-use Rattle.fl_bench.specs.Jobs.{order_checks, checks_of, act_checks, bench_checks, checks, Answers}
+use Rattle.fl_bench.specs.Process.{newborn, owns, is_busy, owning, child_of, effective}
+use Rattle.fl_bench.specs.Process.{side_of, with_side, receiving}
+use Rattle.fl_bench.specs.Bench.{BenchState, has_at}
+use Rattle.fl_bench.specs.Jobs.{checks_of, act_checks, bench_checks, checks, Answers}
 use Rattle.fl_bench.specs.Jobs.{Performs, Effect, Does, passed, failed, no_room}
 use Rattle.fl_bench.specs.Following.{Follows}
-use Rattle.fl_bench.specs.Births.{IsBirth, alone, of}
+use Rattle.fl_bench.specs.Births.{alone, of}
 use Rattle.fl_bench.specs.declared.process.Process.{Process}
 use Rattle.fl_mailbox.specs.laws.Tables.{put_same}
-use Rattle.fl_bench.specs.Summary.{Keeps, stays, turns, Changes, keeps, bears, loses, IsOrder}
+use Rattle.fl_bench.specs.Summary.{Keeps, stays, turns, Changes, keeps, bears, loses}
 use Rattle.fl_bench.specs.Summary.{IsSending, Summary, refuses, replies, orders, sends}
 
 -- ---- labels

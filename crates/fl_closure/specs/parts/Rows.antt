@@ -1,52 +1,41 @@
--- What is put into each group.
-use Rattle.std.specs.Prelude.{◌≡◌, ◌≢◌, ◌↔◌, Option, Some, None}
+-- Rows of capabilities, each under a name.
+use Rattle.std.specs.Prelude.{◌≡◌, ◌⊎◌, ◌↔◌, Bool, true, false, Option, Some, None}
 use Rattle.std.specs.BTreeMap.{get}
-use Rattle.fl_labels.specs.SetBy as set
-use Rattle.fl_labels.specs.SetBy.{SetBy, In}
+use Rattle.std.specs.BTreeSet.{BTreeSet, contains}
 use Rattle.fl_labels.specs.Cap.{cap_cmp}
 use Rattle.fl_labels.specs.Name.{name_cmp}
 use Rattle.fl_labels.specs.declared.name.Name.{Name}
 use Rattle.fl_labels.specs.declared.cap.Cap.{Cap}
-use Rattle.fl_labels.specs.declared.cap.Cap.TheVariants.{Plus, Minus, Use, Grow}
-use Rattle.fl_labels.specs.Caps.{Caps}
-use Rattle.fl_ops.specs.declared.op.Op.{Op}
-use Rattle.fl_ops.specs.OpOrder.{op_cmp}
-use Rattle.fl_ops.specs.Registry.{Registry, Puts}
+use Rattle.fl_closure.specs.contracts.rows.Rows as rows_row
 use Rattle.fl_closure.specs.declared.rows.Rows.{Rows}
+use Rattle.std.specs.Coded.{Coded}
 
-abbrev pub or_empty : Option (SetBy cap_cmp) → SetBy cap_cmp
-or_empty None = set.empty
-or_empty (Some row) = row
+abbrev pub coded_rows : Coded Rows
+coded_rows = (rows_row.the_row).coded
 
--- the row of a group
-abbrev pub row_of : Rows → Name → SetBy cap_cmp
-row_of r group = or_empty (get name_cmp r.rows group)
+abbrev pub row_has : Option (BTreeSet Cap) → Cap → Bool
+row_has None c = false
+row_has (Some row) c = contains cap_cmp row c
 
--- the row of the group that the capability uses
-abbrev pub row_behind : Rows → Cap → SetBy cap_cmp
-row_behind r (Use group) = row_of r group
-row_behind r (Plus tag) = set.empty
-row_behind r (Minus tag) = set.empty
-row_behind r (Grow group) = set.empty
+-- whether the row of this name has the capability
+abbrev pub has : Rows → Name → Cap → Bool
+has rows name c = row_has (get name_cmp rows.rows name) c
 
--- one row gained a capability
-pub record PutsInto (old : Rows) (group : Name) (c : Cap) (new : Rows) : Type 0 where
-  pub here : row_of new group ≡ set.insert (row_of old group) c
-  pub others : (other : Name) → other ≢ group → row_of new other ≡ row_of old other
+abbrev pub Holds : Rows → Name → Cap → Type 0
+Holds rows name c = has rows name c ≡ true
 
--- one row lost a capability
-pub record TakesFrom (old : Rows) (group : Name) (c : Cap) (new : Rows) : Type 0 where
-  pub here : row_of new group ≡ set.remove (row_of old group) c
-  pub others : (other : Name) → other ≢ group → row_of new other ≡ row_of old other
+-- the pair is that of this name and this capability
+abbrev pub IsPair : Name → Cap → Name → Cap → Type 0
+IsPair name c other d = (name ≡ other) × (c ≡ d)
+
+-- one row has this capability, and all else is as it was
+pub record Adds (old : Rows) (name : Name) (c : Cap) (new : Rows) : Type 0 where
+  pub holds : (other : Name) (d : Cap) → Holds new other d ↔ (Holds old other d ⊎ IsPair name c other d)
+
+-- one row has this capability no more, and all else is as it was
+pub record Takes (old : Rows) (name : Name) (c : Cap) (new : Rows) : Type 0 where
+  pub holds : (other : Name) (d : Cap) → Holds new other d ↔ (Holds old other d × ¬ IsPair name c other d)
 
 -- each row is as it was
 pub record IsSameRows (old new : Rows) : Type 0 where
-  pub row : (group : Name) → row_of new group ≡ row_of old group
-
--- some operation puts c into the group
-abbrev pub IsPut : Registry → Name → Caps
-IsPut U group c = (op : Op) × U op × Puts op.body group c
-
--- each row has what the operations put into its group
-pub record IsIndexed (ops : SetBy op_cmp) (rows : Rows) : Type 0 where
-  pub row : (group : Name) (c : Cap) → In (row_of rows group) c ↔ IsPut (In ops) group c
+  pub holds : (name : Name) (c : Cap) → Holds new name c ↔ Holds old name c

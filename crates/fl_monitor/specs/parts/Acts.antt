@@ -1,5 +1,6 @@
 -- What the parts of a bench do: one process by itself, all of them with it, and a birth.
-use Rattle.std.specs.Prelude.{◌≡◌, ◌≢◌, false, not}
+use Rattle.std.specs.Prelude.{◌≡◌, ◌≢◌, not}
+use Rattle.std.specs.declared.alloc.AllocError.{AllocError}
 use Rattle.std.specs.declared.option.Option.TheVariants.{None, Some}
 use Rattle.std.specs.declared.result.Result.{Result}
 use Rattle.std.specs.declared.result.Result.TheVariants.{Ok, Err}
@@ -29,42 +30,42 @@ use Rattle.fl_jobs.specs.declared.answer.Reply.TheVariants.{Made, Done, Entered,
 use Rattle.fl_jobs.specs.declared.answer.Outcome.{Outcome}
 use Rattle.fl_rules.specs.declared.labels.Labels.{Labels}
 use Rattle.fl_message.specs.declared.message.Data.{Data}
-use Rattle.fl_mailbox.specs.Endpoints.{Table, IsOpen}
+use Rattle.fl_mailbox.specs.Endpoints.{Table}
+use Rattle.fl_mailbox.specs.Mailbox.{closed as no_mail}
 use Rattle.fl_mailbox.specs.declared.mailbox.Mailbox.{Mailbox}
 use Rattle.fl_mailbox.specs.declared.endpoints.OpenEndpoint.{OpenEndpoint}
-use Rattle.fl_bench.specs.Checks.{Check, refuse_if, ◌then◌}
-use Rattle.fl_bench.specs.Guards.{endpoints_check}
-use Rattle.fl_bench.specs.Hand.{AtHand}
-use Rattle.fl_bench.specs.Mailbox.{mail_checks, arrival_checks, MailDoes, MailTakesMemory}
+use Rattle.fl_bench.specs.Checks.{refuse_if, ◌then◌}
+use Rattle.fl_bench.specs.Guards.{grant_check, endpoints_check}
+use Rattle.fl_bench.specs.Mailbox.{mail_checks, arrival_checks, MailDoes, MailNeedsRoom}
 use Rattle.fl_bench.specs.Secrets.{digest_of}
 use Rattle.fl_bench.specs.Process.{is_busy, receiving, side_of, with_side}
-use Rattle.fl_bench.specs.Jobs.{change_check, serials_left, Answers, RelabelTakesMemory, Does}
+use Rattle.fl_bench.specs.Jobs.{change_check, serials_left, Does}
 use Rattle.fl_bench.specs.Bench.{BenchState, IsNext, born, has_at, gone}
+use Rattle.fl_bench.specs.declared.process.Holding.TheVariants.{Idle}
 use Rattle.fl_bench.specs.declared.process.Process.{Process}
 use Rattle.fl_monitor.specs.declared.sequel.Sequel.{Sequel}
 use Rattle.fl_monitor.specs.declared.sequel.Sequel.TheVariants.{Answer, Birth, End}
 
 -- ---- single acts
 
--- the check passes, and gives x, or fails so, or there was no memory
-pub data Yields {T : Type 0} (check : Check) (x : T) : Result T Refusal → Type 0 where
-  passed : check None → Yields check x (Ok x)
-  failed : {f : Refusal} → check (Some f) → Yields check x (Err f)
-  no_room : Yields check x (Err Memory)
-
 -- c is in effect, or is named as what is missing
 pub data Required (E : Caps) (c : Cap) : Result (Unit {0}) Refusal → Type 0 where
   there : E c → Required E c (Ok tt)
   missing : (¬ E c) → Required E c (Err (MissingCap c))
-  no_room : Required E c (Err Memory)
 
--- the reply to whether P holds, for which there may be no memory where Q
-pub data Replies (P Q : Type 0) : Result Outcome Refusal → Type 0 where
-  replied : {outcome : Outcome} → Answers outcome P → Replies P Q (Ok outcome)
-  no_room : Q → Replies P Q (Err Memory)
+-- a process of these labels and with no mail, which owns these
+abbrev pub born_with : Labels → SetBy cap_cmp → Process
+born_with labels caps = record { labels = labels; owned = Idle caps; mailbox = no_mail }
+
+-- a process of these labels that owns these is to be born, where who has E in effect may hand them on
+pub data Spawns (E : Caps) (labels : Labels) (caps : SetBy cap_cmp) : Result Sequel Refusal → Type 0 where
+  passed : grant_check E caps None → Spawns E labels caps (Ok (Birth (Ok (born_with labels caps))))
+  failed : {f : Refusal} → grant_check E caps (Some f) → Spawns E labels caps (Err f)
+  no_room : {e : AllocError} → grant_check E caps None → Spawns E labels caps (Ok (Birth (Err e)))
 
 -- the label of a side is set by who owns these and has these endpoints, or the labels stay
-pub data Relabels (V : Registry) (owned : SetBy cap_cmp) (table : Table) (old : Labels) (side : Side) (given : Result (SetBy name_cmp) TooLong) : Result Outcome Refusal → Labels → Type 0 where
+pub data Relabels (V : Registry) (owned : SetBy cap_cmp) (table : Table) (old : Labels) (side : Side)
+    (given : Result (SetBy name_cmp) TooLong) : Result Outcome Refusal → Labels → Type 0 where
   safe : {label : SetBy name_cmp} → given ≡ Ok label
       → (change_check (InEffect V (In owned)) (side_of side old) label
       then endpoints_check (InEffect V (In owned)) (with_side side label old) table) None
@@ -74,18 +75,16 @@ pub data Relabels (V : Registry) (owned : SetBy cap_cmp) (table : Table) (old : 
       then endpoints_check (InEffect V (In owned)) (with_side side label old) table) (Some f)
       → Relabels V owned table old side given (Err f) old
   too_long : {e : TooLong} → given ≡ Err e → Relabels V owned table old side given (Err LabelTooLong) old
-  no_room : {label : SetBy name_cmp} → given ≡ Ok label → RelabelTakesMemory V owned old table side label
-      → Relabels V owned table old side given (Err Memory) old
 
 -- who owns these and has these labels and endpoints drops c, or keeps it
-pub data Drops (V : Registry) (labels : Labels) (table : Table) (owned : SetBy cap_cmp) (c : Cap) : Result Outcome Refusal → SetBy cap_cmp → Type 0 where
+pub data Drops (V : Registry) (labels : Labels) (table : Table) (owned : SetBy cap_cmp) (c : Cap)
+    : Result Outcome Refusal → SetBy cap_cmp → Type 0 where
   dropped : (refuse_if (not (set.contains owned c)) (NotOwned c)
       then endpoints_check (InEffect V (In (set.remove owned c))) labels table) None
       → Drops V labels table owned c (Ok (Outcome.Reply Done)) (set.remove owned c)
   kept : {f : Refusal} → (refuse_if (not (set.contains owned c)) (NotOwned c)
       then endpoints_check (InEffect V (In (set.remove owned c))) labels table) (Some f)
       → Drops V labels table owned c (Err f) owned
-  no_room : In owned c → (e : Endpoint) → IsOpen table e → Drops V labels table owned c (Err Memory) owned
 
 -- who owns these enters a login by a secret
 pub data Enters (V : Registry) (owned : SetBy cap_cmp) (login : Name) (secret : Secret) : Result Outcome Refusal
@@ -99,13 +98,15 @@ pub data Enters (V : Registry) (owned : SetBy cap_cmp) (login : Name) (secret : 
       → Enters V owned login secret (Err Memory) owned
 
 -- who owns these, a process of these labels, uses its mailbox
-pub data Mails (V : Registry) (owned : SetBy cap_cmp) (pid : Pid) (labels : Labels) (ch : Mailbox) (mail : Mail) : Result Outcome Refusal → Mailbox → Type 0 where
+pub data Mails (V : Registry) (owned : SetBy cap_cmp) (pid : Pid) (labels : Labels) (ch : Mailbox) (mail : Mail)
+    : Result Outcome Refusal → Mailbox → Type 0 where
   passed : {outcome : Outcome} {ch' : Mailbox} → mail_checks (InEffect V (In owned)) labels ch mail None
       → MailDoes pid ch mail outcome ch'
       → Mails V owned pid labels ch mail (Ok outcome) ch'
   failed : {f : Refusal} → mail_checks (InEffect V (In owned)) labels ch mail (Some f)
       → Mails V owned pid labels ch mail (Err f) ch
-  no_room : MailTakesMemory (AtHand V owned) labels ch mail → Mails V owned pid labels ch mail (Err Memory) ch
+  no_room : mail_checks (InEffect V (In owned)) labels ch mail None → MailNeedsRoom mail
+      → Mails V owned pid labels ch mail (Err Memory) ch
 
 -- an endpoint is closed, or was not open
 pub data Closes (ch : Mailbox) (e : Endpoint) : Result Outcome Refusal → Mailbox → Type 0 where
@@ -119,7 +120,7 @@ pub data Arrives (p : Process) (d : Data) : Result Outcome Refusal → Process �
       → Arrives p d (Ok (Outcome.Reply (Arrived d.receiver))) (receiving p d)
   refused : {f : Refusal} → (refuse_if (is_busy p) Busy then arrival_checks p.mailbox d) (Some f)
       → Arrives p d (Err f) p
-  no_room : is_busy p ≡ false → arrival_checks p.mailbox d None → Arrives p d (Err Memory) p
+  no_room : (refuse_if (is_busy p) Busy then arrival_checks p.mailbox d) None → Arrives p d (Err Memory) p
 
 -- an answer that nothing follows
 abbrev pub answered : Result Outcome Refusal → Result Sequel Refusal
@@ -128,11 +129,13 @@ answered (Err f) = Err f
 
 -- ---- what follows at a bench
 
--- the process p is put as the next, where a serial and room are left
-pub data Births (b : BenchState) (p : Process) : Result Outcome Refusal → BenchState → Type 0 where
-  made : {pid : Pid} → serials_left b None → IsNext b pid → Births b p (Ok (Outcome.Reply (Made pid))) (born b pid p)
-  spent : serials_left b (Some NamesSpent) → Births b p (Err NamesSpent) b
-  full : serials_left b None → Births b p (Err Memory) b
+-- a process is put as the next, where a serial is left, and there was memory for it and is room
+pub data Births (b : BenchState) : Result Process AllocError → Result Outcome Refusal → BenchState → Type 0 where
+  made : {p : Process} {pid : Pid} → serials_left b None → IsNext b pid
+      → Births b (Ok p) (Ok (Outcome.Reply (Made pid))) (born b pid p)
+  spent : {child : Result Process AllocError} → serials_left b (Some NamesSpent)
+      → Births b child (Err NamesSpent) b
+  full : {child : Result Process AllocError} → serials_left b None → Births b child (Err Memory) b
 
 -- the bench b does what follows from an act of pid
 abbrev pub Settles : BenchState → Pid → Sequel → Result Outcome Refusal → BenchState → Type 0

@@ -1,4 +1,4 @@
-use Rattle.fl_monitor.proofs.ActLemmas.{act_busy, act_unchecked, act_full, act_order, act_relabel, act_ask, act_spawn, act_exit, act_drop, act_enter, act_kept_in, act_emit, act_mail}
+use Rattle.fl_monitor.proofs.ActLemmas.{answers_of, act_busy, act_unchecked, act_full, act_order, act_relabel, act_ask, act_spawn, act_exit, act_drop, act_enter, act_kept_in, act_emit, act_mail}
 use Rattle.fl_monitor.proofs.act.act_alone.Goals as goal
 
 pub returns-in_default-clause-acts : goal.returns-in_default-clause-acts
@@ -8,7 +8,7 @@ pub returns-in_err-check_order-in-Order-clause-acts : goal.returns-in_err-check_
 returns-in_err-check_order-in-Order-clause-acts g c = act_unchecked _ c.args.pid c.args.process.now c.args.act _ c.in-Idle.is _ c.in-Order.is c.check_order.ensures.checked _ c.in_err-check_order-in-Order.was c.from_residual.ensures
 
 pub returns-in_default-begin-clause-acts : goal.returns-in_default-begin-clause-acts
-returns-in_default-begin-clause-acts g c = act_full _ c.args.pid c.args.process.now c.args.act _ c.in-Idle.is _ c.in-Order.is _ c.in_default-begin.ensures.err
+returns-in_default-begin-clause-acts g c = act_full _ c.args.pid c.args.process.now c.args.act _ c.in-Idle.is _ c.in-Order.is c.check_order.ensures.checked _ c.in_ok-check_order-in-Order.was _ c.in_default-begin.ensures.err
 
 pub returns-in-Ok-clause-acts : goal.returns-in-Ok-clause-acts
 returns-in-Ok-clause-acts g c = act_order _ c.args.pid c.args.process.now c.args.act _ c.in-Idle.is _ c.in-Order.is c.check_order.ensures.checked _ c.in_ok-check_order-in-Order.was _ c.body_of_order.ensures _ c.in-Ok.ensures.ok
@@ -17,10 +17,10 @@ pub returns-in-Relabel-clause-acts : goal.returns-in-Relabel-clause-acts
 returns-in-Relabel-clause-acts g c = act_relabel _ c.args.pid c.args.process.now c.args.act _ c.in-Idle.is _ _ c.in-Relabel.is c.relabel.ensures.relabels _ c.answer_alone.ensures
 
 pub returns-in-Ask-clause-acts : goal.returns-in-Ask-clause-acts
-returns-in-Ask-clause-acts g c = act_ask _ c.args.pid c.args.process.now c.args.act _ c.in-Idle.is _ c.in-Ask.is c.ask.ensures.replies _ c.answer_alone-in-Ask.ensures
+returns-in-Ask-clause-acts g c = act_ask _ c.args.pid c.args.process.now c.args.act _ c.in-Idle.is _ c.in-Ask.is _ (answers_of c.effective.result _ c.reply_of-reply.ensures c.effective.ensures.answer)
 
 pub returns-in-Spawn-clause-acts : goal.returns-in-Spawn-clause-acts
-returns-in-Spawn-clause-acts g c = act_spawn _ c.args.pid c.args.process.now c.args.act _ c.in-Idle.is _ c.in-Spawn.is c.spawn.ensures.yields
+returns-in-Spawn-clause-acts g c = act_spawn _ c.args.pid c.args.process.now c.args.act _ c.in-Idle.is _ c.in-Spawn.is c.spawn.ensures.spawns
 
 pub returns-in-Exit-clause-acts : goal.returns-in-Exit-clause-acts
 returns-in-Exit-clause-acts g c = act_exit _ c.args.pid c.args.process.now c.args.act _ c.in-Idle.is c.in-Exit.is

@@ -1,4 +1,4 @@
-use Rattle.std.proofs.Common.{refl, sym}
+use Rattle.std.proofs.Common.{sym}
 use Rattle.fl_monitor.proofs.ArrivalLemmas.{comes_busy, comes_nowhere, comes_unsafe, comes_full, comes_starved, comes_in}
 use Rattle.fl_monitor.proofs.arrive.arrive.Goals as goal
 
@@ -14,11 +14,8 @@ returns-in-Some-safe_pair c = comes_unsafe c.args.process.now c.args.data _ c.in
 pub returns-then-is_full : goal.returns-then-is_full
 returns-then-is_full c = comes_full c.args.process.now c.args.data _ c.in-Idle.is _ (sym c.in-Some.ensures) _ _ c.end_left.ensures c.lend.ensures c.in_default-safe_pair.ensures _ c.is_full.ensures c.if-is_full.true
 
-pub returns-in_default-union : goal.returns-in_default-union
-returns-in_default-union c = comes_starved c.args.process.now c.args.data _ c.in-Idle.is _ (sym c.in-Some.ensures) _ _ c.end_left.ensures c.lend.ensures c.in_default-safe_pair.ensures _ c.is_full.ensures c.if-is_full.false _ refl
-
-pub returns-in_default-push : goal.returns-in_default-push
-returns-in_default-push c = comes_starved c.args.process.now c.args.data _ c.in-Idle.is _ (sym c.in-Some.ensures) _ _ c.end_left.ensures c.lend.ensures c.in_default-safe_pair.ensures _ c.is_full.ensures c.if-is_full.false _ c.in_default-push.ensures.err
+pub returns-in_default-take_in : goal.returns-in_default-take_in
+returns-in_default-take_in c = comes_starved c.args.process.now c.args.data _ c.in-Idle.is _ (sym c.in-Some.ensures) _ _ c.end_left.ensures c.lend.ensures c.in_default-safe_pair.ensures _ c.is_full.ensures c.if-is_full.false _ c.in_default-take_in.ensures.err.1 _ c.in_default-take_in.ensures.err.0
 
 pub returns : goal.returns
-returns c = comes_in c.args.process.now c.args.data _ c.in-Idle.is _ (sym c.in-Some.ensures) _ _ c.end_left.ensures c.lend.ensures c.in_default-safe_pair.ensures _ c.is_full.ensures c.if-is_full.false _ c.in-Ok.ensures _ c.in-Ok-push.ensures.ok
+returns c = comes_in c.args.process.now c.args.data _ c.in-Idle.is _ (sym c.in-Some.ensures) _ _ c.end_left.ensures c.lend.ensures c.in_default-safe_pair.ensures _ c.is_full.ensures c.if-is_full.false _ c.in-Ok.ensures.owns _ c.in-Ok.ensures.waits

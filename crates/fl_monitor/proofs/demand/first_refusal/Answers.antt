@@ -1,5 +1,5 @@
 use Rattle.std.proofs.Common.{refl}
-use Rattle.fl_monitor.proofs.Hand.{found_caps, none_crosses}
+use Rattle.fl_monitor.proofs.Looks.{found_caps, none_crosses}
 use Rattle.fl_monitor.proofs.demand.first_refusal.Goals as goal
 
 pub returns-in_err-first_unheld-in-Grant-clause-refuses : goal.returns-in_err-first_unheld-in-Grant-clause-refuses

@@ -13,7 +13,7 @@ pub returns-in_err-check-clause-mails : goal.returns-in_err-check-clause-mails
 returns-in_err-check-clause-mails g c = λ pid. open_unsafe _ _ (sets_of c.args.process) pid c.args.mailbox.now c.args.mode c.args.given _ (sym c.in-Some.ensures) _ c.in-Some-least_free.ensures _ c.lend-end.ensures c.check.ensures.checked _ c.in_err-check.was c.from_residual.result c.from_residual.ensures
 
 pub returns-in_default-insert-clause-mails : goal.returns-in_default-insert-clause-mails
-returns-in_default-insert-clause-mails g c = λ pid. open_starved _ _ (sets_of c.args.process) pid c.args.mailbox.now c.args.mode c.args.given _ (sym c.in-Some.ensures) _ c.in-Some-least_free.ensures _ c.in_default-insert.ensures.err
+returns-in_default-insert-clause-mails g c = λ pid. open_starved _ _ (sets_of c.args.process) pid c.args.mailbox.now c.args.mode c.args.given _ (sym c.in-Some.ensures) _ c.in-Some-least_free.ensures _ c.lend-end.ensures c.check.ensures.checked _ c.in_ok-check.was _ c.in_default-insert.ensures.err
 
 pub returns-clause-mails : goal.returns-clause-mails
 returns-clause-mails g c = λ pid. open_done _ _ (sets_of c.args.process) pid c.args.mailbox.now c.args.mode c.args.given _ (sym c.in-Some.ensures) _ c.in-Some-least_free.ensures _ c.lend-end.ensures c.check.ensures.checked _ c.in_ok-check.was _ c.in-Ok.ensures.ok

@@ -15,4 +15,4 @@ pub returns-in-Ok-clause-mails : goal.returns-in-Ok-clause-mails
 returns-in-Ok-clause-mails g c = λ process. send_done _ _ process c.args.route.sender c.args.mailbox.now c.args.route.from c.args.route.receiver c.args.route.to c.args.message _ (sym c.in-Some.ensures) _ c.writes.ensures c.if-not-writes.false c.check.ensures.checked _ c.in_ok-check.was _ c.in-Ok.ensures
 
 pub returns-in-Err-clause-mails : goal.returns-in-Err-clause-mails
-returns-in-Err-clause-mails g c = λ process. send_starved _ _ process c.args.route.sender c.args.mailbox.now c.args.route.from c.args.route.receiver c.args.route.to c.args.message _ (sym c.in-Some.ensures) _ c.writes.ensures c.if-not-writes.false
+returns-in-Err-clause-mails g c = λ process. send_starved _ _ process c.args.route.sender c.args.mailbox.now c.args.route.from c.args.route.receiver c.args.route.to c.args.message _ (sym c.in-Some.ensures) _ c.writes.ensures c.if-not-writes.false c.check.ensures.checked _ c.in_ok-check.was

@@ -1,12 +1,8 @@
-use Rattle.fl_monitor.specs.parts.Acts.{Yields}
-use Rattle.fl_monitor.proofs.ActLemmas.{yields_refused, child_given}
+use Rattle.fl_monitor.proofs.ActLemmas.{spawns_not, spawns_one}
 use Rattle.fl_monitor.proofs.spawn.spawn.Goals as goal
 
-pub returns-in_err-check-clause-yields : goal.returns-in_err-check-clause-yields
-returns-in_err-check-clause-yields g c = yields_refused _ _ c.check.ensures.checked _ c.in_err-check.was c.from_residual.result c.from_residual.ensures
+pub returns-in_err-check-clause-spawns : goal.returns-in_err-check-clause-spawns
+returns-in_err-check-clause-spawns g c = spawns_not _ _ c.args.caps c.check.ensures.checked _ c.in_err-check.was c.from_residual.result c.from_residual.ensures
 
-pub returns-in_default-clause-yields : goal.returns-in_default-clause-yields
-returns-in_default-clause-yields g c = Yields.no_room
-
-pub returns-clause-yields : goal.returns-clause-yields
-returns-clause-yields g c = child_given _ _ c.args.caps c.check.ensures.checked _ c.in_ok-check.was _ c.in-Ok.ensures _ c.new.ensures
+pub returns-clause-spawns : goal.returns-clause-spawns
+returns-clause-spawns g c = spawns_one _ _ c.args.caps c.check.ensures.checked _ c.in_ok-check.was c.child_with.result c.child_with.ensures

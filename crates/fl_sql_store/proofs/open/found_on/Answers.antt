@@ -1,5 +1,5 @@
 use Rattle.sqlite.specs.Held.{state}
-use Rattle.fl_sql_store.proofs.FoundLemmas.{held_founded, held_or_founded}
+use Rattle.fl_sql_store.proofs.FoundLemmas.{held_founded, held_or_founded, ready_founded}
 use Rattle.fl_sql_store.proofs.open.found_on.Goals as goal
 
 pub returns-in-Ok-clause-held : goal.returns-in-Ok-clause-held
@@ -11,3 +11,6 @@ pub returns-in-Err-clause-held : goal.returns-in-Err-clause-held
 returns-in-Err-clause-held g c clean =
     held_or_founded c.args.number (state g.S.Store c.args.conn.now) c.requires.blank c.requires.live c.requires.settled (g.met.S.Store.stays c.args.conn.now.store) (state g.S.Store c.found.new.conn)
     clean c.found.ensures.survives
+
+pub returns-in-Ok-clause-ready : goal.returns-in-Ok-clause-ready
+returns-in-Ok-clause-ready g c clean = ready_founded c.args.number (state g.S.Store c.args.conn.now) (state g.S.Store c.found.new.conn) (c.in-Ok.ensures.ok clean)

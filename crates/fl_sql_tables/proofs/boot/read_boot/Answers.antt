@@ -3,6 +3,7 @@ use Rattle.fl_sql_tables.proofs.StateLemmas.{clean_before}
 use Rattle.fl_sql_tables.proofs.BootLemmas.{reads_self, boot_read}
 use Rattle.fl_sql_tables.proofs.Texts.{plain_5}
 use Rattle.fl_sql_tables.proofs.QueryLemmas.{row_same, undone_row, undone_same, quiet_query, on_ok, on_err}
+use Rattle.fl_sql_tables.proofs.FailLemmas.{row_fault, get_fault}
 use Rattle.fl_sql_tables.proofs.boot.read_boot.Goals as goal
 
 pub returns-in-Ok-clause-ok : goal.returns-in-Ok-clause-ok
@@ -41,3 +42,18 @@ returns-in-Err-clause-err g c clean =
 pub returns-in-Err-clause-survives : goal.returns-in-Err-clause-survives
 returns-in-Err-clause-survives g c =
     quiet_query _ _ (state g.S.Store c.args.conn.now) (state g.S.Store c.query_row.new.self) c.args.number c.requires.serving plain_5 c.query_row.ensures.survives
+
+pub returns-in-Ok-clause-fails : goal.returns-in-Ok-clause-fails
+returns-in-Ok-clause-fails g c clean =
+    let old = state g.S.Store c.args.conn.now in
+    let new = state g.S.Store c.query_row.new.self in
+    let ready = c.requires.serving (clean_before old new _ c.query_row.ensures.survives clean) in
+    let row = reads_self old new c.args.number ready.boot c.in-Ok.row ready.schema ready.itself (c.in-Ok.ensures.row clean) in
+    get_fault old new c.get.result c.in-Ok.row c.args.number ready.boot ready.in_range row c.get.ensures.kind c.get.ensures.named
+
+pub returns-in-Err-clause-fails : goal.returns-in-Err-clause-fails
+returns-in-Err-clause-fails g c clean =
+    let old = state g.S.Store c.args.conn.now in
+    let new = state g.S.Store c.query_row.new.self in
+    let ready = c.requires.serving (clean_before old new _ c.query_row.ensures.survives clean) in
+    row_fault old new c.args.number ready.boot ready.schema ready.is_open ready.itself _ (c.in-Err.ensures.row clean)

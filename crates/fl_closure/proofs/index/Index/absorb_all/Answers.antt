@@ -1,17 +1,31 @@
-use Rattle.std.proofs.Common.{sym, subst, refl}
-use Rattle.fl_closure.specs.parts.Rows.{IsIndexed}
-use Rattle.fl_closure.proofs.Batching.{indexed_all, indexed_undone}
+use Rattle.std.proofs.Common.{refl}
+use Rattle.fl_closure.proofs.Growing.{are_transitive}
+use Rattle.fl_closure.proofs.Indexing.{closed_union, closed_undone, nothing_new, one_is_new}
 use Rattle.fl_closure.proofs.index.Index.absorb_all.Goals as goal
+
+pub returns-then-not-lacks_one_of-clause-ok : goal.returns-then-not-lacks_one_of-clause-ok
+returns-then-not-lacks_one_of-clause-ok c =
+    nothing_new _ _ c.args.ops.now _ c.self.view_is c.as_slice.ensures (c.lacks_one_of.ensures.fails c.if-not-lacks_one_of.true)
+
+pub put_all-requires-clause-transitive : goal.put_all-requires-clause-transitive
+put_all-requires-clause-transitive c = are_transitive c.self.invariant
 
 pub invariant_of-self : goal.invariant_of-self
 invariant_of-self c =
-    indexed_undone _ _ _ _ _ _ _ refl c.self.invariant c.in-Err.ensures.news c.deref.ensures.value c.take_all.ensures
+    closed_undone _ _ _ _ _ _ _ refl c.self.invariant c.in-Err.ensures.news c.deref.ensures.value c.take_all.ensures
+
+pub returns-in-Err-clause-absent : goal.returns-in-Err-clause-absent
+returns-in-Err-clause-absent c =
+    one_is_new _ _ c.args.ops.now _ c.self.view_is c.as_slice.ensures (c.lacks_one_of.ensures.holds c.if-not-lacks_one_of.false)
 
 pub invariant_of-self-in-Err-merge : goal.invariant_of-self-in-Err-merge
 invariant_of-self-in-Err-merge c =
-    indexed_undone _ _ _ _ _ _ _ c.in-Err-merge.ensures.err c.self.invariant c.in_default.ensures.news c.deref-in-Err-merge.ensures.value c.take_all-in-Err-merge.ensures
+    closed_undone _ _ _ _ _ _ _ c.in-Err-merge.ensures.err c.self.invariant c.in_default.ensures.news c.deref-in-Err-merge.ensures.value c.take_all-in-Err-merge.ensures
+
+pub returns-in-Err-merge-clause-absent : goal.returns-in-Err-merge-clause-absent
+returns-in-Err-merge-clause-absent c =
+    one_is_new _ _ c.args.ops.now _ c.self.view_is c.as_slice.ensures (c.lacks_one_of.ensures.holds c.if-not-lacks_one_of.false)
 
 pub invariant_of-self-in_default-merge : goal.invariant_of-self-in_default-merge
 invariant_of-self-in_default-merge c =
-    subst (λ s. IsIndexed s c.put_all.new.self) (sym c.in_default-merge.ensures.ok)
-    (indexed_all _ _ _ _ _ c.as_slice.ensures c.self.invariant c.in_default.ensures.ok)
+    closed_union _ _ c.args.ops.now _ _ _ c.as_slice-2.ensures c.self.invariant c.in_default.ensures.ok c.in_default-merge.ensures.ok

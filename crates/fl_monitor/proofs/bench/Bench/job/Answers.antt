@@ -1,4 +1,5 @@
-use Rattle.fl_monitor.proofs.JobLemmas.{births_does, arrives_does, replies_does}
+use Rattle.fl_monitor.proofs.JobLemmas.{births_does, arrives_does, reaches_does}
+use Rattle.fl_monitor.proofs.ActLemmas.{answers_of}
 use Rattle.fl_monitor.proofs.Kept.{arrives_kept}
 use Rattle.fl_monitor.proofs.bench.Bench.job.Goals as goal
 
@@ -9,7 +10,7 @@ pub returns-in-By-clause-does : goal.returns-in-By-clause-does
 returns-in-By-clause-does g c = rw c.in-By.is c.act.ensures.does
 
 pub returns-in-Member-clause-does : goal.returns-in-Member-clause-does
-returns-in-Member-clause-does g c = rw c.in-Member.is (replies_does _ c.args.self.now c.in-Member.root c.in-Member.cap c.member.ensures.replies)
+returns-in-Member-clause-does g c = rw c.in-Member.is (reaches_does _ c.args.self.now c.in-Member.root c.in-Member.cap _ (answers_of c.reaches.result _ c.reply_of.ensures c.reaches.ensures.answer))
 
 pub returns-in-Arrive-clause-does : goal.returns-in-Arrive-clause-does
 returns-in-Arrive-clause-does g c = rw c.in-Arrive.is (arrives_does _ _ c.args.self.now c.self.view_is c.in-Arrive.data c.arrive.ensures)

@@ -1,4 +1,6 @@
+use Rattle.std.proofs.Common.{◌∙◌, sym}
 use Rattle.fl_nodes.proofs.Entries.{held}
+use Rattle.fl_nodes.proofs.Highs.{no_clash}
 use Rattle.fl_nodes.proofs.Meets.{clash_of_world}
 use Rattle.fl_nodes.proofs.nodes.Nodes.clash.Goals as goal
 
@@ -7,3 +9,6 @@ returns g c w are =
     clash_of_world c.self.inside.all c.least_clash_with.ensures.ordered c.args.self.now
     (held c.self.inside.all.entries c.self.inside.all.entries c.self.inside.sent.items c.self.inside.audit.items c.args.self.now c.self.view_is)
     w are c.args.saved.now _ c.least_clash_with.ensures.least
+
+pub returns-then-len-eq0 : goal.returns-then-len-eq0
+returns-then-len-eq0 g c w are = no_clash w c.args.saved.now (sym c.len.ensures ∙ c.if-len-eq0.true)

@@ -1,4 +1,4 @@
-use Rattle.std.proofs.Common.{◌∙◌, sym, ap, refl, ℕ, inl, inr}
+use Rattle.std.proofs.Common.{◌∙◌, sym, ap, subst, refl, ℕ, inl, inr}
 use Rattle.std.specs.BTreeMap.{BTreeMap}
 use Rattle.fl_system.specs.declared.event.Event.TheVariants as event
 use Rattle.fl_node.specs.Over.{NodeOver}
@@ -6,7 +6,10 @@ use Rattle.fl_nodes.specs.parts.Delivering.{packet_of}
 use Rattle.fl_nodes.proofs.Entries.{held, unchanged}
 use Rattle.fl_nodes.proofs.CallLemmas.{no_such_left}
 use Rattle.fl_nodes.proofs.DeliverLemmas.{delivers_message, delivers_ops, delivers_window, no_packet, window_refused}
+use Rattle.fl_nodes.specs.parts.Highest.{IsUpTo}
+use Rattle.fl_nodes.proofs.Highs.{changed_up, looked_up}
 use Rattle.fl_nodes.proofs.nodes.Nodes.deliver.Goals as goal
+use Rattle.fl_nodes.proofs.nodes.Nodes.deliver.Goals.{in-Full, in-Delta, in-Have+in-Ok, in-Have+in-Err, in-Data}
 
 pub returns-in_default : goal.returns-in_default
 returns-in_default g c =
@@ -20,42 +23,42 @@ returns-in_default-packet_at g c =
     c.args.number c.in-Some.node.now c.in-Some.node.now (sym c.in-Some.ensures.value) (c.get_mut.follows.holds c.in-Some.node.now).0
     c.args.packet refl (ap (λ l. packet_of l c.args.packet) (sym c.deref.ensures.value) ∙ c.in_default-packet_at.ensures)
 
-pub returns-in-Full : goal.returns-in-Full
-returns-in-Full g c =
-    delivers_ops g.K.Keeper.is_honest g.K.Keeper.may_hold c.self.inside.all.entries _ c.self.inside.sent.items c.self.inside.audit.items c.args.self.now c.self.view_is
-    c.args.number c.in-Some.node.now c.receive.new.node (sym c.in-Some.ensures.value) (c.get_mut.follows.holds c.receive.new.node).0
-    c.args.packet c.in-Some-packet_at.sent.now
-    (ap (λ l. packet_of l c.args.packet) (sym c.deref.ensures.value) ∙ c.in-Some-packet_at.ensures)
-    c.in-Full.field-0 c.receive.result (inl c.in-Full.is) c.receive.ensures.keeper c.receive.ensures.takes
+pub returns : goal.returns
+returns g c = elim c.match-sent.branch [
+  | in-Full w ↦ rw (w.answer-is, w.node-is, w.self-inside-is) (delivers_ops g.K.Keeper.is_honest g.K.Keeper.may_hold c.self.inside.all.entries _ c.self.inside.sent.items c.self.inside.audit.items c.args.self.now c.self.view_is
+      c.args.number c.in-Some.node.now w.receive-answer.new.node (sym c.in-Some.ensures.value) (c.get_mut.follows.holds w.receive-answer.new.node).0
+      c.args.packet c.in-Some-packet_at.sent.now
+      (ap (λ l. packet_of l c.args.packet) (sym c.deref.ensures.value) ∙ c.in-Some-packet_at.ensures)
+      w.in-Full.field-0 w.receive-answer.result (inl w.in-Full.is) w.receive-answer.ensures.keeper w.receive-answer.ensures.takes)
+  | in-Delta w ↦ rw (w.answer-is, w.node-is, w.self-inside-is) (delivers_ops g.K.Keeper.is_honest g.K.Keeper.may_hold c.self.inside.all.entries _ c.self.inside.sent.items c.self.inside.audit.items c.args.self.now c.self.view_is
+      c.args.number c.in-Some.node.now w.receive-answer-in-Delta.new.node (sym c.in-Some.ensures.value) (c.get_mut.follows.holds w.receive-answer-in-Delta.new.node).0
+      c.args.packet c.in-Some-packet_at.sent.now
+      (ap (λ l. packet_of l c.args.packet) (sym c.deref.ensures.value) ∙ c.in-Some-packet_at.ensures)
+      w.in-Delta.field-0 w.receive-answer-in-Delta.result (inr w.in-Delta.is) w.receive-answer-in-Delta.ensures.keeper w.receive-answer-in-Delta.ensures.takes)
+  | in-Have+in-Ok w ↦ rw (w.answer-is, w.node-is, w.self-inside-is) (delivers_window g.K.Keeper.is_honest g.K.Keeper.may_hold c.self.inside.all.entries _ c.self.inside.sent.items c.self.inside.audit.items c.args.self.now c.self.view_is
+      c.args.number c.in-Some.node.now c.in-Some.node.now (sym c.in-Some.ensures.value) (c.get_mut.follows.holds c.in-Some.node.now).0
+      c.args.packet c.in-Some-packet_at.sent.now
+      (ap (λ l. packet_of l c.args.packet) (sym c.deref.ensures.value) ∙ c.in-Some-packet_at.ensures)
+      w.in-Have.window w.in-Ok.told.items w.send_all.result w.send_all.new.sent.items w.in-Have.is refl w.in-Ok.ensures.running w.in-Ok.ensures.ok w.send_all.ensures)
+  | in-Have+in-Err w ↦ rw (w.answer-is, w.node-is, w.self-inside-is) (window_refused g.K.Keeper.is_honest g.K.Keeper.may_hold c.self.inside.all.entries _ c.self.inside.sent.items c.self.inside.audit.items c.args.self.now c.self.view_is
+      c.args.number c.in-Some.node.now c.in-Some.node.now (sym c.in-Some.ensures.value) (c.get_mut.follows.holds c.in-Some.node.now).0
+      c.args.packet c.in-Some-packet_at.sent.now
+      (ap (λ l. packet_of l c.args.packet) (sym c.deref.ensures.value) ∙ c.in-Some-packet_at.ensures)
+      w.in-Have.window w.in-Err.fault w.in-Have.is refl w.in-Err.ensures.err)
+  | in-Data w ↦ rw (w.answer-is, w.node-is, w.self-inside-is) (delivers_message g.K.Keeper.is_honest g.K.Keeper.may_hold c.self.inside.all.entries _ c.self.inside.sent.items c.self.inside.audit.items c.args.self.now c.self.view_is
+      c.args.number c.in-Some.node.now w.bring-answer.new.node (sym c.in-Some.ensures.value) (c.get_mut.follows.holds w.bring-answer.new.node).0
+      c.args.packet c.in-Some-packet_at.sent.now
+      (ap (λ l. packet_of l c.args.packet) (sym c.deref.ensures.value) ∙ c.in-Some-packet_at.ensures)
+      w.in-Data.message w.bring-answer.result w.bring-answer.new.audit.items w.in-Data.is w.bring-answer.ensures.keeper w.bring-answer.ensures.brings)
+]
 
-pub returns-in-Delta : goal.returns-in-Delta
-returns-in-Delta g c =
-    delivers_ops g.K.Keeper.is_honest g.K.Keeper.may_hold c.self.inside.all.entries _ c.self.inside.sent.items c.self.inside.audit.items c.args.self.now c.self.view_is
-    c.args.number c.in-Some.node.now c.receive-in-Delta.new.node (sym c.in-Some.ensures.value) (c.get_mut.follows.holds c.receive-in-Delta.new.node).0
-    c.args.packet c.in-Some-packet_at.sent.now
-    (ap (λ l. packet_of l c.args.packet) (sym c.deref.ensures.value) ∙ c.in-Some-packet_at.ensures)
-    c.in-Delta.field-0 c.receive-in-Delta.result (inr c.in-Delta.is) c.receive-in-Delta.ensures.keeper c.receive-in-Delta.ensures.takes
+pub invariant_of-self-in_default-packet_at : goal.invariant_of-self-in_default-packet_at
+invariant_of-self-in_default-packet_at g c =
+    looked_up c.self.inside.highest c.self.inside.all.entries _ c.args.number c.in-Some.node.now
+    (sym c.in-Some.ensures.value) (c.get_mut.follows.holds c.in-Some.node.now).0 c.self.invariant
 
-pub returns-in-Ok : goal.returns-in-Ok
-returns-in-Ok g c =
-    delivers_window g.K.Keeper.is_honest g.K.Keeper.may_hold c.self.inside.all.entries _ c.self.inside.sent.items c.self.inside.audit.items c.args.self.now c.self.view_is
-    c.args.number c.in-Some.node.now c.in-Some.node.now (sym c.in-Some.ensures.value) (c.get_mut.follows.holds c.in-Some.node.now).0
-    c.args.packet c.in-Some-packet_at.sent.now
-    (ap (λ l. packet_of l c.args.packet) (sym c.deref.ensures.value) ∙ c.in-Some-packet_at.ensures)
-    c.in-Have.window c.in-Ok.told.items c.send_all.result c.send_all.new.sent.items c.in-Have.is refl c.in-Ok.ensures.running c.in-Ok.ensures.ok c.send_all.ensures
-
-pub returns-in-Err : goal.returns-in-Err
-returns-in-Err g c =
-    window_refused g.K.Keeper.is_honest g.K.Keeper.may_hold c.self.inside.all.entries _ c.self.inside.sent.items c.self.inside.audit.items c.args.self.now c.self.view_is
-    c.args.number c.in-Some.node.now c.in-Some.node.now (sym c.in-Some.ensures.value) (c.get_mut.follows.holds c.in-Some.node.now).0
-    c.args.packet c.in-Some-packet_at.sent.now
-    (ap (λ l. packet_of l c.args.packet) (sym c.deref.ensures.value) ∙ c.in-Some-packet_at.ensures)
-    c.in-Have.window c.in-Err.fault c.in-Have.is refl c.in-Err.ensures.err
-
-pub returns-in-Data : goal.returns-in-Data
-returns-in-Data g c =
-    delivers_message g.K.Keeper.is_honest g.K.Keeper.may_hold c.self.inside.all.entries _ c.self.inside.sent.items c.self.inside.audit.items c.args.self.now c.self.view_is
-    c.args.number c.in-Some.node.now c.bring.new.node (sym c.in-Some.ensures.value) (c.get_mut.follows.holds c.bring.new.node).0
-    c.args.packet c.in-Some-packet_at.sent.now
-    (ap (λ l. packet_of l c.args.packet) (sym c.deref.ensures.value) ∙ c.in-Some-packet_at.ensures)
-    c.in-Data.message c.bring.result c.bring.new.audit.items c.in-Data.is c.bring.ensures.keeper c.bring.ensures.brings
+pub invariant_of-self-2 : goal.invariant_of-self-2
+invariant_of-self-2 g c =
+    changed_up c.self.inside.highest _ c.raised-self-inside.ensures.at_least c.self.inside.all.entries _ c.args.number c.in-Some.node.now c.match-sent.node
+    (sym c.in-Some.ensures.value) (c.get_mut.follows.holds c.match-sent.node).0 c.self.invariant
+    (subst (IsUpTo c.raised-self-inside.result) c.saved.ensures.saved c.raised-self-inside.ensures.covers)

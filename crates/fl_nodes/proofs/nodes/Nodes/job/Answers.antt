@@ -1,11 +1,12 @@
-use Rattle.std.proofs.Common.{◌∙◌, sym, ap, ℕ}
+use Rattle.std.proofs.Common.{◌∙◌, sym, ap, ℕ, refl, subst}
 use Rattle.std.specs.BTreeMap.{BTreeMap}
 use Rattle.fl_system.specs.declared.event.Event.TheVariants as event
 use Rattle.fl_node.specs.Over.{NodeOver}
 use Rattle.fl_nodes.proofs.Entries.{held, unchanged}
 use Rattle.fl_nodes.proofs.CallLemmas.{no_such_left}
 use Rattle.fl_nodes.proofs.JobLemmas.{no_such_job, worked}
-use Rattle.std.proofs.Common.{refl}
+use Rattle.fl_nodes.specs.parts.Highest.{IsUpTo}
+use Rattle.fl_nodes.proofs.Highs.{changed_up, looked_up}
 use Rattle.fl_nodes.proofs.nodes.Nodes.job.Goals as goal
 
 pub returns-in_default : goal.returns-in_default
@@ -23,7 +24,18 @@ returns-then-lacks g c upto whole =
 pub returns : goal.returns
 returns g c upto whole =
     worked g.K.Keeper.is_honest g.K.Keeper.may_hold c.self.inside.all.entries _ c.self.inside.sent.items c.self.inside.audit.items c.args.self.now c.self.view_is
-    c.args.number c.args.desk upto c.args.job c.in-Some.node.now c.work.new.node (sym c.in-Some.ensures.value) (c.get_mut.follows.holds c.work.new.node).0
-    _ _ _ c.work.ensures.keeper (c.lacks.ensures.there c.if-lacks.false)
-    (c.work.ensures.works upto (whole c.in-Some.node.now
+    c.args.number c.args.desk upto c.args.job c.in-Some.node.now c.work-answer.new.node (sym c.in-Some.ensures.value) (c.get_mut.follows.holds c.work-answer.new.node).0
+    _ _ _ c.work-answer.ensures.keeper (c.lacks.ensures.there c.if-lacks.false)
+    (c.work-answer.ensures.works upto (whole c.in-Some.node.now
     (sym (held c.self.inside.all.entries c.self.inside.all.entries c.self.inside.sent.items c.self.inside.audit.items c.args.self.now c.self.view_is c.args.number) ∙ sym c.in-Some.ensures.value)))
+
+pub invariant_of-self-then-lacks : goal.invariant_of-self-then-lacks
+invariant_of-self-then-lacks g c =
+    looked_up c.self.inside.highest c.self.inside.all.entries _ c.args.number c.in-Some.node.now
+    (sym c.in-Some.ensures.value) (c.get_mut.follows.holds c.in-Some.node.now).0 c.self.invariant
+
+pub invariant_of-self-2 : goal.invariant_of-self-2
+invariant_of-self-2 g c =
+    changed_up c.self.inside.highest _ c.raised-self-inside.ensures.at_least c.self.inside.all.entries _ c.args.number c.in-Some.node.now c.work-answer.new.node
+    (sym c.in-Some.ensures.value) (c.get_mut.follows.holds c.work-answer.new.node).0 c.self.invariant
+    (subst (IsUpTo c.raised-self-inside.result) c.saved.ensures.saved c.raised-self-inside.ensures.covers)

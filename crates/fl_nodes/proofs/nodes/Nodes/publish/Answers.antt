@@ -1,11 +1,13 @@
-use Rattle.std.proofs.Common.{◌∙◌, sym, ap, ℕ}
+use Rattle.std.proofs.Common.{◌∙◌, sym, ap, ℕ, subst}
 use Rattle.std.specs.BTreeMap.{BTreeMap}
 use Rattle.fl_system.specs.declared.event.Event.TheVariants as event
 use Rattle.fl_node.specs.Over.{NodeOver}
+use Rattle.fl_nodes.specs.parts.Highest.{IsUpTo}
 use Rattle.fl_nodes.proofs.Entries.{held, changed, unchanged}
 use Rattle.fl_nodes.proofs.CallLemmas.{no_such_left, published, not_published}
+use Rattle.fl_nodes.proofs.Highs.{changed_up}
 use Rattle.fl_nodes.proofs.nodes.Nodes.publish.Goals as goal
-use Rattle.fl_nodes.proofs.nodes.Nodes.publish.Goals.{in-Ok, in-Err+in-Job+in-Emitted-1, in-Err+in-Job+in-Taken-1, in-Err+in-Job+in-Made-1, in-Err+in-Begun-1}
+use Rattle.fl_nodes.proofs.nodes.Nodes.publish.Goals.{in-Ok, in-Err}
 
 pub returns-in_default : goal.returns-in_default
 returns-in_default g c =
@@ -15,24 +17,18 @@ returns-in_default g c =
 
 pub returns : goal.returns
 returns g c = elim c.match-publish.branch [
-  | in-Ok w ↦ rw (w.result-is, c.once_published-reply.ensures, c.state.ensures) (published g.K.Keeper.is_honest g.K.Keeper.may_hold c.args.self.now _ c.args.number c.in-Some.node.now c.publish.new.self
+  | in-Ok w ↦ rw (w.answer-is, c.once_published-reply.ensures, c.state.ensures) (published g.K.Keeper.is_honest g.K.Keeper.may_hold c.args.self.now _ c.args.number c.in-Some.node.now c.publish.new.self
       (sym (held c.self.inside.all.entries c.self.inside.all.entries c.self.inside.sent.items c.self.inside.audit.items c.args.self.now c.self.view_is c.args.number) ∙ sym c.in-Some.ensures.value)
       (changed c.self.inside.all.entries _ c.self.inside.sent.items c.self.inside.audit.items c.args.self.now c.self.view_is c.args.number c.in-Some.node.now c.publish.new.self (sym c.in-Some.ensures.value) (c.get_mut.follows.holds c.publish.new.self).0)
       _ w.in-Ok.ensures.keeper w.in-Ok.ensures.publishes)
-  | in-Err+in-Job+in-Emitted-1 w ↦ rw w.result-is (not_published g.K.Keeper.is_honest g.K.Keeper.may_hold c.args.self.now _ c.args.number c.in-Some.node.now c.publish.new.self
-      (sym (held c.self.inside.all.entries c.self.inside.all.entries c.self.inside.sent.items c.self.inside.audit.items c.args.self.now c.self.view_is c.args.number) ∙ sym c.in-Some.ensures.value)
-      (changed c.self.inside.all.entries _ c.self.inside.sent.items c.self.inside.audit.items c.args.self.now c.self.view_is c.args.number c.in-Some.node.now c.publish.new.self (sym c.in-Some.ensures.value) (c.get_mut.follows.holds c.publish.new.self).0)
-      _ w.in-Err.ensures.keeper w.in-Err.ensures.publishes)
-  | in-Err+in-Job+in-Taken-1 w ↦ rw w.result-is (not_published g.K.Keeper.is_honest g.K.Keeper.may_hold c.args.self.now _ c.args.number c.in-Some.node.now c.publish.new.self
-      (sym (held c.self.inside.all.entries c.self.inside.all.entries c.self.inside.sent.items c.self.inside.audit.items c.args.self.now c.self.view_is c.args.number) ∙ sym c.in-Some.ensures.value)
-      (changed c.self.inside.all.entries _ c.self.inside.sent.items c.self.inside.audit.items c.args.self.now c.self.view_is c.args.number c.in-Some.node.now c.publish.new.self (sym c.in-Some.ensures.value) (c.get_mut.follows.holds c.publish.new.self).0)
-      _ w.in-Err.ensures.keeper w.in-Err.ensures.publishes)
-  | in-Err+in-Job+in-Made-1 w ↦ rw w.result-is (not_published g.K.Keeper.is_honest g.K.Keeper.may_hold c.args.self.now _ c.args.number c.in-Some.node.now c.publish.new.self
-      (sym (held c.self.inside.all.entries c.self.inside.all.entries c.self.inside.sent.items c.self.inside.audit.items c.args.self.now c.self.view_is c.args.number) ∙ sym c.in-Some.ensures.value)
-      (changed c.self.inside.all.entries _ c.self.inside.sent.items c.self.inside.audit.items c.args.self.now c.self.view_is c.args.number c.in-Some.node.now c.publish.new.self (sym c.in-Some.ensures.value) (c.get_mut.follows.holds c.publish.new.self).0)
-      _ w.in-Err.ensures.keeper w.in-Err.ensures.publishes)
-  | in-Err+in-Begun-1 w ↦ rw w.result-is (not_published g.K.Keeper.is_honest g.K.Keeper.may_hold c.args.self.now _ c.args.number c.in-Some.node.now c.publish.new.self
+  | in-Err w ↦ rw w.answer-is (not_published g.K.Keeper.is_honest g.K.Keeper.may_hold c.args.self.now _ c.args.number c.in-Some.node.now c.publish.new.self
       (sym (held c.self.inside.all.entries c.self.inside.all.entries c.self.inside.sent.items c.self.inside.audit.items c.args.self.now c.self.view_is c.args.number) ∙ sym c.in-Some.ensures.value)
       (changed c.self.inside.all.entries _ c.self.inside.sent.items c.self.inside.audit.items c.args.self.now c.self.view_is c.args.number c.in-Some.node.now c.publish.new.self (sym c.in-Some.ensures.value) (c.get_mut.follows.holds c.publish.new.self).0)
       _ w.in-Err.ensures.keeper w.in-Err.ensures.publishes)
 ]
+
+pub invariant_of-self-2 : goal.invariant_of-self-2
+invariant_of-self-2 g c =
+    changed_up c.self.inside.highest _ c.raised-self-inside.ensures.at_least c.self.inside.all.entries _ c.args.number c.in-Some.node.now c.publish.new.self
+    (sym c.in-Some.ensures.value) (c.get_mut.follows.holds c.publish.new.self).0 c.self.invariant
+    (subst (IsUpTo c.raised-self-inside.result) c.saved.ensures.saved c.raised-self-inside.ensures.covers)

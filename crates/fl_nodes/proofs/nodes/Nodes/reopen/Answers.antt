@@ -1,8 +1,10 @@
-use Rattle.std.proofs.Common.{◌∙◌, sym, ap, ℕ}
+use Rattle.std.proofs.Common.{◌∙◌, sym, ap, ℕ, subst}
 use Rattle.std.specs.BTreeMap.{BTreeMap}
 use Rattle.fl_node.specs.Over.{NodeOver}
+use Rattle.fl_nodes.specs.parts.Highest.{IsUpTo}
 use Rattle.fl_nodes.proofs.Entries.{held, changed, unchanged}
 use Rattle.fl_nodes.proofs.JoinLemmas.{not_there, spare_none, reopened, is_spare}
+use Rattle.fl_nodes.proofs.Highs.{changed_up}
 use Rattle.fl_nodes.proofs.nodes.Nodes.reopen.Goals as goal
 
 pub returns-in_default-clause-reopens : goal.returns-in_default-clause-reopens
@@ -29,3 +31,9 @@ returns-clause-given g c =
     (sym (held c.self.inside.all.entries c.self.inside.all.entries c.self.inside.sent.items c.self.inside.audit.items c.args.self.now c.self.view_is c.args.number) ∙ sym c.in-Some.ensures.value)
     (changed c.self.inside.all.entries _ c.self.inside.sent.items c.self.inside.audit.items c.args.self.now c.self.view_is c.args.number c.in-Some.node.now c.reopen_over-result.new.self (sym c.in-Some.ensures.value) (c.get_mut.follows.holds c.reopen_over-result.new.self).0)
     _ c.reopen_over-result.ensures.running c.reopen_over-result.ensures.given c.reopen_over-result.ensures.stopped
+
+pub invariant_of-self-2 : goal.invariant_of-self-2
+invariant_of-self-2 g c =
+    changed_up c.self.inside.highest _ c.raised-self-inside.ensures.at_least c.self.inside.all.entries _ c.args.number c.in-Some.node.now c.reopen_over-result.new.self
+    (sym c.in-Some.ensures.value) (c.get_mut.follows.holds c.reopen_over-result.new.self).0 c.self.invariant
+    (subst (IsUpTo c.raised-self-inside.result) c.saved.ensures.saved c.raised-self-inside.ensures.covers)

@@ -1,9 +1,11 @@
-use Rattle.std.proofs.Common.{◌∙◌, sym, ap, ℕ}
+use Rattle.std.proofs.Common.{◌∙◌, sym, ap, ℕ, subst}
 use Rattle.std.specs.BTreeMap.{BTreeMap}
 use Rattle.fl_system.specs.declared.event.Event.TheVariants as event
 use Rattle.fl_node.specs.Over.{NodeOver}
+use Rattle.fl_nodes.specs.parts.Highest.{IsUpTo}
 use Rattle.fl_nodes.proofs.Entries.{held, changed, unchanged}
 use Rattle.fl_nodes.proofs.CallLemmas.{no_such_left, booted, not_booted}
+use Rattle.fl_nodes.proofs.Highs.{changed_up}
 use Rattle.fl_nodes.proofs.nodes.Nodes.restart.Goals as goal
 use Rattle.fl_nodes.proofs.nodes.Nodes.restart.Goals.{in-Ok, in-Err}
 
@@ -15,12 +17,18 @@ returns-in_default g c =
 
 pub returns : goal.returns
 returns g c = elim c.match-come_back.branch [
-  | in-Ok w ↦ rw w.result-is (booted g.K.Keeper.is_honest g.K.Keeper.may_hold c.args.self.now _ c.args.number c.in-Some.node.now c.come_back.new.self
+  | in-Ok w ↦ rw w.answer-is (booted g.K.Keeper.is_honest g.K.Keeper.may_hold c.args.self.now _ c.args.number c.in-Some.node.now c.come_back.new.self
       (sym (held c.self.inside.all.entries c.self.inside.all.entries c.self.inside.sent.items c.self.inside.audit.items c.args.self.now c.self.view_is c.args.number) ∙ sym c.in-Some.ensures.value)
       (changed c.self.inside.all.entries _ c.self.inside.sent.items c.self.inside.audit.items c.args.self.now c.self.view_is c.args.number c.in-Some.node.now c.come_back.new.self (sym c.in-Some.ensures.value) (c.get_mut.follows.holds c.come_back.new.self).0)
       c.args.keeps _ w.in-Ok.ensures.restarts)
-  | in-Err w ↦ rw w.result-is (not_booted g.K.Keeper.is_honest g.K.Keeper.may_hold c.args.self.now _ c.args.number c.in-Some.node.now c.come_back.new.self
+  | in-Err w ↦ rw w.answer-is (not_booted g.K.Keeper.is_honest g.K.Keeper.may_hold c.args.self.now _ c.args.number c.in-Some.node.now c.come_back.new.self
       (sym (held c.self.inside.all.entries c.self.inside.all.entries c.self.inside.sent.items c.self.inside.audit.items c.args.self.now c.self.view_is c.args.number) ∙ sym c.in-Some.ensures.value)
       (changed c.self.inside.all.entries _ c.self.inside.sent.items c.self.inside.audit.items c.args.self.now c.self.view_is c.args.number c.in-Some.node.now c.come_back.new.self (sym c.in-Some.ensures.value) (c.get_mut.follows.holds c.come_back.new.self).0)
       c.args.keeps _ w.in-Err.ensures.restarts)
 ]
+
+pub invariant_of-self-2 : goal.invariant_of-self-2
+invariant_of-self-2 g c =
+    changed_up c.self.inside.highest _ c.raised-self-inside.ensures.at_least c.self.inside.all.entries _ c.args.number c.in-Some.node.now c.come_back.new.self
+    (sym c.in-Some.ensures.value) (c.get_mut.follows.holds c.come_back.new.self).0 c.self.invariant
+    (subst (IsUpTo c.raised-self-inside.result) c.saved.ensures.saved c.raised-self-inside.ensures.covers)

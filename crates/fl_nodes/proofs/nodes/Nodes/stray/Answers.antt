@@ -1,4 +1,8 @@
+use Rattle.std.proofs.Common.{◌∙◌, sym, subst}
+use Rattle.fl_nodes.specs.Over.{WorldOver}
+use Rattle.fl_nodes.specs.parts.Highest.{AreUpTo}
 use Rattle.fl_nodes.proofs.Entries.{held}
+use Rattle.fl_nodes.proofs.Highs.{no_stray}
 use Rattle.fl_nodes.proofs.Meets.{stray_of_world}
 use Rattle.fl_nodes.proofs.nodes.Nodes.stray.Goals as goal
 
@@ -7,3 +11,9 @@ returns g c w are =
     stray_of_world c.self.inside.all c.least_stray_with.ensures.ordered c.args.self.now
     (held c.self.inside.all.entries c.self.inside.all.entries c.self.inside.sent.items c.self.inside.audit.items c.args.self.now c.self.view_is)
     w are c.args.number c.args.saved.now _ c.least_stray_with.ensures.least
+
+pub returns-then-self-number : goal.returns-then-self-number
+returns-then-self-number g c w are =
+    no_stray c.args.self.now w are c.self.inside.highest c.args.number
+    (subst (λ (over : WorldOver g.row.K.Denot). AreUpTo c.self.inside.highest over.nodes) c.self.view_is c.self.invariant)
+    c.if-self-number.true c.args.saved.now (sym c.len.ensures ∙ c.if-len-eq0.true)

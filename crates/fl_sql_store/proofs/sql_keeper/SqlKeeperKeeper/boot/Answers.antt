@@ -19,6 +19,7 @@ invariant_of-self-in-Err-Memory g c = (
       let ready = c.self.invariant.1 whole (omega (arith, c.boot_on.ensures.clean)) in
       ready_as_committed c.self.inside.number old new ready (c.in-Err-Memory.ensures.memory clean (ap Err c.in-Err-Memory.field-0-is)),
   c.self.invariant.2,
+  c.self.invariant.3,
 )
 
 pub returns-in-Ok-clause-held : goal.returns-in-Ok-clause-held

@@ -30,6 +30,7 @@ invariant_of-self g c = (
       let ready = c.self.invariant.1 whole (omega (arith, c.save_on.ensures.clean)) in
       ready_saved c.self.inside.number c.args.ops.now old new ready (c.in-Ok.ensures.ok clean (λ _. ready.schema)),
   c.self.invariant.2,
+  c.self.invariant.3,
 )
 
 pub invariant_of-self-in-Err-Memory : goal.invariant_of-self-in-Err-Memory
@@ -41,6 +42,7 @@ invariant_of-self-in-Err-Memory g c = (
       let ready = c.self.invariant.1 whole (omega (arith, c.save_on.ensures.clean)) in
       ready_as_committed c.self.inside.number old new ready (c.in-Err-Memory.ensures.memory clean (λ _. ready.schema) (ap Err c.in-Err-Memory.field-0-is)),
   c.self.invariant.2,
+  c.self.invariant.3,
 )
 
 pub returns-in-Ok-clause-held : goal.returns-in-Ok-clause-held

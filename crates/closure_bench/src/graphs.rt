@@ -1,0 +1,92 @@
+//! Graphs of groups.
+use fl_closure::index::Index;
+use fl_labels::cap::Cap;
+use fl_labels::name::Name;
+use fl_ops::op::{Body, Op};
+use std::alloc::{AllocError, Global};
+
+/// 1.1 for 0, and on.
+pub fn name(number: u16) -> Name {
+    Name {
+        node: 1,
+        seq: number as u32 + 1,
+    }
+}
+
+// The operation, called 2.1 for 0 and on, that puts a capability into a group, which is called 1.1 for 0 and on.
+fn put(number: u16, group: u16, cap: Cap) -> Op {
+    Op {
+        name: Name {
+            node: 2,
+            seq: number as u32 + 1,
+        },
+        body: Body::Put(name(group), cap),
+    }
+}
+
+// The use of the group after this one.
+fn next_use(number: u16) -> Cap {
+    Cap::Use(name(number.saturating_add(1)))
+}
+
+/// So many groups, each with the use of the next, from the first on.
+pub fn chain_from_first(alloc: Global, size: u16) -> Result<Index, AllocError> {
+    let mut index = Index::new(alloc);
+    for number in 0..size {
+        index.absorb(&put(number, number, next_use(number)))?;
+    }
+    Ok(index)
+}
+
+/// The same groups, from the last on.
+pub fn chain_from_last(alloc: Global, size: u16) -> Result<Index, AllocError> {
+    let mut index = Index::new(alloc);
+    for number in (0..size).rev() {
+        index.absorb(&put(number, number, next_use(number)))?;
+    }
+    Ok(index)
+}
+
+// One of the numbers below a bound, by a linear congruential generator.
+fn draw(state: &mut u64, bound: u16) -> u16 {
+    *state = state
+        .wrapping_mul(6364136223846793005)
+        .wrapping_add(1442695040888963407);
+    (*state >> 33).checked_rem(bound as u64).unwrap_or(0) as u16
+}
+
+/// So many groups, with ten times as many uses of one put into another.
+pub fn dense(alloc: Global, size: u16) -> Result<Index, AllocError> {
+    let mut index = Index::new(alloc);
+    let mut state = 1;
+    for number in 0..size.saturating_mul(10) {
+        let group = draw(&mut state, size);
+        let used = draw(&mut state, size);
+        index.absorb(&put(number, group, Cap::Use(name(used))))?;
+    }
+    Ok(index)
+}
+
+/// One group with ten times as many capabilities, in falling order.
+pub fn wide(alloc: Global, size: u16) -> Result<Index, AllocError> {
+    let mut index = Index::new(alloc);
+    let members = size.saturating_mul(10);
+    for number in 0..members {
+        let tag = name(members.saturating_sub(number));
+        index.absorb(&put(number, 0, Cap::Plus(tag)))?;
+    }
+    Ok(index)
+}
+
+/// So many groups that use the first one, which then grows by a hundred capabilities.
+pub fn shared(alloc: Global, size: u16) -> Result<Index, AllocError> {
+    let mut index = Index::new(alloc);
+    for number in 0..size {
+        index.absorb(&put(number, number.saturating_add(1), Cap::Use(name(0))))?;
+    }
+    for number in 0..100 {
+        let later = size.saturating_add(number);
+        index.absorb(&put(later, 0, Cap::Plus(name(number))))?;
+    }
+    Ok(index)
+}

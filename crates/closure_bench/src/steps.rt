@@ -1,0 +1,120 @@
+//! What is measured.
+use crate::graphs::{chain_from_first, chain_from_last, dense, name, shared, wide};
+use fl_closure::index::Index;
+use fl_labels::cap::Cap;
+use fl_labels::cap_set::CapSet;
+use std::alloc::{AllocError, Global};
+
+/// A graph that is made, and questions about it.
+#[derive(Clone, Copy, Debug)]
+pub enum Step {
+    /// Groups that use one another at random.
+    Dense,
+    /// A chain of groups, made from its first group on.
+    ChainFromFirst,
+    /// The same chain, from its last group on.
+    ChainFromLast,
+    /// One group of many capabilities.
+    Wide,
+    /// Many groups that use one that grows.
+    Shared,
+    /// The chain, and a thousand times what one group reaches.
+    Reaches,
+    /// The chain, and a thousand times what is in effect for the owner of 50 capabilities.
+    Effective,
+}
+
+/// All steps, in order.
+pub const STEPS: [Step; 7] = [
+    Step::Dense,
+    Step::ChainFromFirst,
+    Step::ChainFromLast,
+    Step::Wide,
+    Step::Shared,
+    Step::Reaches,
+    Step::Effective,
+];
+
+// How many of the first groups the owner of the first one reaches.
+fn count_reached(index: &Index, size: u16) -> u32 {
+    let mut yes: u32 = 0;
+    for number in 0..size {
+        if index.reaches(Cap::Use(name(0)), Cap::Use(name(number))) {
+            yes = yes.saturating_add(1);
+        }
+    }
+    yes
+}
+
+// How many tags of so many the owner of the first group may add.
+fn count_tags(index: &Index, group: u16, tags: u16) -> u32 {
+    let mut yes: u32 = 0;
+    for number in 0..tags {
+        if index.reaches(Cap::Use(name(group)), Cap::Plus(name(number))) {
+            yes = yes.saturating_add(1);
+        }
+    }
+    yes
+}
+
+// A thousand times how many of the first groups the owner of the first one reaches.
+fn reach_often(index: &Index, size: u16) -> u32 {
+    let mut yes: u32 = 0;
+    for _ in 0..1000 {
+        yes = yes.saturating_add(count_reached(index, size));
+    }
+    yes
+}
+
+// The uses of the last 50 groups of so many.
+fn last_uses(alloc: Global, size: u16) -> Result<CapSet, AllocError> {
+    let mut owned = CapSet::new(alloc);
+    for number in 0..50 {
+        owned.insert(Cap::Use(name(size.saturating_sub(number))))?;
+    }
+    Ok(owned)
+}
+
+// How many of a thousand times all groups are in effect for the owner of these capabilities.
+fn effective_often(index: &Index, owned: &CapSet, size: u16) -> u32 {
+    let mut yes: u32 = 0;
+    for turn in 0..1000 {
+        let asked = if turn < size { turn } else { size };
+        if index.effective(owned, Cap::Use(name(asked))) {
+            yes = yes.saturating_add(1);
+        }
+    }
+    yes
+}
+
+impl Step {
+    /// Its name.
+    pub fn name(self) -> &'static str {
+        match self {
+            Step::Dense => "puts into a dense graph",
+            Step::ChainFromFirst => "chain from its first group",
+            Step::ChainFromLast => "chain from its last group",
+            Step::Wide => "one group of many capabilities",
+            Step::Shared => "groups that use one that grows",
+            Step::Reaches => "questions of what is reached",
+            Step::Effective => "questions of what is in effect",
+        }
+    }
+
+    /// Makes the graph, and counts the answers that are yes. Fails only where there is not enough memory.
+    pub fn run(self, alloc: Global, size: u16) -> Result<u32, AllocError> {
+        match self {
+            Step::Dense => Ok(count_reached(&dense(alloc, size)?, size)),
+            Step::ChainFromFirst => Ok(count_reached(&chain_from_first(alloc, size)?, size)),
+            Step::ChainFromLast => Ok(count_reached(&chain_from_last(alloc, size)?, size)),
+            Step::Wide => Ok(count_tags(&wide(alloc, size)?, 0, size)),
+            Step::Shared => Ok(count_tags(&shared(alloc, size)?, size, 100)),
+            Step::Reaches => Ok(reach_often(&chain_from_first(alloc, size)?, size)),
+            Step::Effective => {
+                let index = chain_from_first(alloc, size)?;
+                let owned = last_uses(alloc, size)?;
+                Ok(effective_often(&index, &owned, size))
+            }
+        }
+    }
+}

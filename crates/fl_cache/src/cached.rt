@@ -1,0 +1,102 @@
+//! An index with a cache of what it answered yes.
+ghost use Rattle.std.specs.Prelude.{◌≡◌, OnOk, OnErr, false};
+ghost use Rattle.fl_labels.specs.Found.{Tells};
+ghost use Rattle.fl_labels.specs.SetBy as set;
+ghost use Rattle.fl_labels.specs.SetBy.{In, IsMissing};
+ghost use Rattle.fl_ops.specs.declared.op.Op.{Op};
+ghost use Rattle.fl_ops.specs.Registry.{From, Reach};
+
+use crate::yes::YesCache;
+use fl_closure::index::Index;
+use fl_labels::cap::Cap;
+use fl_ops::op::Op;
+use fl_opset::set::OpSet;
+use std::alloc::{AllocError, Global};
+use std::marker::Model;
+
+// How many questions are kept at most.
+const CAPACITY: usize = 1024;
+
+/// An index, and the questions that it answered yes. Contracts see its operations.
+#[derive(Drop)]
+pub struct CachedIndex {
+    index: Index,
+    cache: YesCache,
+    alloc: Global,
+}
+
+impl Model for CachedIndex {
+    ghost use Rattle.fl_labels.specs.Found.{Within};
+    ghost use Rattle.fl_labels.specs.SetBy as set;
+    ghost use Rattle.fl_labels.specs.SetBy.{In};
+    ghost use Rattle.fl_ops.specs.OpOrder.{op_cmp};
+    ghost use Rattle.fl_ops.specs.OpLaws.{coded_op};
+
+    ghost Value = { set.SetBy op_cmp };
+
+    ghost coded = { set.code coded_op };
+
+    ghost view = { λ a. a.index };
+
+    ghost invariant = { λ a. Within (In a.cache) (In a.index) };
+}
+
+impl CachedIndex {
+    /// The index of no operation, with a cache of nothing.
+    pub fn new(alloc: Global) -> Self
+        ensures { result ≡ set.empty }
+    {
+        CachedIndex {
+            index: Index::new(alloc),
+            cache: YesCache::new(alloc, CAPACITY),
+            alloc,
+        }
+    }
+
+    /// Lets go of what the cache keeps.
+    pub fn renew(&mut self)
+        ensures { self.new ≡ self.old }
+    {
+        self.cache = YesCache::new(self.alloc, CAPACITY);
+    }
+
+    /// The index itself, which asks no cache.
+    pub fn index(&self) -> &Index
+        ensures { result.now ≡ self.now }
+    {
+        &self.index
+    }
+
+    /// The operations.
+    pub fn ops(&self) -> &OpSet
+        ensures { result.now ≡ self.now }
+    {
+        self.index.ops()
+    }
+
+    /// Adds an operation, as [`Index::absorb`] does. What the cache keeps stays.
+    pub fn absorb(&mut self, op: &Op) -> Result<(), AllocError>
+        ensures ok { OnOk result (self.new ≡ set.insert self.old op.now) }
+        ensures err { OnErr result (self.new ≡ self.old) }
+        ensures absent { OnErr result (set.contains self.old op.now ≡ false) }
+    {
+        self.index.absorb(op)
+    }
+
+    /// Adds operations, all or none, as [`Index::absorb_all`] does. What the cache keeps stays.
+    pub fn absorb_all(&mut self, alloc: Global, ops: &OpSet) -> Result<(), AllocError>
+        ensures ok { OnOk result (self.new ≡ set.union self.old ops.now) }
+        ensures err { OnErr result (self.new ≡ self.old) }
+        ensures absent { OnErr result ((op : Op) × IsMissing ops.now self.old op) }
+    {
+        self.index.absorb_all(alloc, ops)
+    }
+
+    /// Whether the owner of the one capability reaches the other, as [`YesCache::ask`] answers. Never fails.
+    pub fn reaches(&mut self, root: Cap, cap: Cap) -> bool
+        ensures answer { Tells result (Reach (In self.old) (From root) cap) }
+        ensures same { self.new ≡ self.old }
+    {
+        self.cache.ask(&self.index, root, cap)
+    }
+}

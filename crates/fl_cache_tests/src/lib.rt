@@ -1,0 +1,5 @@
+//! Tests of the index with a cache.
+#![tactic(auto)]
+
+#[cfg(test)]
+mod tests;

@@ -1,0 +1,104 @@
+-- The loops that add to the rows.
+use Rattle.std.specs.Prelude.{◌≡◌, ◌⊎◌, List, [], ◌∷◌, ◌++◌, ℕ, ◌+◌, ◌<◌, length, get_or, take}
+use Rattle.std.proofs.Common.{inl, inr, sym, ap, subst, ◌∙◌}
+use Rattle.std.specs.List.{Contains}
+use Rattle.std.proofs.lemmas.List.{take_more}
+use Rattle.std.proofs.lemmas.List.Elements.{Contains-push, Contains-push_cases, Contains-append_left}
+use Rattle.fl_labels.specs.Cap.{cap_name}
+use Rattle.fl_labels.specs.declared.name.Name.{Name}
+use Rattle.fl_labels.specs.declared.cap.Cap.{Cap}
+use Rattle.fl_labels.specs.declared.cap.Cap.TheVariants.{Use}
+use Rattle.fl_closure.specs.declared.rows.Rows.{Rows}
+use Rattle.fl_closure.specs.parts.Rows.{Holds, IsPair, Adds}
+use Rattle.fl_closure.specs.parts.Closed.{AddsAll, AddsToEach}
+
+-- ---- to one row
+
+adds_one : (old mid new : Rows) (group : Name) (caps : List Cap) (c : Cap) → AddsAll old group caps mid → Adds mid group c new
+    → AddsAll old group (caps ++ c ∷ []) new
+adds_one old mid new group caps c adds one =
+    record { holds = λ g x. (λ h. to g x ((one.holds g x).0 h), λ h. (one.holds g x).1 (from g x h)) }
+  where
+    on : (g : Name) (x : Cap) → Holds old g x ⊎ ((g ≡ group) × Contains caps x)
+        → Holds old g x ⊎ ((g ≡ group) × Contains (caps ++ c ∷ []) x)
+    on g x (inl m) = inl m
+    on g x (inr two) = inr (two.0, Contains-append_left caps (c ∷ []) x two.1)
+
+    to : (g : Name) (x : Cap) → Holds mid g x ⊎ IsPair group c g x
+        → Holds old g x ⊎ ((g ≡ group) × Contains (caps ++ c ∷ []) x)
+    to g x (inl m) = on g x ((adds.holds g x).0 m)
+    to g x (inr e) = inr (sym e.0, subst (Contains (caps ++ c ∷ [])) e.1 (Contains-push caps c))
+
+    by_place : (g : Name) (x : Cap) → g ≡ group → Contains caps x ⊎ (c ≡ x) → Holds mid g x ⊎ IsPair group c g x
+    by_place g x e (inl m) = inl ((adds.holds g x).1 (inr (e, m)))
+    by_place g x e (inr is) = inr (sym e, is)
+
+    from : (g : Name) (x : Cap) → Holds old g x ⊎ ((g ≡ group) × Contains (caps ++ c ∷ []) x)
+        → Holds mid g x ⊎ IsPair group c g x
+    from g x (inl m) = inl ((adds.holds g x).1 (inl m))
+    from g x (inr two) = by_place g x two.0 (Contains-push_cases caps c x two.1)
+
+pub adds_at : (old mid new : Rows) (group : Name) (caps : List Cap) (i : ℕ) (c : Cap) → i < length caps → c ≡ get_or caps i c
+    → AddsAll old group (take i caps) mid → Adds mid group c new → AddsAll old group (take (i + 1) caps) new
+adds_at old mid new group caps i c within at adds one =
+    subst (λ xs. AddsAll old group xs new) (sym (take_more caps i c within ∙ ap (λ x. take i caps ++ x ∷ []) (sym at)))
+    (adds_one old mid new group (take i caps) c adds one)
+
+-- ---- to each row
+
+each_one : (old mid new : Rows) (uses caps : List Cap) (group : Name) (this : Cap) → this ≡ Use group
+    → AddsToEach old uses caps mid → AddsAll mid group caps new → AddsToEach old (uses ++ this ∷ []) caps new
+each_one old mid new uses caps group this is adds one =
+    record { holds = λ g x. (λ h. to g x ((one.holds g x).0 h), λ h. (one.holds g x).1 (from g x h)) }
+  where
+    on : (g : Name) (x : Cap) → Holds old g x ⊎ (Contains uses (Use g) × Contains caps x)
+        → Holds old g x ⊎ (Contains (uses ++ this ∷ []) (Use g) × Contains caps x)
+    on g x (inl m) = inl m
+    on g x (inr two) = inr (Contains-append_left uses (this ∷ []) (Use g) two.0, two.1)
+
+    to : (g : Name) (x : Cap) → Holds mid g x ⊎ ((g ≡ group) × Contains caps x)
+        → Holds old g x ⊎ (Contains (uses ++ this ∷ []) (Use g) × Contains caps x)
+    to g x (inl m) = on g x ((adds.holds g x).0 m)
+    to g x (inr two) = inr (subst (Contains (uses ++ this ∷ [])) (is ∙ ap Use (sym two.0)) (Contains-push uses this), two.1)
+
+    by_place : (g : Name) (x : Cap) → Contains caps x → Contains uses (Use g) ⊎ (this ≡ Use g)
+        → Holds mid g x ⊎ ((g ≡ group) × Contains caps x)
+    by_place g x m (inl k) = inl ((adds.holds g x).1 (inr (k, m)))
+    by_place g x m (inr e) = inr (ap cap_name (sym e ∙ is), m)
+
+    from : (g : Name) (x : Cap) → Holds old g x ⊎ (Contains (uses ++ this ∷ []) (Use g) × Contains caps x)
+        → Holds mid g x ⊎ ((g ≡ group) × Contains caps x)
+    from g x (inl m) = inl ((adds.holds g x).1 (inl m))
+    from g x (inr two) = by_place g x two.1 (Contains-push_cases uses this (Use g) two.0)
+
+each_other : (old mid : Rows) (uses caps : List Cap) (this : Cap) → ((g : Name) → ¬ (this ≡ Use g))
+    → AddsToEach old uses caps mid → AddsToEach old (uses ++ this ∷ []) caps mid
+each_other old mid uses caps this no_use adds =
+    record { holds = λ g x. (λ h. to g x ((adds.holds g x).0 h), λ h. (adds.holds g x).1 (from g x h)) }
+  where
+    to : (g : Name) (x : Cap) → Holds old g x ⊎ (Contains uses (Use g) × Contains caps x)
+        → Holds old g x ⊎ (Contains (uses ++ this ∷ []) (Use g) × Contains caps x)
+    to g x (inl m) = inl m
+    to g x (inr two) = inr (Contains-append_left uses (this ∷ []) (Use g) two.0, two.1)
+
+    by_place : (g : Name) → Contains uses (Use g) ⊎ (this ≡ Use g) → Contains uses (Use g)
+    by_place g (inl m) = m
+    by_place g (inr e) = absurd (no_use g e)
+
+    from : (g : Name) (x : Cap) → Holds old g x ⊎ (Contains (uses ++ this ∷ []) (Use g) × Contains caps x)
+        → Holds old g x ⊎ (Contains uses (Use g) × Contains caps x)
+    from g x (inl m) = inl m
+    from g x (inr two) = inr (by_place g (Contains-push_cases uses this (Use g) two.0), two.1)
+
+module _ (old mid : Rows) (uses caps : List Cap) (i : ℕ) (this : Cap) (within : i < length uses) (at : this ≡ get_or uses i this)
+    (adds : AddsToEach old (take i uses) caps mid) where
+  on_to : (new : Rows) → AddsToEach old (take i uses ++ this ∷ []) caps new → AddsToEach old (take (i + 1) uses) caps new
+  on_to new h =
+      subst (λ xs. AddsToEach old xs caps new) (sym (take_more uses i this within ∙ ap (λ x. take i uses ++ x ∷ []) (sym at))) h
+
+  pub each_at : (new : Rows) (group : Name) → this ≡ Use group → AddsAll mid group caps new
+      → AddsToEach old (take (i + 1) uses) caps new
+  each_at new group is one = on_to new (each_one old mid new (take i uses) caps group this is adds one)
+
+  pub each_at_other : ((g : Name) → ¬ (this ≡ Use g)) → AddsToEach old (take (i + 1) uses) caps mid
+  each_at_other no_use = on_to mid (each_other old mid (take i uses) caps this no_use adds)

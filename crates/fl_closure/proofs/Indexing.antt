@@ -1,0 +1,182 @@
+-- Rows closed under the operations of an index.
+use Rattle.std.specs.Prelude.{◌≡◌, ◌⊎◌, ◌↔◌, Bool, true, false, ◌||◌, List, [], ◌∷◌, ◌++◌, ℕ, ◌+◌, ◌<◌, ◌≤◌, length, get_or, take, refl}
+use Rattle.std.proofs.Common.{inl, inr, sym, ap, subst, ◌∙◌}
+use Rattle.std.specs.List.{Contains}
+use Rattle.std.specs.Cmp.{Equal-is, tied_itself}
+use Rattle.std.specs.Ordering.{eq_by_cmp, is_eq}
+use Rattle.std.proofs.lemmas.Bool.{or_cases, false≢true}
+use Rattle.std.proofs.lemmas.List.{take_more}
+use Rattle.std.proofs.lemmas.List.Elements.{Contains-get_or, Contains-append_cases}
+use Rattle.fl_labels.specs.Cap.{cap_cmp}
+use Rattle.fl_labels.specs.CapOrder.{cap_total, cap_exact}
+use Rattle.fl_labels.specs.Found.{Tells}
+use Rattle.fl_labels.specs.SetBy as set
+use Rattle.fl_labels.specs.SetBy.{SetBy, In, IsMissing, members, contains-empty, contains-insert, contains-union, contains-members, same_set}
+use Rattle.fl_labels.specs.declared.name.Name.{Name}
+use Rattle.fl_labels.specs.declared.cap.Cap.{Cap}
+use Rattle.fl_labels.specs.laws.Rising.{insert_member}
+use Rattle.fl_ops.specs.declared.op.Op.{Op}
+use Rattle.fl_ops.specs.OpOrder.{op_cmp}
+use Rattle.fl_ops.specs.OpLaws.{op_total, op_exact}
+use Rattle.fl_ops.specs.Registry.{Registry, Reach, From, IsGlobal, InEffect}
+use Rattle.fl_ops.specs.laws.Reaching.{from_chain, chain_from, owned_eff}
+use Rattle.fl_closure.specs.declared.rows.Rows.{Rows}
+use Rattle.fl_closure.specs.declared.closed.Entry.{Entry}
+use Rattle.fl_closure.specs.parts.Rows.{Holds, IsSameRows}
+use Rattle.fl_closure.specs.parts.Closed.{AreClosed, Leads, With, ClosesWith}
+use Rattle.fl_closure.specs.parts.Noted.{Gains, Loses}
+use Rattle.fl_closure.proofs.Members.{none, one, first, in_all, in_has, has_in}
+use Rattle.fl_closure.proofs.Noting.{taken_back}
+use Rattle.fl_closure.proofs.Growing.{same_puts, leads_chain, chain_leads}
+use Rattle.fl_closure.proofs.Leading.{told, told_yes}
+
+-- the same operations
+same_ops : {U V : Registry} {rows : Rows} → ((op : Op) → U op ↔ V op) → AreClosed U rows → AreClosed V rows
+same_ops same closed = same_puts (λ op. (same op).0) (λ h x p. (p.0, (same p.0).1 p.1, p.2)) closed
+
+pub closed_nothing : (ops : SetBy op_cmp) (rows : Rows) → ops ≡ set.empty
+    → ((group : Name) (c : Cap) → ¬ Holds rows group c) → AreClosed (In ops) rows
+closed_nothing ops rows e nothing = record {
+  way = λ group c. (
+    λ h. absurd (nothing group c h),
+    λ w. absurd (false≢true (sym (ap (λ (s : SetBy op_cmp). set.contains s w.1.0) e ∙ contains-empty op_cmp w.1.0) ∙ w.1.1)),
+  );
+}
+
+or_first : {a : Bool} (b : Bool) → a ≡ true → (a || b) ≡ true
+or_first b h = ap (λ x. x || b) h
+
+or_later : (a : Bool) {b : Bool} → b ≡ true → (a || b) ≡ true
+or_later true h = refl
+or_later false h = h
+
+-- ---- one operation more
+
+pub closed_insert : (s after : SetBy op_cmp) (op : Op) (old new : Rows) → AreClosed (In s) old
+    → ClosesWith old (op ∷ []) new → after ≡ set.insert s op → AreClosed (In after) new
+closed_insert s after op old new closed closes e = subst (λ t. AreClosed (In t) new) (sym e) (same_ops same (closes s closed))
+  where
+    is : (o : Op) → set.contains (set.insert s op) o ≡ (eq_by_cmp op_cmp o op || set.contains s o)
+    is o = contains-insert op_total s op o
+
+    to : (o : Op) → With s (op ∷ []) o → In (set.insert s op) o
+    to o (inl m) = is o ∙ or_later (eq_by_cmp op_cmp o op) m
+    to o (inr m) = is o ∙ or_first _ (ap (λ x. is_eq (op_cmp o x)) (one m) ∙ ap is_eq (tied_itself op_total o))
+
+    from : (o : Op) → (eq_by_cmp op_cmp o op ≡ true) ⊎ In s o → With s (op ∷ []) o
+    from o (inl e) = inr (first [] (sym (op_exact o op ((Equal-is (op_cmp o op)).0 e))))
+    from o (inr m) = inl m
+
+    same : (o : Op) → With s (op ∷ []) o ↔ In (set.insert s op) o
+    same o = (to o, λ h. from o (or_cases _ _ (sym (is o) ∙ h)))
+
+-- ---- many operations more
+
+pub closed_union : (s after more : SetBy op_cmp) (ops : List Op) (old new : Rows) → ops ≡ members more
+    → AreClosed (In s) old → ClosesWith old ops new → after ≡ set.union s more → AreClosed (In after) new
+closed_union s after more ops old new listed closed closes e =
+    subst (λ t. AreClosed (In t) new) (sym e) (same_ops same (closes s closed))
+  where
+    is : (o : Op) → set.contains (set.union s more) o ≡ (set.contains s o || set.contains more o)
+    is o = contains-union op_total s more o
+
+    to : (o : Op) → With s ops o → In (set.union s more) o
+    to o (inl m) = is o ∙ or_first _ m
+    to o (inr m) = is o ∙ or_later (set.contains s o) (has_in op_total op_exact more o (subst (λ l. Contains l o) listed m))
+
+    from : (o : Op) → In s o ⊎ In more o → With s ops o
+    from o (inl m) = inl m
+    from o (inr m) = inr (subst (λ l. Contains l o) (sym listed) (in_has op_total op_exact more o m))
+
+    same : (o : Op) → With s ops o ↔ In (set.union s more) o
+    same o = (to o, λ h. from o (or_cases _ _ (sym (is o) ∙ h)))
+
+-- rows to which was added, and then taken back what was noted
+pub closed_undone : (s last : SetBy op_cmp) (old mid new : Rows) (news list : List Entry) → last ≡ s → AreClosed (In s) old
+    → Gains old news mid → list ≡ news → Loses mid list new → AreClosed (In last) new
+closed_undone s last old mid new news list e closed gains is loses = subst (λ t. AreClosed (In t) new) (sym e) (record {
+  way = λ group c. (λ h. (closed.way group c).0 ((same.holds group c).0 h), λ w. (same.holds group c).1 ((closed.way group c).1 w));
+})
+  where
+    same : IsSameRows old new
+    same = taken_back old mid new news gains (subst (λ l. Loses mid l new) is loses)
+
+-- ---- what is new
+
+abbrev pub HasAll : SetBy op_cmp → List Op → Type 0
+HasAll s ops = (op : Op) → Contains ops op → In s op
+
+pub has_none_yet : (s : SetBy op_cmp) (ops : List Op) → HasAll s (take 0 ops)
+has_none_yet s [] op h = absurd (none _ h)
+has_none_yet s (x ∷ xs) op h = absurd (none _ h)
+
+pub has_one_more : (s : SetBy op_cmp) (ops : List Op) (i : ℕ) (this : Op) → i < length ops → this ≡ get_or ops i this
+    → HasAll s (take i ops) → In s this → HasAll s (take (i + 1) ops)
+has_one_more s ops i this within at front last op h =
+    let split = Contains-append_cases (take i ops) (this ∷ []) op (subst (λ xs. Contains xs op) (take_more ops i this within ∙ ap (λ x. take i ops ++ x ∷ []) (sym at)) h) in
+    elim split [ inl m ↦ front op m | inr m ↦ subst (λ o. In s o) (one m) last ]
+
+pub lacks_none : (s : SetBy op_cmp) (ops : List Op) (i : ℕ) → length ops ≤ i → HasAll s (take i ops)
+    → ¬ ((op : Op) × Contains ops op × (set.contains s op ≡ false))
+lacks_none s ops i whole front h = false≢true (sym h.2 ∙ front h.0 (in_all ops i h.0 whole h.1))
+
+pub lacks_at : (s : SetBy op_cmp) (ops : List Op) (i : ℕ) (this : Op) → i < length ops → this ≡ get_or ops i this
+    → set.contains s this ≡ false → (op : Op) × Contains ops op × (set.contains s op ≡ false)
+lacks_at s ops i this within at h = (this, subst (Contains ops) (sym at) (Contains-get_or ops i this within), h)
+
+pub nothing_new : (inside s more : SetBy op_cmp) (ops : List Op) → inside ≡ s → ops ≡ members more
+    → ¬ ((op : Op) × Contains ops op × (set.contains inside op ≡ false)) → s ≡ set.union s more
+nothing_new inside s more ops view listed never = subst (λ t. t ≡ set.union t more) view
+    (same_set op_total op_exact inside (set.union inside more) (λ q.
+    go q (set.contains inside q) (set.contains more q) refl refl ∙ sym (contains-union op_total inside more q)))
+  where
+    go : (q : Op) (a b : Bool) → set.contains inside q ≡ a → set.contains more q ≡ b → a ≡ (a || b)
+    go q true b e f = refl
+    go q false true e f = absurd (never (q, subst (λ l. Contains l q) (sym listed) (in_has op_total op_exact more q f), e))
+    go q false false e f = refl
+
+pub one_is_new : (inside s more : SetBy op_cmp) (ops : List Op) → inside ≡ s → ops ≡ members more
+    → (op : Op) × Contains ops op × (set.contains inside op ≡ false) → (op : Op) × IsMissing more s op
+one_is_new inside s more ops view listed h = (
+  h.0,
+  record {
+    here = has_in op_total op_exact more h.0 (subst (λ l. Contains l h.0) listed h.1);
+    not_there = subst (λ t. set.contains t h.0 ≡ false) view h.2;
+  },
+)
+
+pub known_already : (inside s : SetBy op_cmp) (op : Op) → inside ≡ s → set.contains inside op ≡ true → s ≡ set.insert s op
+known_already inside s op view there =
+    subst (λ t. t ≡ set.insert t op) view (sym (insert_member op_total op_exact inside op there))
+
+-- ---- what is told
+
+pub told_reach : (inside s : SetBy op_cmp) (rows : Rows) → inside ≡ s → AreClosed (In inside) rows → (root c : Cap) (b : Bool)
+    → Tells b (Leads rows root c) → Tells b (Reach (In s) (From root) c)
+told_reach inside s rows view closed root c b t = subst (λ o. Tells b (Reach (In o) (From root) c)) view
+    (told b (λ l. chain_from c (leads_chain closed root c l)) (λ r. chain_leads closed (from_chain c r)) t)
+
+module _ (s : SetBy op_cmp) (owned : SetBy cap_cmp) (c : Cap) where
+  pub told_owned : In owned c → Tells true (InEffect (In s) (In owned) c)
+  told_owned h = told_yes (owned_eff c h)
+
+  pub told_global : IsGlobal (In s) c → Tells true (InEffect (In s) (In owned) c)
+  told_global g = told_yes (inr g)
+
+  -- what is not everybody's
+  pub told_led : (inside : SetBy op_cmp) (rows : Rows) (caps : List Cap) (b : Bool) → inside ≡ s
+      → AreClosed (In inside) rows → caps ≡ members owned
+      → ¬ IsGlobal (In s) c
+      → Tells b ((root : Cap) × Contains caps root × Leads rows root c) → Tells b (InEffect (In s) (In owned) c)
+  told_led inside rows caps b view as_kept listed not_global t = told b to from t
+    where
+      closed : AreClosed (In s) rows
+      closed = subst (λ o. AreClosed (In o) rows) view as_kept
+
+      to : (root : Cap) × Contains caps root × Leads rows root c → InEffect (In s) (In owned) c
+      to h = inl (h.0, has_in cap_total cap_exact owned h.0 (subst (λ l. Contains l h.0) listed h.1), leads_chain closed h.0 c h.2)
+
+      from : InEffect (In s) (In owned) c → (root : Cap) × Contains caps root × Leads rows root c
+      from (inl r) =
+          (r.0, subst (λ l. Contains l r.0) (sym listed) (in_has cap_total cap_exact owned r.0 r.1), chain_leads closed r.2)
+      from (inr g) = absurd (not_global g)

@@ -1,0 +1,119 @@
+-- One capability more or less in a row.
+use Rattle.std.specs.Prelude.{◌≡◌, ◌⊎◌, Bool, true, false, cond, ◌&&◌, Some, None, IsSome, [], Result, Ok, Err, OnErr, refl}
+use Rattle.std.proofs.Common.{inl, inr, sym, ap, subst, ◌∙◌}
+use Rattle.std.specs.BTreeMap.{BTreeMap, get, is_at, UpdatesBy}
+use Rattle.std.specs.BTreeSet.{BTreeSet, contains, IsUnchanged, UpdatesBy as ChangesBy}
+use Rattle.std.specs.Map.{lookup, set_value}
+use Rattle.std.proofs.lemmas.Map.Steps.{set_value_same}
+use Rattle.std.specs.Cmp.{Equal-is, tied_itself}
+use Rattle.std.specs.Ordering.{is_eq}
+use Rattle.std.proofs.lemmas.Bool.{false≢true}
+use Rattle.fl_labels.specs.Cap.{cap_cmp}
+use Rattle.fl_labels.specs.CapOrder.{cap_total, cap_exact}
+use Rattle.fl_labels.specs.Name.{name_cmp}
+use Rattle.fl_labels.specs.NameOrder.{name_total, name_exact}
+use Rattle.fl_labels.specs.declared.name.Name.{Name}
+use Rattle.fl_labels.specs.declared.cap.Cap.{Cap}
+use Rattle.fl_closure.specs.declared.rows.Rows.{Rows}
+use Rattle.fl_closure.specs.parts.Rows.{row_has, has, IsPair, Adds, Takes, IsSameRows}
+
+both : (a b : Bool) → (a && b) ≡ true → (a ≡ true) × (b ≡ true)
+both true b h = (refl, h)
+both false b h = absurd (false≢true h)
+
+gain : (t b : Bool) → cond t true b ≡ true → (b ≡ true) ⊎ (t ≡ true)
+gain true b h = inr refl
+gain false b h = inl h
+
+gained : (t b : Bool) → (b ≡ true) ⊎ (t ≡ true) → cond t true b ≡ true
+gained true b h = refl
+gained false b (inl h) = h
+gained false b (inr h) = absurd (false≢true h)
+
+lose : (t b : Bool) → cond t false b ≡ true → (b ≡ true) × ¬ (t ≡ true)
+lose true b h = absurd (false≢true h)
+lose false b h = (h, false≢true)
+
+lost : (t b : Bool) → (b ≡ true) × ¬ (t ≡ true) → cond t false b ≡ true
+lost true b h = absurd (h.1 refl)
+lost false b h = h.0
+
+module _ (name : Name) (c : Cap) where
+  abbrev at : Name → Cap → Bool
+  at other d = is_at (name_cmp name) other && is_at (cap_cmp c) d
+
+  pair : (other : Name) (d : Cap) → at other d ≡ true → IsPair name c other d
+  pair other d h =
+      let two = both _ _ h in
+      (name_exact name other ((Equal-is (name_cmp name other)).0 two.0), cap_exact c d ((Equal-is (cap_cmp c d)).0 two.1))
+
+  here : at name c ≡ true
+  here = ap (λ o. is_eq o && is_eq (cap_cmp c c)) (tied_itself name_total name) ∙ ap is_eq (tied_itself cap_total c)
+
+  at_pair : (other : Name) (d : Cap) → IsPair name c other d → at other d ≡ true
+  at_pair other d e = subst (λ n. at n d ≡ true) e.0 (subst (λ x. at name x ≡ true) e.1 here)
+
+module _ (old new : Rows) (name : Name) (c : Cap) where
+  abbrev Changes : Bool → Type 0
+  Changes b = (other : Name) (d : Cap) → has new other d ≡ cond (at name c other d) b (has old other d)
+
+  to_adds : Changes true → Adds old name c new
+  to_adds is = record {
+    holds = λ other d. (
+      λ h. elim (gain (at name c other d) _ (sym (is other d) ∙ h)) [ inl m ↦ inl m | inr e ↦ inr (pair name c other d e) ],
+      λ h. is other d ∙ gained (at name c other d) _ (elim h [ inl m ↦ inl m | inr e ↦ inr (at_pair name c other d e) ]),
+    );
+  }
+
+  to_takes : Changes false → Takes old name c new
+  to_takes is = record {
+    holds = λ other d. (
+      λ h.
+          let two = lose (at name c other d) _ (sym (is other d) ∙ h) in
+          (two.0, λ e. two.1 (at_pair name c other d e)),
+      λ h. is other d ∙ lost (at name c other d) _ (h.0, λ e. h.1 (pair name c other d e)),
+    );
+  }
+
+  changed : (b : Bool) (row : BTreeSet Cap) → UpdatesBy name_cmp (name_cmp name) old.rows new.rows (Some row)
+      → ((d : Cap) → contains cap_cmp row d ≡ cond (is_at (cap_cmp c) d) b (has old name d)) → Changes b
+  changed b row up is other d = by_name (is_at (name_cmp name) other) refl
+    where
+      by_name : (t : Bool) → is_at (name_cmp name) other ≡ t
+          → has new other d ≡ cond (t && is_at (cap_cmp c) d) b (has old other d)
+      by_name true e =
+          subst (λ k. has new k d ≡ cond (is_at (cap_cmp c) d) b (has old k d)) (name_exact name other ((Equal-is (name_cmp name other)).0 e)) (ap (λ r. row_has r d) up.1 ∙ is d)
+      by_name false e = ap (λ r. row_has r d) (up.2 other e)
+
+  -- as the code has it: a first capability, a further one, and one that is taken out
+  pub add_first : (mid : BTreeMap Name (BTreeSet Cap)) (none row : BTreeSet Cap)
+      → mid ≡ old.rows → UpdatesBy name_cmp (name_cmp name) mid new.rows (Some row) → get name_cmp old.rows name ≡ None
+      → none.keys ≡ [] → ChangesBy cap_cmp (cap_cmp c) none row true → Adds old name c new
+  add_first mid none row same up absent empty more =
+      to_adds (changed true row (subst (λ m. UpdatesBy name_cmp (name_cmp name) m new.rows (Some row)) same up)
+      (λ d. more.0 d ∙ ap (λ b. cond (is_at (cap_cmp c) d) true b) (ap (λ ks. contains cap_cmp (record { keys = ks }) d) empty ∙ sym (ap (λ r. row_has r d) absent))))
+
+  pub add_through : (row more : BTreeSet Cap)
+      → (IsSome (get name_cmp old.rows name) → UpdatesBy name_cmp (name_cmp name) old.rows new.rows (Some more))
+      → get name_cmp old.rows name ≡ Some row → ChangesBy cap_cmp (cap_cmp c) row more true → Adds old name c new
+  add_through row more up there is =
+      to_adds (changed true more (up (subst IsSome (sym there) refl)) (λ d. is.0 d ∙ ap (λ r. cond (is_at (cap_cmp c) d) true (row_has r d)) (sym there)))
+
+  pub take_through : (row less : BTreeSet Cap)
+      → (IsSome (get name_cmp old.rows name) → UpdatesBy name_cmp (name_cmp name) old.rows new.rows (Some less))
+      → get name_cmp old.rows name ≡ Some row → ChangesBy cap_cmp (cap_cmp c) row less false → Takes old name c new
+  take_through row less up there is =
+      to_takes (changed false less (up (subst IsSome (sym there) refl)) (λ d. is.0 d ∙ ap (λ r. cond (is_at (cap_cmp c) d) false (row_has r d)) (sym there)))
+
+  pub left_as_it_was : (row same : BTreeSet Cap)
+      → new.rows.entries ≡ set_value (is_at (name_cmp name)) old.rows.entries same
+      → get name_cmp old.rows name ≡ Some row → IsUnchanged row same → IsSameRows old new
+  left_as_it_was row same e there is = record {
+    holds = λ other d.
+        let as_before : has new other d ≡ has old other d = ap (λ l. row_has (lookup (is_at (name_cmp other)) l) d) (e ∙ set_value_same (is_at (name_cmp name)) old.rows.entries same (there ∙ ap (λ ks. Some (record { keys = ks })) (sym is))) in
+        (λ h. sym as_before ∙ h, λ h. as_before ∙ h);
+  }
+
+pub on_err : {A E P : Type 0} (r : Result A E) → P → OnErr r P
+on_err (Ok x) p = tt
+on_err (Err e) p = p

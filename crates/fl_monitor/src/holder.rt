@@ -1,0 +1,36 @@
+//! What the owner of capabilities has in effect.
+use fl_labels::cap::Cap;
+use fl_labels::cap_set::CapSet;
+use fl_ops::view::View;
+use fl_rules::has::Has;
+
+/// The owner of a set of capabilities, under a view.
+#[derive(Drop)]
+pub struct Holder<'a, V: View> {
+    pub view: &'a mut V,
+    pub owned: &'a CapSet,
+}
+
+impl<'a, V: View> Has for Holder<'a, V> {
+    ghost use Rattle.std.specs.Prelude.{◌≡◌, refl};
+    ghost use Rattle.std.proofs.Common.{◌∙◌};
+    ghost use Rattle.fl_labels.specs.SetBy.{In};
+    ghost use Rattle.fl_ops.specs.Registry.{InEffect, Listed};
+    ghost use Rattle.fl_monitor.specs.parts.Holder.{same_effective};
+
+    ghost effective = { λ h. InEffect (Listed (V.list h.view.now)) (In h.owned.now) };
+
+    // the same reference to a view of the same list, and the same owner
+    ghost keeps = { λ a b. (b.view.ghost_name ≡ a.view.ghost_name)
+        × ((V.list b.view.now ≡ V.list a.view.now) × (b.owned.now ≡ a.owned.now)) };
+
+    fn has(&mut self, cap: Cap) -> bool {
+        self.view.effective(self.owned, cap)
+    }
+
+    ghost keeps_itself = { λ a. (refl, (refl, refl)) };
+
+    ghost keeps_on = { λ a b c p q. (q.0 ∙ p.0, (q.1.0 ∙ p.1.0, q.1.1 ∙ p.1.1)) };
+
+    ghost keeps_effective = { λ a b p. same_effective _ _ _ _ p.1.0 p.1.1 };
+}

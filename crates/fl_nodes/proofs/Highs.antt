@@ -1,0 +1,147 @@
+-- Up to which number something is saved, by the last operation of each node.
+use Rattle.std.proofs.Common.{◌≡◌, ◌∙◌, ◌⊎◌, inl, inr, ℕ, ◌-◌, ◌<◌, ◌≤◌, Bool, true, cond, List, [], Option, Some, None, length, get_or, refl, sym, ap, subst, arith, false, Ordering, Less, Equal, Greater}
+use Rattle.std.specs.BTreeMap.{is_at}
+use Rattle.std.specs.Cmp.{Equal-is}
+use Rattle.std.specs.FinMap as map
+use Rattle.std.specs.FinMap.{nat_cmp-IsAntisymmetric}
+use Rattle.std.specs.Map.{lookup, set_value}
+use Rattle.std.specs.List.{Contains}
+use Rattle.std.specs.List.Sorted.{IsStrictlySortedBy}
+use Rattle.std.specs.Ordering.{is_gt, eq_by_cmp, nat_cmp, ordering_then}
+use Rattle.std.proofs.lemmas.Bool.{cases_lt}
+use Rattle.std.proofs.lemmas.Cmp.{nat_cmp_total}
+use Rattle.std.proofs.lemmas.Bool.Decides.{nat_tests}
+use Rattle.std.proofs.lemmas.Map.Keys.{Less-from_sorted}
+use Rattle.std.proofs.lemmas.Map.Views.{Contains-from_any}
+use Rattle.fl_labels.specs.SetBy.{SetBy, In, members, contains-members, members_rise, len, len-members}
+use Rattle.fl_ops.specs.OpLaws.{op_exact}
+use Rattle.fl_ops.specs.OpOrder.{op_cmp}
+use Rattle.fl_ops.specs.declared.op.Op.{Op}
+use Rattle.fl_mailbox.specs.laws.Tables.{get_held, one_put}
+use Rattle.fl_gossip.specs.Meeting.{FindsLeast}
+use Rattle.fl_system.specs.Joins.{IsClashAt}
+use Rattle.fl_system.specs.State.{NodeState}
+use Rattle.fl_system.specs.World.{World, KeptNode}
+use Rattle.fl_node.specs.Over.{NodeOver}
+use Rattle.fl_nodes.specs.Goes.{MayBeNode}
+use Rattle.fl_nodes.specs.Over.{WorldOver}
+use Rattle.fl_nodes.specs.parts.Joined.{AreNodes, IsStrayWith}
+use Rattle.fl_nodes.specs.parts.Highest.{IsUpTo, AreUpTo}
+use Rattle.fl_nodes.proofs.Entries.{of_entries, changed}
+use Rattle.fl_nodes.proofs.Lifting.{at_other, here, same_number}
+
+first_part : (p q r : Ordering) → ordering_then (ordering_then p q) r ≡ Less → is_gt p ≡ false
+first_part Less q r e = refl
+first_part Equal q r e = refl
+first_part Greater q r e = absurd (cc)
+
+below_low : (a b : Op) → op_cmp a b ≡ Less → a.name.node ≤ b.name.node
+below_low a b e = at_most a.name.node b.name.node (first_part (nat_cmp a.name.node b.name.node) _ _ e)
+  where
+    at_most : (m n : ℕ) → is_gt (nat_cmp m n) ≡ false → m ≤ n
+    at_most m n h = grind (arith, nat_tests)
+
+listed : (s : SetBy op_cmp) (op : Op) → In s op → Contains (members s) op
+listed s op h = Contains-from_any (λ x y e. op_exact x y ((Equal-is (op_cmp x y)).0 e)) op (members s) (sym (contains-members s op) ∙ h)
+
+pub none_above : (s : SetBy op_cmp) (highest : ℕ) → length (members s) ≤ 0 → IsUpTo highest s
+none_above s highest empty op h = let at = listed s op h in absurd (omega (arith, at.1))
+
+abbrev number : Op → ℕ
+number op = op.name.node
+
+pub last_highest : (s : SetBy op_cmp) (last : Op) → 0 < length (members s)
+    → ((d : Op) → last ≡ get_or (members s) (length (members s) - 1) d) → IsUpTo last.name.node s
+last_highest s last some is op h = by_place (cases_lt at.0 (length (members s) - 1))
+  where
+    at : Contains (members s) op
+    at = listed s op h
+
+    by_place : (at.0 < length (members s) - 1) ⊎ (length (members s) - 1 ≤ at.0) → op.name.node ≤ last.name.node
+    by_place (inl before) =
+        subst (λ (x : Op). x.name.node ≤ last.name.node) at.2
+        (subst (λ (y : Op). (get_or (members s) at.0 op).name.node ≤ y.name.node) (sym (is op))
+        (below_low (get_or (members s) at.0 op) (get_or (members s) (length (members s) - 1) op) (Less-from_sorted op_cmp (members s) at.0 (length (members s) - 1) op (members_rise s) before (omega (arith, some)))))
+    by_place (inr end) =
+        let same : at.0 ≡ length (members s) - 1 = omega (arith, end, at.1) in
+        let greatest : number op ≡ number last = ap number (sym at.2 ∙ ap (λ i. get_or (members s) i op) same ∙ sym (is op)) in
+        omega (arith, greatest)
+
+-- ---- the nodes of a world
+
+some_same : {X : Type 0} {x y : X} → ◌≡◌ {A = Option X} (Some x) (Some y) → x ≡ y
+some_same h = cc
+
+module _ {K : Type 0} (before after : ℕ) (raises : before ≤ after) where
+  -- one of them was changed, or came
+  one_more : (nodes : map.FinMap nat_cmp (NodeOver K)) (number : ℕ) (y : NodeOver K) → AreUpTo before nodes → IsUpTo after y.node.saved
+      → AreUpTo after (map.insert nodes number y)
+  one_more nodes number y all own q n at op h = by_place (eq_by_cmp nat_cmp q number) refl
+    where
+      by_place : (b : Bool) → eq_by_cmp nat_cmp q number ≡ b → op.name.node ≤ after
+      by_place true e =
+          let same : y ≡ n = some_same (sym (here nodes number y) ∙ ap (map.get (map.insert nodes number y)) (sym (same_number q number e)) ∙ at) in
+          own op (subst (λ (m : NodeOver K). In m.node.saved op) (sym same) h)
+      by_place false e = omega (arith, all q n (sym (at_other nodes number q y e) ∙ at) op h, raises)
+
+  pub changed_up : (es fs : List (ℕ × NodeOver K)) (number : ℕ) (x y : NodeOver K) → lookup (is_at (nat_cmp number)) es ≡ Some x
+      → fs ≡ set_value (is_at (nat_cmp number)) es y → AreUpTo before (map.from_entries es) → IsUpTo after y.node.saved
+      → AreUpTo after (map.from_entries fs)
+  changed_up es fs number x y there f all own =
+      subst (AreUpTo after) (sym (ap (λ (w : WorldOver K). w.nodes) (changed es fs [] [] (of_entries es [] []) refl number x y there f)))
+      (one_more (map.from_entries es) number y all own)
+
+  pub added_up : (es fs : List (ℕ × NodeOver K)) (number : ℕ) (y : NodeOver K)
+      → ((q : ℕ) → lookup (is_at (nat_cmp q)) fs ≡ cond (is_at (nat_cmp number) q) (Some y) (lookup (is_at (nat_cmp q)) es))
+      → AreUpTo before (map.from_entries es) → IsUpTo after y.node.saved → AreUpTo after (map.from_entries fs)
+  added_up es fs number y h all own =
+      subst (AreUpTo after) (sym (one_put nat_cmp_total nat_cmp-IsAntisymmetric es fs (map.from_entries es) number y refl h))
+      (one_more (map.from_entries es) number y all own)
+
+-- a node was looked at
+pub looked_up : {K : Type 0} (highest : ℕ) (es fs : List (ℕ × NodeOver K)) (number : ℕ) (x : NodeOver K) → lookup (is_at (nat_cmp number)) es ≡ Some x
+    → fs ≡ set_value (is_at (nat_cmp number)) es x → AreUpTo highest (map.from_entries es) → AreUpTo highest (map.from_entries fs)
+looked_up highest es fs number x there f all =
+    changed_up highest highest (omega arith) es fs number x x there f all
+    (λ op h. all number x (sym (get_held nat_cmp_total nat_cmp-IsAntisymmetric es (map.from_entries es) number refl) ∙ there) op h)
+
+-- ---- a newcomer that has saved nothing
+
+empty_has : (saved : SetBy op_cmp) → len saved ≡ 0 → (op : Op) → ¬ In saved op
+empty_has saved none op h = let at = listed saved op h in absurd (omega (arith, at.1, len-members saved, none))
+
+pub no_clash : (w : World) (saved : SetBy op_cmp) → len saved ≡ 0 → FindsLeast (IsClashAt w saved) None
+no_clash w saved none name c = empty_has saved none c.ours c.in_set
+
+record IsNodeOf {K : Type 0} (a : Option (NodeOver K)) (t : KeptNode) : Type 0 where
+  node : NodeOver K
+  there : a ≡ Some node
+  same : t.node ≡ node.node
+
+node_of : {K : Type 0} (a : Option (NodeOver K)) (b : Option KeptNode) (t : KeptNode) → b ≡ Some t → MayBeNode (λ keeper k. Unit {0}) a b
+    → IsNodeOf a t
+node_of (Some n) (Some s) t e h = record { node = n; there = refl; same = sym (ap (λ (k : KeptNode). k.node) (some_same e)) ∙ h.0 }
+node_of (Some n) None t e h = absurd h
+node_of None (Some s) t e h = absurd h
+node_of None None t e h = absurd (cc)
+
+module _ {K : Type 0} (over : WorldOver K) (w : World) (are : AreNodes over w) (highest number : ℕ) (all : AreUpTo highest over.nodes)
+    (above : highest < number) (saved : SetBy op_cmp) (none : len saved ≡ 0) where
+  pub no_stray : FindsLeast (IsStrayWith w number saved) None
+  no_stray name (IsStrayWith.brought op is in_saved at unknown) = empty_has saved none op in_saved
+  no_stray name (IsStrayWith.awaited op is of u unknown) =
+      let n = node_of _ _ u.1 u.2 (are u.0) in
+      let low = all u.0 n.node n.there op (subst (λ (s : NodeState). In s.saved op) n.same u.3) in
+      absurd (omega (arith, low, above, of))
+
+some_none : {X : Type 0} (x : X) → ◌≡◌ {A = Option X} None (Some x) → ⊥
+some_none x h = cc
+
+none_held : {K : Type 0} (nothing : List (ℕ × NodeOver K)) → nothing ≡ [] → (number : ℕ)
+    → ◌≡◌ {A = Option (NodeOver K)} None (map.get (map.from_entries {R = nat_cmp} nothing) number)
+none_held nothing empty number =
+    ap (λ l. lookup (is_at (nat_cmp number)) l) (sym empty)
+    ∙ get_held nat_cmp_total nat_cmp-IsAntisymmetric nothing (map.from_entries nothing) number refl
+
+pub none_up : {K : Type 0} (es : List (ℕ × NodeOver K)) → es ≡ [] → (highest : ℕ) → AreUpTo highest (map.from_entries es)
+none_up es empty highest number n at = absurd (some_none n (none_held es empty number ∙ at))

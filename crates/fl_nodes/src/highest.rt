@@ -1,0 +1,20 @@
+//! Up to which number something is saved.
+ghost use Rattle.std.specs.Prelude.{◌≤◌};
+ghost use Rattle.fl_nodes.specs.parts.Highest.{IsUpTo};
+
+use fl_opset::set::OpSet;
+
+/// The greatest of this number and those of the nodes that made the operations. Looks at the last of them alone.
+pub(crate) fn raised(highest: u16, saved: &OpSet) -> u16
+    ensures at_least { highest ≤ result }
+    ensures covers { IsUpTo result saved.now }
+{
+    let Some(last) = saved.as_slice().last() else {
+        return highest;
+    };
+    if highest < last.name.node {
+        last.name.node
+    } else {
+        highest
+    }
+}

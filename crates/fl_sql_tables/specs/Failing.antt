@@ -1,0 +1,47 @@
+-- Why a call over a keeper's database fails.
+use Rattle.std.specs.Prelude.{◌≡◌, ◌⊎◌, ℕ, pos, List, [], ◌∷◌, ◌++◌, Option, None, Result, Ok, Err, IsTrue, IsSome}
+use Rattle.sqlite.specs.Disk.{MoreFaults}
+use Rattle.sqlite.specs.declared.types.Value.TheVariants.{Int}
+use Rattle.sqlite.specs.Order.{Row}
+use Rattle.sqlite.specs.declared.error.Error.{Error}
+use Rattle.sqlite.specs.declared.error.Error.TheVariants.{SqliteFailure}
+use Rattle.sqlite.specs.declared.error.ErrorCode.TheVariants.{OutOfMemory, OperationInterrupted}
+use Rattle.sqlite.specs.Effect.{Database}
+use Rattle.sqlite.specs.Listing.{understood}
+use Rattle.sqlite.specs.Does.{Does}
+use Rattle.sqlite.specs.State.{State, is_disk_error, mode_of, text_of}
+use Rattle.sqlite_resolve.specs.declared.compiled.Compiled.{Compiled}
+use Rattle.sqlite_resolve.specs.declared.error.CompileError.{CompileError}
+use Rattle.fl_ops.specs.declared.op.Op.{Op}
+use Rattle.fl_sql_tables.specs.Tables.{keeper_schema, raise_boot_text, insert_op_text}
+use Rattle.fl_sql_tables.specs.Spelling.{row_of}
+use Rattle.fl_sql_tables.specs.Stored.{AddsOps}
+
+-- there was not enough memory; the disk failed once more; or the limit on steps was met
+abbrev pub IsFault : State → State → Error → Type 0
+IsFault old new e =
+    (e ≡ SqliteFailure OutOfMemory)
+    ⊎ ((IsTrue (is_disk_error e) × MoreFaults old.faults new.faults)
+    ⊎ ((e ≡ SqliteFailure OperationInterrupted) × IsSome old.step_limit))
+
+-- what a text means does not go over these tables
+abbrev pub IsRefused : State → Database → List ℕ → Row → Result Compiled CompileError → Type 0
+IsRefused s db sql params (Ok c) = (why : Option Error) × Does s.step_limit (mode_of s) params db (text_of sql c) None c.command (Err why)
+IsRefused s db sql params (Err e) = ⊥
+
+-- why the boot was not set: a fault, or the table of the node itself does not take it
+abbrev pub FailsToRaise : ℕ → State → State → Error → Type 0
+FailsToRaise boot old new e =
+    IsFault old new e ⊎ IsRefused old old.now raise_boot_text (Int (pos boot) ∷ []) (understood keeper_schema raise_boot_text)
+
+-- why an operation was not put: a fault, or the table of operations does not take it
+abbrev pub FailsToPut : Op → State → State → Error → Type 0
+FailsToPut op old new e =
+    IsFault old new e ⊎ IsRefused old old.now insert_op_text (row_of op) (understood keeper_schema insert_op_text)
+
+-- why no operation was saved: a fault, or after the first ones the table does not take the next one
+abbrev pub FailsToSave : List Op → State → State → Error → Type 0
+FailsToSave ops old new e =
+    IsFault old new e
+    ⊎ ((first : List Op) × (op : Op) × (rest : List Op) × (ops ≡ first ++ op ∷ rest) × (db : Database) × AddsOps first old.now db
+    × IsRefused old db insert_op_text (row_of op) (understood keeper_schema insert_op_text))
