@@ -40,9 +40,9 @@ impl Inbox {
         }
     }
 
-    /// Whether as many messages wait as may.
+    /// Whether as many messages wait as may: 256.
     pub fn is_full(&self) -> bool
-        ensures { result ≡ nat_le MOST_LETTERS (length self.now) }
+        ensures { result ≡ nat_le 256 (length self.now) }
     {
         self.letters.len() >= MOST_LETTERS
     }
