@@ -15,12 +15,12 @@ use Rattle.fl_closure.specs.declared.rows.Rows.{Rows}
 use Rattle.fl_closure.specs.parts.Rows.{row_has, Holds}
 use Rattle.fl_closure.proofs.Members.{any_has, has_any}
 
--- a row as the code walks it, after what was there
-pub row_pushed : (rows : Rows) (name : Name) (old now keys left : List Cap) (row : BTreeSet Cap)
-    → left ≡ [] → now ++ left ≡ old ++ keys → keys ≡ row.keys → Some row ≡ get name_cmp rows.rows name
+-- a row as the code walks it, after what was there and has room now
+pub row_pushed : (rows : Rows) (name : Name) (old roomy now keys left : List Cap) (row : BTreeSet Cap)
+    → left ≡ [] → roomy ≡ old → now ++ left ≡ roomy ++ keys → keys ≡ row.keys → Some row ≡ get name_cmp rows.rows name
     → (c : Cap) → Contains now c ↔ (Contains old c ⊎ Holds rows name c)
-row_pushed rows name old now keys left row done same is there c =
-    let whole : now ≡ old ++ row.keys = sym (append-nil now) ∙ ap (λ l. now ++ l) (sym done) ∙ same ∙ ap (λ l. old ++ l) is in
+row_pushed rows name old roomy now keys left row done kept same is there c =
+    let whole : now ≡ old ++ row.keys = sym (append-nil now) ∙ ap (λ l. now ++ l) (sym done) ∙ same ∙ (λ i. kept i ++ is i) in
     let held : contains cap_cmp row c ≡ row_has (get name_cmp rows.rows name) c = ap (λ r. row_has r c) there in (
       λ h. elim (Contains-append_cases old row.keys c (subst (λ l. Contains l c) whole h)) [
         | inl m ↦ inl m

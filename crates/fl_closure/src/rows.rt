@@ -1,9 +1,9 @@
 //! Rows of capabilities.
-ghost use Rattle.std.specs.Prelude.{◌≡◌, ◌↔◌, ◌⊎◌, IfOk, OnOk, OnErr, not};
+ghost use Rattle.std.specs.Prelude.{◌≡◌, ◌↔◌, ◌⊎◌, ◌++◌, IfOk, OnOk, OnErr, not};
 ghost use Rattle.std.specs.List.{Contains};
 ghost use Rattle.fl_labels.specs.declared.name.Name.{Name};
 ghost use Rattle.fl_labels.specs.declared.cap.Cap.{Cap};
-ghost use Rattle.fl_closure.specs.parts.Rows.{has, Holds, Adds, Takes, IsSameRows};
+ghost use Rattle.fl_closure.specs.parts.Rows.{has, Holds, row_caps, Adds, Takes, IsSameRows};
 
 use fl_labels::cap::Cap;
 use fl_labels::name::Name;
@@ -64,15 +64,20 @@ impl Rows {
         }
     }
 
-    /// Adds the row of this name to a list, at the end. Fails only where there is not enough memory.
+    /// Adds the row of this name to a list, at the end and in order. A search by order, and a copy of the row. Fails only where
+    /// there is not enough memory, and then leaves the list.
     pub fn push_row(&self, name: Name, caps: &mut Vec<Cap>) -> Result<(), AllocError>
-        ensures { OnOk result ((c : Cap) →
+        ensures has { OnOk result ((c : Cap) →
             Contains caps.new.items c ↔ (Contains caps.old.items c ⊎ Holds self.now name c)) }
+        ensures end { OnOk result (caps.new.items ≡ caps.old.items ++ row_caps self.now name) }
+        ensures err { OnErr result (caps.new.items ≡ caps.old.items) }
     {
-        if let Some(row) = self.rows.get(&name) {
-            for cap in row {
-                caps.push(*cap)?;
-            }
+        let Some(row) = self.rows.get(&name) else {
+            return Ok(());
+        };
+        caps.reserve(row.len())?;
+        for cap in row {
+            caps.push_reserved(*cap);
         }
         Ok(())
     }

@@ -1,5 +1,5 @@
 -- Rows of capabilities, each under a name.
-use Rattle.std.specs.Prelude.{◌≡◌, ◌⊎◌, ◌↔◌, Bool, true, false, Option, Some, None}
+use Rattle.std.specs.Prelude.{◌≡◌, ◌⊎◌, ◌↔◌, Bool, true, false, Option, Some, None, List, []}
 use Rattle.std.specs.BTreeMap.{get}
 use Rattle.std.specs.BTreeSet.{BTreeSet, contains}
 use Rattle.fl_labels.specs.Cap.{cap_cmp}
@@ -23,6 +23,14 @@ has rows name c = row_has (get name_cmp rows.rows name) c
 
 abbrev pub Holds : Rows → Name → Cap → Type 0
 Holds rows name c = has rows name c ≡ true
+
+abbrev pub listed : Option (BTreeSet Cap) → List Cap
+listed None = []
+listed (Some row) = row.keys
+
+-- the row of this name, in order
+abbrev pub row_caps : Rows → Name → List Cap
+row_caps rows name = listed (get name_cmp rows.rows name)
 
 -- the pair is that of this name and this capability
 abbrev pub IsPair : Name → Cap → Name → Cap → Type 0
