@@ -1,5 +1,4 @@
-use Rattle.std.proofs.Common.{◌≡◌, ◌∙◌, refl, sym, ap, subst, Some, IsSome}
-use Rattle.std.specs.FinMap as map
+use Rattle.std.proofs.Common.{◌∙◌, refl, ap, subst, Some, IsSome}
 use Rattle.fl_labels.specs.PidOrder.{pid_total, pid_exact}
 use Rattle.fl_bench.specs.Process.{owned_by}
 use Rattle.fl_mailbox.specs.laws.Tables.{get_held}
