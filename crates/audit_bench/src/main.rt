@@ -5,6 +5,7 @@
 ghost use Rattle.std.specs.Prelude.{◌≤◌, IfOk};
 
 use fl_audit::draft::Draft;
+use fl_bench::owned::Owned;
 use fl_bench::process::{Holding, Process};
 use fl_jobs::answer::Reply;
 use fl_jobs::job::{Act, Job};
@@ -58,12 +59,17 @@ fn caps(alloc: Global, count: u32) -> Result<CapSet, AllocError>
 }
 
 // What is noted of so many questions that are answered yes.
-fn note_all(alloc: Global, process: &Process, count: u32) -> Result<Vec<Admission>, AllocError> {
+fn note_all(
+    alloc: Global,
+    process: &mut Process,
+    count: u32,
+) -> Result<Vec<Admission>, AllocError> {
     let job = Job::By(PID, Act::Ask(CAP));
     let answer = Answer::Reply(Reply::Yes);
     let mut audit = Vec::new(alloc);
     for _ in 0..count {
-        let draft = Draft::new(alloc, 1, 1, Some(process), &job)?;
+        let owned = process.share(alloc)?;
+        let draft = Draft::new(alloc, 1, 1, Some(process), Some(owned), &job)?;
         if let Some(entry) = draft.entry(&answer) {
             audit.push(entry)?;
         }
@@ -76,8 +82,8 @@ fn main(rt: HostRuntime) -> Result<(), Fail> {
     let count = read_count(&rt, 1, 20_000)?;
     let owned = read_count(&rt, 2, 8)?;
     let mut process = Process::new(alloc);
-    process.owned = Holding::Idle(caps(alloc, owned)?);
-    let audit = note_all(alloc, &process, count)?;
+    process.owned = Holding::Idle(Owned::new(caps(alloc, owned)?));
+    let audit = note_all(alloc, &mut process, count)?;
     println!(rt; "{} entries", audit.len())?;
     Ok(())
 }

@@ -34,7 +34,7 @@ use Rattle.fl_system.specs.declared.admission.Party.{Party}
 use Rattle.fl_system.specs.declared.answer.Answer.{Answer}
 use Rattle.fl_system.specs.declared.answer.Answer.TheVariants as answers
 use Rattle.fl_audit.specs.Drafts.{IsAskedAt}
-use Rattle.fl_audit.specs.parts.Noted.{order_noted, tuned_noted, mail_noted, act_noted}
+use Rattle.fl_audit.specs.Noted.{order_noted, tuned_noted, mail_noted, act_noted}
 
 pub on_err : {T E P : Type 0} (r : Result T E) → P → OnErr r P
 on_err (Ok x) h = tt
@@ -101,9 +101,13 @@ may_be n pid p act there h =
     record { answer = some.answer; entry = some.entry; noted = some.noted }
 
 -- the same of a job that is known to be an act of this process
-pub may_be_asked : {T E : Type 0} (r : Result T E) (number boot : ℕ) (asker : Option Process) (job : Job)
-    (pid : Pid) (p : Process) (act : Act) → job ≡ By pid act → asker ≡ Some p → OnErr r (act_noted p act ≡ true)
-    → OnErr r ((n : NodeState) → IsAskedAt number boot asker job n → MayBeNoted n job)
-may_be_asked r number boot asker job pid p act is there h =
-    let P : Job → Type 0 = λ j. OnErr r ((n : NodeState) → IsAskedAt number boot asker j n → MayBeNoted n j) in
-    subst P (sym is) (on_err_weaker r (λ noted n asked. may_be n pid p act (asked.asker_is ∙ there) noted) h)
+module _ (number boot : ℕ) (asker : Option Process) (job : Job) (pid : Pid) (p : Process) (act : Act)
+    (is : job ≡ By pid act) (there : asker ≡ Some p) where
+  pub noted_may : act_noted p act ≡ true → (n : NodeState) → IsAskedAt number boot asker job n → MayBeNoted n job
+  noted_may noted n asked =
+      let asks : IsAskedAt number boot asker (By pid act) n = subst (λ j. IsAskedAt number boot asker j n) is asked in
+      subst (MayBeNoted n) (sym is) (may_be n pid p act (asks.asker_is ∙ there) noted)
+
+  pub may_be_asked : {T E : Type 0} (r : Result T E) → OnErr r (act_noted p act ≡ true)
+      → OnErr r ((n : NodeState) → IsAskedAt number boot asker job n → MayBeNoted n job)
+  may_be_asked r h = on_err_weaker r noted_may h

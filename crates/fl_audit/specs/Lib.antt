@@ -1,4 +1,4 @@
 pub mod Drafts
+pub mod Noted
 pub mod Senders
 pub mod laws
-pub mod parts

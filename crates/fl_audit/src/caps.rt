@@ -1,10 +1,8 @@
-//! Copies of what processes own and of what jobs name.
+//! Copies of what jobs name.
 ghost use Rattle.std.specs.Prelude.{◌≡◌, true, is_some, IfOk, OnErr};
 ghost use Rattle.fl_labels.specs.SetBy as set;
-ghost use Rattle.fl_bench.specs.Process.{owns};
 ghost use Rattle.fl_jobs.specs.Given.{labels_of};
 
-use fl_bench::process::{Holding, Process};
 use fl_jobs::job::GivenLabels;
 use fl_labels::cap::Cap;
 use fl_labels::cap_set::CapSet;
@@ -16,16 +14,6 @@ pub(crate) fn set_of(alloc: Global, caps: &[Cap]) -> Result<CapSet, AllocError>
     ensures { IfOk result (λ made. made ≡ set.of_list caps.now) }
 {
     Ok(CapSet::from_vec(Vec::from_slice(alloc, caps)?))
-}
-
-/// What the process owns, again. Fails only where there is not enough memory.
-pub(crate) fn owned(alloc: Global, process: &Process) -> Result<CapSet, AllocError>
-    ensures { IfOk result (λ made. made ≡ owns process.now) }
-{
-    match &process.owned {
-        Holding::Idle(caps) => caps.copy(alloc),
-        Holding::Ordering(caps) => set_of(alloc, caps.as_slice()),
-    }
 }
 
 /// Both labels again, where neither is too long. Wants memory only where that is so.

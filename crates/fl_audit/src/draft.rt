@@ -1,7 +1,8 @@
 //! What would be noted of a job, made before the job is done.
 ghost use Rattle.std.specs.Option.{option_copied};
-ghost use Rattle.std.specs.Prelude.{◌≡◌, true, is_some, IfOk, OnErr};
+ghost use Rattle.std.specs.Prelude.{◌≡◌, ℕ, true, is_some, IfOk, OnErr};
 ghost use Rattle.fl_jobs.specs.Given.{labels_of};
+ghost use Rattle.fl_bench.specs.Process.{owns};
 ghost use Rattle.fl_bench.specs.Secrets.{digest_of};
 ghost use Rattle.fl_system.specs.Audit.{party, entries};
 ghost use Rattle.fl_system.specs.Audit.{order_entries, endpoint_entries, mail_entries, act_entries};
@@ -9,11 +10,13 @@ ghost use Rattle.fl_system.specs.State.{NodeState};
 ghost use Rattle.fl_system.specs.WorldJobs.{MayBeNoted};
 ghost use Rattle.fl_system.specs.declared.answer.Answer.{Answer};
 ghost use Rattle.fl_audit.specs.Drafts.{drafted, listed, IsAskedAt};
-ghost use Rattle.fl_audit.specs.parts.Noted.{order_noted, mail_noted, act_noted};
+ghost use Rattle.fl_audit.specs.Noted.{order_noted, mail_noted, act_noted};
+ghost use Rattle.fl_audit.specs.Noted.{asker_noted, IsNotedWith};
 
 use crate::caps::{given, set_of};
 use crate::party::party;
 use fl_bench::process::Process;
+use fl_bench::shared::SharedCaps;
 use fl_jobs::answer::Reply;
 use fl_jobs::job::{Act, GivenLabels, Job, Mail, Order};
 use fl_jobs::secret::Secret;
@@ -41,6 +44,53 @@ pub enum Draft {
     IfEntered(Party, Name, Secret),
 }
 
+// Whether neither label is too long.
+fn has_labels(labels: &GivenLabels) -> bool
+    ensures { result ≡ is_some (labels_of labels.now) }
+{
+    labels.secrecy.is_ok() && labels.integrity.is_ok()
+}
+
+// Whether what a process does with its endpoints and messages may be noted.
+fn notes_mail(process: &Process, mail: &Mail) -> bool
+    ensures { result ≡ mail_noted process.now.mailbox mail.now }
+{
+    match mail {
+        Mail::Open(_, labels) => has_labels(labels),
+        Mail::Tune(endpoint, labels) => match process.mailbox.endpoints.get(*endpoint) {
+            None => false,
+            Some(_) => has_labels(labels),
+        },
+        Mail::Send { .. } => true,
+        Mail::Close(_) | Mail::Take => false,
+    }
+}
+
+// Whether an act of the process may be noted.
+fn notes_act(process: &Process, act: &Act) -> bool
+    ensures { result ≡ act_noted process.now act.now }
+{
+    match act {
+        Act::Order(Order::Tag(_)) | Act::Order(Order::Group) => false,
+        Act::Relabel(_, Err(_)) | Act::Exit | Act::Drop(_) => false,
+        Act::Mail(mail) => notes_mail(process, mail),
+        _ => true,
+    }
+}
+
+/// Whether the job, which this process asks for, or none that is there, may be noted, with what the process owns. Takes no memory;
+/// looks at no more than one endpoint.
+pub fn names_asker(asker: Option<&Process>, job: &Job) -> bool
+    ensures noted { result ≡ asker_noted (option_copied asker.entry) job.now }
+    ensures may_be { result ≡ true → (number boot : ℕ) (n : NodeState) →
+        IsAskedAt number boot (option_copied asker.entry) job.now n → MayBeNoted n job.now }
+{
+    match (asker, job) {
+        (Some(process), Job::By(_, act)) => notes_act(process, act),
+        _ => false,
+    }
+}
+
 // What is kept of a secret: its digest by SHA-256.
 fn digest_of_secret(secret: Secret) -> Digest
     ensures { result ≡ digest_of secret }
@@ -55,12 +105,14 @@ fn draft_grant(
     alloc: Global,
     pid: Pid,
     process: &Process,
+    owned: SharedCaps,
     caps: CapSet,
 ) -> Result<Draft, AllocError>
+    requires { owned ≡ owns process.now }
     ensures { IfOk result (λ draft.
         draft ≡ Draft.Always (Admission.Grant (party pid process.now) caps)) }
 {
-    Ok(Draft::Always(Admission::Grant(party(alloc, pid, process)?, caps)))
+    Ok(Draft::Always(Admission::Grant(party(alloc, pid, process, owned)?, caps)))
 }
 
 // What is noted of an order.
@@ -68,8 +120,10 @@ fn draft_order(
     alloc: Global,
     pid: Pid,
     process: &Process,
+    owned: SharedCaps,
     order: Order,
 ) -> Result<Draft, AllocError>
+    requires { owned ≡ owns process.now }
     ensures ok { IfOk result (λ draft. (a : Answer) →
         drafted draft a ≡ order_entries (party pid process.now) order) }
     ensures err { OnErr result (order_noted order ≡ true) }
@@ -78,11 +132,11 @@ fn draft_order(
         Order::Tag(_) | Order::Group => Ok(Draft::Nothing),
         Order::Put(group, cap) => {
             let caps = set_of(alloc, &[Cap::Grow(group), cap])?;
-            draft_grant(alloc, pid, process, caps)
+            draft_grant(alloc, pid, process, owned, caps)
         }
         Order::MakeLogin(cap, _) => {
             let caps = set_of(alloc, &[cap])?;
-            draft_grant(alloc, pid, process, caps)
+            draft_grant(alloc, pid, process, owned, caps)
         }
     }
 }
@@ -92,9 +146,11 @@ fn draft_endpoint(
     alloc: Global,
     pid: Pid,
     process: &Process,
+    owned: SharedCaps,
     mode: Mode,
     labels: &GivenLabels,
 ) -> Result<Draft, AllocError>
+    requires { owned ≡ owns process.now }
     ensures ok { IfOk result (λ draft. (a : Answer) →
         drafted draft a ≡ endpoint_entries (party pid process.now) mode (labels_of labels.now)) }
     ensures err { OnErr result (is_some (labels_of labels.now) ≡ true) }
@@ -102,7 +158,7 @@ fn draft_endpoint(
     match given(alloc, labels)? {
         None => Ok(Draft::Nothing),
         Some(labels) => Ok(Draft::Always(Admission::Endpoint(
-            party(alloc, pid, process)?,
+            party(alloc, pid, process, owned)?,
             mode,
             labels,
         ))),
@@ -110,65 +166,82 @@ fn draft_endpoint(
 }
 
 // What is noted of what a process does with its endpoints and messages.
-fn draft_mail(alloc: Global, pid: Pid, process: &Process, mail: &Mail) -> Result<Draft, AllocError>
+fn draft_mail(
+    alloc: Global,
+    pid: Pid,
+    process: &Process,
+    owned: SharedCaps,
+    mail: &Mail,
+) -> Result<Draft, AllocError>
+    requires { owned ≡ owns process.now }
     ensures ok { IfOk result (λ draft. (a : Answer) →
         drafted draft a ≡ mail_entries (party pid process.now) process.now.mailbox mail.now) }
     ensures err { OnErr result (mail_noted process.now.mailbox mail.now ≡ true) }
 {
     match mail {
-        Mail::Open(mode, labels) => draft_endpoint(alloc, pid, process, *mode, labels),
+        Mail::Open(mode, labels) => draft_endpoint(alloc, pid, process, owned, *mode, labels),
         Mail::Tune(endpoint, labels) => match process.mailbox.endpoints.get(*endpoint) {
             None => Ok(Draft::Nothing),
-            Some(opened) => draft_endpoint(alloc, pid, process, opened.mode, labels),
+            Some(opened) => draft_endpoint(alloc, pid, process, owned, opened.mode, labels),
         },
         Mail::Send { message, .. } => {
             let caps = message.caps.copy(alloc)?;
-            draft_grant(alloc, pid, process, caps)
+            draft_grant(alloc, pid, process, owned, caps)
         }
         Mail::Close(_) | Mail::Take => Ok(Draft::Nothing),
     }
 }
 
 // What is noted of an act of the process, which stands as this pid.
-fn draft_act(alloc: Global, pid: Pid, process: &Process, act: &Act) -> Result<Draft, AllocError>
+fn draft_act(
+    alloc: Global,
+    pid: Pid,
+    process: &Process,
+    owned: SharedCaps,
+    act: &Act,
+) -> Result<Draft, AllocError>
+    requires { owned ≡ owns process.now }
     ensures ok { IfOk result (λ draft. (a : Answer) →
         drafted draft a ≡ act_entries pid process.now act.now a) }
     ensures err { OnErr result (act_noted process.now act.now ≡ true) }
 {
     match act {
-        Act::Order(order) => draft_order(alloc, pid, process, *order),
+        Act::Order(order) => draft_order(alloc, pid, process, owned, *order),
         Act::Relabel(side, Ok(label)) => Ok(Draft::Always(Admission::Change(
-            party(alloc, pid, process)?,
+            party(alloc, pid, process, owned)?,
             *side,
             label.copy(alloc)?,
         ))),
-        Act::Ask(cap) => Ok(Draft::IfYes(Admission::Yes(party(alloc, pid, process)?, *cap))),
+        Act::Ask(cap) => Ok(Draft::IfYes(Admission::Yes(party(alloc, pid, process, owned)?, *cap))),
         Act::Spawn(caps) => {
             let caps = caps.copy(alloc)?;
-            draft_grant(alloc, pid, process, caps)
+            draft_grant(alloc, pid, process, owned, caps)
         }
         Act::Enter(login, secret) => Ok(Draft::IfEntered(
-            party(alloc, pid, process)?,
+            party(alloc, pid, process, owned)?,
             *login,
             *secret,
         )),
-        Act::Emit(_) => Ok(Draft::Always(Admission::Emission(party(alloc, pid, process)?))),
-        Act::Mail(mail) => draft_mail(alloc, pid, process, mail),
+        Act::Emit(_) => Ok(Draft::Always(Admission::Emission(party(alloc, pid, process, owned)?))),
+        Act::Mail(mail) => draft_mail(alloc, pid, process, owned, mail),
         Act::Relabel(_, Err(_)) | Act::Exit | Act::Drop(_) => Ok(Draft::Nothing),
     }
 }
 
 impl Draft {
     /// What is noted of the job if it is admitted at a node of this number and boot: the job is asked for by this process, or by
-    /// none that is there. Nothing is copied where nothing would be noted, and memory is wanted only where something may be: then
-    /// at most the labels and the owned capabilities of the process, and the label or the capabilities that the job names.
+    /// none that is there, which owns this, where that is noted. Nothing is copied where nothing would be noted, and memory is
+    /// wanted only where something may be: then at most the labels of the process, and the label or the capabilities that the job
+    /// names.
     pub fn new(
         alloc: Global,
         number: u16,
         boot: u32,
         asker: Option<&Process>,
+        owned: Option<SharedCaps>,
         job: &Job,
     ) -> Result<Draft, AllocError>
+        requires { IsNotedWith (option_copied asker) job.now owned }
         ensures ok { IfOk result (λ draft. (n : NodeState) →
             IsAskedAt number boot (option_copied asker.entry) job.now n → (a : Answer) →
             drafted draft a ≡ entries n job.now a) }
@@ -176,9 +249,9 @@ impl Draft {
             IsAskedAt number boot (option_copied asker.entry) job.now n → MayBeNoted n job.now) }
     {
         match job {
-            Job::By(pid, act) => match asker {
-                None => Ok(Draft::Nothing),
-                Some(process) => draft_act(alloc, *pid, process, act),
+            Job::By(pid, act) => match (asker, owned) {
+                (Some(process), Some(owned)) => draft_act(alloc, *pid, process, owned, act),
+                _ => Ok(Draft::Nothing),
             },
             Job::Member(root, cap) => Ok(Draft::IfYes(Admission::Reached(
                 number, boot, *root, *cap,

@@ -1,5 +1,7 @@
 -- Processes, and what their jobs name of them.
 use Rattle.std.specs.Prelude.{◌≡◌, ◌⊎◌, Bool, true, false}
+use Rattle.std.specs.declared.option.Option.{Option}
+use Rattle.std.specs.declared.option.Option.TheVariants.{None, Some}
 use Rattle.fl_labels.specs.Cap.{cap_cmp}
 use Rattle.fl_labels.specs.Name.{name_cmp}
 use Rattle.fl_labels.specs.SetBy as set
@@ -35,6 +37,11 @@ held (Ordering caps) = caps
 -- the capabilities that the process owns
 abbrev pub owns : Process → set.SetBy cap_cmp
 owns p = held p.owned
+
+-- what the process owns, if there is one
+abbrev pub owned_by : Option Process → Option (set.SetBy cap_cmp)
+owned_by None = None
+owned_by (Some p) = Some (owns p)
 
 abbrev pub is_under_way : Holding → Bool
 is_under_way (Idle caps) = false

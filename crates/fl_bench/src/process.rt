@@ -1,13 +1,14 @@
 //! Processes, and what an operation of theirs does to what they own.
-ghost use Rattle.std.specs.Prelude.{◌≡◌, [], false, OnOk, OnErr};
+ghost use Rattle.std.specs.Prelude.{◌≡◌, [], false, IfOk, OnOk, OnErr};
 ghost use Rattle.fl_labels.specs.SetBy as set;
 ghost use Rattle.fl_bench.specs.declared.process.Holding.TheVariants.{Ordering};
-ghost use Rattle.fl_bench.specs.Process.{newborn, held, is_under_way};
+ghost use Rattle.fl_bench.specs.Process.{newborn, held, owns, is_under_way};
 ghost use Rattle.fl_bench.specs.Gifts.{given, settled};
 
+use crate::owned::{Owned, RoomyOwned};
+use crate::shared::SharedCaps;
 use fl_labels::cap::Cap;
 use fl_labels::cap_set::CapSet;
-use fl_labels::roomy::RoomyCapSet;
 use fl_mailbox::mailbox::Mailbox;
 use fl_ops::op::{Body, Op};
 use fl_rules::labels::Labels;
@@ -18,9 +19,9 @@ use std::mem::replace;
 #[derive(Debug, Drop)]
 pub enum Holding {
     /// No operation of the process is under way.
-    Idle(CapSet),
+    Idle(Owned),
     /// One is, and there is room for what it gives.
-    Ordering(RoomyCapSet),
+    Ordering(RoomyOwned),
 }
 
 /// A process: its labels, the capabilities that it owns, its open endpoints, and the messages that wait for it.
@@ -36,7 +37,7 @@ impl Holding {
     fn take(&mut self, alloc: Global) -> Self
         ensures { result ≡ self.old }
     {
-        replace(self, Holding::Idle(CapSet::new(alloc)))
+        replace(self, Holding::Idle(Owned::new(CapSet::new(alloc))))
     }
 
     // With an operation under way, or as before where none was and there is no room for what it may give.
@@ -88,7 +89,7 @@ impl Holding {
 }
 
 // With what the operation gives its maker.
-fn receive(owned: RoomyCapSet, op: &Op) -> CapSet
+fn receive(owned: RoomyOwned, op: &Op) -> Owned
     ensures { result ≡ set.insert_all owned (given op.now) }
 {
     match op.body {
@@ -105,8 +106,20 @@ impl Process {
     {
         Process {
             labels: Labels::new(alloc),
-            owned: Holding::Idle(CapSet::new(alloc)),
+            owned: Holding::Idle(Owned::new(CapSet::new(alloc))),
             mailbox: Mailbox::new(alloc),
+        }
+    }
+
+    /// What the process owns, for whoever notes it. Fails only where there is not enough memory. Copies it where it has
+    /// changed since this was asked last, and nothing else.
+    pub fn share(&mut self, alloc: Global) -> Result<SharedCaps, AllocError>
+        ensures shared { IfOk result (λ made. made ≡ owns self.old) }
+        ensures same { self.new ≡ self.old }
+    {
+        match &mut self.owned {
+            Holding::Idle(owned) => owned.share(alloc),
+            Holding::Ordering(owned) => owned.share(alloc),
         }
     }
 

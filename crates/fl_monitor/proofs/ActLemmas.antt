@@ -171,6 +171,11 @@ module _ (V : Registry) (pid : Pid) (p : Process) (act : Act) where
       subst (λ r. Does V b (By pid act) r b') (sym s.0)
       (subst (λ x. Does V b (By pid act) (Ok o) x) (sym s.1) (Does.passed (asks b e None (passes, none b)) (p, e, does b e))))
 
+-- what the process owns then, by another name
+pub over : (V : Registry) (pid : Pid) (p : Process) (act : Act) {q : Result Sequel Refusal} (made : SetBy cap_cmp → Process)
+    {s t : SetBy cap_cmp} → s ≡ t → Acts V pid p act q (made s) → Acts V pid p act q (made t)
+over V pid p act {q} made e h = subst (λ u. Acts V pid p act q (made u)) e h
+
 -- of a process of which an operation is under way
 pub act_busy : (V : Registry) (pid : Pid) (p : Process) (act : Act) → ((owned : SetBy cap_cmp) → p.owned ≡ Idle owned → ⊥) → Acts V pid p act (Err Busy) p
 act_busy V pid p act n = is_refused V pid p act (inl (ap (λ b. cond b (Some Busy) None) (sym (busy p.owned n))))

@@ -120,7 +120,7 @@ pub(crate) fn act_alone<V: View>(
     };
     match act {
         Act::Order(order) => {
-            check_order(view, owned, order)?;
+            check_order(view, owned.caps(), order)?;
             let Ok(()) = process.owned.begin(alloc) else {
                 return Err(Refusal::Memory);
             };
@@ -129,13 +129,13 @@ pub(crate) fn act_alone<V: View>(
         Act::Relabel(side, label) => {
             let endpoints = &process.mailbox.endpoints;
             let labels = &mut process.labels;
-            answer_alone(relabel(view, owned, endpoints, labels, side, label))
+            answer_alone(relabel(view, owned.caps(), endpoints, labels, side, label))
         }
         Act::Ask(cap) => {
-            let reply = reply_of(view.effective(owned, cap));
+            let reply = reply_of(view.effective(owned.caps(), cap));
             Ok(Sequel::Answer(Outcome::Reply(reply)))
         }
-        Act::Spawn(caps) => spawn(alloc, view, owned, &process.labels, caps),
+        Act::Spawn(caps) => spawn(alloc, view, owned.caps(), &process.labels, caps),
         Act::Exit => Ok(Sequel::End),
         Act::Drop(cap) => {
             let endpoints = &process.mailbox.endpoints;
@@ -144,13 +144,17 @@ pub(crate) fn act_alone<V: View>(
         }
         Act::Enter(login, secret) => answer_alone(enter(view, owned, login, secret)),
         Act::Emit(bytes) => {
-            check(view, owned, Demand::Emission(&process.labels.secrecy))?;
+            check(
+                view,
+                owned.caps(),
+                Demand::Emission(&process.labels.secrecy),
+            )?;
             Ok(Sequel::Answer(Outcome::Reply(Reply::Emitted(bytes))))
         }
         Act::Mail(mail) => {
             let mailbox = &mut process.mailbox;
             let labels = process.labels.lend();
-            answer_alone(do_mail(alloc, view, pid, owned, labels, mailbox, mail))
+            answer_alone(do_mail(alloc, view, pid, owned.caps(), labels, mailbox, mail))
         }
     }
 }

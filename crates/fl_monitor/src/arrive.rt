@@ -5,9 +5,9 @@ ghost use Rattle.fl_rules.specs.Pair as pairs;
 ghost use Rattle.fl_bench.specs.Guards.{sent_from, entry_refusal};
 ghost use Rattle.fl_monitor.specs.parts.Acts.{Arrives};
 
+use fl_bench::owned::Owned;
 use fl_bench::process::{Holding, Process};
 use fl_jobs::answer::{Outcome, Refusal, Reply};
-use fl_labels::cap_set::CapSet;
 use fl_labels::endpoint::Endpoint;
 use fl_mailbox::inbox::Inbox;
 use fl_message::message::{Data, Letter};
@@ -42,7 +42,7 @@ fn refused_entry(endpoint: Endpoint, fault: PairFault) -> Refusal
 }
 
 // Makes the message wait, once its capabilities are owned: both, or an error, which leaves all as it was.
-fn take_in(inbox: &mut Inbox, owned: &mut CapSet, letter: Letter) -> Result<(), AllocError>
+fn take_in(inbox: &mut Inbox, owned: &mut Owned, letter: Letter) -> Result<(), AllocError>
     ensures waits { OnOk result (inbox.new ≡ inbox.old ++ letter ∷ []) }
     ensures owns { OnOk result (owned.new ≡ set.union owned.old letter.message.caps) }
     ensures err { OnErr result ((inbox.new ≡ inbox.old) × (owned.new ≡ owned.old)) }

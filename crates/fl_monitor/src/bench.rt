@@ -1,11 +1,12 @@
 //! Benches: processes that work under one view.
 ghost use Rattle.std.specs.Option.{option_copied};
-ghost use Rattle.std.specs.Prelude.{◌≡◌, ◌≤◌, ◌<◌};
+ghost use Rattle.std.specs.Prelude.{◌≡◌, ◌≤◌, ◌<◌, IfOk, OnErr, IsSome};
 ghost use Rattle.std.specs.FinMap as map;
 ghost use Rattle.fl_ops.specs.Registry.{Listed};
 ghost use Rattle.fl_jobs.specs.declared.job.Job.TheVariants.{By};
 ghost use Rattle.fl_bench.specs.Bench.{new_bench};
 ghost use Rattle.fl_bench.specs.Jobs.{Does};
+ghost use Rattle.fl_bench.specs.Process.{owned_by};
 ghost use Rattle.fl_bench.specs.Orderly.{IsOrderly};
 ghost use Rattle.fl_monitor.specs.parts.Acts.{Births};
 ghost use Rattle.fl_bench.specs.Gifts.{finished, cancelled};
@@ -14,6 +15,7 @@ use crate::act::reply_of;
 use crate::processes::Processes;
 use crate::sequel::Sequel;
 use fl_bench::process::Process;
+use fl_bench::shared::SharedCaps;
 use fl_jobs::answer::{Outcome, Refusal, Reply};
 use fl_jobs::job::{Act, Job};
 use fl_labels::pid::Pid;
@@ -85,6 +87,16 @@ impl Bench {
         ensures { option_copied result ≡ map.get self.now.processes pid }
     {
         self.processes.get(pid)
+    }
+
+    /// What the process owns, for whoever notes it, or none where it does not stand here. Fails only where there is not
+    /// enough memory. Copies what is owned where it has changed since this was asked last, and nothing else.
+    pub fn share(&mut self, alloc: Global, pid: Pid) -> Result<Option<SharedCaps>, AllocError>
+        ensures ok { IfOk result (λ made. made ≡ owned_by (map.get self.old.processes pid)) }
+        ensures err { OnErr result (IsSome (map.get self.old.processes pid)) }
+        ensures same { self.new ≡ self.old }
+    {
+        self.processes.share(alloc, pid)
     }
 
     // A new process, under the next serial, where there was memory for it.

@@ -8,9 +8,9 @@ ghost use Rattle.fl_monitor.specs.parts.Acts.{Drops};
 ghost use Rattle.fl_monitor.specs.parts.Checked.{CheckedBy};
 
 use crate::demand::{Demand, check};
+use fl_bench::owned::Owned;
 use fl_jobs::answer::{Outcome, Refusal, Reply};
 use fl_labels::cap::Cap;
-use fl_labels::cap_set::CapSet;
 use fl_mailbox::endpoints::Endpoints;
 use fl_ops::view::View;
 use fl_rules::labels::LabelsRef;
@@ -25,7 +25,7 @@ struct Judge<'a, V: View> {
 
 impl<'a, V: View> Judge<'a, V> {
     // Takes the capability out, or says why not and leaves it.
-    fn take(&mut self, owned: &mut CapSet, cap: Cap) -> Result<(), Refusal>
+    fn take(&mut self, owned: &mut Owned, cap: Cap) -> Result<(), Refusal>
         ensures checked { let rest = set.remove owned.old cap in
             CheckedBy (V.list self.old.view.now) rest
             (λ E. endpoints_check E (sets_of self.old.labels) self.old.endpoints.now) result }
@@ -56,14 +56,14 @@ pub(crate) fn drop_cap<V: View>(
     view: &mut V,
     labels: LabelsRef<'_>,
     endpoints: &Endpoints,
-    owned: &mut CapSet,
+    owned: &mut Owned,
     cap: Cap,
 ) -> Result<Outcome, Refusal>
     ensures drops { Drops (Listed (V.list view.old)) (sets_of labels.entry) endpoints.now owned.old cap
         result owned.new }
     ensures same { V.list view.new ≡ V.list view.old }
 {
-    if !owned.contains(cap) {
+    if !owned.caps().contains(cap) {
         return Err(Refusal::NotOwned(cap));
     }
     let mut judge = Judge {

@@ -4,9 +4,9 @@ ghost use Rattle.fl_ops.specs.Registry.{Listed};
 ghost use Rattle.fl_bench.specs.Secrets.{digest_of};
 ghost use Rattle.fl_monitor.specs.parts.Acts.{Enters};
 
+use fl_bench::owned::Owned;
 use fl_jobs::answer::{Outcome, Refusal, Reply};
 use fl_jobs::secret::Secret;
-use fl_labels::cap_set::CapSet;
 use fl_labels::name::Name;
 use fl_ops::digest::Digest;
 use fl_ops::view::View;
@@ -24,7 +24,7 @@ pub(crate) fn digest_of_secret(secret: Secret) -> Digest
 /// Adds the capability of the login of this name, where the secret is that of the login.
 pub(crate) fn enter<V: View>(
     view: &mut V,
-    owned: &mut CapSet,
+    owned: &mut Owned,
     login: Name,
     secret: Secret,
 ) -> Result<Outcome, Refusal>

@@ -1,15 +1,17 @@
 //! The processes of one bench.
 ghost use Rattle.std.specs.Option.{option_copied};
-ghost use Rattle.std.specs.Prelude.{◌≡◌, [], OnOk, OnErr};
+ghost use Rattle.std.specs.Prelude.{◌≡◌, [], IfOk, OnOk, OnErr, IsSome};
 ghost use Rattle.std.specs.FinMap as map;
 ghost use Rattle.fl_ops.specs.Registry.{Listed};
 ghost use Rattle.fl_monitor.specs.parts.Acts.{ActsAt, ArrivesAt};
 ghost use Rattle.fl_bench.specs.Gifts.{given, receives};
+ghost use Rattle.fl_bench.specs.Process.{owned_by};
 
 use crate::act::act_alone;
 use crate::arrive::arrive;
 use crate::sequel::Sequel;
 use fl_bench::process::Process;
+use fl_bench::shared::SharedCaps;
 use fl_jobs::answer::{Outcome, Refusal};
 use fl_jobs::job::Act;
 use fl_labels::pid::Pid;
@@ -90,6 +92,19 @@ impl Processes {
             return Err(Refusal::NoProcess(pid));
         };
         act_alone(process, alloc, view, pid, act)
+    }
+
+    /// What the process owns, for whoever notes it, or none where it is not there. Fails only where there is not enough
+    /// memory, as `Process::share` does.
+    pub fn share(&mut self, alloc: Global, pid: Pid) -> Result<Option<SharedCaps>, AllocError>
+        ensures ok { IfOk result (λ made. made ≡ owned_by (map.get self.old pid)) }
+        ensures err { OnErr result (IsSome (map.get self.old pid)) }
+        ensures same { self.new ≡ self.old }
+    {
+        let Some(process) = self.all.get_mut(&pid) else {
+            return Ok(None);
+        };
+        Ok(Some(process.share(alloc)?))
     }
 
     /// Brings a message to its receiver.

@@ -6,6 +6,7 @@ ghost use Rattle.fl_monitor.specs.parts.Acts.{born_with, Spawns};
 
 use crate::demand::{Demand, check};
 use crate::sequel::Sequel;
+use fl_bench::owned::Owned;
 use fl_bench::process::{Holding, Process};
 use fl_jobs::answer::Refusal;
 use fl_labels::cap_set::CapSet;
@@ -20,7 +21,7 @@ fn child_with(alloc: Global, labels: &Labels, caps: CapSet) -> Result<Process, A
 {
     Ok(Process {
         labels: labels.copy(alloc)?,
-        owned: Holding::Idle(caps),
+        owned: Holding::Idle(Owned::new(caps)),
         mailbox: Mailbox::new(alloc),
     })
 }

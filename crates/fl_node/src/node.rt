@@ -1,11 +1,12 @@
 //! A node, call by call.
-ghost use Rattle.std.specs.Prelude.{◌≡◌, ◌⊎◌, ◌<◌, IsTrue, IfOk, IfErr, OnErr, Ok, Err, Some, None, length};
+ghost use Rattle.std.specs.Prelude.{◌≡◌, ◌⊎◌, ◌<◌, IsTrue, IfOk, IfErr, IsSome, OnErr, Ok, Err, Some, None, length};
 ghost use Rattle.std.specs.Option.{option_copied};
 ghost use Rattle.fl_labels.specs.SetBy as set;
 ghost use Rattle.fl_opset.specs.RegistryText.{registry_text};
 ghost use Rattle.fl_sink.specs.Sink.{Writes};
 ghost use Rattle.fl_store.specs.Kept.{HasNamesOnce};
 ghost use Rattle.fl_store.specs.Keeping.{Follows};
+ghost use Rattle.fl_bench.specs.Process.{owned_by};
 ghost use Rattle.fl_system.specs.Processes.{process_of};
 ghost use Rattle.fl_system.specs.Waiting.{IsRunning, NotRunning};
 ghost use Rattle.fl_system.specs.Begins.{Begins};
@@ -23,6 +24,7 @@ use crate::publishing::{append, give, release, tell};
 use crate::recovering::recover;
 use crate::state::{doubt, doubted, due, halt, idle, running, saved, unsaved};
 use fl_bench::process::Process;
+use fl_bench::shared::SharedCaps;
 use fl_cache::cached::CachedIndex;
 use fl_jobs::answer::{Outcome, Refusal};
 use fl_jobs::job::Job;
@@ -35,7 +37,7 @@ use fl_sink::sink::WriteFault;
 use fl_store::keeper::Keeper;
 use fl_system::answer::{Answer, Fault};
 use fl_system::state::{Batch, Pending, State};
-use std::alloc::Global;
+use std::alloc::{AllocError, Global};
 use std::io::Write;
 use std::marker::Model;
 use std::mem::replace;
@@ -187,6 +189,16 @@ impl<K: Keeper> Node<K> {
         ensures { option_copied result ≡ process_of self.now.node pid }
     {
         self.bench.process(pid)
+    }
+
+    /// What the process owns, for whoever notes it, or none where it does not stand here. Fails only where there is not
+    /// enough memory. Copies what is owned where it has changed since this was asked last, and nothing else.
+    pub fn share(&mut self, alloc: Global, pid: Pid) -> Result<Option<SharedCaps>, AllocError>
+        ensures ok { IfOk result (λ made. made ≡ owned_by (process_of self.old.node pid)) }
+        ensures err { OnErr result (IsSome (process_of self.old.node pid)) }
+        ensures same { self.new ≡ self.old }
+    {
+        self.bench.share(alloc, pid)
     }
 
     /// The published operations, rising. A stopped node answers `Stopped`. Takes no memory.

@@ -109,6 +109,11 @@ jobs_upto n desk upto job result n' whole (Jobs.sent look h) = Jobs.sent (looks_
 jobs_upto n desk upto job result n' whole (Jobs.begun look h b) = Jobs.begun (looks_upto n desk upto _ whole look) h b
 jobs_upto n desk upto job result n' whole (Jobs.not_begun look h b) = Jobs.not_begun (looks_upto n desk upto _ whole look) h b
 
+-- of the same node
+pub jobs_same : (n m : NodeState) (job : Job) (result : Result Answer Fault) (n' : NodeState) → n ≡ m
+    → Jobs n 1 (length n.published) job result n' → Jobs m 1 (length m.published) job result n'
+jobs_same n m job result n' e h = subst (λ x. Jobs x 1 (length x.published) job result n') e h
+
 -- ---- who sends
 
 record IsSentBy (n : NodeState) (job : Job) (d : Data) : Type 0 where

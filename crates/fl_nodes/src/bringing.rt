@@ -12,6 +12,7 @@ ghost use Rattle.fl_nodes.specs.parts.Delivering.{Brought, Takes};
 
 use fl_audit::message::arrival;
 use fl_jobs::answer::Refusal;
+use fl_labels::pid::Pid;
 use fl_message::message::Data;
 use fl_node::node::Node;
 use fl_store::keeper::Keeper;
@@ -29,19 +30,37 @@ struct Ready {
     entry: Option<Admission>,
 }
 
+// What is noted where a message of this sender arrives at this process.
+fn entry<K: Keeper>(
+    alloc: Global,
+    node: &mut Node<K>,
+    sender: &Option<Party>,
+    receiver: Pid,
+) -> Result<Option<Admission>, AllocError>
+    ensures entry { IfOk result (λ made.
+        listed made ≡ message_entries sender.now receiver (process_of node.old.node receiver)) }
+    ensures same { node.new ≡ node.old }
+{
+    let Some(sender) = sender else {
+        return Ok(None);
+    };
+    let owned = node.share(alloc, receiver)?;
+    arrival(alloc, sender, receiver, node.process(receiver), owned)
+}
+
 // Copies the message, since it may come again, and makes what is noted where it arrives.
 fn copied<K: Keeper>(
     alloc: Global,
-    node: &Node<K>,
+    node: &mut Node<K>,
     sender: &Option<Party>,
     message: &Data,
 ) -> Result<Ready, AllocError>
     ensures message { IfOk result (λ made. made.message ≡ message.now) }
     ensures entry { let to = message.now.receiver in IfOk result (λ made.
-        listed made.entry ≡ message_entries sender.now to (process_of node.now.node to)) }
+        listed made.entry ≡ message_entries sender.now to (process_of node.old.node to)) }
+    ensures same { node.new ≡ node.old }
 {
-    let receiver = message.receiver;
-    let entry = arrival(alloc, sender, receiver, node.process(receiver))?;
+    let entry = entry(alloc, node, sender, message.receiver)?;
     let message = message.copy(alloc)?;
     Ok(Ready { message, entry })
 }
@@ -49,17 +68,18 @@ fn copied<K: Keeper>(
 // The same, where the node runs, with room for what is noted.
 fn prepare<K: Keeper>(
     alloc: Global,
-    node: &Node<K>,
+    node: &mut Node<K>,
     sender: &Option<Party>,
     message: &Data,
     audit: &mut Vec<Admission>,
 ) -> Result<Ready, Fault>
     ensures message { IfOk result (λ made. made.message ≡ message.now) }
     ensures entry { let to = message.now.receiver in IfOk result (λ made.
-        listed made.entry ≡ message_entries sender.now to (process_of node.now.node to)) }
+        listed made.entry ≡ message_entries sender.now to (process_of node.old.node to)) }
     ensures room { IfOk result (λ made. vec_len audit.new < vec_capacity audit.new) }
     ensures audit { audit.new.items ≡ audit.old.items }
-    ensures err { IfErr result (TellsNothing node.now.node.state) }
+    ensures err { IfErr result (TellsNothing node.old.node.state) }
+    ensures same { node.new ≡ node.old }
 {
     if let State::Stopped(_) = node.state() {
         return Err(Fault::Stopped);
@@ -86,7 +106,7 @@ fn note(audit: &mut Vec<Admission>, entry: Option<Admission>)
 }
 
 // Hands a message of this sender to its receiver at the node, and notes it where it arrives. What is noted is made and has its
-// room before.
+// room before. Copies what the receiver owns only where that has changed since it was noted last.
 pub(crate) fn bring<K: Keeper>(
     alloc: Global,
     node: &mut Node<K>,

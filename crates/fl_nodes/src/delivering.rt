@@ -50,7 +50,8 @@ impl<K: Keeper> Nodes<K> {
     /// - A message arrives as `Node::arrive` has it, and is noted with its sender as it was when it sent.
     ///
     /// Refused with `Memory` too where there is no room for a copy of the message, for what would be noted, or for the packets; then
-    /// nothing changes. Beside the node's own costs, a message is copied, and what both its processes own.
+    /// nothing changes. Beside the node's own costs, a message is copied, with the labels of both its processes, and what its
+    /// receiver owns where that has changed since it was noted last.
     pub fn deliver(&mut self, alloc: Global, packet: u64, number: u16) -> Reply
         ensures { Goes K.is_honest K.may_hold self.old self.new
             (λ w w'. Step w (event.Deliver packet number) result w') }

@@ -200,8 +200,8 @@ impl<K: Keeper> Nodes<K> {
     /// Does the job at the desk of the node, which first looks at the whole list, as `Node::job` has it; sends the message that it
     /// may answer, and notes what is admitted. An arrival is not handed in so, and answers `NoSuch`.
     ///
-    /// Refused with `Memory` too where there is no room for what would be noted or sent. The process is copied for a job of which
-    /// something is noted.
+    /// Refused with `Memory` too where there is no room for what would be noted or sent. For a job of which something is noted the
+    /// labels of the process are copied, and what it owns where that has changed since it was noted last.
     pub fn job(&mut self, alloc: Global, number: u16, desk: u8, job: Job) -> Reply
         ensures { (upto : _) → IsWhole self.old number upto
             → Goes K.is_honest K.may_hold self.old self.new

@@ -6,12 +6,14 @@ ghost use Rattle.fl_system.specs.declared.answer.Answer.TheVariants as answers;
 ghost use Rattle.fl_system.specs.Audit.{entries};
 ghost use Rattle.fl_system.specs.WorldJobs.{MayBeNoted};
 ghost use Rattle.fl_audit.specs.Drafts.{asker_of, drafted};
+ghost use Rattle.fl_audit.specs.Noted.{IsNotedWith};
 ghost use Rattle.fl_audit.specs.Senders.{sender_of};
 ghost use Rattle.fl_nodes.specs.parts.Working.{HasRoom, IsNotable, IsUnready, Shows, Worked};
 
-use fl_audit::draft::Draft;
+use fl_audit::draft::{Draft, names_asker};
 use fl_audit::party::sender;
 use fl_bench::process::Process;
+use fl_bench::shared::SharedCaps;
 use fl_jobs::answer::Refusal;
 use fl_jobs::job::Job;
 use fl_node::node::Node;
@@ -97,39 +99,62 @@ struct Prepared {
     sender: Option<Party>,
 }
 
-// Makes what would be noted of the job, and who would send by it.
-fn draft<K: Keeper>(alloc: Global, node: &Node<K>, job: &Job) -> Result<Prepared, AllocError>
-    ensures drafts { IfOk result (λ made. (a : _) →
-        drafted made.draft a ≡ entries node.now.node job.now a) }
-    ensures sender { IfOk result (λ made.
-        made.sender ≡ sender_of (asker_of node.now.node job.now) job.now) }
-    ensures err { OnErr result (MayBeNoted node.now.node job.now) }
+// What the process that asks for the job owns, where that may be noted.
+fn share<K: Keeper>(
+    alloc: Global,
+    node: &mut Node<K>,
+    job: &Job,
+) -> Result<Option<SharedCaps>, AllocError>
+    ensures noted { IfOk result (λ owned.
+        IsNotedWith (asker_of node.old.node job.now) job.now owned) }
+    ensures err { OnErr result (MayBeNoted node.old.node job.now) }
+    ensures same { node.new ≡ node.old }
 {
+    if !names_asker(asker(node, job), job) {
+        return Ok(None);
+    }
+    match job {
+        Job::By(pid, _) => node.share(alloc, *pid),
+        Job::Proc | Job::Member(_, _) | Job::Arrive(_) => Ok(None),
+    }
+}
+
+// Makes what would be noted of the job, and who would send by it.
+fn draft<K: Keeper>(alloc: Global, node: &mut Node<K>, job: &Job) -> Result<Prepared, AllocError>
+    ensures drafts { IfOk result (λ made. (a : _) →
+        drafted made.draft a ≡ entries node.old.node job.now a) }
+    ensures sender { IfOk result (λ made.
+        made.sender ≡ sender_of (asker_of node.old.node job.now) job.now) }
+    ensures err { OnErr result (MayBeNoted node.old.node job.now) }
+    ensures same { node.new ≡ node.old }
+{
+    let owned = share(alloc, node, job)?;
     let process = asker(node, job);
-    let draft = Draft::new(alloc, node.number(), node.boot(), process, job)?;
-    let sender = sender(alloc, process, job)?;
+    let sender = sender(alloc, process, &owned, job)?;
+    let draft = Draft::new(alloc, node.number(), node.boot(), process, owned, job)?;
     Ok(Prepared { draft, sender })
 }
 
 // The same, where the node runs, with room for what would be noted and sent.
 fn prepare<K: Keeper>(
     alloc: Global,
-    node: &Node<K>,
+    node: &mut Node<K>,
     job: &Job,
     audit: &mut Vec<Admission>,
     sent: &mut Vec<Sent>,
 ) -> Result<Prepared, Fault>
     ensures drafts { IfOk result (λ made. (a : _) →
-        drafted made.draft a ≡ entries node.now.node job.now a) }
+        drafted made.draft a ≡ entries node.old.node job.now a) }
     ensures sender { IfOk result (λ made.
-        made.sender ≡ sender_of (asker_of node.now.node job.now) job.now) }
+        made.sender ≡ sender_of (asker_of node.old.node job.now) job.now) }
     ensures to_note { IfOk result (λ made.
         HasRoom made.draft (vec_len audit.new) (vec_capacity audit.new)) }
     ensures to_send { IfOk result (λ made.
         HasRoom made.draft (vec_len sent.new) (vec_capacity sent.new)) }
     ensures audit { audit.new.items ≡ audit.old.items }
     ensures sent { sent.new.items ≡ sent.old.items }
-    ensures err { IfErr result (IsUnready node.now.node job.now) }
+    ensures err { IfErr result (IsUnready node.old.node job.now) }
+    ensures same { node.new ≡ node.old }
 {
     if let State::Stopped(_) = node.state() {
         return Err(Fault::Stopped);
@@ -144,7 +169,7 @@ fn prepare<K: Keeper>(
 }
 
 // Has the node of this number do the job at its desk, under all that is published. What would be noted and sent is made and
-// has its room before.
+// has its room before. Copies what who asks owns only where that has changed since it was noted last.
 pub(crate) fn work<K: Keeper>(
     alloc: Global,
     number: u16,

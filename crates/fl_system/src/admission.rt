@@ -1,5 +1,6 @@
 //! What is noted of a world: each thing that a reference monitor admitted.
 
+use fl_bench::shared::SharedCaps;
 use fl_jobs::job::Side;
 use fl_labels::cap::Cap;
 use fl_labels::cap_set::CapSet;
@@ -15,7 +16,7 @@ use fl_rules::labels::Labels;
 pub struct Party {
     pub pid: Pid,
     pub labels: Labels,
-    pub owned: CapSet,
+    pub owned: SharedCaps,
 }
 
 /// One thing that was admitted, with all that its safety is judged by.

@@ -1,6 +1,6 @@
 -- A birth is noted.
 use Rattle.std.proofs.Common.{ap}
-use Rattle.fl_audit.specs.parts.Noted.{act_noted}
+use Rattle.fl_audit.specs.Noted.{act_noted}
 use Rattle.fl_audit.proofs.Notes.{on_err}
 use Rattle.fl_audit.proofs.draft.draft_act.Goals as goal
 

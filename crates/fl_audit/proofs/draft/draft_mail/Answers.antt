@@ -1,6 +1,6 @@
 -- A message that is sent is noted.
 use Rattle.std.proofs.Common.{ap}
-use Rattle.fl_audit.specs.parts.Noted.{mail_noted}
+use Rattle.fl_audit.specs.Noted.{mail_noted}
 use Rattle.fl_audit.proofs.Notes.{on_err}
 use Rattle.fl_audit.proofs.draft.draft_mail.Goals as goal
 

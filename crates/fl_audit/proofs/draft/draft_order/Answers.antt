@@ -1,6 +1,6 @@
 -- A put and a new login are noted.
 use Rattle.std.proofs.Common.{ap}
-use Rattle.fl_audit.specs.parts.Noted.{order_noted}
+use Rattle.fl_audit.specs.Noted.{order_noted}
 use Rattle.fl_audit.proofs.Notes.{on_err}
 use Rattle.fl_audit.proofs.draft.draft_order.Goals as goal
 

@@ -1,26 +1,38 @@
-use Rattle.fl_monitor.proofs.ActLemmas.{answers_of, act_busy, act_unchecked, act_full, act_order, act_relabel, act_ask, act_spawn, act_exit, act_drop, act_enter, act_kept_in, act_emit, act_mail}
+use Rattle.std.proofs.Common.{◌∙◌, ap, sym}
+use Rattle.fl_bench.specs.declared.process.Holding.TheVariants.{Idle, Ordering}
+use Rattle.fl_monitor.proofs.ActLemmas.{answers_of, act_busy, act_unchecked, act_full, act_order, act_relabel, act_ask, act_spawn, act_exit, act_drop, act_enter, act_kept_in, act_emit, act_mail, over}
 use Rattle.fl_monitor.proofs.act.act_alone.Goals as goal
 
 pub returns-in_default-clause-acts : goal.returns-in_default-clause-acts
 returns-in_default-clause-acts g c = act_busy _ c.args.pid c.args.process.now c.args.act c.in_default.not-Idle
 
 pub returns-in_err-check_order-in-Order-clause-acts : goal.returns-in_err-check_order-in-Order-clause-acts
-returns-in_err-check_order-in-Order-clause-acts g c = act_unchecked _ c.args.pid c.args.process.now c.args.act _ c.in-Idle.is _ c.in-Order.is c.check_order.ensures.checked _ c.in_err-check_order-in-Order.was c.from_residual.ensures
+returns-in_err-check_order-in-Order-clause-acts g c =
+    over _ c.args.pid c.args.process.now c.args.act (λ s. record c.args.process.now { owned = Idle s }) c.caps.ensures
+    (act_unchecked _ c.args.pid c.args.process.now c.args.act _ (c.in-Idle.is ∙ ap Idle (sym c.caps.ensures)) _ c.in-Order.is c.check_order.ensures.checked _ c.in_err-check_order-in-Order.was c.from_residual.ensures)
 
 pub returns-in_default-begin-clause-acts : goal.returns-in_default-begin-clause-acts
-returns-in_default-begin-clause-acts g c = act_full _ c.args.pid c.args.process.now c.args.act _ c.in-Idle.is _ c.in-Order.is c.check_order.ensures.checked _ c.in_ok-check_order-in-Order.was _ c.in_default-begin.ensures.err
+returns-in_default-begin-clause-acts g c =
+    act_full _ c.args.pid c.args.process.now c.args.act _ (c.in-Idle.is ∙ ap Idle (sym c.caps.ensures)) _ c.in-Order.is c.check_order.ensures.checked _ c.in_ok-check_order-in-Order.was _ (c.in_default-begin.ensures.err ∙ ap Idle (sym c.caps.ensures))
 
 pub returns-in-Ok-clause-acts : goal.returns-in-Ok-clause-acts
-returns-in-Ok-clause-acts g c = act_order _ c.args.pid c.args.process.now c.args.act _ c.in-Idle.is _ c.in-Order.is c.check_order.ensures.checked _ c.in_ok-check_order-in-Order.was _ c.body_of_order.ensures _ c.in-Ok.ensures.ok
+returns-in-Ok-clause-acts g c =
+    act_order _ c.args.pid c.args.process.now c.args.act _ (c.in-Idle.is ∙ ap Idle (sym c.caps.ensures)) _ c.in-Order.is c.check_order.ensures.checked _ c.in_ok-check_order-in-Order.was _ c.body_of_order.ensures _ (c.in-Ok.ensures.ok ∙ ap Ordering (sym c.caps.ensures))
 
 pub returns-in-Relabel-clause-acts : goal.returns-in-Relabel-clause-acts
-returns-in-Relabel-clause-acts g c = act_relabel _ c.args.pid c.args.process.now c.args.act _ c.in-Idle.is _ _ c.in-Relabel.is c.relabel.ensures.relabels _ c.answer_alone.ensures
+returns-in-Relabel-clause-acts g c =
+    over _ c.args.pid c.args.process.now c.args.act (λ s. record c.args.process.now { labels = c.relabel.new.labels; owned = Idle s }) c.caps-in-Relabel.ensures
+    (act_relabel _ c.args.pid c.args.process.now c.args.act _ (c.in-Idle.is ∙ ap Idle (sym c.caps-in-Relabel.ensures)) _ _ c.in-Relabel.is c.relabel.ensures.relabels _ c.answer_alone.ensures)
 
 pub returns-in-Ask-clause-acts : goal.returns-in-Ask-clause-acts
-returns-in-Ask-clause-acts g c = act_ask _ c.args.pid c.args.process.now c.args.act _ c.in-Idle.is _ c.in-Ask.is _ (answers_of c.effective.result _ c.reply_of-reply.ensures c.effective.ensures.answer)
+returns-in-Ask-clause-acts g c =
+    over _ c.args.pid c.args.process.now c.args.act (λ s. record c.args.process.now { owned = Idle s }) c.caps-in-Ask.ensures
+    (act_ask _ c.args.pid c.args.process.now c.args.act _ (c.in-Idle.is ∙ ap Idle (sym c.caps-in-Ask.ensures)) _ c.in-Ask.is _ (answers_of c.effective.result _ c.reply_of-reply.ensures c.effective.ensures.answer))
 
 pub returns-in-Spawn-clause-acts : goal.returns-in-Spawn-clause-acts
-returns-in-Spawn-clause-acts g c = act_spawn _ c.args.pid c.args.process.now c.args.act _ c.in-Idle.is _ c.in-Spawn.is c.spawn.ensures.spawns
+returns-in-Spawn-clause-acts g c =
+    over _ c.args.pid c.args.process.now c.args.act (λ s. record c.args.process.now { owned = Idle s }) c.caps-in-Spawn.ensures
+    (act_spawn _ c.args.pid c.args.process.now c.args.act _ (c.in-Idle.is ∙ ap Idle (sym c.caps-in-Spawn.ensures)) _ c.in-Spawn.is c.spawn.ensures.spawns)
 
 pub returns-in-Exit-clause-acts : goal.returns-in-Exit-clause-acts
 returns-in-Exit-clause-acts g c = act_exit _ c.args.pid c.args.process.now c.args.act _ c.in-Idle.is c.in-Exit.is
@@ -32,10 +44,16 @@ pub returns-in-Enter-clause-acts : goal.returns-in-Enter-clause-acts
 returns-in-Enter-clause-acts g c = act_enter _ c.args.pid c.args.process.now c.args.act _ c.in-Idle.is _ _ c.in-Enter.is c.enter.ensures.enters _ c.answer_alone-in-Enter.ensures
 
 pub returns-in_err-check-in-Emit-clause-acts : goal.returns-in_err-check-in-Emit-clause-acts
-returns-in_err-check-in-Emit-clause-acts g c = act_kept_in _ c.args.pid c.args.process.now c.args.act _ c.in-Idle.is _ c.in-Emit.is c.check.ensures.checked _ c.in_err-check-in-Emit.was c.from_residual-in_err-check-in-Emit.ensures
+returns-in_err-check-in-Emit-clause-acts g c =
+    over _ c.args.pid c.args.process.now c.args.act (λ s. record c.args.process.now { owned = Idle s }) c.caps-in-Emit.ensures
+    (act_kept_in _ c.args.pid c.args.process.now c.args.act _ (c.in-Idle.is ∙ ap Idle (sym c.caps-in-Emit.ensures)) _ c.in-Emit.is c.check.ensures.checked _ c.in_err-check-in-Emit.was c.from_residual-in_err-check-in-Emit.ensures)
 
 pub returns-in_ok-check-in-Emit-clause-acts : goal.returns-in_ok-check-in-Emit-clause-acts
-returns-in_ok-check-in-Emit-clause-acts g c = act_emit _ c.args.pid c.args.process.now c.args.act _ c.in-Idle.is _ c.in-Emit.is c.check.ensures.checked _ c.in_ok-check-in-Emit.was
+returns-in_ok-check-in-Emit-clause-acts g c =
+    over _ c.args.pid c.args.process.now c.args.act (λ s. record c.args.process.now { owned = Idle s }) c.caps-in-Emit.ensures
+    (act_emit _ c.args.pid c.args.process.now c.args.act _ (c.in-Idle.is ∙ ap Idle (sym c.caps-in-Emit.ensures)) _ c.in-Emit.is c.check.ensures.checked _ c.in_ok-check-in-Emit.was)
 
 pub returns-in-Mail-clause-acts : goal.returns-in-Mail-clause-acts
-returns-in-Mail-clause-acts g c = act_mail _ c.args.pid c.args.process.now c.args.act _ c.in-Idle.is _ c.in-Mail.is _ c.lend-labels-in-Mail.ensures c.do_mail.ensures.mails _ c.answer_alone-in-Mail.ensures
+returns-in-Mail-clause-acts g c =
+    over _ c.args.pid c.args.process.now c.args.act (λ s. record c.args.process.now { mailbox = c.do_mail.new.mailbox; owned = Idle s }) c.caps-in-Mail.ensures
+    (act_mail _ c.args.pid c.args.process.now c.args.act _ (c.in-Idle.is ∙ ap Idle (sym c.caps-in-Mail.ensures)) _ c.in-Mail.is _ c.lend-labels-in-Mail.ensures c.do_mail.ensures.mails _ c.answer_alone-in-Mail.ensures)

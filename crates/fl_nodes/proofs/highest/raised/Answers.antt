@@ -1,4 +1,4 @@
-use Rattle.std.proofs.Common.{◌≤◌, ◌<◌, ◌-◌, arith, get_or, length, sym, ap, subst, ◌≡◌, List}
+use Rattle.std.proofs.Common.{◌≤◌, ◌<◌, ◌-◌, arith, get_or, length, subst, ◌≡◌, List}
 use Rattle.fl_ops.specs.declared.op.Op.{Op}
 use Rattle.fl_nodes.proofs.Highs.{last_highest, none_above}
 use Rattle.fl_nodes.proofs.highest.raised.Goals as goal

@@ -1,9 +1,11 @@
--- Which acts are noted where their answer is the right one.
-use Rattle.std.specs.Prelude.{Bool, true, false, is_some}
+-- Which jobs are noted, where their answer is the right one, with what who asks for them owns.
+use Rattle.std.specs.Prelude.{◌≡◌, Bool, true, false, is_some, IsSome}
 use Rattle.std.specs.FinMap as map
 use Rattle.std.specs.declared.option.Option.{Option}
 use Rattle.std.specs.declared.option.Option.TheVariants.{None, Some}
 use Rattle.std.specs.declared.result.Result.TheVariants.{Ok, Err}
+use Rattle.fl_labels.specs.Cap.{cap_cmp}
+use Rattle.fl_labels.specs.SetBy.{SetBy}
 use Rattle.fl_mailbox.specs.declared.endpoints.OpenEndpoint.{OpenEndpoint}
 use Rattle.fl_mailbox.specs.declared.mailbox.Mailbox.{Mailbox}
 use Rattle.fl_jobs.specs.Given.{labels_of}
@@ -11,10 +13,13 @@ use Rattle.fl_jobs.specs.declared.job.Act.{Act}
 use Rattle.fl_jobs.specs.declared.job.Act.TheVariants.{Order, Relabel, Ask, Spawn, Exit}
 use Rattle.fl_jobs.specs.declared.job.Act.TheVariants.{Drop, Enter, Emit, Mail}
 use Rattle.fl_jobs.specs.declared.job.GivenLabels.{GivenLabels}
+use Rattle.fl_jobs.specs.declared.job.Job.{Job}
+use Rattle.fl_jobs.specs.declared.job.Job.TheVariants.{Proc, By, Member, Arrive}
 use Rattle.fl_jobs.specs.declared.job.Mail as mails
 use Rattle.fl_jobs.specs.declared.job.Mail.TheVariants.{Open, Tune, Close, Send, Take}
 use Rattle.fl_jobs.specs.declared.job.Order as orders
 use Rattle.fl_jobs.specs.declared.job.Order.TheVariants.{Tag, Group, Put, MakeLogin}
+use Rattle.fl_bench.specs.Process.{owned_by}
 use Rattle.fl_bench.specs.declared.process.Process.{Process}
 
 abbrev pub order_noted : orders.Order → Bool
@@ -46,3 +51,17 @@ act_noted p (Drop c) = false
 act_noted p (Enter login secret) = true
 act_noted p (Emit bytes) = true
 act_noted p (Mail c) = mail_noted p.mailbox c
+
+-- of the job that this process asks for, if one does
+abbrev pub asker_noted : Option Process → Job → Bool
+asker_noted None job = false
+asker_noted (Some p) Proc = false
+asker_noted (Some p) (By pid act) = act_noted p act
+asker_noted (Some p) (Member root c) = false
+asker_noted (Some p) (Arrive d) = false
+
+-- These capabilities, if any, may be handed over to note the job: they are given where they are noted, and are what
+-- who asks owns.
+pub record IsNotedWith (asker : Option Process) (job : Job) (owned : Option (SetBy cap_cmp)) : Type 0 where
+  pub given : asker_noted asker job ≡ true → IsSome owned
+  pub right : (caps : SetBy cap_cmp) → owned ≡ Some caps → owned_by asker ≡ Some caps

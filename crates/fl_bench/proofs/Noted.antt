@@ -1,0 +1,41 @@
+-- What is owned and what was noted of it.
+use Rattle.std.proofs.Common.{◌≡◌, ◌∙◌, arith, ap, sym, refl, Bool, true, false, List, length}
+use Rattle.std.specs.Prelude.{◌||◌, not, MatchBool}
+use Rattle.std.specs.List.{AllWithin}
+use Rattle.std.proofs.lemmas.Bool.{false≢true}
+use Rattle.fl_labels.specs.Cap.{cap_cmp}
+use Rattle.fl_labels.specs.CapOrder.{cap_total, cap_exact}
+use Rattle.fl_labels.specs.Found.{Within}
+use Rattle.fl_labels.specs.SetBy as set
+use Rattle.fl_labels.specs.SetBy.{SetBy, In, contains, members, of_list, of_list-members, same_set, contains-union}
+use Rattle.fl_labels.specs.laws.Rising.{insert_member}
+use Rattle.fl_labels.specs.laws.SortedVec.{every_member}
+use Rattle.fl_labels.specs.declared.cap.Cap.{Cap}
+
+-- a set is that of its members
+pub of_slice : (s : SetBy cap_cmp) (cs : List Cap) → cs ≡ members s → of_list {R = cap_cmp} cs ≡ s
+of_slice s cs e = ap (λ (l : List Cap). of_list {R = cap_cmp} l) e ∙ of_list-members cap_total cap_exact s
+
+or_within : (a b : Bool) → (b ≡ true → a ≡ true) → a ≡ (a || b)
+or_within true b h = refl
+or_within false true h = h refl
+or_within false false h = refl
+
+-- where nothing is new
+pub union_within : (s t : SetBy cap_cmp) → Within (In t) (In s) → s ≡ set.union s t
+union_within s t h =
+    same_set cap_total cap_exact s (set.union s t) (λ q. or_within _ _ (h q) ∙ sym (contains-union cap_total s t q))
+
+not_false : (b : Bool) → false ≡ not b → b ≡ true
+not_false true e = refl
+not_false false e = absurd (false≢true e)
+
+pub insert_there : (s : SetBy cap_cmp) (c : Cap) → false ≡ not (contains s c) → set.insert s c ≡ s
+insert_there s c e = insert_member cap_total cap_exact s c (not_false _ e)
+
+-- where a walk along t found each member in s
+pub all_there : (Q : Type 0) (b : Bool) (items : List Cap) (s t : SetBy cap_cmp) → items ≡ members t
+    → MatchBool b (AllWithin (In s) items 0 (length items)) Q → b ≡ true → Within (In t) (In s)
+all_there Q true items s t is all e =
+    every_member cap_total cap_exact (In s) items t (of_slice t items is) (λ k d within. all k d (omega arith) within)
+all_there Q false items s t is all e = absurd (false≢true e)
