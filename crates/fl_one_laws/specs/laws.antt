@@ -1,5 +1,4 @@
 -- Proved laws of one outcome, that the crates above cite.
-pub mod OneCut
 pub mod Tellings
 pub mod Benches
 pub mod Calls

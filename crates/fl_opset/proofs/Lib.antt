@@ -14,6 +14,5 @@ pub mod Ends
 pub mod Added
 pub mod Kept
 pub mod Whole
-pub mod OneCut
 pub mod CaughtUp
 pub mod Covers

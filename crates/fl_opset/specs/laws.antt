@@ -3,3 +3,5 @@ pub mod Unions
 pub mod Fits
 pub mod ByRank
 pub mod Members
+pub mod Once
+pub mod OneCut

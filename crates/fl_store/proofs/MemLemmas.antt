@@ -8,7 +8,7 @@ use Rattle.fl_store.specs.declared.health.Health.TheVariants.{Sound, BreaksAfter
 use Rattle.fl_store.specs.Kept.{Kept, HasNamesOnce, AreNew, with_batch}
 use Rattle.fl_store.specs.Keeping.{Held, Follows}
 use Rattle.fl_store.specs.MemKeeping.{health_after, saved_after, is_broken_at}
-use Rattle.fl_store.proofs.KeptLemmas.{once-more}
+use Rattle.fl_store.specs.laws.KeptSets.{once-more}
 
 -- an opening finds this alone
 abbrev pub Just : Kept → Held

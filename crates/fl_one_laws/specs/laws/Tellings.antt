@@ -16,7 +16,7 @@ use Rattle.fl_wire.specs.declared.packet.Packet.TheVariants as kinds
 use Rattle.fl_gossip.specs.Taking.{ops_of}
 use Rattle.fl_gossip.specs.Replying.{IsDelta, AreDeltas}
 use Rattle.fl_system.specs.Gossip.{IsSummary, IsAnswer}
-use Rattle.fl_one_laws.specs.laws.OneCut.{one_windows}
+use Rattle.fl_opset.specs.laws.OneCut.{one_windows}
 
 same_batch : (a b : Batch) → a.ops ≡ b.ops → a ≡ b
 same_batch a b p =

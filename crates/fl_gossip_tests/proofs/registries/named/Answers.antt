@@ -3,7 +3,7 @@ use Rattle.fl_labels.specs.SetBy as set
 use Rattle.fl_labels.specs.SetBy.{In}
 use Rattle.fl_ops.specs.OpOrder.{op_cmp}
 use Rattle.fl_opset.specs.Catching.{HaveNoClash}
-use Rattle.fl_gossip_tests.proofs.Once.{same_once, empty_once}
+use Rattle.fl_opset.specs.laws.Once.{same_once, empty_once}
 use Rattle.fl_gossip_tests.proofs.registries.named.Goals as goal
 
 pub loop-op-init : goal.loop-op-init

@@ -1,5 +1,5 @@
 use Rattle.std.proofs.Common.{sym, ◌∙◌}
-use Rattle.fl_gossip_tests.proofs.Once.{same_once, insert_once, none_found}
+use Rattle.fl_opset.specs.laws.Once.{same_once, insert_once, none_found}
 use Rattle.fl_gossip_tests.proofs.registries.put.Goals as goal
 
 pub returns-in_err-add : goal.returns-in_err-add

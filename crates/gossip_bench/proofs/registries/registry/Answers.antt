@@ -3,7 +3,7 @@ use Rattle.fl_labels.specs.SetBy as set
 use Rattle.fl_labels.specs.SetBy.{In}
 use Rattle.fl_ops.specs.OpOrder.{op_cmp}
 use Rattle.fl_opset.specs.Catching.{HaveNoClash}
-use Rattle.gossip_bench.proofs.Once.{same_once, empty_once}
+use Rattle.fl_opset.specs.laws.Once.{same_once, empty_once}
 use Rattle.gossip_bench.proofs.registries.registry.Goals as goal
 
 pub loop-seq-init : goal.loop-seq-init

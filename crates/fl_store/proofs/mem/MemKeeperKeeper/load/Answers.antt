@@ -3,7 +3,7 @@ use Rattle.fl_labels.specs.SetBy as set
 use Rattle.fl_ops.specs.OpLaws.{op_total, op_exact}
 use Rattle.fl_store.specs.Kept.{HasNamesOnce}
 use Rattle.fl_store.specs.MemKeeping.{MemKept}
-use Rattle.fl_store.proofs.KeptLemmas.{union-nothing}
+use Rattle.fl_store.specs.laws.KeptSets.{union-nothing}
 use Rattle.fl_store.proofs.mem.MemKeeperKeeper.load.Goals as goal
 
 pub returns-clause-names : goal.returns-clause-names
