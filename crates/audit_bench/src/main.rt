@@ -55,7 +55,7 @@ fn caps(alloc: Global, count: u32) -> Result<CapSet, AllocError>
             seq: number + 1,
         }))?;
     }
-    Ok(CapSet::from_vec(caps))
+    CapSet::from_vec(caps)
 }
 
 // What is noted of so many questions that are answered yes.

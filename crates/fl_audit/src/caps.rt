@@ -13,7 +13,7 @@ use std::alloc::{AllocError, Global};
 pub(crate) fn set_of(alloc: Global, caps: &[Cap]) -> Result<CapSet, AllocError>
     ensures { IfOk result (λ made. made ≡ set.of_list caps.now) }
 {
-    Ok(CapSet::from_vec(Vec::from_slice(alloc, caps)?))
+    CapSet::from_vec(Vec::from_slice(alloc, caps)?)
 }
 
 /// Both labels again, where neither is too long. Wants memory only where that is so.

@@ -69,7 +69,7 @@ fn share(
     if let Some(last) = noted {
         return last.copy();
     }
-    let caps = CapSet::from_vec(Vec::from_slice(alloc, caps)?);
+    let caps = CapSet::from_vec(Vec::from_slice(alloc, caps)?)?;
     let made = SharedCaps::new(alloc, caps)?;
     *noted = Some(made.copy()?);
     Ok(made)

@@ -1,5 +1,5 @@
 -- Rows closed under the operations of an index.
-use Rattle.std.specs.Prelude.{◌≡◌, ◌⊎◌, ◌↔◌, Bool, true, false, ◌||◌, List, [], ◌∷◌, ◌++◌, ℕ, ◌+◌, ◌<◌, ◌≤◌, length, get_or, take, refl}
+use Rattle.std.specs.Prelude.{◌≡◌, ◌⊎◌, ◌↔◌, Bool, true, false, ◌||◌, ◌&&◌, List, [], ◌∷◌, ◌++◌, ℕ, ◌+◌, ◌<◌, ◌≤◌, length, get_or, take, refl}
 use Rattle.std.proofs.Common.{inl, inr, sym, ap, subst, ◌∙◌}
 use Rattle.std.specs.List.{Contains}
 use Rattle.std.specs.Cmp.{Equal-is, tied_itself}
@@ -7,13 +7,15 @@ use Rattle.std.specs.Ordering.{eq_by_cmp, is_eq}
 use Rattle.std.proofs.lemmas.Bool.{or_cases, false≢true}
 use Rattle.std.proofs.lemmas.List.{take_more}
 use Rattle.std.proofs.lemmas.List.Elements.{Contains-get_or, Contains-append_cases}
-use Rattle.fl_labels.specs.Cap.{cap_cmp}
+use Rattle.fl_labels.specs.Cap.{cap_cmp, is_use}
 use Rattle.fl_labels.specs.CapOrder.{cap_total, cap_exact}
 use Rattle.fl_labels.specs.Found.{Tells}
 use Rattle.fl_labels.specs.SetBy as set
-use Rattle.fl_labels.specs.SetBy.{SetBy, In, IsMissing, members, contains-empty, contains-insert, contains-union, contains-members, same_set}
+use Rattle.fl_labels.specs.SetBy.{SetBy, In, IsMissing, members, contains-empty, contains-insert, contains-union, contains-of_list, contains-members, same_set}
 use Rattle.fl_labels.specs.declared.name.Name.{Name}
 use Rattle.fl_labels.specs.declared.cap.Cap.{Cap}
+use Rattle.fl_labels.specs.declared.cap.Cap.TheVariants.{Plus, Minus, Use, Grow}
+use Rattle.fl_labels.specs.Uses.{AreUsesOf}
 use Rattle.fl_labels.specs.laws.Rising.{insert_member}
 use Rattle.fl_ops.specs.declared.op.Op.{Op}
 use Rattle.fl_ops.specs.OpOrder.{op_cmp}
@@ -25,7 +27,7 @@ use Rattle.fl_closure.specs.declared.closed.Entry.{Entry}
 use Rattle.fl_closure.specs.parts.Rows.{Holds, IsSameRows}
 use Rattle.fl_closure.specs.parts.Closed.{AreClosed, Leads, With, ClosesWith}
 use Rattle.fl_closure.specs.parts.Noted.{Gains, Loses}
-use Rattle.fl_closure.proofs.Members.{none, one, first, in_all, in_has, has_in}
+use Rattle.fl_closure.proofs.Members.{none, one, first, in_all, any_has, has_any, in_has, has_in}
 use Rattle.fl_closure.proofs.Noting.{taken_back}
 use Rattle.fl_closure.proofs.Growing.{same_puts, leads_chain, chain_leads}
 use Rattle.fl_closure.proofs.Leading.{told, told_yes}
@@ -156,6 +158,24 @@ pub told_reach : (inside s : SetBy op_cmp) (rows : Rows) → inside ≡ s → Ar
 told_reach inside s rows view closed root c b t = subst (λ o. Tells b (Reach (In o) (From root) c)) view
     (told b (λ l. chain_from c (leads_chain closed root c l)) (λ r. chain_leads closed (from_chain c r)) t)
 
+second_of : (a b : Bool) → (a && b) ≡ true → b ≡ true
+second_of true b h = h
+second_of false b h = absurd (false≢true h)
+
+used_owned : (owned : SetBy cap_cmp) (uses : List Cap) → AreUsesOf owned uses → (root : Cap) → Contains uses root → In owned root
+used_owned owned uses are_uses root h =
+    second_of (is_use root) _ (sym (are_uses.are root) ∙ contains-of_list cap_total uses root ∙ has_any cap_total cap_exact uses root h)
+
+-- what is owned and leads to another capability is a use
+leading_used : (owned : SetBy cap_cmp) (uses : List Cap) (rows : Rows) → AreUsesOf owned uses → (root c : Cap) → In owned root
+    → ¬ (c ≡ root) → Leads rows root c → Contains uses root
+leading_used owned uses rows are_uses root c there other (inl e) = absurd (other e)
+leading_used owned uses rows are_uses (Use group) c there other (inr h) =
+    any_has cap_total cap_exact uses (Use group) (sym (contains-of_list cap_total uses (Use group)) ∙ are_uses.are (Use group) ∙ there)
+leading_used owned uses rows are_uses (Plus tag) c there other (inr h) = absurd h
+leading_used owned uses rows are_uses (Minus tag) c there other (inr h) = absurd h
+leading_used owned uses rows are_uses (Grow group) c there other (inr h) = absurd h
+
 module _ (s : SetBy op_cmp) (owned : SetBy cap_cmp) (c : Cap) where
   pub told_owned : In owned c → Tells true (InEffect (In s) (In owned) c)
   told_owned h = told_yes (owned_eff c h)
@@ -163,20 +183,21 @@ module _ (s : SetBy op_cmp) (owned : SetBy cap_cmp) (c : Cap) where
   pub told_global : IsGlobal (In s) c → Tells true (InEffect (In s) (In owned) c)
   told_global g = told_yes (inr g)
 
-  -- what is not everybody's
-  pub told_led : (inside : SetBy op_cmp) (rows : Rows) (caps : List Cap) (b : Bool) → inside ≡ s
-      → AreClosed (In inside) rows → caps ≡ members owned
-      → ¬ IsGlobal (In s) c
-      → Tells b ((root : Cap) × Contains caps root × Leads rows root c) → Tells b (InEffect (In s) (In owned) c)
-  told_led inside rows caps b view as_kept listed not_global t = told b to from t
+  -- what is neither owned nor everybody's
+  pub told_led : (inside : SetBy op_cmp) (rows : Rows) (uses : List Cap) (b : Bool) → inside ≡ s
+      → AreClosed (In inside) rows → AreUsesOf owned uses
+      → set.contains owned c ≡ false → ¬ IsGlobal (In s) c
+      → Tells b ((root : Cap) × Contains uses root × Leads rows root c) → Tells b (InEffect (In s) (In owned) c)
+  told_led inside rows uses b view as_kept are_uses lacking not_global t = told b to from t
     where
       closed : AreClosed (In s) rows
       closed = subst (λ o. AreClosed (In o) rows) view as_kept
 
-      to : (root : Cap) × Contains caps root × Leads rows root c → InEffect (In s) (In owned) c
-      to h = inl (h.0, has_in cap_total cap_exact owned h.0 (subst (λ l. Contains l h.0) listed h.1), leads_chain closed h.0 c h.2)
+      to : (root : Cap) × Contains uses root × Leads rows root c → InEffect (In s) (In owned) c
+      to h = inl (h.0, used_owned owned uses are_uses h.0 h.1, leads_chain closed h.0 c h.2)
 
-      from : InEffect (In s) (In owned) c → (root : Cap) × Contains caps root × Leads rows root c
+      from : InEffect (In s) (In owned) c → (root : Cap) × Contains uses root × Leads rows root c
       from (inl r) =
-          (r.0, subst (λ l. Contains l r.0) (sym listed) (in_has cap_total cap_exact owned r.0 r.1), chain_leads closed r.2)
+          let led = chain_leads closed r.2 in
+          (r.0, leading_used owned uses rows are_uses r.0 c r.1 (λ e. false≢true (sym lacking ∙ subst (In owned) (sym e) r.1)) led, led)
       from (inr g) = absurd (not_global g)

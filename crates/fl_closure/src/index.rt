@@ -166,14 +166,14 @@ impl Index {
 
     /// Whether the owner of these capabilities has this one in effect: reaches it, or everybody has it. Takes no memory.
     ///
-    /// Two binary searches. Where it is neither owned nor everybody's, then a walk over what is owned, with two searches by order
-    /// for each use of a group.
+    /// A binary search in what is owned, and one in the operations. Where it is neither owned nor everybody's, then two searches by
+    /// order for each use of a group that is owned.
     pub fn effective(&self, owned: &CapSet, cap: Cap) -> bool
         ensures { Tells result (InEffect (In self.now) (In owned.now) cap) }
     {
         if owned.contains(cap) || self.global(cap) {
             return true;
         }
-        self.rows.one_leads(owned.as_slice(), cap)
+        self.rows.one_leads(owned.uses(), cap)
     }
 }

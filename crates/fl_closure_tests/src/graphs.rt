@@ -134,7 +134,7 @@ fn in_effect(alloc: Global, pairs: &[bool], owned: &[u16]) -> Result<CapSet, All
             caps.push(cap_of(to))?;
         }
     }
-    Ok(CapSet::from_vec(caps))
+    CapSet::from_vec(caps)
 }
 
 fn set_of(alloc: Global, numbers: &[u16]) -> Result<CapSet, AllocError> {

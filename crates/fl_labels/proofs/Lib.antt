@@ -5,3 +5,4 @@ pub mod Numbers
 pub mod Cut
 pub mod Walk
 pub mod Arrange
+pub mod UsesKept

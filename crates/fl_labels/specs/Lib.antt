@@ -14,6 +14,7 @@ pub mod Words
 pub mod ItemText
 pub mod Judged
 pub mod Arranged
+pub mod Uses
 pub mod Error
 pub mod parts
 pub mod laws

@@ -1,7 +1,7 @@
 //! Capabilities.
 ghost use Rattle.std.specs.Prelude.{◌≡◌, ◌∷◌, [], refl};
 ghost use Rattle.std.specs.Ordering.{as_partial_cmp};
-ghost use Rattle.fl_labels.specs.Cap.{cap_name, cap_rank, cap_cmp};
+ghost use Rattle.fl_labels.specs.Cap.{cap_name, cap_rank, cap_cmp, is_use};
 ghost use Rattle.fl_labels.specs.Text.{cap_sign};
 
 use crate::name::Name;
@@ -40,6 +40,16 @@ impl Cap {
             Cap::Minus(_) => 2,
             Cap::Use(_) => 3,
             Cap::Grow(_) => 4,
+        }
+    }
+
+    /// Whether it is the use of a group.
+    pub fn is_use(self) -> bool
+        ensures { result ≡ is_use self }
+    {
+        match self {
+            Cap::Use(_) => true,
+            Cap::Plus(_) | Cap::Minus(_) | Cap::Grow(_) => false,
         }
     }
 

@@ -4,6 +4,7 @@ ghost use Rattle.fl_labels.specs.Cap.{cap_cmp};
 ghost use Rattle.fl_labels.specs.Found.{Found, Tells, Within};
 ghost use Rattle.fl_labels.specs.Judged.{Judges};
 ghost use Rattle.fl_labels.specs.Text.{cap_text};
+ghost use Rattle.fl_labels.specs.Uses.{AreUsesOf};
 ghost use Rattle.fl_labels.specs.Words.{IsListing};
 ghost use Rattle.fl_labels.specs.SetBy as set;
 
@@ -12,22 +13,24 @@ use crate::error::SetError;
 use crate::list::read_items;
 use crate::roomy::{RoomyCapSet, put_all};
 use crate::sorted::{arrange, first_outside};
+use crate::uses::{make_room, put_use, take_use, uses_of};
 use std::alloc::{AllocError, Global};
 use std::fmt;
 use std::marker::Model;
 use std::slice::Iter;
 
-/// A set of capabilities, kept as a rising vector.
+/// A set of capabilities, kept as a rising vector, with the uses of groups in another one beside.
 #[derive(Debug, Drop)]
 pub struct CapSet {
     pub(crate) caps: Vec<Cap>,
+    pub(crate) uses: Vec<Cap>,
 }
 
 impl Model for CapSet {
     ghost use Rattle.fl_labels.specs.SetBy as set;
     ghost use Rattle.fl_labels.specs.Cap.{cap_cmp};
     ghost use Rattle.fl_labels.specs.CapOrder.{coded_cap};
-    ghost use Rattle.std.specs.List.Sorted.{IsStrictlySortedBy};
+    ghost use Rattle.fl_labels.specs.parts.Apart.{AreApart};
 
     ghost Value = { set.SetBy cap_cmp };
 
@@ -35,7 +38,7 @@ impl Model for CapSet {
 
     ghost view = { λ a. set.of_list a.caps.items };
 
-    ghost invariant = { λ a. IsStrictlySortedBy cap_cmp a.caps.items };
+    ghost invariant = { λ a. AreApart a.caps.items a.uses.items };
 }
 
 impl PartialEq for CapSet {
@@ -88,16 +91,18 @@ impl CapSet {
     {
         CapSet {
             caps: Vec::new(alloc),
+            uses: Vec::new(alloc),
         }
     }
 
-    /// The set of some capabilities, in any order, repeated or not. Linear where they rise, and else a sort in place. Takes no
-    /// memory.
-    pub fn from_vec(mut caps: Vec<Cap>) -> Self
-        ensures { result ≡ set.of_list caps.items }
+    /// The set of some capabilities, in any order, repeated or not. Fails only where there is not enough memory for the uses of
+    /// groups among them. Linear where they rise, and else a sort in place.
+    pub fn from_vec(mut caps: Vec<Cap>) -> Result<Self, AllocError>
+        ensures { IfOk result (λ made. made ≡ set.of_list caps.items) }
     {
         arrange(&mut caps);
-        CapSet { caps }
+        let uses = uses_of(*caps.allocator(), &caps)?;
+        Ok(CapSet { caps, uses })
     }
 
     /// Reads a text such as `{+1.1,-1.4}`: capabilities in any order, a repeated one once.
@@ -110,7 +115,7 @@ impl CapSet {
             → (s : set.SetBy cap_cmp) → ¬ IsListing cap_text s text.now }
         ensures never_too_long { IsErrOf result SetError.TooLong → ⊥ }
     {
-        Ok(CapSet::from_vec(read_items(alloc, text)?))
+        Ok(CapSet::from_vec(read_items(alloc, text)?)?)
     }
 
     /// Whether the capability is a member. A binary search.
@@ -127,6 +132,13 @@ impl CapSet {
         &self.caps
     }
 
+    /// The uses of groups among the members, rising. Takes no memory.
+    pub fn uses(&self) -> &[Cap]
+        ensures { AreUsesOf self.now result.now }
+    {
+        &self.uses
+    }
+
     /// Adds a capability, and answers whether it is new. Fails only of a new one for which there is not enough memory, and then
     /// leaves the set. Moves the capabilities above it.
     pub fn insert(&mut self, cap: Cap) -> Result<bool, AllocError>
@@ -138,7 +150,9 @@ impl CapSet {
         match self.caps.binary_search(&cap) {
             Ok(_) => Ok(false),
             Err(place) => {
+                make_room(&mut self.uses, cap)?;
                 self.caps.insert(place, cap)?;
+                put_use(&mut self.uses, cap);
                 Ok(true)
             }
         }
@@ -152,6 +166,7 @@ impl CapSet {
         match self.caps.binary_search(&cap) {
             Ok(place) => {
                 self.caps.remove(place);
+                take_use(&mut self.uses, cap);
                 true
             }
             Err(_) => false,
@@ -191,7 +206,8 @@ impl CapSet {
         ensures { IfOk result (λ made. made ≡ self.now) }
     {
         let caps = Vec::from_slice(alloc, &self.caps)?;
-        Ok(CapSet { caps })
+        let uses = Vec::from_slice(alloc, &self.uses)?;
+        Ok(CapSet { caps, uses })
     }
 
     // Whether each member of the other is one of this set. A binary search for each.
@@ -212,8 +228,10 @@ impl CapSet {
         if self.has_each(other) {
             return Ok(());
         }
+        self.uses.reserve(other.uses.len())?;
         self.caps.reserve(other.caps.len())?;
         put_all(&mut self.caps, &other.caps);
+        put_all(&mut self.uses, &other.uses);
         Ok(())
     }
 
@@ -235,10 +253,12 @@ impl CapSet {
             return judge(asked, self);
         };
         self.caps.remove(place);
+        take_use(&mut self.uses, cap);
         if let Err(refused) = judge(asked, self) {
             let Ok(()) = self.caps.insert(place, cap) else {
                 unreachable!("what was taken out left room");
             };
+            put_use(&mut self.uses, cap);
             return Err(refused);
         }
         Ok(())
@@ -250,10 +270,11 @@ impl CapSet {
         ensures err { IfErr result (λ caps. caps ≡ self) }
     {
         let mut caps = self.caps;
-        if caps.reserve(2).is_ok() {
-            Ok(RoomyCapSet { caps })
+        let mut uses = self.uses;
+        if caps.reserve(2).is_ok() && uses.reserve(2).is_ok() {
+            Ok(RoomyCapSet { caps, uses })
         } else {
-            Err(CapSet { caps })
+            Err(CapSet { caps, uses })
         }
     }
 }

@@ -13,3 +13,4 @@ pub mod pid;
 pub mod roomy;
 pub mod sorted;
 pub mod text;
+mod uses;

@@ -9,12 +9,14 @@ ghost use Rattle.fl_labels.specs.SetBy as set;
 
 use crate::cap::Cap;
 use crate::cap_set::CapSet;
+use crate::uses::put_use;
 use std::marker::Model;
 
 /// A set of capabilities with room for two more, made by `CapSet::with_room`.
 #[derive(Debug, Drop)]
 pub struct RoomyCapSet {
     pub(crate) caps: Vec<Cap>,
+    pub(crate) uses: Vec<Cap>,
 }
 
 impl Model for RoomyCapSet {
@@ -23,7 +25,7 @@ impl Model for RoomyCapSet {
     ghost use Rattle.fl_labels.specs.SetBy as set;
     ghost use Rattle.fl_labels.specs.Cap.{cap_cmp};
     ghost use Rattle.fl_labels.specs.CapOrder.{coded_cap};
-    ghost use Rattle.std.specs.List.Sorted.{IsStrictlySortedBy};
+    ghost use Rattle.fl_labels.specs.parts.Apart.{AreApart};
 
     ghost Value = { set.SetBy cap_cmp };
 
@@ -32,7 +34,8 @@ impl Model for RoomyCapSet {
     ghost view = { λ a. set.of_list a.caps.items };
 
     ghost invariant = { λ a.
-        IsStrictlySortedBy cap_cmp a.caps.items × (vec_len a.caps + 2 ≤ vec_capacity a.caps) };
+        AreApart a.caps.items a.uses.items × (vec_len a.caps + 2 ≤ vec_capacity a.caps)
+        × (vec_len a.uses + 2 ≤ vec_capacity a.uses) };
 }
 
 // Adds a capability in the room that there is.
@@ -77,15 +80,21 @@ impl RoomyCapSet {
         ensures { result ≡ set.insert_all self (first ∷ second ∷ []) }
     {
         let mut caps = self.caps;
+        let mut uses = self.uses;
         put(&mut caps, second);
         put(&mut caps, first);
-        CapSet { caps }
+        put_use(&mut uses, second);
+        put_use(&mut uses, first);
+        CapSet { caps, uses }
     }
 
     /// The same set, whose room is no longer kept for anything.
     pub fn without_room(self) -> CapSet
         ensures { result ≡ self }
     {
-        CapSet { caps: self.caps }
+        CapSet {
+            caps: self.caps,
+            uses: self.uses,
+        }
     }
 }

@@ -34,6 +34,7 @@ fn ask(
         "copy" => copy(alloc, out, caps),
         "insert_all" => insert_all(alloc, out, caps, word),
         "remove_if" => remove_if(out, caps, word),
+        "uses" => uses(out, caps, word),
         _ => list(out, caps),
     }
 }
@@ -98,6 +99,20 @@ fn remove_if(out: &mut String, caps: &mut CapSet, word: &str) -> Result<(), Allo
         Ok(())
     });
     write!(out, "{answer:?} {seen} {caps}")
+}
+
+// How many uses of groups there are, and each of them, after a capability is taken out if it is there, and else put in.
+fn uses(out: &mut String, caps: &mut CapSet, word: &str) -> Result<(), AllocError> {
+    if let Some(cap) = read_cap(word) {
+        if !caps.remove(cap) {
+            caps.insert(cap)?;
+        }
+    }
+    write!(out, "{}", caps.uses().len())?;
+    for cap in caps.uses() {
+        write!(out, " {cap}")?;
+    }
+    Ok(())
 }
 
 // Whether it is empty, how many there are, and each of them.
@@ -187,6 +202,12 @@ caps remove_if {+1.1,-1.1,+1.2} -1.1 => Ok(()) 2 {+1.1,+1.2}
 caps remove_if {+1.1,+1.2} -1.1 => Ok(()) 2 {+1.1,+1.2}
 caps remove_if {-1.1} -1.1 => Err(TooLong) 0 {-1.1}
 caps remove_if {} -1.1 => Err(TooLong) 0 {}
+caps uses {+1.1,*1.3,^1.2,*1.2,-1.3} => 2 *1.2 *1.3
+caps uses {+1.1,*1.2} *1.1 => 2 *1.1 *1.2
+caps uses {+1.1,*1.2} ^1.1 => 1 *1.2
+caps uses {*1.1,*1.2} *1.1 => 1 *1.2
+caps uses {+1.1,*1.1} +1.1 => 1 *1.1
+caps uses {} => 0
 caps list {+1.1,-1.1} => false 2 2 +1.1 -1.1
 caps list {} => true 0 0
 room {-1.2} *1.2 +1.2 => {+1.2,-1.2,*1.2}

@@ -22,8 +22,8 @@ const CHANGES: &str = "\
 1 emit p1.1.1 none => Node { node: 1, request: Job(By(Pid { node: 1, boot: 1, serial: 1 }, Emit(Payload { bytes: [] }))) }";
 
 const BIRTHS: &str = "\
-1 spawn p1.1.1 {-1.4,+1.4,-1.4} => Node { node: 1, request: Job(By(Pid { node: 1, boot: 1, serial: 1 }, Spawn(CapSet { caps: [Plus(Name { node: 1, seq: 4 }), Minus(Name { node: 1, seq: 4 })] }))) }
-1 spawn p1.1.1 {} => Node { node: 1, request: Job(By(Pid { node: 1, boot: 1, serial: 1 }, Spawn(CapSet { caps: [] }))) }
+1 spawn p1.1.1 {-1.4,+1.4,-1.4} => Node { node: 1, request: Job(By(Pid { node: 1, boot: 1, serial: 1 }, Spawn(CapSet { caps: [Plus(Name { node: 1, seq: 4 }), Minus(Name { node: 1, seq: 4 })], uses: [] }))) }
+1 spawn p1.1.1 {} => Node { node: 1, request: Job(By(Pid { node: 1, boot: 1, serial: 1 }, Spawn(CapSet { caps: [], uses: [] }))) }
 1 exit p1.1.1 => Node { node: 1, request: Job(By(Pid { node: 1, boot: 1, serial: 1 }, Exit)) }";
 
 const WRITINGS: &str = "\

@@ -12,8 +12,8 @@ const ENDPOINTS: &str = "\
 7 close p1.2.3 e1 => Node { node: 7, request: Job(By(Pid { node: 1, boot: 2, serial: 3 }, Mail(Close(Endpoint { number: 1 })))) }";
 
 const MESSAGES: &str = "\
-7 send p1.2.3 e1 p4.5.6 e2 {} 6869 => Node { node: 7, request: Job(By(Pid { node: 1, boot: 2, serial: 3 }, Mail(Send { from: Endpoint { number: 1 }, receiver: Pid { node: 4, boot: 5, serial: 6 }, to: Endpoint { number: 2 }, message: Message { caps: CapSet { caps: [] }, payload: Payload { bytes: [104, 105] } } }))) }
-7 send p1.2.3 e9 p1.2.3 e9 {-1.4,+1.4,-1.4} none => Node { node: 7, request: Job(By(Pid { node: 1, boot: 2, serial: 3 }, Mail(Send { from: Endpoint { number: 9 }, receiver: Pid { node: 1, boot: 2, serial: 3 }, to: Endpoint { number: 9 }, message: Message { caps: CapSet { caps: [Plus(Name { node: 1, seq: 4 }), Minus(Name { node: 1, seq: 4 })] }, payload: Payload { bytes: [] } } }))) }
+7 send p1.2.3 e1 p4.5.6 e2 {} 6869 => Node { node: 7, request: Job(By(Pid { node: 1, boot: 2, serial: 3 }, Mail(Send { from: Endpoint { number: 1 }, receiver: Pid { node: 4, boot: 5, serial: 6 }, to: Endpoint { number: 2 }, message: Message { caps: CapSet { caps: [], uses: [] }, payload: Payload { bytes: [104, 105] } } }))) }
+7 send p1.2.3 e9 p1.2.3 e9 {-1.4,+1.4,-1.4} none => Node { node: 7, request: Job(By(Pid { node: 1, boot: 2, serial: 3 }, Mail(Send { from: Endpoint { number: 9 }, receiver: Pid { node: 1, boot: 2, serial: 3 }, to: Endpoint { number: 9 }, message: Message { caps: CapSet { caps: [Plus(Name { node: 1, seq: 4 }), Minus(Name { node: 1, seq: 4 })], uses: [] }, payload: Payload { bytes: [] } } }))) }
 7 take p1.2.3 => Node { node: 7, request: Job(By(Pid { node: 1, boot: 2, serial: 3 }, Mail(Take))) }
 1 deliver 1 => Node { node: 1, request: Deliver(1) }
  65535  deliver 4294967295  => Node { node: 65535, request: Deliver(4294967295) }";

@@ -127,5 +127,5 @@ pub(crate) fn caps_at(alloc: Global, bytes: &[u8], at: usize) -> Result<CapSet, 
 {
     let count = usize::from(byte_at(bytes, at, 0, 64)?);
     let caps = each_cap_at(alloc, bytes, at + 1, count)?;
-    Ok(CapSet::from_vec(caps))
+    Ok(CapSet::from_vec(caps)?)
 }

@@ -11,4 +11,4 @@ returns-then-contains c = elim c.then-contains.branch [
 
 pub returns : goal.returns
 returns c =
-    told_led c.args.self.now c.args.owned.now c.args.cap _ _ _ _ c.self.view_is c.self.invariant c.as_slice.ensures (c.global.ensures.fails c.if-global.false) c.one_leads.ensures
+    told_led c.args.self.now c.args.owned.now c.args.cap _ _ _ _ c.self.view_is c.self.invariant c.uses.ensures (sym c.contains.ensures ∙ c.if-contains.false) (c.global.ensures.fails c.if-global.false) c.one_leads.ensures
