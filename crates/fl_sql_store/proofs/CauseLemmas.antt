@@ -1,6 +1,7 @@
 -- Why a call over the connection failed, and what it is told as.
-use Rattle.std.proofs.Common.{◌≡◌, ◌<◌, ◌≤◌, ◌+◌, ◌⊎◌, inl, inr, ℕ, pos, [], ◌∷◌, min, subst, sym, refl, arith}
+use Rattle.std.proofs.Common.{◌≡◌, ◌<◌, ◌≤◌, ◌+◌, ◌⊎◌, inl, inr, ℕ, pos, List, [], ◌∷◌, min, subst, sym, refl, arith}
 use Rattle.sqlite.specs.Disk.{MoreFaults}
+use Rattle.sqlite.specs.Order.{Row}
 use Rattle.sqlite.specs.Held.{Held, state}
 use Rattle.sqlite.specs.Store.{Ghosts}
 use Rattle.sqlite.specs.State.{State, IsUnchanged, Survives}
@@ -14,6 +15,7 @@ use Rattle.fl_store.specs.declared.keeper.KeeperFault.TheVariants.{Memory, Broke
 use Rattle.fl_sql_tables.specs.Tables.{keeper_schema, raise_boot_text}
 use Rattle.fl_sql_tables.specs.Stored.{self_row}
 use Rattle.fl_sql_tables.specs.Failing.{IsFault, IsRefused, FailsToRaise, FailsToLoad}
+use Rattle.fl_sql_store.proofs.KeepLemmas.{one_boot}
 use Rattle.fl_sql_store.specs.Breaking.{IsToldAs, IsTold, FailsToBoot, RefusesToLoad}
 
 more_before : (a b c : ℕ) → a ≤ b → MoreFaults b c → MoreFaults a c
@@ -37,6 +39,12 @@ raise_after a b c boot e same counts limit (inr h) =
 pub boot_fault : (number : ℕ) (old read left : State) (boot : ℕ) (e : Error) → boot < 4294967295 → old.now.trees 0 ≡ self_row number boot ∷ [] → IsUnchanged old read → Survives old read (λ _. ⊥)
     → FailsToRaise (boot + 1) read left e → FailsToBoot number old left e
 boot_fault number old read left boot e below one same survives fails = inr (boot, below, one, raise_after old read left (boot + 1) e same.0.now_is survives.counts survives.limit fails)
+
+-- a boot below the last is not the last
+pub not_last : (number boot : ℕ) (rows : List Row) → boot < 4294967295 → rows ≡ self_row number boot ∷ [] → rows ≡ self_row number 4294967295 ∷ [] → ⊥
+not_last number boot rows below is last =
+    let same : boot ≡ 4294967295 = one_boot number boot 4294967295 rows is last in
+    omega (arith, below, same)
 
 -- the database did not give the operations
 pub load_told : {S : Type 0} (g : Ghosts S) (old left new : Held S) (e : Error) (fault : KeeperFault) → (fault ≡ Memory) ⊎ (fault ≡ Broken) → FailsToLoad (state g old) (state g left) e

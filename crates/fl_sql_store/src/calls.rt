@@ -1,12 +1,12 @@
 //! The calls of a keeper, over the connection alone.
-ghost use Rattle.std.specs.Prelude.{◌≡◌, ◌≢◌, ◌<◌, ◌≤◌, ◌⊎◌, ℕ, ◌+◌, ◌-◌, ◌^◌, [], ◌∷◌, IfOk, true, false, length, IsTrue, OnOk, OnErr, IfErr, Err};
+ghost use Rattle.std.specs.Prelude.{◌≡◌, ◌≢◌, ◌<◌, ◌≤◌, ◌⊎◌, ℕ, ◌+◌, ◌-◌, ◌^◌, [], ◌∷◌, IfOk, true, false, length, IsTrue, OnOk, IfErr, IsErrAnd, Err};
 ghost use Rattle.sqlite.specs.Held.{state};
 ghost use Rattle.sqlite.specs.State.{HasCleanDisk, IsUnchanged, Survives};
 ghost use Rattle.sqlite.specs.View.{doubt};
 ghost use Rattle.fl_store.specs.Kept.{HasNamesOnce};
 ghost use Rattle.fl_sql_tables.specs.Stored.{HasBadRow, IsOurs, Saves, AddsTo, ops_in, self_row};
 ghost use Rattle.fl_sql_tables.specs.Serving.{IsServing, Raises, RaisesTo};
-ghost use Rattle.fl_sql_tables.specs.Failing.{FailsToSave};
+ghost use Rattle.fl_sql_tables.specs.Failing.{IsFault, FailsToSave};
 ghost use Rattle.fl_sql_store.specs.SqlKeeping.{IsAsCommitted};
 ghost use Rattle.fl_sql_store.specs.Breaking.{FailsToBoot, IsTold, RefusesToLoad};
 
@@ -89,7 +89,7 @@ pub fn save_on<S: Alter>(
 
 /// Raises the boot by one and gives it.
 ///
-/// Refused with `NamesSpent` exactly where the boot that is read is 4,294,967,295; with `Memory` for want of memory, where the
+/// Refused with `NamesSpent` exactly where the boot is 4,294,967,295 and is read; with `Memory` for want of memory, where the
 /// boot stays and the connection serves on; and with `Broken` for an error of another cause, or where it serves no more.
 pub fn boot_on<S: Alter>(conn: &mut Connection<S>, number: u16) -> Result<u32, KeeperFault>
     requires idle { conn.old.in_transaction ≡ false }
@@ -108,6 +108,10 @@ pub fn boot_on<S: Alter>(conn: &mut Connection<S>, number: u16) -> Result<u32, K
         → IsAsCommitted (state S.Store conn.old) (state S.Store conn.new) }
     ensures either { IfErr result (λ e. (e ≡ KeeperFault.Memory)
         ⊎ ((e ≡ KeeperFault.Broken) ⊎ (e ≡ KeeperFault.NamesSpent))) }
+    ensures last { HasCleanDisk (state S.Store conn.new)
+        → (state S.Store conn.old).now.trees 0 ≡ self_row number (2 ^ 32 - 1) ∷ []
+        → IsErrAnd result (λ e. (e ≡ KeeperFault.NamesSpent) ⊎ IsTold S.Store
+        (IsFault (state S.Store conn.old)) conn.new e) }
     ensures fails { HasCleanDisk (state S.Store conn.new) → IfErr result (λ e.
         e ≢ KeeperFault.NamesSpent → IsTold S.Store
         (FailsToBoot number (state S.Store conn.old)) conn.new e) }

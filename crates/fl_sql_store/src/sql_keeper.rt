@@ -17,7 +17,7 @@ use sqlite::{Alter, Connection};
 use std::alloc::Global;
 use std::marker::Model;
 
-/// A keeper over a database.
+/// A keeper over a database. Its calls are those of `calls` over its connection, up to the first that is `Broken`.
 pub struct SqlKeeper<S: Alter> {
     alloc: Global,
     conn: Connection<S>,
@@ -116,12 +116,12 @@ impl<S: Alter + Drop> SqlKeeper<S> {
     {
         let SqlKeeper {
             alloc: _,
-            conn,
+            conn: connection,
             number: _,
             failures: _,
             is_broken: _,
         } = self;
-        conn
+        connection
     }
 }
 
