@@ -173,7 +173,8 @@ with_none saved = same_set op_total op_exact _ _ (λ q. contains-union op_total 
     or_none true = refl
     or_none false = refl
 
-one_boot : (number a b : ℕ) (rows : List Row) → rows ≡ self_row number a ∷ [] → rows ≡ self_row number b ∷ [] → a ≡ b
+-- the row of the node itself has one boot
+pub one_boot : (number a b : ℕ) (rows : List Row) → rows ≡ self_row number a ∷ [] → rows ≡ self_row number b ∷ [] → a ≡ b
 one_boot number a b rows p q = ap boot_in (sym p ∙ q)
 
 -- the boot is read and then raised, and the next call commits nothing

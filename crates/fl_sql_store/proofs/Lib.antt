@@ -1,2 +1,3 @@
 pub mod KeepLemmas
 pub mod FoundLemmas
+pub mod CauseLemmas

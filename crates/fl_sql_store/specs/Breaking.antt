@@ -1,8 +1,16 @@
 -- What breaks a keeper over a database.
-use Rattle.std.specs.Prelude.{◌⊎◌, ℕ, List, codes}
+use Rattle.std.specs.Prelude.{◌≡◌, ◌<◌, ◌+◌, ◌⊎◌, ℕ, List, [], ◌∷◌, codes}
 use Rattle.sqlite.specs.Order.{Row}
 use Rattle.sqlite.specs.declared.error.Error.{Error}
-use Rattle.sqlite.specs.State.{State, IsNotRun}
+use Rattle.sqlite.specs.declared.error.Error.TheVariants.{SqliteFailure}
+use Rattle.sqlite.specs.declared.error.ErrorCode.TheVariants.{OutOfMemory}
+use Rattle.sqlite.specs.State.{State, IsNotRun, IsUnchanged}
+use Rattle.sqlite.specs.Held.{Held, state}
+use Rattle.sqlite.specs.Store.{Ghosts}
+use Rattle.fl_store.specs.declared.keeper.KeeperFault.{KeeperFault}
+use Rattle.fl_store.specs.declared.keeper.KeeperFault.TheVariants.{Memory, Broken, WrongNode, BadRow, NamesSpent}
+use Rattle.fl_sql_tables.specs.Stored.{self_row, HasBadRow}
+use Rattle.fl_sql_tables.specs.Failing.{IsFault, FailsToRaise, FailsToLoad}
 use Rattle.fl_sql_store.specs.Opening.{IsFailure}
 
 -- a statement that reads no table
@@ -16,3 +24,31 @@ FailsToGoOn old new = (e : Error) × ((params : Row) → IsNotRun old new probe_
 -- an error for another cause than want of memory, or after one for want of memory the connection serves no more
 abbrev pub Breaks : State → State → Error → Type 0
 Breaks old new e = IsFailure e ⊎ FailsToGoOn old new
+
+-- what an error is told as: it is want of memory, and the connection serves on as it was; or it breaks the keeper
+abbrev pub IsToldAs : State → State → Error → KeeperFault → Type 0
+IsToldAs old new e Memory = (e ≡ SqliteFailure OutOfMemory) × IsUnchanged old new
+IsToldAs old new e Broken = Breaks old new e
+IsToldAs old new e WrongNode = ⊥
+IsToldAs old new e BadRow = ⊥
+IsToldAs old new e NamesSpent = ⊥
+
+-- a call failed with an error that has this cause, and what it left became this with what the error was told as
+pub record IsTold {S : Type 0} (g : Ghosts S) (Fails : State → Error → Type 0) (new : Held S) (fault : KeeperFault) : Type 0 where
+  pub left : Held S
+  pub error : Error
+  pub cause : Fails (state g left) error
+  pub told : IsToldAs (state g left) (state g new) error fault
+
+-- why the boot was not raised: a fault, or below the last boot the table of the node itself does not take the next one
+abbrev pub FailsToBoot : ℕ → State → State → Error → Type 0
+FailsToBoot number old new e =
+    IsFault old new e ⊎ ((was : ℕ) × (was < 4294967295) × (old.now.trees 0 ≡ self_row number was ∷ []) × FailsToRaise (was + 1) old new e)
+
+-- why the operations were not loaded: a row is bad; there was not enough memory for them; or the database failed
+abbrev pub RefusesToLoad : {S : Type 0} → Ghosts S → Held S → Held S → KeeperFault → Type 0
+RefusesToLoad g old new Memory = IsUnchanged (state g old) (state g new) ⊎ IsTold g (FailsToLoad (state g old)) new Memory
+RefusesToLoad g old new Broken = IsTold g (FailsToLoad (state g old)) new Broken
+RefusesToLoad g old new WrongNode = ⊥
+RefusesToLoad g old new BadRow = HasBadRow ((state g old).now.trees 1) × IsUnchanged (state g old) (state g new)
+RefusesToLoad g old new NamesSpent = ⊥

@@ -1,6 +1,7 @@
 //! Keepers of a node's operations over a database.
 #![tactic(auto)]
 
+pub mod calls;
 mod fault;
 mod open;
 pub mod sql_keeper;

@@ -8,17 +8,16 @@ ghost use Rattle.fl_sql_tables.specs.Stored.{HasBadRow};
 ghost use Rattle.fl_sql_store.specs.SqlKeeping.{held_in, something_held, kept_number};
 ghost use Rattle.fl_sql_store.specs.Opening.{OpensAs, RefusesToOpen};
 
-use crate::fault::{boot_on, fault_of, save_on};
+use crate::calls::{boot_on, load_on, save_on};
 use crate::open::check;
 use fl_ops::op::Op;
 use fl_opset::set::OpSet;
-use fl_sql_tables::load::{LoadFault, load_ops};
 use fl_store::keeper::{Keeper, KeeperFault};
 use sqlite::{Alter, Connection};
 use std::alloc::Global;
 use std::marker::Model;
 
-/// A keeper over a database.
+/// A keeper over a database. Its calls are those of `calls` over its connection, up to the first that is `Broken`.
 pub struct SqlKeeper<S: Alter> {
     alloc: Global,
     conn: Connection<S>,
@@ -91,6 +90,7 @@ impl<S: Alter> SqlKeeper<S> {
     ) -> Result<SqlKeeper<S>, (KeeperFault, Connection<S>)>
         ensures number { IfOk result (λ k. (k.number ≡ number) × (k.failures ≡ 0)
             × (k.is_broken ≡ false)) }
+        ensures idle { IfOk result (λ k. k.conn.in_transaction ≡ false) }
         ensures opens { IfOk result (λ k. HasCleanDisk (state S.Store k.conn)
             → OpensAs number (state S.Store conn) (state S.Store k.conn)) }
         ensures held { IfOk result (λ k. HasCleanDisk (state S.Store k.conn)
@@ -109,18 +109,19 @@ impl<S: Alter> SqlKeeper<S> {
 }
 
 impl<S: Alter + Drop> SqlKeeper<S> {
-    /// The connection, as the last call left it.
+    /// The connection, as the last call left it. No transaction is under way.
     pub fn into_connection(self) -> Connection<S>
-        ensures { result ≡ self.conn }
+        ensures same { result ≡ self.conn }
+        ensures idle { result.in_transaction ≡ false }
     {
         let SqlKeeper {
             alloc: _,
-            conn,
+            conn: connection,
             number: _,
             failures: _,
             is_broken: _,
         } = self;
-        conn
+        connection
     }
 }
 
@@ -154,15 +155,11 @@ impl<S: Alter> Keeper for SqlKeeper<S> {
         if self.is_broken {
             return Err(KeeperFault::Broken);
         }
-        let error = match load_ops(alloc, &mut self.conn, self.number) {
-            Ok(ops) => return Ok(ops),
-            Err(LoadFault::BadRow) => return Err(KeeperFault::BadRow),
-            Err(LoadFault::Memory) => return Err(KeeperFault::Memory),
-            Err(LoadFault::Failed(error)) => error,
-        };
-        match fault_of(&mut self.conn, error) {
-            KeeperFault::Memory => Err(KeeperFault::Memory),
-            _ => {
+        match load_on(alloc, &mut self.conn, self.number) {
+            Ok(ops) => Ok(ops),
+            Err(KeeperFault::Memory) => Err(KeeperFault::Memory),
+            Err(KeeperFault::BadRow) => Err(KeeperFault::BadRow),
+            Err(_) => {
                 self.is_broken = true;
                 self.failures = 1;
                 Err(KeeperFault::Broken)

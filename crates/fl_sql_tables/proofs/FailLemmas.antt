@@ -22,7 +22,7 @@ use Rattle.sqlite.specs.Command.TheVariants.{Select}
 use Rattle.sqlite_resolve.specs.declared.compiled.Compiled.{Compiled}
 use Rattle.sqlite_resolve.specs.declared.error.CompileError.{CompileError}
 use Rattle.sqlite.proofs.Callers.{command_of}
-use Rattle.fl_sql_tables.specs.Tables.{keeper_schema, select_self_text, insert_op_text, raise_boot_text}
+use Rattle.fl_sql_tables.specs.Tables.{keeper_schema, select_self_text, select_ops_text, insert_op_text, raise_boot_text}
 use Rattle.sqlite.specs.Command.TheVariants.{Update, Insert}
 use Rattle.sqlite.specs.Reading.{IsReadError}
 use Rattle.sqlite.specs.Order.{column}
@@ -36,15 +36,17 @@ use Rattle.std.specs.Prelude.{◌&&◌, is_some, IsErrAnd}
 use Rattle.sqlite.specs.Effect.{is_query}
 use Rattle.sqlite.specs.State.{mode_of, is_pragma, QueriesRow, Shown, ExecutesIn, ExecutesInside, EndsScope, Escapes, IsMisplaced, shows_rows, RunsCommand, RunsAlone, text_of}
 use Rattle.std.proofs.lemmas.Bool.{cases_Bool}
-use Rattle.fl_sql_tables.specs.Stored.{self_row, AddsOps, PutsIn, IsOurs, ops_in}
-use Rattle.std.proofs.Common.{take, drop, drop-cons, get_or, suc, ◌++◌}
+use Rattle.fl_sql_tables.specs.Stored.{self_row, AddsOps, PutsIn, IsOurs, ops_in, shown_op}
+use Rattle.std.proofs.Common.{take, drop, drop-cons, get_or, suc, ◌++◌, map}
+use Rattle.std.specs.List.Sorted.{IsPermutation}
+use Rattle.std.proofs.lemmas.List.Sorted.{IsPermutation-refl}
 use Rattle.std.proofs.lemmas.List.{take-append-drop}
 use Rattle.fl_sql_tables.proofs.StateLemmas.{zero_or}
 use Rattle.fl_sql_tables.proofs.SetLemmas.{with_none}
 use Rattle.fl_sql_tables.specs.Spelling.{row_of}
 use Rattle.fl_sql_tables.specs.Failing.{IsFault, IsRefused, FailsToRaise, FailsToPut, FailsToSave}
 use Rattle.fl_sql_tables.proofs.BootLemmas.{shown_self, selects_self}
-use Rattle.fl_sql_tables.proofs.Texts.{self_query, select_self_is, plain_1, plain_4, plain_5, unlisted_5, raise_boot_is, insert_op_is}
+use Rattle.fl_sql_tables.proofs.Texts.{self_query, ops_query, select_self_is, select_ops_is, plain_1, plain_3, plain_4, plain_5, unlisted_3, unlisted_5, raise_boot_is, insert_op_is}
 
 -- the text is one statement, with so many parameters
 abbrev pub IsWhole : List ℕ → ℕ → Result Compiled CompileError → Type 0
@@ -54,6 +56,10 @@ IsWhole sql count (Err e) = ⊥
 pub whole_self : IsWhole select_self_text 0 (understood keeper_schema select_self_text)
 unfolding understood everything
 whole_self = (refl, refl)
+
+whole_ops : IsWhole select_ops_text 0 (understood keeper_schema select_ops_text)
+unfolding understood everything
+whole_ops = (refl, refl)
 
 pub whole_raise : IsWhole raise_boot_text 1 (understood keeper_schema raise_boot_text)
 unfolding understood everything
@@ -85,6 +91,17 @@ self_never trees (inr over) = over.4
 
 pub read_self : IsReadAlways (command_of (understood keeper_schema select_self_text))
 read_self = subst IsReadAlways (sym select_self_is) (reads_always self_query (codes "node" ∷ codes "boot" ∷ codes "format" ∷ []) self_accepted self_never)
+
+ops_accepted : accepts_program keeper_schema [] ops_query [] ≡ true
+unfolding understood everything
+ops_accepted = refl
+
+ops_never : (trees : Trees) → ¬ QueryOverflows ops_query (overlay trees []) []
+ops_never trees (inl over) = over
+ops_never trees (inr over) = over.4
+
+read_ops : IsReadAlways (command_of (understood keeper_schema select_ops_text))
+read_ops = subst IsReadAlways (sym select_ops_is) (reads_always ops_query (codes "node" ∷ codes "seq" ∷ codes "bytes" ∷ []) ops_accepted ops_never)
 
 -- the store failed: that is a fault, or the write was too big
 pub fails_fault : (old new : State) (too_big : Type 0) (e : Error) → IsTrue old.is_open → Fails old new too_big e → IsFault old new e ⊎ too_big
@@ -132,6 +149,10 @@ query_fault sql old new has is_open plain whole unlisted always e (inr h) =
     let db : it.0 ≡ old.now = subst (λ b. IsSourceOf b old.now it.0) (ap (λ s. reads_listing s sql) has ∙ unlisted) it.1 in
     let here : it.0 ≡ record { schema = keeper_schema; trees = old.now.trees } = db ∙ ap (λ s. record { schema = s; trees = old.now.trees }) has in
     inr (inr (always old.step_limit old.now.trees e (subst₂ (λ k d. RefusesToRead old.step_limit k d [] e) (ap command_of known) here it.2)))
+
+-- the operations are not shown
+pub ops_fault : (old new : State) → old.now.schema ≡ keeper_schema → IsTrue old.is_open → (e : Error) → FailsToQuery select_ops_text [] old new e → IsFault old new e
+ops_fault old new has is_open = query_fault select_ops_text old new has is_open plain_3 whole_ops unlisted_3 read_ops
 
 more_before : (a b c : ℕ) → a ≤ b → MoreFaults b c → MoreFaults a c
 more_before a b c le h = omega (arith, h)
@@ -256,6 +277,10 @@ handed_on (Err f) e P is p = subst P (sym is) p
 
 -- ---- operations
 
+-- no row more
+none_more : (rows : List Row) → IsPermutation rows (rows ++ [])
+none_more rows = subst (IsPermutation rows) (sym (append-nil rows)) (IsPermutation-refl rows)
+
 -- the next operation is not put, after those before it
 pub save_fault : (old mid new : State) (ops : List Op) (i : ℕ) (d : Op) → i < length ops → (i ≡ 0 → mid ≡ old) → (0 < i → PutsIn (take i ops) old mid)
     → IsOurs old → IsTrue old.is_open → old.faults ≤ mid.faults → mid.step_limit ≡ old.step_limit → (e : Error) → FailsToPut (get_or ops i d) mid new e → FailsToSave ops old new e
@@ -265,7 +290,7 @@ save_fault old mid new ops i d within first so_far ours is_open counts limit e (
     let added : AddsOps (take i ops) old.now mid.now = elim (zero_or i) [
       | inl start ↦
           subst₂ (λ xs (m : State). AddsOps xs old.now m.now) (sym (ap (λ n. take n ops) start)) (sym (first start))
-          (record { schema = ours is_open; itself = refl; catalog = refl; added = sym (with_none (ops_in (old.now.trees 1))) })
+          (record { schema = ours is_open; itself = refl; catalog = refl; rows = none_more (map shown_op (old.now.trees 1)); added = sym (with_none (ops_in (old.now.trees 1))) })
       | inr more ↦ (so_far more).added
     ] in
     let refused = subst (λ limit. IsRefused (record mid { step_limit = limit }) mid.now insert_op_text (row_of (get_or ops i d)) (understood keeper_schema insert_op_text)) limit h in

@@ -1,14 +1,17 @@
 -- Operations that are loaded row by row.
-use Rattle.std.proofs.Common.{◌≡◌, ◌≢◌, ◌⊎◌, inl, inr, ◌∙◌, refl, sym, ap, subst, ℕ, ◌<◌, ◌+◌, Bool, true, false, List, [], ◌∷◌, ◌++◌, map, length, Option, Some, None, arith, get_or, ◌||◌}
+use Rattle.std.proofs.Common.{◌≡◌, ◌≢◌, ◌⊎◌, inl, inr, ◌∙◌, refl, sym, ap, subst, ℕ, ◌<◌, ◌≤◌, ◌+◌, length-append, Bool, true, false, List, [], ◌∷◌, ◌++◌, map, length, Option, Some, None, arith, get_or, ◌||◌}
 use Rattle.std.specs.List.Sorted.{IsPermutation}
-use Rattle.std.proofs.lemmas.List.{map-append}
+use Rattle.std.proofs.lemmas.List.{map-append, length-map, length_push}
 use Rattle.std.proofs.lemmas.Bool.{or_cases, false≢true}
 use Rattle.std.specs.Ordering.{eq_by_cmp, is_eq}
 use Rattle.sqlite.specs.Order.{Row}
 use Rattle.sqlite.specs.Store.{Ghosts}
 use Rattle.sqlite.specs.Held.{Held, state}
-use Rattle.sqlite.specs.Given.{HasGiven, Advances}
-use Rattle.sqlite.specs.State.{State, IsUnchanged, Shown}
+use Rattle.sqlite.specs.Given.{HasGiven, Advances, FailsToAdvance}
+use Rattle.sqlite.specs.State.{State, IsUnchanged, Shown, Survives}
+use Rattle.sqlite.specs.declared.error.Error.{Error}
+use Rattle.fl_sql_tables.specs.Failing.{FailsToLoad}
+use Rattle.fl_sql_tables.proofs.FailLemmas.{ops_fault, fault_within}
 use Rattle.fl_labels.specs.SetBy.{SetBy, In, empty, insert, of_list, contains, contains-insert, contains-of_list}
 use Rattle.fl_ops.specs.declared.op.Op.{Op}
 use Rattle.fl_ops.specs.OpOrder.{op_cmp}
@@ -30,24 +33,27 @@ use Rattle.sqlite.specs.Effect.{Database}
 use Rattle.sqlite_resolve.specs.declared.compiled.Compiled.{Compiled}
 use Rattle.std.specs.List.{list_any}
 use Rattle.std.proofs.lemmas.List.Folds.{list_any-append}
-use Rattle.std.proofs.lemmas.List.Sorted.{list_any-IsPermutation}
+use Rattle.std.proofs.lemmas.List.Sorted.{list_any-IsPermutation, length_permutation}
 use Rattle.std.specs.Prelude.{is_none, is_some, is_err, IsTrue, IfNone, IfSome, OnOk, Result, Ok, Err}
 
 same_op : (a b : Op) → eq_by_cmp op_cmp a b ≡ true → a ≡ b
 same_op a b h = op_exact a b (is_equal _ h)
 
--- the query of the operations has given the rows of these
-pub record GivenOps {S : Type 0} (g : Ghosts S) (h : Held S) (ops : SetBy op_cmp) : Type 0 where
+-- the query of the operations has given the rows of these, so many
+pub record GivenOps {S : Type 0} (g : Ghosts S) (h : Held S) (ops : SetBy op_cmp) (count : ℕ) : Type 0 where
   pub list : List Op
+  pub counted : length list ≡ count
   pub given : HasGiven g select_ops_text [] h (map row_of list)
   pub ops_are : ops ≡ of_list list
 
-pub given_none : {S : Type 0} (g : Ghosts S) (h : Held S) (ops : SetBy op_cmp) → HasGiven g select_ops_text [] h [] → ops ≡ empty → GivenOps g h ops
-given_none g h ops given is = record { list = []; given = given; ops_are = is }
+pub given_none : {S : Type 0} (g : Ghosts S) (h : Held S) (ops : SetBy op_cmp) → HasGiven g select_ops_text [] h [] → ops ≡ empty → GivenOps g h ops 0
+given_none g h ops given is = record { list = []; counted = refl; given = given; ops_are = is }
 
-pub given_more : {S : Type 0} (g : Ghosts S) (old new : Held S) (ops more : SetBy op_cmp) (op : Op) → GivenOps g old ops → Advances g old new (Some (row_of op)) → more ≡ insert ops op → GivenOps g new more
-given_more g old new ops more op h step is = record {
+pub given_more : {S : Type 0} (g : Ghosts S) (old new : Held S) (ops more : SetBy op_cmp) (count : ℕ) (op : Op) → GivenOps g old ops count → Advances g old new (Some (row_of op)) → more ≡ insert ops op
+    → GivenOps g new more (count + 1)
+given_more g old new ops more count op h step is = record {
   list = h.list ++ op ∷ [];
+  counted = length_push h.list op ∙ ap (λ n. n + 1) h.counted;
   given = subst (HasGiven g select_ops_text [] new) (sym (map-append row_of h.list (op ∷ []))) (step select_ops_text [] (map row_of h.list) h.given);
   ops_are = is ∙ ap (λ s. insert s op) h.ops_are ∙ sym (of_list_push h.list op);
 }
@@ -147,8 +153,24 @@ unchanged_still a b h = (
   refl,
 )
 
-module _ {S : Type 0} (g : Ghosts S) (old : State) (mid new : Held S) (ops : SetBy op_cmp) (ours : old.now.schema ≡ keeper_schema)
-    (first : IsUnchanged old (state g mid)) (so_far : GivenOps g mid ops) where
+-- rows of a table that were given are as many as it has at most
+pub rows_within : (table tail : List Row) (list : List Op) → IsPermutation (map shown_op table) (map row_of list ++ tail) → length list ≤ length table
+rows_within table tail list order =
+    let all : length (map row_of list ++ tail) ≡ length (map shown_op table) = length_permutation _ _ order in
+    let parts : length (map row_of list ++ tail) ≡ length (map row_of list) + length tail = length-append (map row_of list) tail in
+    let here : length (map shown_op table) ≡ length table = length-map table shown_op in
+    let given : length (map row_of list) ≡ length list = length-map list row_of in
+    omega (arith, all, parts, here, given)
+
+module _ {S : Type 0} (g : Ghosts S) (old : State) (mid new : Held S) (ops : SetBy op_cmp) (count : ℕ) (ours : old.now.schema ≡ keeper_schema)
+    (first : IsUnchanged old (state g mid)) (so_far : GivenOps g mid ops count) where
+  -- the table has at least as many rows as were given
+  pub has_rows : count ≤ length (old.now.trees 1)
+  has_rows =
+      let there = stand_there g mid (ap (λ d. d.schema) first.0.now_is ∙ ours) (unchanged_still old (state g mid) first) (map row_of so_far.list) so_far.given in
+      let within : length so_far.list ≤ length ((state g mid).now.trees 1) = rows_within _ there.0 so_far.list there.1 in
+      subst (λ n. n ≤ length (old.now.trees 1)) so_far.counted (subst (λ d. length so_far.list ≤ length (d.trees 1)) first.0.now_is within)
+
   -- at the end, the operations are those of the table, which has no bad row
   pub ends_whole : HasNamesOnce ops → Advances g mid new None → (ops ≡ ops_in (old.now.trees 1)) × ¬ HasBadRow (old.now.trees 1)
   ends_whole once step =
@@ -156,6 +178,13 @@ module _ {S : Type 0} (g : Ghosts S) (old : State) (mid new : Held S) (ops : Set
       let here = subst (λ d. IsPermutation (map shown_op (d.trees 1)) (map row_of so_far.list)) first.0.now_is order in
       let all : ops ≡ ops_in (old.now.trees 1) = so_far.ops_are ∙ loaded _ so_far.list here in
       (all, none_bad _ so_far.list here (subst HasNamesOnce all once))
+
+  -- the next row is not given
+  pub step_fails : Survives old (state g mid) (λ _. ⊥) → (e : Error) → FailsToAdvance g mid new e → FailsToLoad old (state g new) e
+  step_fails so e fails =
+      let failed = fails select_ops_text [] (map row_of so_far.list) so_far.given in
+      let here = ops_fault (state g mid) (state g new) (ap (λ d. d.schema) first.0.now_is ∙ ours) first.0.is_open e failed in
+      inl (fault_within old (state g mid) (state g new) (state g new) e so.counts (omega arith) so.limit here)
 
   module _ (second : IsUnchanged (state g mid) (state g new)) where
     now_same : (state g new).now ≡ old.now

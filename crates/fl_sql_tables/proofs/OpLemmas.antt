@@ -25,7 +25,7 @@ use Rattle.fl_sql_tables.specs.Tables.{keeper_schema, insert_op_text}
 use Rattle.fl_sql_tables.specs.Stored.{op_in, ops_in, shown_op, InsertsOp, AddsOps, PutsIn, IsOurs}
 use Rattle.fl_sql_tables.proofs.Inserts.{inserts_op}
 use Rattle.std.specs.List.Sorted.{IsPermutation}
-use Rattle.std.proofs.lemmas.List.Sorted.{list_any-IsPermutation}
+use Rattle.std.proofs.lemmas.List.Sorted.{list_any-IsPermutation, IsPermutation-refl, IsPermutation-sym, IsPermutation-trans, IsPermutation-cons, IsPermutation-middle, IsPermutation-to_front, IsPermutation-map}
 
 -- whether the row spells the operation
 abbrev pub spells : Op → Option Op → Bool
@@ -64,11 +64,29 @@ one_more_op rows new op fresh is = same_set op_total op_exact _ _ (λ q.
     contains_op (put_row new rows) q ∙ any_put (λ r. spells q (op_in r)) new rows fresh ∙ ap (λ o. spells q o || list_any (λ r. spells q (op_in r)) rows) is
     ∙ sym (contains-insert op_total (ops_in rows) op q ∙ ap (λ b. eq_by_cmp op_cmp q op || b) (contains_op rows q)))
 
+put_by : (new r : Row) (rows put : List Row) (taken : Bool) → (taken ≡ false → IsPermutation put (new ∷ rows))
+    → (c : Ordering) → (is_eq c || taken) ≡ false → IsPermutation (match_ordering c (r ∷ put) (new ∷ rows) (new ∷ r ∷ rows)) (new ∷ r ∷ rows)
+put_by new r rows put taken more Less fresh = IsPermutation-trans _ _ _ (IsPermutation-cons r put (new ∷ rows) (more fresh)) (IsPermutation-middle (r ∷ []) new rows)
+put_by new r rows put taken more Equal fresh = absurd cc
+put_by new r rows put taken more Greater fresh = IsPermutation-refl (new ∷ r ∷ rows)
+
+-- a row that is put under a rowid that no row has is the only new one
+put_permutes : (new : Row) (rows : List Row) → is_taken rows new ≡ false → IsPermutation (put_row new rows) (new ∷ rows)
+put_permutes new [] fresh = IsPermutation-refl (new ∷ [])
+put_permutes new (r ∷ rows) fresh = put_by new r rows (put_row new rows) (is_taken rows new) (put_permutes new rows) (value_cmp (rowid r) (rowid new)) fresh
+
+shown_more : (rows : List Row) (new : Row) (op : Op) → is_taken rows new ≡ false → shown_op new ≡ row_of op → IsPermutation (map shown_op (put_row new rows)) (map shown_op rows ++ row_of op ∷ [])
+shown_more rows new op fresh is =
+    let put : IsPermutation (map shown_op (put_row new rows)) (shown_op new ∷ map shown_op rows) = IsPermutation-map shown_op _ _ (put_permutes new rows fresh) in
+    let last : IsPermutation (shown_op new ∷ map shown_op rows) (map shown_op rows ++ shown_op new ∷ []) = IsPermutation-sym _ _ (IsPermutation-to_front (map shown_op rows) (shown_op new)) in
+    subst (λ r. IsPermutation (map shown_op (put_row new rows)) (map shown_op rows ++ r ∷ [])) is (IsPermutation-trans _ _ _ put last)
+
 adds_one : (op : Op) (old new : Database) → InsertsOp (row_of op) old new → AddsOps (op ∷ []) old new
 adds_one op old new it = record {
   schema = it.schema;
   itself = it.itself;
   catalog = it.catalog;
+  rows = subst (λ t. IsPermutation (map shown_op t) (map shown_op (old.trees 1) ++ row_of op ∷ [])) (sym it.rows) (shown_more (old.trees 1) (it.id ∷ row_of op) op it.fresh refl);
   added = ap ops_in it.rows ∙ one_more_op (old.trees 1) (it.id ∷ row_of op) op it.fresh (op_of-row_of op) ∙ sym (with_one (ops_in (old.trees 1)) op);
 }
 

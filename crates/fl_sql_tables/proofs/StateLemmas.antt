@@ -1,5 +1,5 @@
 -- States of a connection, one after another.
-use Rattle.std.proofs.Common.{◌≡◌, ◌⊎◌, inl, inr, ℕ, zero, suc, ◌+◌, ◌<◌, ◌≤◌, take, length, get_or, List, [], ◌∷◌, ◌++◌, Bool, true, false, IsTrue, refl, sym, ap, subst, ◌∙◌, arith}
+use Rattle.std.proofs.Common.{◌≡◌, ◌⊎◌, inl, inr, ℕ, zero, suc, ◌+◌, ◌<◌, ◌≤◌, take, length, get_or, List, [], ◌∷◌, ◌++◌, Bool, true, false, IsTrue, refl, sym, ap, subst, ◌∙◌, arith, map, append_assoc}
 use Rattle.sqlite.specs.Tree.{Trees}
 use Rattle.sqlite.specs.State.{State, HasCleanDisk, Survives, KeepsCommit, Shows}
 use Rattle.sqlite.proofs.StateLemmas.{survives_then}
@@ -9,8 +9,12 @@ use Rattle.fl_labels.specs.SetBy.{SetBy}
 use Rattle.fl_ops.specs.OpOrder.{op_cmp}
 use Rattle.fl_store.specs.Kept.{with_ops}
 use Rattle.fl_sql_tables.proofs.SetLemmas.{with_ops_on}
-use Rattle.fl_sql_tables.specs.Stored.{AddsOps, PutsIn, ops_in, IsOurs}
-use Rattle.std.proofs.lemmas.List.{take_more}
+use Rattle.fl_sql_tables.specs.Spelling.{row_of}
+use Rattle.fl_sql_tables.specs.Stored.{AddsOps, PutsIn, ops_in, shown_op, IsOurs}
+use Rattle.std.proofs.lemmas.List.{take_more, map-append}
+use Rattle.std.specs.List.Sorted.{IsPermutation}
+use Rattle.std.proofs.lemmas.List.Sorted.{IsPermutation-trans, IsPermutation-append_left}
+use Rattle.sqlite.specs.Order.{Row}
 
 pub survives_still : (s : State) → Survives s s (λ _. ⊥)
 survives_still s = record { clean = omega arith; shield = λ h. h; counts = omega arith; limit = refl; closes = λ _ h. inl h; crash = λ _ db h. inl h }
@@ -31,12 +35,19 @@ pub zero_or : (n : ℕ) → (n ≡ 0) ⊎ (0 < n)
 zero_or zero = inl refl
 zero_or (suc n) = inr (omega arith)
 
+-- rows for one list after another
+rows_on : (a b c : List Row) (xs ys : List Op) → IsPermutation b (a ++ map row_of xs) → IsPermutation c (b ++ map row_of ys) → IsPermutation c (a ++ map row_of (xs ++ ys))
+rows_on a b c xs ys p q =
+    let both = IsPermutation-trans _ _ _ q (IsPermutation-append_left (map row_of ys) b (a ++ map row_of xs) p) in
+    subst (IsPermutation c) (append_assoc a (map row_of xs) (map row_of ys) ∙ ap (λ l. a ++ l) (sym (map-append row_of xs ys))) both
+
 pub puts_on : (a b c : State) (xs ys : List Op) → PutsIn xs a b → PutsIn ys b c → PutsIn (xs ++ ys) a c
 puts_on a b c xs ys p q = record {
   added = record {
     schema = q.added.schema;
     itself = q.added.itself ∙ p.added.itself;
     catalog = q.added.catalog ∙ p.added.catalog;
+    rows = rows_on (map shown_op (a.now.trees 1)) (map shown_op (b.now.trees 1)) _ xs ys p.added.rows q.added.rows;
     added = q.added.added ∙ ap (λ s. with_ops s ys) p.added.added ∙ sym (with_ops_on _ xs ys);
   };
   shown = record {

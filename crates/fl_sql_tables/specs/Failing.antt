@@ -1,21 +1,23 @@
 -- Why a call over a keeper's database fails.
-use Rattle.std.specs.Prelude.{◌≡◌, ◌⊎◌, ℕ, pos, List, [], ◌∷◌, ◌++◌, Option, None, Result, Ok, Err, IsTrue, IsSome}
+use Rattle.std.specs.Prelude.{◌≡◌, ◌≤◌, ◌⊎◌, ◌-◌, ◌^◌, ℕ, pos, List, [], ◌∷◌, ◌++◌, length, Option, None, Result, Ok, Err, IsTrue, IsSome}
 use Rattle.sqlite.specs.Disk.{MoreFaults}
 use Rattle.sqlite.specs.declared.types.Value.TheVariants.{Int}
 use Rattle.sqlite.specs.Order.{Row}
 use Rattle.sqlite.specs.declared.error.Error.{Error}
 use Rattle.sqlite.specs.declared.error.Error.TheVariants.{SqliteFailure}
-use Rattle.sqlite.specs.declared.error.ErrorCode.TheVariants.{OutOfMemory, OperationInterrupted}
+use Rattle.sqlite.specs.declared.error.ErrorCode.TheVariants.{OutOfMemory, OperationInterrupted, TooBig}
 use Rattle.sqlite.specs.Effect.{Database}
 use Rattle.sqlite.specs.Listing.{understood}
 use Rattle.sqlite.specs.Does.{Does}
-use Rattle.sqlite.specs.State.{State, is_disk_error, mode_of, text_of}
+use Rattle.sqlite.specs.State.{State, IsUnchanged, is_disk_error, mode_of, text_of}
 use Rattle.sqlite_resolve.specs.declared.compiled.Compiled.{Compiled}
 use Rattle.sqlite_resolve.specs.declared.error.CompileError.{CompileError}
 use Rattle.fl_ops.specs.declared.op.Op.{Op}
 use Rattle.fl_sql_tables.specs.Tables.{keeper_schema, raise_boot_text, insert_op_text}
 use Rattle.fl_sql_tables.specs.Spelling.{row_of}
-use Rattle.fl_sql_tables.specs.Stored.{AddsOps}
+use Rattle.fl_sql_tables.specs.declared.load.LoadFault.{LoadFault}
+use Rattle.fl_sql_tables.specs.declared.load.LoadFault.TheVariants.{Failed, Memory, BadRow}
+use Rattle.fl_sql_tables.specs.Stored.{AddsOps, HasBadRow}
 
 -- there was not enough memory; the disk failed once more; or the limit on steps was met
 abbrev pub IsFault : State → State → Error → Type 0
@@ -45,3 +47,13 @@ FailsToSave ops old new e =
     IsFault old new e
     ⊎ ((first : List Op) × (op : Op) × (rest : List Op) × (ops ≡ first ++ op ∷ rest) × (db : Database) × AddsOps first old.now db
     × IsRefused old db insert_op_text (row_of op) (understood keeper_schema insert_op_text))
+
+-- why the database did not give its operations: a fault, or the table has as many rows as a `u64` counts
+abbrev pub FailsToLoad : State → State → Error → Type 0
+FailsToLoad old new e = IsFault old new e ⊎ ((e ≡ SqliteFailure TooBig) × (2 ^ 64 - 1 ≤ length (old.now.trees 1)))
+
+-- why no operations were loaded, and what stays
+abbrev pub RefusesToLoad : State → State → LoadFault → Type 0
+RefusesToLoad old new (Failed e) = FailsToLoad old new e
+RefusesToLoad old new Memory = IsUnchanged old new
+RefusesToLoad old new BadRow = HasBadRow (old.now.trees 1) × IsUnchanged old new

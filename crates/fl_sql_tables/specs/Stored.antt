@@ -1,5 +1,5 @@
 -- What a keeper's database holds.
-use Rattle.std.specs.Prelude.{◌≡◌, ◌⊎◌, is_none, ℕ, pos, List, [], ◌∷◌, Bool, true, false, map}
+use Rattle.std.specs.Prelude.{◌≡◌, ◌⊎◌, is_none, ℕ, pos, List, [], ◌∷◌, ◌++◌, Bool, true, false, map}
 use Rattle.sqlite.specs.declared.types.Value.{Value}
 use Rattle.sqlite.specs.declared.types.Value.TheVariants.{Null, Int, Blob}
 use Rattle.sqlite.specs.Order.{Row, column}
@@ -9,13 +9,14 @@ use Rattle.sqlite_trees.specs.Objects.{catalog_tree}
 use Rattle.sqlite.specs.Effect.{Database}
 use Rattle.std.specs.Prelude.{Option, Some, None, IsTrue}
 use Rattle.std.specs.List.{filter_map, list_any}
+use Rattle.std.specs.List.Sorted.{IsPermutation}
 use Rattle.fl_labels.specs.SetBy as set
 use Rattle.fl_labels.specs.SetBy.{SetBy}
 use Rattle.fl_ops.specs.declared.op.Op.{Op}
 use Rattle.fl_ops.specs.OpOrder.{op_cmp}
 use Rattle.fl_store.specs.Kept.{Kept, HasNamesOnce, with_ops}
 use Rattle.sqlite.specs.State.{State, Shows}
-use Rattle.fl_sql_tables.specs.Spelling.{op_of}
+use Rattle.fl_sql_tables.specs.Spelling.{op_of, row_of}
 use Rattle.fl_sql_tables.specs.Tables.{keeper_schema}
 
 -- what INSERT is given
@@ -82,11 +83,12 @@ kept_in number db = if_listed (db catalog_tree) (nothing_kept number) (kept_by n
 abbrev pub IsListed : Trees → Type 0
 IsListed db = (row : Row) × (rows : List Row) × (db catalog_tree ≡ row ∷ rows)
 
--- the database has the operations too
+-- the database has the operations too, each by one row more, and no other row
 pub record AddsOps (ops : List Op) (old new : Database) : Type 0 where
   pub schema : new.schema ≡ keeper_schema
   pub itself : new.trees 0 ≡ old.trees 0
   pub catalog : new.trees catalog_tree ≡ old.trees catalog_tree
+  pub rows : IsPermutation (map shown_op (new.trees 1)) (map shown_op (old.trees 1) ++ map row_of ops)
   pub added : ops_in (new.trees 1) ≡ with_ops (ops_in (old.trees 1)) ops
 
 -- in a transaction, which goes on

@@ -1,10 +1,12 @@
 //! The operations of a database.
-ghost use Rattle.std.specs.Prelude.{◌≡◌, ◌⊎◌, [], ◌∷◌, true, false, map, IsTrue, IfOk, IfSome, OnOk, OnErr, Err};
+ghost use Rattle.std.specs.Prelude.{◌≡◌, ◌⊎◌, [], ◌∷◌, true, false, map, IsTrue, IfOk, IfErr, IfSome, OnOk, OnErr, Err};
 ghost use Rattle.sqlite.specs.Held.{state};
 ghost use Rattle.sqlite.specs.State.{HasCleanDisk, IsUnchanged, Survives};
+ghost use Rattle.sqlite.specs.Given.{FailsToAdvance};
 ghost use Rattle.fl_store.specs.Kept.{HasNamesOnce};
 ghost use Rattle.fl_sql_tables.specs.Stored.{IsUndone, ops_in, HasBadRow};
 ghost use Rattle.fl_sql_tables.specs.Serving.{IsServing, StepsOn};
+ghost use Rattle.fl_sql_tables.specs.Failing.{RefusesToLoad};
 
 use crate::reading::read_op;
 use fl_ops::op::Op;
@@ -45,6 +47,8 @@ fn next_op<S: Alter>(rows: &mut Rows<'_, S>) -> Result<Step, Error>
         → (state S.Store rows.old.conn.now).now ≡ (state S.Store rows.old.conn.now).committed
         → OnErr result (IsUndone (state S.Store rows.old.conn.now)
         (state S.Store rows.new.conn.now)) }
+    ensures fails { HasCleanDisk (state S.Store rows.new.conn.now)
+        → IfErr result (FailsToAdvance S.Store rows.old.conn.now rows.new.conn.now) }
     ensures mode { rows.old.conn.now.in_transaction ≡ false
         → rows.new.conn.now.in_transaction ≡ false }
     ensures survives { Survives (state S.Store rows.old.conn.now)
@@ -61,6 +65,10 @@ fn next_op<S: Alter>(rows: &mut Rows<'_, S>) -> Result<Step, Error>
 }
 
 /// The operations of the table, read one row at a time.
+///
+/// Refused with `BadRow` where a row spells no operation or two have one name, and with `Memory` where the operations do not fit;
+/// the database stays as it was. It is `Failed` only where memory is wanted by the database, or the disk fails, or the limit on
+/// steps is met, or the table has as many rows as a `u64` counts; no transaction is under way then.
 pub fn load_ops<S: Alter>(
     alloc: Global,
     conn: &mut Connection<S>,
@@ -74,14 +82,10 @@ pub fn load_ops<S: Alter>(
         → IfOk result (λ ops. ops ≡ ops_in ((state S.Store conn.old).now.trees 1)) }
     ensures good { HasCleanDisk (state S.Store conn.new)
         → OnOk result (¬ HasBadRow ((state S.Store conn.old).now.trees 1)) }
-    ensures bad { HasCleanDisk (state S.Store conn.new) → result ≡ Err LoadFault.BadRow
-        → HasBadRow ((state S.Store conn.old).now.trees 1) }
     ensures same { HasCleanDisk (state S.Store conn.new)
         → OnOk result (IsUnchanged (state S.Store conn.old) (state S.Store conn.new)) }
-    ensures spared { HasCleanDisk (state S.Store conn.new) → result ≡ Err LoadFault.BadRow
-        → IsUnchanged (state S.Store conn.old) (state S.Store conn.new) }
-    ensures full { HasCleanDisk (state S.Store conn.new) → result ≡ Err LoadFault.Memory
-        → IsUnchanged (state S.Store conn.old) (state S.Store conn.new) }
+    ensures refuses { HasCleanDisk (state S.Store conn.new) → IfErr result
+        (RefusesToLoad (state S.Store conn.old) (state S.Store conn.new)) }
     ensures err { HasCleanDisk (state S.Store conn.new)
         → OnErr result (IsUndone (state S.Store conn.old) (state S.Store conn.new)) }
     ensures survives { Survives (state S.Store conn.old) (state S.Store conn.new) (λ _. ⊥) }
@@ -91,7 +95,7 @@ pub fn load_ops<S: Alter>(
         Ok(rows) => rows,
         Err(error) => return Err(LoadFault::Failed(error)),
     };
-    'rows: for _ in 0..u64::MAX {
+    'rows: for _count in 0..u64::MAX {
         match next_op(&mut rows) {
             Ok(Step::End) => return Ok(ops),
             Ok(Step::Bad) => return Err(LoadFault::BadRow),

@@ -16,5 +16,5 @@ invariant-rows g l =
       survives : Survives old now (λ _. ⊥);
       same : HasCleanDisk now → IsUnchanged old now;
       names : HasNamesOnce l.ops;
-      given : HasCleanDisk now → GivenOps g.S.Store l.rows.conn.now l.ops;
+      given : HasCleanDisk now → GivenOps g.S.Store l.rows.conn.now l.ops l._count;
     }

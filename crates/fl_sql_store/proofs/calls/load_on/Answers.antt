@@ -1,0 +1,11 @@
+use Rattle.sqlite.specs.Held.{state}
+use Rattle.fl_sql_store.proofs.KeepLemmas.{clean_before}
+use Rattle.fl_sql_store.proofs.CauseLemmas.{load_told}
+use Rattle.fl_sql_store.proofs.calls.load_on.Goals as goal
+
+pub returns-in-Err-Failed-clause-refuses : goal.returns-in-Err-Failed-clause-refuses
+returns-in-Err-Failed-clause-refuses g c clean =
+    let left = state g.S.Store c.load_ops.new.conn in
+    let new = state g.S.Store c.fault_of.new.conn in
+    let late = clean_before left new _ c.fault_of.ensures.survives clean in
+    load_told g.S.Store c.args.conn.now c.load_ops.new.conn c.fault_of.new.conn _ c.fault_of.result c.fault_of.ensures.either (rw c.in-Err-Failed.field-0-is at (c.in-Err-Failed.ensures.refuses late)) (c.fault_of.ensures.told clean)

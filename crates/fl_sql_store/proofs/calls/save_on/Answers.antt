@@ -1,0 +1,14 @@
+use Rattle.sqlite.specs.Held.{state}
+use Rattle.fl_sql_store.proofs.KeepLemmas.{clean_before}
+use Rattle.fl_sql_store.proofs.calls.save_on.Goals as goal
+
+pub returns-in-Err-clause-fails : goal.returns-in-Err-clause-fails
+returns-in-Err-clause-fails g c clean ours is_open =
+    let left = state g.S.Store c.save_ops.new.conn in
+    let new = state g.S.Store c.fault_of.new.conn in
+    record {
+      left = c.save_ops.new.conn;
+      error = c.in-Err.error;
+      cause = c.in-Err.ensures.fails (clean_before left new _ c.fault_of.ensures.survives clean) ours is_open;
+      told = c.fault_of.ensures.told clean;
+    }

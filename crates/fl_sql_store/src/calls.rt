@@ -1,0 +1,133 @@
+//! The calls of a keeper, over the connection alone.
+ghost use Rattle.std.specs.Prelude.{◌≡◌, ◌≢◌, ◌<◌, ◌≤◌, ◌⊎◌, ℕ, ◌+◌, ◌-◌, ◌^◌, [], ◌∷◌, IfOk, true, false, length, IsTrue, OnOk, IfErr, IsErrAnd, Err};
+ghost use Rattle.sqlite.specs.Held.{state};
+ghost use Rattle.sqlite.specs.State.{HasCleanDisk, IsUnchanged, Survives};
+ghost use Rattle.sqlite.specs.View.{doubt};
+ghost use Rattle.fl_store.specs.Kept.{HasNamesOnce};
+ghost use Rattle.fl_sql_tables.specs.Stored.{HasBadRow, IsOurs, Saves, AddsTo, ops_in, self_row};
+ghost use Rattle.fl_sql_tables.specs.Serving.{IsServing, Raises, RaisesTo};
+ghost use Rattle.fl_sql_tables.specs.Failing.{IsFault, FailsToSave};
+ghost use Rattle.fl_sql_store.specs.SqlKeeping.{IsAsCommitted};
+ghost use Rattle.fl_sql_store.specs.Breaking.{FailsToBoot, IsTold, RefusesToLoad};
+
+use crate::fault::fault_of;
+use fl_ops::op::Op;
+use fl_opset::set::OpSet;
+use fl_sql_tables::boot::{raise_boot, read_boot};
+use fl_sql_tables::load::{LoadFault, load_ops};
+use fl_sql_tables::put::save_ops;
+use fl_store::keeper::KeeperFault;
+use sqlite::{Alter, Connection};
+use std::alloc::Global;
+
+/// The saved operations, whose names differ.
+///
+/// Refused with `BadRow` only where a row is bad, and then none are given; with `Memory` for want of memory, where the connection
+/// serves on; and with `Broken` for an error of another cause, or where the connection serves no more.
+pub fn load_on<S: Alter>(
+    alloc: Global,
+    conn: &mut Connection<S>,
+    number: u16,
+) -> Result<OpSet, KeeperFault>
+    requires idle { conn.old.in_transaction ≡ false }
+    requires serving { IsServing number (state S.Store conn.old) }
+    ensures idle { conn.new.in_transaction ≡ false }
+    ensures names { IfOk result HasNamesOnce }
+    ensures ok { HasCleanDisk (state S.Store conn.new)
+        → IfOk result (λ ops. ops ≡ ops_in ((state S.Store conn.old).now.trees 1)) }
+    ensures good { HasCleanDisk (state S.Store conn.new)
+        → OnOk result (¬ HasBadRow ((state S.Store conn.old).now.trees 1)) }
+    ensures same { HasCleanDisk (state S.Store conn.new)
+        → OnOk result (IsUnchanged (state S.Store conn.old) (state S.Store conn.new)) }
+    ensures either { IfErr result (λ e. (e ≡ KeeperFault.Memory)
+        ⊎ ((e ≡ KeeperFault.Broken) ⊎ (e ≡ KeeperFault.BadRow))) }
+    ensures refuses { HasCleanDisk (state S.Store conn.new)
+        → IfErr result (RefusesToLoad S.Store conn.old conn.new) }
+    ensures memory { HasCleanDisk (state S.Store conn.new) → result ≡ Err KeeperFault.Memory
+        → IsAsCommitted (state S.Store conn.old) (state S.Store conn.new) }
+    ensures survives { Survives (state S.Store conn.old) (state S.Store conn.new) (λ _. ⊥) }
+{
+    match load_ops(alloc, conn, number) {
+        Ok(ops) => Ok(ops),
+        Err(LoadFault::BadRow) => Err(KeeperFault::BadRow),
+        Err(LoadFault::Memory) => Err(KeeperFault::Memory),
+        Err(LoadFault::Failed(error)) => Err(fault_of(conn, error)),
+    }
+}
+
+/// Adds the operations in one transaction, all or none.
+///
+/// Refused with `Memory` for want of memory, where none is added and the connection serves on; and with `Broken` for an error of
+/// another cause, or where the connection serves no more.
+pub fn save_on<S: Alter>(
+    alloc: Global,
+    conn: &mut Connection<S>,
+    ops: &[Op],
+) -> Result<(), KeeperFault>
+    requires idle { conn.old.in_transaction ≡ false }
+    requires some { 0 < length ops.now }
+    ensures clean { doubt (state S.Store conn.old).is_clean ≤ doubt
+        (state S.Store conn.new).is_clean }
+    ensures idle { conn.new.in_transaction ≡ false }
+    ensures either { IfErr result (λ e. (e ≡ KeeperFault.Memory) ⊎ (e ≡ KeeperFault.Broken)) }
+    ensures ok { HasCleanDisk (state S.Store conn.new) → IsOurs (state S.Store conn.old)
+        → OnOk result (Saves ops.now (state S.Store conn.old) (state S.Store conn.new)) }
+    ensures memory { HasCleanDisk (state S.Store conn.new) → IsOurs (state S.Store conn.old)
+        → result ≡ Err KeeperFault.Memory → IsAsCommitted (state S.Store conn.old)
+        (state S.Store conn.new) }
+    ensures fails { HasCleanDisk (state S.Store conn.new) → IsOurs (state S.Store conn.old)
+        → IsTrue (state S.Store conn.old).is_open → IfErr result (IsTold S.Store
+        (FailsToSave ops.now (state S.Store conn.old)) conn.new) }
+    ensures survives { IsOurs (state S.Store conn.old) → Survives (state S.Store conn.old)
+        (state S.Store conn.new) (AddsTo ops.now (state S.Store conn.old).now) }
+{
+    match save_ops(alloc, conn, ops) {
+        Ok(()) => Ok(()),
+        Err(error) => Err(fault_of(conn, error)),
+    }
+}
+
+/// Raises the boot by one and gives it.
+///
+/// Refused with `NamesSpent` exactly where the boot is 4,294,967,295 and is read; with `Memory` for want of memory, where the
+/// boot stays and the connection serves on; and with `Broken` for an error of another cause, or where it serves no more.
+pub fn boot_on<S: Alter>(conn: &mut Connection<S>, number: u16) -> Result<u32, KeeperFault>
+    requires idle { conn.old.in_transaction ≡ false }
+    requires serving { IsServing number (state S.Store conn.old) }
+    ensures clean { doubt (state S.Store conn.old).is_clean ≤ doubt
+        (state S.Store conn.new).is_clean }
+    ensures idle { conn.new.in_transaction ≡ false }
+    ensures positive { IfOk result (λ boot. 0 < boot) }
+    ensures ok { HasCleanDisk (state S.Store conn.new) → IfOk result (λ boot. (was : ℕ)
+        × (boot ≡ was + 1) × ((state S.Store conn.old).now.trees 0 ≡ self_row number was ∷ [])
+        × Raises number boot (state S.Store conn.old) (state S.Store conn.new)) }
+    ensures spent { HasCleanDisk (state S.Store conn.new) → result ≡ Err KeeperFault.NamesSpent
+        → IsUnchanged (state S.Store conn.old) (state S.Store conn.new)
+        × ((state S.Store conn.old).now.trees 0 ≡ self_row number (2 ^ 32 - 1) ∷ []) }
+    ensures memory { HasCleanDisk (state S.Store conn.new) → result ≡ Err KeeperFault.Memory
+        → IsAsCommitted (state S.Store conn.old) (state S.Store conn.new) }
+    ensures either { IfErr result (λ e. (e ≡ KeeperFault.Memory)
+        ⊎ ((e ≡ KeeperFault.Broken) ⊎ (e ≡ KeeperFault.NamesSpent))) }
+    ensures last { HasCleanDisk (state S.Store conn.new)
+        → (state S.Store conn.old).now.trees 0 ≡ self_row number (2 ^ 32 - 1) ∷ []
+        → IsErrAnd result (λ e. (e ≡ KeeperFault.NamesSpent) ⊎ IsTold S.Store
+        (IsFault (state S.Store conn.old)) conn.new e) }
+    ensures fails { HasCleanDisk (state S.Store conn.new) → IfErr result (λ e.
+        e ≢ KeeperFault.NamesSpent → IsTold S.Store
+        (FailsToBoot number (state S.Store conn.old)) conn.new e) }
+    ensures survives { (was : ℕ) → (state S.Store conn.old).now.trees 0 ≡ self_row number was ∷ []
+        → Survives (state S.Store conn.old) (state S.Store conn.new) (RaisesTo number (was + 1)
+        (state S.Store conn.old).now) }
+{
+    let boot = match read_boot(conn, number) {
+        Ok(boot) => boot,
+        Err(error) => return Err(fault_of(conn, error)),
+    };
+    if boot == u32::MAX {
+        return Err(KeeperFault::NamesSpent);
+    }
+    match raise_boot(conn, number, boot + 1) {
+        Ok(()) => Ok(boot + 1),
+        Err(error) => Err(fault_of(conn, error)),
+    }
+}
