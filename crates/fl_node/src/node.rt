@@ -1,5 +1,6 @@
 //! A node, call by call.
 ghost use Rattle.std.specs.Prelude.{◌≡◌, ◌⊎◌, ◌<◌, IsTrue, IfOk, IfErr, IsSome, OnErr, Ok, Err, Some, None, length};
+ghost use Rattle.std.specs.Fn.{FnOnceReturnsAtMut};
 ghost use Rattle.std.specs.Option.{option_copied};
 ghost use Rattle.fl_labels.specs.SetBy as set;
 ghost use Rattle.fl_opset.specs.RegistryText.{registry_text};
@@ -465,6 +466,34 @@ impl<K: Keeper> Node<K> {
         let old = replace(&mut self.keeper, keeper);
         let result = self.open_again(alloc);
         (result, old)
+    }
+
+    /// Has the keeper of a stopped node changed, or another put in its place, and opens the node again over it, as `come_back`
+    /// does. A node that runs answers `Busy`, and is left as it is: its keeper is not shown then.
+    pub fn reopen_with<F: FnOnce(&mut K)>(&mut self, alloc: Global, make: F) -> Result<u32, Fault>
+        requires { F.IsAlwaysCallable make }
+        ensures running { IsRunning self.old.node.state
+            → (self.new ≡ self.old) × (result ≡ Err (Fault.Refused Refusal.Busy)) }
+        ensures stopped { (¬ IsRunning self.old.node.state)
+            → (made : K) × FnOnceReturnsAtMut F.FnOnce make self.old.keeper tt made
+            × (K.is_honest self.new.keeper → K.is_honest made
+            × Follows (λ k k'. Reopens self.old.node k result self.new.node k')
+            (K.may_hold made) (K.may_hold self.new.keeper)) }
+        ensures number { self.new.node.number ≡ self.old.node.number }
+        ensures cause { let left = self.new.keeper in
+            IfErr result (λ fault. fault ≡ Fault.KeeperFailed
+            → (made : K) × FnOnceReturnsAtMut F.FnOnce make self.old.keeper tt made
+            × (IsTrue (K.is_broken left) ⊎ (K.is_honest left → K.has_bad_row made))) }
+        ensures broken { (¬ IsRunning self.old.node.state)
+            → (made : K) × FnOnceReturnsAtMut F.FnOnce make self.old.keeper tt made
+            × (IsTrue (K.is_broken made) → K.number made ≡ self.old.node.number
+            → result ≡ Err Fault.KeeperFailed) }
+    {
+        let Err(_) = running(&self.state) else {
+            return Err(Fault::Refused(Refusal::Busy));
+        };
+        make(&mut self.keeper);
+        self.open_again(alloc)
     }
 
     /// Gives the keeper of a stopped node away, and opens the node again over the one that comes back, as `restart` does. A node

@@ -22,7 +22,8 @@ use Rattle.fl_system.specs.World.{World, went}
 use Rattle.fl_system.specs.WorldSteps.{IsAt}
 use Rattle.fl_node.specs.Over.{NodeOver}
 use Rattle.fl_nodes.specs.Over.{WorldOver}
-use Rattle.fl_nodes.specs.Joining.{GivesBack, spare, spare_of}
+use Rattle.fl_nodes.specs.Goes.{Goes}
+use Rattle.fl_nodes.specs.Joining.{GivesBack, ReturnsOver, TakesOver, spare, spare_of}
 use Rattle.fl_nodes.specs.parts.Joined.{opened_reply}
 use Rattle.fl_nodes.proofs.Lifting.{goes_to, here, honest_before, may_be_before, no_node, node_there, over_went, with_kept, world_before}
 
@@ -36,6 +37,10 @@ reopening w number n n' was k k' (Err fault) at stopped (Reopens.running running
 pub spare_none : {K : Type 0} (o : Option (NodeOver K)) (keeper : K) → o ≡ None → keeper ≡ spare o keeper
 spare_none o keeper none = subst (λ o. keeper ≡ spare o keeper) (sym none) refl
 
+-- none and some are not there at once
+pub none_there : {A P : Type 0} (o : Option A) → o ≡ None → (n : A) → o ≡ Some n → P
+none_there o none n some = absurd (cc)
+
 module _ {K : Type 0} (is_honest : K → Type 0) (may_hold : K → Held) where
   pub not_there : (old new : WorldOver K) (number : ℕ) (keeper : K) → new ≡ old → map.get old.nodes number ≡ None
       → GivesBack is_honest may_hold old keeper new keeper (λ w k w' k'. Reopening w number k reply.NoSuch w')
@@ -44,6 +49,71 @@ module _ {K : Type 0} (is_honest : K → Type 0) (may_hold : K → Held) where
         honest = λ all given. (all, given);
         comes = λ all given after k' is held. (after, k', is, held, Reopening.no_node (no_node is_honest may_hold old after number none is));
       })
+
+  module _ (old new : WorldOver K) (number : ℕ) (x y : NodeOver K) (there : map.get old.nodes number ≡ Some x)
+      (is_new : new ≡ over_went old number y [] []) where
+    pub left_alone : y ≡ x → new ≡ old
+    left_alone same =
+        is_new
+        ∙ (λ i. record {
+          desks = old.desks;
+          nodes = (ap (λ n. map.insert old.nodes number n) same ∙ put_same nat_cmp_total nat_cmp-IsAntisymmetric old.nodes number x there) i;
+          packets = append-nil old.packets i;
+          audit = append-nil old.audit i;
+        })
+
+    -- over what was made of its keeper
+    pub returns_over : (made : K) (outcome : Result ℕ Fault) → ¬ IsRunning x.node.state → TakesOver is_honest may_hold x.keeper made
+        → (is_honest y.keeper → is_honest made × Follows (λ k k'. Reopens x.node k outcome y.node k') (may_hold made) (may_hold y.keeper))
+        → (result : Reply) → result ≡ opened_reply outcome → Goes is_honest may_hold old new (ReturnsOver may_hold made number result)
+    returns_over made outcome stops takes opens result e =
+        subst (λ r. Goes is_honest may_hold old new (ReturnsOver may_hold made number r)) (sym e)
+        (subst (λ n. Goes is_honest may_hold old n (ReturnsOver may_hold made number (opened_reply outcome))) (sym is_new) (record {
+          honest = λ all.
+              honest_before is_honest may_hold old number x y [] [] there (λ _. takes.honest (opens (all number y (here old.nodes number y))).0) all;
+          comes = λ all after is.
+              let s = node_there is_honest may_hold (over_went old number y [] []) after number y (here old.nodes number y) is in
+              let trusted = opens (all number y (here old.nodes number y)) in
+              let b = trusted.1 s.kept s.held in
+              let was = takes.held trusted.0 b.0 b.1 in
+              let before = world_before is_honest may_hold old number x y [] [] there after was.0 in (
+                before,
+                may_be_before is_honest may_hold old number x y [] [] there after was.0 is was.1,
+                record {
+                  kept = b.0;
+                  held = b.1;
+                  returns = subst (Reopening before number b.0 (opened_reply outcome)) (goes_to is_honest may_hold old number x y [] [] there after was.0 s.kept is s.there)
+                      (reopening before number x.node y.node was.0 b.0 s.kept outcome (here after.nodes number (with_kept x.node was.0)) stops b.2);
+                },
+              );
+        }))
+
+    -- the same of whatever node is said to be there
+    same_node : (n : NodeOver K) → map.get old.nodes number ≡ Some n → x ≡ n
+    same_node n at = let both : Some x ≡ Some n = sym there ∙ at in cc
+
+    pub when_running : (n : NodeOver K) → map.get old.nodes number ≡ Some n → IsRunning n.node.state → (outcome : Result ℕ Fault)
+        → (IsRunning x.node.state → (y ≡ x) × (outcome ≡ Err (faults.Refused Busy)))
+        → (result : Reply) → result ≡ opened_reply outcome → (new ≡ old) × (result ≡ reply.Refused (faults.Refused Busy))
+    when_running n at runs outcome alone result e =
+        let h = alone (subst (λ (m : NodeOver K). IsRunning m.node.state) (sym (same_node n at)) runs) in
+        (left_alone h.0, e ∙ ap opened_reply h.1)
+
+    pub when_stopped : (n : NodeOver K) → map.get old.nodes number ≡ Some n → ¬ IsRunning n.node.state → (Makes : K → K → Type 0)
+        → ((m : NodeOver K) (made : K) → map.get old.nodes number ≡ Some m → Makes m.keeper made → TakesOver is_honest may_hold m.keeper made)
+        → (outcome : Result ℕ Fault)
+        → (¬ IsRunning x.node.state → (made : K) × Makes x.keeper made
+        × (is_honest y.keeper → is_honest made × Follows (λ k k'. Reopens x.node k outcome y.node k') (may_hold made) (may_hold y.keeper)))
+        → (result : Reply) → result ≡ opened_reply outcome
+        → (made : K) × Makes n.keeper made × Goes is_honest may_hold old new (ReturnsOver may_hold made number result)
+    when_stopped n at stops Makes trusts outcome opens result e =
+        let same = same_node n at in
+        let stopped : ¬ IsRunning x.node.state = λ runs. stops (subst (λ (m : NodeOver K). IsRunning m.node.state) same runs) in
+        let made = opens stopped in (
+          made.0,
+          subst (λ (m : NodeOver K). Makes m.keeper made.0) same made.1,
+          returns_over made.0 outcome stopped (trusts x made.0 there made.1) made.2 result e,
+        )
 
   module _ (old new : WorldOver K) (number : ℕ) (keeper given : K) (x y : NodeOver K) (there : map.get old.nodes number ≡ Some x)
       (is_new : new ≡ over_went old number y [] []) (outcome : Result ℕ Fault)
@@ -54,20 +124,10 @@ module _ {K : Type 0} (is_honest : K → Type 0) (may_hold : K → Held) where
     abbrev Reopened : WorldOver K → K → Result ℕ Fault → Type 0
     Reopened now left result = GivesBack is_honest may_hold old keeper now left (λ w k w' k'. Reopening w number k (opened_reply result) w')
 
-    left_alone : y ≡ x → new ≡ old
-    left_alone same =
-        is_new
-        ∙ (λ i. record {
-          desks = old.desks;
-          nodes = (ap (λ n. map.insert old.nodes number n) same ∙ put_same nat_cmp_total nat_cmp-IsAntisymmetric old.nodes number x there) i;
-          packets = append-nil old.packets i;
-          audit = append-nil old.audit i;
-        })
-
     by_running : IsRunning x.node.state → Reopened new given outcome
     by_running runs =
         let h = running runs in
-        subst (λ n. Reopened n given outcome) (sym (left_alone h.0))
+        subst (λ n. Reopened n given outcome) (sym (left_alone old new number x y there is_new h.0))
         (subst (λ left. Reopened old left outcome) (sym h.2)
         (subst (λ result. Reopened old keeper result) (sym h.1) (record {
           honest = λ all left. (all, left);

@@ -7,10 +7,11 @@ use Rattle.fl_store.specs.Kept.{Kept, raised}
 use Rattle.fl_store.specs.Keeping.{Held}
 use Rattle.fl_system.specs.declared.answer.Fault.{Fault}
 use Rattle.fl_system.specs.declared.answer.Fault.TheVariants as faults
+use Rattle.fl_system.specs.declared.reply.Reply.{Reply}
 use Rattle.fl_system.specs.declared.reply.Reply.TheVariants.{Booted, Refused}
 use Rattle.fl_system.specs.declared.state.State.{State}
 use Rattle.fl_system.specs.declared.state.State.TheVariants.{Running, Stopped}
-use Rattle.fl_system.specs.Joins.{IsStray, Joins}
+use Rattle.fl_system.specs.Joins.{IsStray, Joins, Reopening}
 use Rattle.fl_system.specs.World.{World}
 use Rattle.fl_node.specs.Over.{NodeOver}
 use Rattle.fl_nodes.specs.Over.{WorldOver}
@@ -73,3 +74,15 @@ spare_of own other (Running pending) = other
 abbrev pub spare : {K : Type 0} → Option (NodeOver K) → K → K
 spare None other = other
 spare (Some n) other = spare_of n.keeper other n.node.state
+
+-- A keeper that is opened in the place of another is trusted no further than that: where it is honest that was honest too, and
+-- where something may be found of it something might have been found of that.
+pub record TakesOver {K : Type 0} (is_honest : K → Type 0) (may_hold : K → Held) (was made : K) : Type 0 where
+  pub honest : is_honest made → is_honest was
+  pub held : is_honest made → (k : Kept) → may_hold made k → (before : Kept) × may_hold was before
+
+-- the node of this number is opened again over something that this keeper might have held
+pub record ReturnsOver {K : Type 0} (may_hold : K → Held) (made : K) (number : ℕ) (reply : Reply) (w w' : World) : Type 0 where
+  pub kept : Kept
+  pub held : may_hold made kept
+  pub returns : Reopening w number kept reply w'

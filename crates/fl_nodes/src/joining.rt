@@ -3,14 +3,19 @@ ghost use Rattle.std.specs.Prelude.{◌≡◌, ◌<◌, is_some, IfOk, IfErr, On
 ghost use Rattle.std.specs.Prelude.{None, Some, Err};
 ghost use Rattle.std.specs.BTreeMap.{IsOrdered};
 ghost use Rattle.std.specs.FinMap as map;
+ghost use Rattle.std.specs.Fn.{FnOnceReturnsAtMut};
 ghost use Rattle.std.specs.Ordering.{nat_cmp};
 ghost use Rattle.fl_gossip.specs.Meeting.{FindsLeast, OfSome};
 ghost use Rattle.fl_jobs.specs.declared.answer.Refusal.TheVariants.{Memory};
 ghost use Rattle.fl_system.specs.declared.answer.Fault.TheVariants as faults;
+ghost use Rattle.fl_system.specs.declared.reply.Reply.TheVariants as replies;
 ghost use Rattle.fl_system.specs.Joins.{IsClashAt, Reopening};
+ghost use Rattle.fl_system.specs.Waiting.{IsRunning};
 ghost use Rattle.fl_system.specs.World.{World};
 ghost use Rattle.fl_node.specs.Over.{NodeOver};
+ghost use Rattle.fl_nodes.specs.Goes.{Goes};
 ghost use Rattle.fl_nodes.specs.Joining.{DoesJoin, DoesNotJoin, GivesBack, TakesIn, spare};
+ghost use Rattle.fl_nodes.specs.Joining.{ReturnsOver, TakesOver};
 ghost use Rattle.fl_nodes.specs.parts.Joined.{AreNodes, ClashesWith, IsStrayWith, StraysWith};
 ghost use Rattle.fl_nodes.specs.parts.Joined.{opened_reply, over_with};
 
@@ -180,5 +185,32 @@ impl<K: Keeper> Nodes<K> {
         let (result, given) = node.reopen_over(alloc, keeper);
         self.highest = raised(self.highest, node.saved());
         (opened(result), given)
+    }
+
+    /// Has the keeper of a stopped node changed, or another put in its place, and opens the node again over it, as
+    /// `Node::reopen_with` has it. Answers its boot, or why not: `NoSuch` where it is not there, and `Busy` where it runs; then
+    /// nothing is made, and the nodes are as before. After any other refusal the node stays stopped, over what was made.
+    ///
+    /// What is made is to be trusted no further than the keeper before it: as each call of a keeper has it, where it is honest then,
+    /// that was honest before.
+    pub fn reopen_with<F: FnOnce(&mut K)>(&mut self, alloc: Global, number: u16, make: F) -> Reply
+        requires callable { F.IsAlwaysCallable make }
+        requires trusted { (n : NodeOver K) (made : K) → map.get self.old.nodes number ≡ Some n
+            → FnOnceReturnsAtMut F.FnOnce make n.keeper tt made
+            → TakesOver K.is_honest K.may_hold n.keeper made }
+        ensures absent { map.get self.old.nodes number ≡ None
+            → (self.new ≡ self.old) × (result ≡ replies.NoSuch) }
+        ensures running { (n : NodeOver K) → map.get self.old.nodes number ≡ Some n → IsRunning n.node.state
+            → (self.new ≡ self.old) × (result ≡ replies.Refused (Fault.Refused Refusal.Busy)) }
+        ensures stopped { (n : NodeOver K) → map.get self.old.nodes number ≡ Some n
+            → (¬ IsRunning n.node.state) → (made : K) × FnOnceReturnsAtMut F.FnOnce make n.keeper tt made
+            × Goes K.is_honest K.may_hold self.old self.new (ReturnsOver K.may_hold made number result) }
+    {
+        let Some(node) = self.all.get_mut(&number) else {
+            return Reply::NoSuch;
+        };
+        let result = node.reopen_with(alloc, make);
+        self.highest = raised(self.highest, node.saved());
+        opened(result)
     }
 }

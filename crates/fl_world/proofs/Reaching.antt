@@ -10,12 +10,15 @@ use Rattle.fl_system.specs.declared.reply.Reply.TheVariants as replies
 use Rattle.fl_system.specs.declared.answer.Fault.{Fault}
 use Rattle.fl_system.specs.declared.event.Event.{Event}
 use Rattle.fl_system.specs.Joins.{Joins}
-use Rattle.fl_system.specs.Runs.{Move, Comes, Moment, Moves, IsRun, IsReached, end}
+use Rattle.fl_system.specs.Runs.{Move, Comes, Returns, Moment, Moves, IsRun, IsReached, end}
+use Rattle.fl_system.specs.Waiting.{IsRunning}
+use Rattle.fl_system.specs.declared.state.State.{State}
+use Rattle.fl_system.specs.declared.state.State.TheVariants.{Running, Stopped}
 use Rattle.fl_system.specs.WorldSteps.{IsAt, Step}
 use Rattle.fl_world_laws.specs.Places.{IsKnown, IsNameRefusal}
 use Rattle.fl_node.specs.Over.{NodeOver}
 use Rattle.fl_nodes.specs.Over.{WorldOver, empty_over}
-use Rattle.fl_nodes.specs.Joining.{DoesJoin, DoesNotJoin, GivesBack, HasNoStray, IsRefused, TakesIn}
+use Rattle.fl_nodes.specs.Joining.{DoesJoin, DoesNotJoin, GivesBack, HasNoStray, IsRefused, ReturnsOver, TakesIn}
 use Rattle.fl_nodes.specs.Whole.{IsWhole}
 use Rattle.fl_nodes.specs.Goes.{Goes}
 use Rattle.fl_nodes.specs.laws.Nothing.{none_is}
@@ -129,3 +132,29 @@ joined_or_not is_honest may_hold old new number keeper (Ok boot) joins same all 
 }
 joined_or_not is_honest may_hold old new number keeper (Err e) joins same all =
     subst (λ o. InEach is_honest may_hold o IsReached) (sym same) all
+
+-- a node that is opened again over another keeper is a move, and one that is not there, or runs, leaves all as it was
+pub returned_or_not : {K A B : Type 0} (is_honest : K → Type 0) (may_hold : K → Held) (old new : WorldOver K) (number : ℕ)
+    (Makes : K → K → Type 0) (reply : Reply) → (map.get old.nodes number ≡ None → (new ≡ old) × A)
+    → ((n : NodeOver K) → map.get old.nodes number ≡ Some n → IsRunning n.node.state → (new ≡ old) × B)
+    → ((n : NodeOver K) → map.get old.nodes number ≡ Some n → ¬ IsRunning n.node.state
+    → (made : K) × Makes n.keeper made × Goes is_honest may_hold old new (ReturnsOver may_hold made number reply))
+    → InEach is_honest may_hold old IsReached → InEach is_honest may_hold new IsReached
+returned_or_not {K} is_honest may_hold old new number Makes reply absent running stopped all = by_node (map.get old.nodes number) refl
+  where
+    as_before : new ≡ old → InEach is_honest may_hold new IsReached
+    as_before same = subst (λ o. InEach is_honest may_hold o IsReached) (sym same) all
+
+    by_state : (n : NodeOver K) → map.get old.nodes number ≡ Some n → (s : State) → n.node.state ≡ s → InEach is_honest may_hold new IsReached
+    by_state n at (Running pending) e = as_before (running n at (subst IsRunning (sym e) tt)).0
+    by_state n at (Stopped doubt) e =
+        let made = stopped n at (subst IsRunning e) in
+        record {
+          each = λ honest after is.
+              let before = made.2.comes honest after is in
+              reached_on before.0 after (Returns number before.2.kept) reply (all.each (made.2.honest honest) before.0 before.1) before.2.returns;
+        }
+
+    by_node : (o : Option (NodeOver K)) → map.get old.nodes number ≡ o → InEach is_honest may_hold new IsReached
+    by_node None e = as_before (absent e).0
+    by_node (Some n) e = by_state n e n.node.state refl

@@ -1,16 +1,20 @@
 //! A world, event by event.
-ghost use Rattle.std.specs.Prelude.{◌≡◌, ◌<◌, All, IfOk, IfErr, OnErr};
+ghost use Rattle.std.specs.Prelude.{◌≡◌, ◌<◌, All, IfOk, IfErr, OnErr, None, Some};
 ghost use Rattle.std.specs.FinMap as map;
+ghost use Rattle.std.specs.Fn.{FnOnceReturnsAtMut};
 ghost use Rattle.std.specs.Option.{option_copied};
 ghost use Rattle.fl_system.specs.declared.event.Event.TheVariants as event;
 ghost use Rattle.fl_system.specs.declared.reply.Reply.TheVariants as replies;
 ghost use Rattle.fl_system.specs.Joins.{Joins};
 ghost use Rattle.fl_system.specs.Runs.{Run};
+ghost use Rattle.fl_system.specs.Waiting.{IsRunning};
 ghost use Rattle.fl_system.specs.WorldSteps.{Step};
 ghost use Rattle.fl_world_laws.specs.Places.{IsNameRefusal};
+ghost use Rattle.fl_node.specs.Over.{NodeOver};
 ghost use Rattle.fl_nodes.specs.Over.{empty_over};
 ghost use Rattle.fl_nodes.specs.Goes.{Goes};
 ghost use Rattle.fl_nodes.specs.Joining.{GivesBack, IsRefused, TakesIn};
+ghost use Rattle.fl_nodes.specs.Joining.{ReturnsOver, TakesOver};
 ghost use Rattle.fl_nodes.specs.Texts.{TextAt};
 ghost use Rattle.fl_nodes.specs.Whole.{IsWhole};
 ghost use Rattle.fl_world.specs.Looking.{LooksFar};
@@ -19,6 +23,7 @@ ghost use Rattle.fl_world.specs.Headline.{HasSafeAudit, IsSafeWorld};
 ghost use Rattle.fl_world.specs.Lasting.{IsLastingWorld};
 
 use crate::laws::{law_headline, law_lasting};
+use fl_jobs::answer::Refusal;
 use fl_jobs::job::Job;
 use fl_node::node::Node;
 use fl_nodes::nodes::Nodes;
@@ -127,6 +132,30 @@ impl<K: Keeper> World<K> {
     {
         law_names();
         self.nodes.join(alloc, number, keeper)
+    }
+
+    /// Has the keeper of a stopped node changed, or another put in its place, and opens the node again over it, as
+    /// `Nodes::reopen_with` has it. Answers its boot, or why not: `NoSuch` where it is not there, and `Busy` where it runs; then
+    /// nothing is made, and the world is as before. After any other refusal the node stays stopped, over what was made: with
+    /// `WrongNode` where that is another node's, was not opened as often, or has not what the node saved, with or without what was
+    /// in doubt.
+    ///
+    /// What is made is to be trusted no further than the keeper before it: as each call of a keeper has it, where it is honest then,
+    /// that was honest before.
+    pub fn reopen<F: FnOnce(&mut K)>(&mut self, alloc: Global, number: u16, make: F) -> Reply
+        requires callable { F.IsAlwaysCallable make }
+        requires trusted { (n : NodeOver K) (made : K) → map.get self.old.nodes number ≡ Some n
+            → FnOnceReturnsAtMut F.FnOnce make n.keeper tt made
+            → TakesOver K.is_honest K.may_hold n.keeper made }
+        ensures absent { map.get self.old.nodes number ≡ None
+            → (self.new ≡ self.old) × (result ≡ replies.NoSuch) }
+        ensures running { (n : NodeOver K) → map.get self.old.nodes number ≡ Some n → IsRunning n.node.state
+            → (self.new ≡ self.old) × (result ≡ replies.Refused (Fault.Refused Refusal.Busy)) }
+        ensures stopped { (n : NodeOver K) → map.get self.old.nodes number ≡ Some n
+            → (¬ IsRunning n.node.state) → (made : K) × FnOnceReturnsAtMut F.FnOnce make n.keeper tt made
+            × Goes K.is_honest K.may_hold self.old self.new (ReturnsOver K.may_hold made number result) }
+    {
+        self.nodes.reopen_with(alloc, number, make)
     }
 
     /// Has the node do a job at its desk, under all that it published, as `Nodes::job` has it. What the job lets pass is noted.

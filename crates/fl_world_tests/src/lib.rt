@@ -3,3 +3,7 @@
 
 #[cfg(test)]
 mod gossip;
+#[cfg(test)]
+mod reopening;
+#[cfg(test)]
+mod scene;

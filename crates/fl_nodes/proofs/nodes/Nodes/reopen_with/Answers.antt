@@ -1,0 +1,47 @@
+use Rattle.std.proofs.Common.{◌∙◌, sym, ap, ℕ, subst, refl}
+use Rattle.std.specs.BTreeMap.{BTreeMap}
+use Rattle.fl_node.specs.Over.{NodeOver}
+use Rattle.fl_nodes.specs.parts.Highest.{IsUpTo}
+use Rattle.fl_nodes.proofs.Entries.{held, changed, unchanged}
+use Rattle.fl_nodes.proofs.JoinLemmas.{none_there, when_running, when_stopped}
+use Rattle.fl_nodes.proofs.Highs.{changed_up}
+use Rattle.fl_nodes.proofs.nodes.Nodes.reopen_with.Goals as goal
+
+pub returns-in_default-clause-absent : goal.returns-in_default-clause-absent
+returns-in_default-clause-absent g c none = (
+  unchanged c.self.inside.all.entries _ c.self.inside.sent.items c.self.inside.audit.items c.args.self.now c.self.view_is (ap (λ (t : BTreeMap ℕ (NodeOver g.row.K.Denot)). t.entries) c.get_mut.follows.holds-at-none),
+  refl,
+)
+
+pub returns-in_default-clause-running : goal.returns-in_default-clause-running
+returns-in_default-clause-running g c n at runs =
+    none_there _ (sym (held c.self.inside.all.entries c.self.inside.all.entries c.self.inside.sent.items c.self.inside.audit.items c.args.self.now c.self.view_is c.args.number) ∙ sym c.in_default.ensures.value) n at
+
+pub returns-in_default-clause-stopped : goal.returns-in_default-clause-stopped
+returns-in_default-clause-stopped g c n at stops =
+    none_there _ (sym (held c.self.inside.all.entries c.self.inside.all.entries c.self.inside.sent.items c.self.inside.audit.items c.args.self.now c.self.view_is c.args.number) ∙ sym c.in_default.ensures.value) n at
+
+pub returns-clause-absent : goal.returns-clause-absent
+returns-clause-absent g c none =
+    none_there _ none _
+    (sym (held c.self.inside.all.entries c.self.inside.all.entries c.self.inside.sent.items c.self.inside.audit.items c.args.self.now c.self.view_is c.args.number) ∙ sym c.in-Some.ensures.value)
+
+pub returns-clause-running : goal.returns-clause-running
+returns-clause-running g c n at runs =
+    when_running g.K.Keeper.is_honest g.K.Keeper.may_hold c.args.self.now _ c.args.number c.in-Some.node.now c.reopen_with-result.new.self
+    (sym (held c.self.inside.all.entries c.self.inside.all.entries c.self.inside.sent.items c.self.inside.audit.items c.args.self.now c.self.view_is c.args.number) ∙ sym c.in-Some.ensures.value)
+    (changed c.self.inside.all.entries _ c.self.inside.sent.items c.self.inside.audit.items c.args.self.now c.self.view_is c.args.number c.in-Some.node.now c.reopen_with-result.new.self (sym c.in-Some.ensures.value) (c.get_mut.follows.holds c.reopen_with-result.new.self).0)
+    n at runs _ c.reopen_with-result.ensures.running _ c.opened.ensures
+
+pub returns-clause-stopped : goal.returns-clause-stopped
+returns-clause-stopped g c n at stops =
+    when_stopped g.K.Keeper.is_honest g.K.Keeper.may_hold c.args.self.now _ c.args.number c.in-Some.node.now c.reopen_with-result.new.self
+    (sym (held c.self.inside.all.entries c.self.inside.all.entries c.self.inside.sent.items c.self.inside.audit.items c.args.self.now c.self.view_is c.args.number) ∙ sym c.in-Some.ensures.value)
+    (changed c.self.inside.all.entries _ c.self.inside.sent.items c.self.inside.audit.items c.args.self.now c.self.view_is c.args.number c.in-Some.node.now c.reopen_with-result.new.self (sym c.in-Some.ensures.value) (c.get_mut.follows.holds c.reopen_with-result.new.self).0)
+    n at stops _ c.requires.trusted _ c.reopen_with-result.ensures.stopped _ c.opened.ensures
+
+pub invariant_of-self-2 : goal.invariant_of-self-2
+invariant_of-self-2 g c =
+    changed_up c.self.inside.highest _ c.raised-self-inside.ensures.at_least c.self.inside.all.entries _ c.args.number c.in-Some.node.now c.reopen_with-result.new.self
+    (sym c.in-Some.ensures.value) (c.get_mut.follows.holds c.reopen_with-result.new.self).0 c.self.invariant
+    (subst (IsUpTo c.raised-self-inside.result) c.saved.ensures.saved c.raised-self-inside.ensures.covers)

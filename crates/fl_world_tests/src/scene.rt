@@ -1,0 +1,80 @@
+//! What the tests of worlds do.
+ghost use Rattle.std.specs.Prelude.{◌<◌};
+ghost use Rattle.fl_world.specs.Looking.{LooksFar};
+
+use fl_jobs::answer::Reply as Answer;
+use fl_jobs::job::{Act, Job, Order};
+use fl_labels::name::Name;
+use fl_labels::pid::Pid;
+use fl_ops::op::Policy;
+use fl_store::mem::MemKeeper;
+use fl_system::event::Event;
+use fl_system::reply::Reply;
+use fl_world::world::World;
+use std::alloc::Global;
+use std::test::Fail;
+
+/// Has a node join over a keeper.
+pub fn joins(
+    world: &mut World<MemKeeper>,
+    alloc: Global,
+    number: u16,
+    keeper: MemKeeper,
+) -> Result<(), Fail>
+    requires { 0 < number }
+{
+    match world.join(alloc, number, keeper) {
+        Ok(1) => Ok(()),
+        _ => Err(Fail::from("not joined")),
+    }
+}
+
+/// Has the event happen, which is to be answered so.
+pub fn happens(
+    world: &mut World<MemKeeper>,
+    alloc: Global,
+    event: Event,
+    wanted: &Reply,
+) -> Result<(), Fail>
+    requires { LooksFar event }
+{
+    if world.step(alloc, event) == *wanted {
+        Ok(())
+    } else {
+        Err(Fail::from("another answer"))
+    }
+}
+
+// A job at node 1.
+fn job(job: Job) -> Event
+    ensures { LooksFar result }
+{
+    Event::Job {
+        node: 1,
+        desk: 1,
+        upto: u64::MAX,
+        job,
+    }
+}
+
+/// The process that is made first at node 1 since this boot begins to make a tag there.
+pub fn tag_is_begun(world: &mut World<MemKeeper>, alloc: Global, boot: u32) -> Result<(), Fail>
+    requires { 0 < boot }
+{
+    let pid = Pid {
+        node: 1,
+        boot,
+        serial: 1,
+    };
+    let name = Name { node: 1, seq: 1 };
+    let order = Job::By(pid, Act::Order(Order::Tag(Policy::Export)));
+    happens(world, alloc, job(Job::Proc), &Reply::Job(Answer::Made(pid)))?;
+    happens(world, alloc, job(order), &Reply::Begun(name))
+}
+
+/// What is begun there is saved and published.
+pub fn tag_is_made(world: &mut World<MemKeeper>, alloc: Global) -> Result<(), Fail> {
+    let name = Name { node: 1, seq: 1 };
+    happens(world, alloc, Event::Save(1), &Reply::Done)?;
+    happens(world, alloc, Event::Publish(1), &Reply::Published(name))
+}
