@@ -172,6 +172,7 @@ impl<M: MakesKeepers> Cluster<M> {
     /// Has the event happen at its node, which is opened where it is not there, and saves and publishes what it begins. Gives what
     /// the last of it is answered, or why the node was not opened, with which nothing has changed. Where saving wants memory what
     /// was begun is given up, and where publishing does it stays due: `Memory`.
+    #[inline(always)]
     pub fn ask(&mut self, alloc: Global, event: Event) -> Response
         requires far { LooksFar event }
         requires known { 0 < node_of event }

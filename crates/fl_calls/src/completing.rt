@@ -61,6 +61,7 @@ fn finish<K: Keeper>(alloc: Global, world: &mut World<K>, number: u16) -> Reply
 }
 
 /// Has the event happen, and saves and publishes what it begins. Gives what the last of it is answered.
+#[inline(always)]
 pub fn complete<K: Keeper>(alloc: Global, world: &mut World<K>, event: Event) -> Reply
     requires { LooksFar event }
     ensures { Goes K.is_honest K.may_hold world.old world.new (λ w w'. Completes w event result w') }

@@ -31,7 +31,8 @@ fn job_at(node: u16, job: Job) -> Event
     }
 }
 
-// What is asked of the node is answered.
+// What is asked of the node is answered. Inlined, as its caller is, so that no job is copied on its way down.
+#[inline(always)]
 fn respond_for<M: MakesKeepers>(
     alloc: Global,
     cluster: &mut Cluster<M>,
@@ -60,6 +61,7 @@ fn respond_for<M: MakesKeepers>(
 }
 
 /// Answers the line, whatever the aliases are.
+#[inline(always)]
 pub fn respond_to<M: MakesKeepers>(alloc: Global, cluster: &mut Cluster<M>, line: Line) -> Response
     requires { All (λ node. 0 < node) (nodes_of line) }
     ensures { RespondsTo M.K.is_honest M.K.may_hold M.finds M.refuses

@@ -1,5 +1,5 @@
 -- Words of what is to be begun.
-use Rattle.std.proofs.Common.{◌≡◌, ◌≢◌, ◌∙◌, sym, subst, ℕ, List, [], ◌∷◌, Option, None, Some, MatchOption, codes, refl, rules}
+use Rattle.std.proofs.Common.{◌≡◌, ◌≢◌, sym, subst, ℕ, List, [], ◌∷◌, Option, None, Some, MatchOption, codes, refl, rules}
 use Rattle.fl_labels.specs.Found.{Finds}
 use Rattle.fl_labels.specs.Words.{IsNumber}
 use Rattle.fl_labels.specs.declared.pid.Pid.{Pid}
@@ -12,7 +12,7 @@ use Rattle.fl_aliases.specs.Words.{Word}
 use Rattle.fl_script.specs.Grammar.{Is, job_forms, SpellsJob, SpellsRequest}
 use Rattle.fl_script.specs.parts.Begins.{BeginsBy}
 use Rattle.fl_script.specs.declared.request.Request.{Request}
-use Rattle.fl_script.specs.declared.request.Request.TheVariants.{Job as OfJob, Begin, Deliver, BeginDeliver, Tell, Save, Publish, Cancel, Restart, Text, Check}
+use Rattle.fl_script.specs.declared.request.Request.TheVariants.{Job as OfJob, Begin, Deliver, BeginDeliver}
 use Rattle.fl_script.specs.laws.Agreement.{agree}
 use Rattle.fl_script.specs.laws.JobKinds.{kind_of}
 use Rattle.fl_script.specs.laws.OneLine.{one_of, not_job, no_verb}

@@ -1,5 +1,5 @@
 -- What words say, and that they say nothing else.
-use Rattle.std.proofs.Common.{◌≡◌, ◌≢◌, ◌++◌, ◌<◌, inl, inr, false, sym, ap, subst, refl, ◌∙◌, true≢false, ℕ, List, [], ◌∷◌, length, Option, None, Some, true, codes, length-append, arith}
+use Rattle.std.proofs.Common.{◌≡◌, ◌++◌, ◌<◌, inl, inr, false, sym, ap, subst, ◌∙◌, true≢false, ℕ, List, [], ◌∷◌, length, Option, None, Some, true, codes, length-append, arith}
 use Rattle.std.specs.List.{All}
 use Rattle.std.proofs.lemmas.List.Elements.{length_all_zip}
 use Rattle.std.proofs.lemmas.List.Elements.{All-nil, All-cons, All-head, All-tail}

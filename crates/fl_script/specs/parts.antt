@@ -2,3 +2,4 @@
 pub mod Meaning
 pub mod Reads
 pub mod Begins
+pub mod Cut

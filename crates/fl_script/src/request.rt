@@ -215,6 +215,9 @@ pub(crate) fn request_from_words(
     ensures ok { Reads result (λ r. SpellsRequest r (verb.now ∷ map (λ w. w.now) rest.now)) }
     ensures err { OnErr result (IsListVerb verb.now) }
 {
+    if let Some(job) = job_from_words(alloc, verb, rest)? {
+        return Ok(Some(Request::Job(job)));
+    }
     match verb {
         "begin" => Ok(begin_request(rest)),
         "deliver" => Ok(deliver_request(rest)),
@@ -225,9 +228,6 @@ pub(crate) fn request_from_words(
         "restart" => Ok(restart_request(rest)),
         "text" => Ok(text_request(rest)),
         "check" => check_request(alloc, rest),
-        _ => match job_from_words(alloc, verb, rest)? {
-            Some(job) => Ok(Some(Request::Job(job))),
-            None => Ok(None),
-        },
+        _ => Ok(None),
     }
 }

@@ -1,5 +1,5 @@
 -- Words spell one line at most.
-use Rattle.std.proofs.Common.{◌≡◌, ◌∙◌, ap, sym, refl, ℕ, Bool, true, false, true≢false, nat_eq, List, [], ◌∷◌, codes, rules}
+use Rattle.std.proofs.Common.{◌≡◌, ◌∙◌, ap, sym, refl, Bool, true, false, true≢false, nat_eq, List, [], ◌∷◌, codes, rules}
 use Rattle.std.specs.Cmp.Lexicographic.{pointwise}
 use Rattle.std.specs.List.{list_any}
 use Rattle.fl_jobs.specs.declared.job.Act.TheVariants.{Order as Orders}
