@@ -22,10 +22,12 @@ pub enum Step {
     Reaches,
     /// The chain, and a thousand times what is in effect for the owner of 50 capabilities.
     Effective,
+    /// The chain, and a hundred thousand times what is in effect for the owner of 50 tags, of which it owns nine of ten.
+    Owned,
 }
 
 /// All steps, in order.
-pub const STEPS: [Step; 7] = [
+pub const STEPS: [Step; 8] = [
     Step::Dense,
     Step::ChainFromFirst,
     Step::ChainFromLast,
@@ -33,6 +35,7 @@ pub const STEPS: [Step; 7] = [
     Step::Shared,
     Step::Reaches,
     Step::Effective,
+    Step::Owned,
 ];
 
 // How many of the first groups the owner of the first one reaches.
@@ -87,6 +90,35 @@ fn effective_often(index: &Index, owned: &CapSet, size: u16) -> u32 {
     yes
 }
 
+// What adds the first 50 tags.
+fn first_tags(alloc: Global) -> Result<CapSet, AllocError> {
+    let mut owned = CapSet::new(alloc);
+    for number in 0..50 {
+        owned.insert(Cap::Plus(name(number)))?;
+    }
+    Ok(owned)
+}
+
+// How many of 50 tags, all but the first five, the owner of these capabilities may add.
+fn count_effective(index: &Index, owned: &CapSet) -> u32 {
+    let mut yes: u32 = 0;
+    for number in 5..55 {
+        if index.effective(owned, Cap::Plus(name(number))) {
+            yes = yes.saturating_add(1);
+        }
+    }
+    yes
+}
+
+// Two thousand times how many.
+fn owned_often(index: &Index, owned: &CapSet) -> u32 {
+    let mut yes: u32 = 0;
+    for _ in 0..2000 {
+        yes = yes.saturating_add(count_effective(index, owned));
+    }
+    yes
+}
+
 impl Step {
     /// Its name.
     pub fn name(self) -> &'static str {
@@ -98,6 +130,7 @@ impl Step {
             Step::Shared => "groups that use one that grows",
             Step::Reaches => "questions of what is reached",
             Step::Effective => "questions of what is in effect",
+            Step::Owned => "questions of the owner of 50 tags",
         }
     }
 
@@ -114,6 +147,11 @@ impl Step {
                 let index = chain_from_first(alloc, size)?;
                 let owned = last_uses(alloc, size)?;
                 Ok(effective_often(&index, &owned, size))
+            }
+            Step::Owned => {
+                let index = chain_from_first(alloc, size)?;
+                let owned = first_tags(alloc)?;
+                Ok(owned_often(&index, &owned))
             }
         }
     }
