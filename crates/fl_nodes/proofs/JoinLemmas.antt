@@ -100,7 +100,8 @@ module _ {K : Type 0} (is_honest : K → Type 0) (may_hold : K → Held) where
         (left_alone h.0, e ∙ ap opened_reply h.1)
 
     pub when_stopped : (n : NodeOver K) → map.get old.nodes number ≡ Some n → ¬ IsRunning n.node.state → (Makes : K → K → Type 0)
-        → ((m : NodeOver K) (made : K) → map.get old.nodes number ≡ Some m → Makes m.keeper made → TakesOver is_honest may_hold m.keeper made)
+        → ((m : NodeOver K) (made : K) → map.get old.nodes number ≡ Some m → ¬ IsRunning m.node.state → Makes m.keeper made
+        → TakesOver is_honest may_hold m.keeper made)
         → (outcome : Result ℕ Fault)
         → (¬ IsRunning x.node.state → (made : K) × Makes x.keeper made
         × (is_honest y.keeper → is_honest made × Follows (λ k k'. Reopens x.node k outcome y.node k') (may_hold made) (may_hold y.keeper)))
@@ -112,7 +113,7 @@ module _ {K : Type 0} (is_honest : K → Type 0) (may_hold : K → Held) where
         let made = opens stopped in (
           made.0,
           subst (λ (m : NodeOver K). Makes m.keeper made.0) same made.1,
-          returns_over made.0 outcome stopped (trusts x made.0 there made.1) made.2 result e,
+          returns_over made.0 outcome stopped (trusts x made.0 there stopped made.1) made.2 result e,
         )
 
   module _ (old new : WorldOver K) (number : ℕ) (keeper given : K) (x y : NodeOver K) (there : map.get old.nodes number ≡ Some x)

@@ -196,7 +196,7 @@ impl<K: Keeper> Nodes<K> {
     pub fn reopen_with<F: FnOnce(&mut K)>(&mut self, alloc: Global, number: u16, make: F) -> Reply
         requires callable { F.IsAlwaysCallable make }
         requires trusted { (n : NodeOver K) (made : K) → map.get self.old.nodes number ≡ Some n
-            → FnOnceReturnsAtMut F.FnOnce make n.keeper tt made
+            → (¬ IsRunning n.node.state) → FnOnceReturnsAtMut F.FnOnce make n.keeper tt made
             → TakesOver K.is_honest K.may_hold n.keeper made }
         ensures absent { map.get self.old.nodes number ≡ None
             → (self.new ≡ self.old) × (result ≡ replies.NoSuch) }
