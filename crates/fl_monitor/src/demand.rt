@@ -40,7 +40,11 @@ fn first_refusal<V: View>(view: &mut V, owned: &CapSet, demand: Demand<'_, '_>) 
     ensures refuses { demanded demand.entry (InEffect (Listed (V.list view.old)) (In owned.now)) result }
     ensures same { V.list view.new ≡ V.list view.old }
 {
-    let mut holder = Holder { view, owned };
+    let mut holder = Holder {
+        view,
+        owned,
+        place: 0,
+    };
     Some(match demand {
         Demand::Change(from, to) => Refusal::MissingCap(safe_change(&mut holder, from, to)?),
         Demand::Emission(secrecy) => Refusal::Secrecy(safe_emit(&mut holder, secrecy)?),

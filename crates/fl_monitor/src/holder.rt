@@ -1,4 +1,10 @@
 //! What the owner of capabilities has in effect.
+ghost use Rattle.std.specs.Prelude.{◌≡◌};
+ghost use Rattle.std.specs.List.Sorted.{IsStrictlySortedBy};
+ghost use Rattle.std.specs.Result.{is_ok};
+ghost use Rattle.fl_labels.specs.Cap.{cap_cmp};
+ghost use Rattle.fl_labels.specs.SetBy as set;
+
 use fl_labels::cap::Cap;
 use fl_labels::cap_set::CapSet;
 use fl_ops::view::View;
@@ -9,6 +15,28 @@ use fl_rules::has::Has;
 pub struct Holder<'a, V: View> {
     pub view: &'a mut V,
     pub owned: &'a CapSet,
+    /// Where the next question is likely to be met among what is owned.
+    pub place: usize,
+}
+
+// Among so few capabilities a search costs no more than a look at those that are near.
+const FEW: usize = 64;
+
+// How many capabilities count as near.
+const NEAR: usize = 4;
+
+// Where the capability stands among these, or where it would. Those from this place on are looked at first, since questions rise.
+fn seek(caps: &[Cap], place: usize, cap: Cap) -> Result<usize, usize>
+    requires { IsStrictlySortedBy cap_cmp caps.now }
+    ensures { is_ok result ≡ set.contains (set.of_list {R = cap_cmp} caps.now) cap }
+{
+    let end = caps.len().min(place.saturating_add(NEAR));
+    for near in place..end {
+        if caps[near] == cap {
+            return Ok(near);
+        }
+    }
+    caps.binary_search(&cap)
 }
 
 impl<'a, V: View> Has for Holder<'a, V> {
@@ -25,6 +53,16 @@ impl<'a, V: View> Has for Holder<'a, V> {
         × ((V.list b.view.now ≡ V.list a.view.now) × (b.owned.now ≡ a.owned.now)) };
 
     fn has(&mut self, cap: Cap) -> bool {
+        let caps = self.owned.as_slice();
+        if caps.len() > FEW {
+            match seek(caps, self.place, cap) {
+                Ok(place) => {
+                    self.place = place.saturating_add(1);
+                    return true;
+                }
+                Err(place) => self.place = place,
+            }
+        }
         self.view.effective(self.owned, cap)
     }
 
