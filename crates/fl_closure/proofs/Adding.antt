@@ -3,14 +3,15 @@ use Rattle.std.specs.Prelude.{◌≡◌, ◌⊎◌, List, [], ◌∷◌, ◌++�
 use Rattle.std.proofs.Common.{inl, inr, sym, ap, subst, ◌∙◌}
 use Rattle.std.specs.List.{Contains}
 use Rattle.std.proofs.lemmas.List.{take_more}
-use Rattle.std.proofs.lemmas.List.Elements.{Contains-push, Contains-push_cases, Contains-append_left}
+use Rattle.std.proofs.lemmas.List.Elements.{Contains-push, Contains-push_cases, Contains-append_left, Contains-append_right, Contains-append_cases}
 use Rattle.fl_labels.specs.Cap.{cap_name}
 use Rattle.fl_labels.specs.declared.name.Name.{Name}
 use Rattle.fl_labels.specs.declared.cap.Cap.{Cap}
 use Rattle.fl_labels.specs.declared.cap.Cap.TheVariants.{Use}
 use Rattle.fl_closure.specs.declared.rows.Rows.{Rows}
 use Rattle.fl_closure.specs.parts.Rows.{Holds, IsPair, Adds}
-use Rattle.fl_closure.specs.parts.Closed.{AddsAll, AddsToEach}
+use Rattle.fl_closure.specs.parts.Closed.{AddsAll, AddsToEach, IsFirstOf}
+use Rattle.fl_closure.proofs.Members.{one as only, first}
 
 -- ---- to one row
 
@@ -43,6 +44,45 @@ pub adds_at : (old mid new : Rows) (group : Name) (caps : List Cap) (i : ℕ) (c
 adds_at old mid new group caps i c within at adds one =
     subst (λ xs. AddsAll old group xs new) (sym (take_more caps i c within ∙ ap (λ x. take i caps ++ x ∷ []) (sym at)))
     (adds_one old mid new group (take i caps) c adds one)
+
+-- a first one and the others
+pub adds_front : (old mid new : Rows) (group : Name) (c : Cap) (caps : List Cap) → Adds old group c mid → AddsAll mid group caps new
+    → AddsAll old group (c ∷ caps) new
+adds_front old mid new group c caps one all = record {
+  holds = λ g x. (
+    λ h. elim ((all.holds g x).0 h) [
+      | inl m ↦ by_one g x ((one.holds g x).0 m)
+      | inr two ↦ inr (two.0, Contains-append_right (c ∷ []) caps x two.1)
+    ],
+    λ h. (all.holds g x).1 (elim h [
+      | inl m ↦ inl ((one.holds g x).1 (inl m))
+      | inr two ↦ by_place g x two.0 (Contains-append_cases (c ∷ []) caps x two.1)
+    ]),
+  );
+}
+  where
+    by_one : (g : Name) (x : Cap) → Holds old g x ⊎ IsPair group c g x → Holds old g x ⊎ ((g ≡ group) × Contains (c ∷ caps) x)
+    by_one g x (inl m) = inl m
+    by_one g x (inr e) = inr (sym e.0, first caps e.1)
+
+    by_place : (g : Name) (x : Cap) → g ≡ group → Contains (c ∷ []) x ⊎ Contains caps x
+        → Holds mid g x ⊎ ((g ≡ group) × Contains caps x)
+    by_place g x e (inl m) = inl ((one.holds g x).1 (inr (sym e, only m)))
+    by_place g x e (inr m) = inr (e, m)
+
+-- a row that has the first has them all
+pub adds_none : (old : Rows) (group : Name) (c : Cap) (caps : List Cap) → Holds old group c → IsFirstOf old c caps
+    → AddsAll old group (c ∷ caps) old
+adds_none old group c caps there firsts = record {
+  holds = λ g x. (
+    λ h. inl h,
+    λ h. elim h [ inl m ↦ m | inr two ↦ by_place g x two.0 (Contains-append_cases (c ∷ []) caps x two.1) ],
+  );
+}
+  where
+    by_place : (g : Name) (x : Cap) → g ≡ group → Contains (c ∷ []) x ⊎ Contains caps x → Holds old g x
+    by_place g x e (inl m) = subst (λ k. Holds old k x) (sym e) (subst (Holds old group) (only m) there)
+    by_place g x e (inr m) = subst (λ k. Holds old k x) (sym e) (firsts.all group x there m)
 
 -- ---- to each row
 
@@ -102,3 +142,13 @@ module _ (old mid : Rows) (uses caps : List Cap) (i : ℕ) (this : Cap) (within 
 
   pub each_at_other : ((g : Name) → ¬ (this ≡ Use g)) → AddsToEach old (take (i + 1) uses) caps mid
   each_at_other no_use = on_to mid (each_other old mid (take i uses) caps this no_use adds)
+
+-- what a first one tells of a row it tells on the way too
+pub first_still : (old mid : Rows) (uses behind : List Cap) (c : Cap) → AddsToEach old uses (c ∷ behind) mid → IsFirstOf old c behind
+    → IsFirstOf mid c behind
+first_still old mid uses behind c adds firsts = record {
+  all = λ g x h m. (adds.holds g x).1 (elim ((adds.holds g c).0 h) [
+    | inl there ↦ inl (firsts.all g x there m)
+    | inr two ↦ inr (two.0, Contains-append_right (c ∷ []) behind x m)
+  ]);
+}

@@ -1,7 +1,8 @@
 -- What one put more lets a group reach.
-use Rattle.std.specs.Prelude.{◌≡◌, ◌⊎◌, ◌↔◌, List, Result, Ok, Err, OnOk, refl}
+use Rattle.std.specs.Prelude.{◌≡◌, ◌⊎◌, ◌↔◌, List, [], ◌∷◌, Result, Ok, Err, OnOk, refl}
 use Rattle.std.proofs.Common.{inl, inr, sym, subst}
 use Rattle.std.specs.List.{Contains}
+use Rattle.std.proofs.lemmas.List.Elements.{Contains-append_right}
 use Rattle.fl_labels.specs.Found.{Within}
 use Rattle.fl_labels.specs.declared.name.Name.{Name}
 use Rattle.fl_labels.specs.declared.cap.Cap.{Cap}
@@ -11,6 +12,7 @@ use Rattle.fl_ops.specs.laws.Reaching.{chain_on, chain_more}
 use Rattle.fl_closure.specs.declared.rows.Rows.{Rows}
 use Rattle.fl_closure.specs.parts.Rows.{Holds}
 use Rattle.fl_closure.specs.parts.Closed.{IsPut, Way, AreClosed, Behind, Leads, IsAbove, AreTransitive, AddsToEach, IsFirstOf, Renews}
+use Rattle.fl_closure.proofs.Leading.{led}
 
 -- V has what U has, and what it puts beyond that is b into the group
 pub record HasPutMore (U V : Registry) (group : Name) (b : Cap) : Type 0 where
@@ -164,16 +166,17 @@ renews_each old new group b uses caps adds above led = record {
   );
 }
 
--- as the code has it
-pub led_first : (rows : Rows) → AreTransitive rows → (b : Cap) (caps list : List Cap) → list ≡ caps
-    → ((c : Cap) → Contains caps c ↔ Leads rows b c) → IsFirstOf rows b list
-led_first rows transitive b caps list e is =
-    subst (λ l. IsFirstOf rows b l) (sym e) (first_of_led rows transitive b caps is)
+-- as the code has it, of what is behind a capability
+pub led_first : (rows : Rows) → AreTransitive rows → (b : Cap) (behind : List Cap)
+    → ((c : Cap) → Contains behind c ↔ Behind rows b c) → IsFirstOf rows b behind
+led_first rows transitive b behind is = record {
+  all = λ group c h m. (first_of_led rows transitive b (b ∷ behind) (led rows b behind is)).all group c h (Contains-append_right (b ∷ []) behind c m);
+}
 
-pub renewed_each : (old new : Rows) (group : Name) (b : Cap) (uses caps use_list cap_list : List Cap) → use_list ≡ uses
-    → cap_list ≡ caps → ((user : Name) → Contains uses (Use user) ↔ IsAbove old group user)
-    → ((c : Cap) → Contains caps c ↔ Leads old b c)
-    → {A E : Type 0} (r : Result A E) → OnOk r (AddsToEach old use_list cap_list new) → OnOk r (Renews old group b new)
-renewed_each old new group b uses caps use_list cap_list e f above led (Err x) adds = adds
-renewed_each old new group b uses caps use_list cap_list e f above led (Ok x) adds =
-    renews_each old new group b uses caps (subst (λ l. AddsToEach old l caps new) e (subst (λ l. AddsToEach old use_list l new) f adds)) above led
+pub renewed_each : (old new : Rows) (group : Name) (b : Cap) (uses behind use_list : List Cap) → use_list ≡ uses
+    → ((user : Name) → Contains uses (Use user) ↔ IsAbove old group user)
+    → ((c : Cap) → Contains behind c ↔ Behind old b c)
+    → {A E : Type 0} (r : Result A E) → OnOk r (AddsToEach old use_list (b ∷ behind) new) → OnOk r (Renews old group b new)
+renewed_each old new group b uses behind use_list e above is (Err x) adds = adds
+renewed_each old new group b uses behind use_list e above is (Ok x) adds =
+    renews_each old new group b uses (b ∷ behind) (subst (λ l. AddsToEach old l (b ∷ behind) new) e adds) above (led old b behind is)

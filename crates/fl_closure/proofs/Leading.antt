@@ -1,21 +1,21 @@
 -- What a look into a row tells.
-use Rattle.std.specs.Prelude.{◌≡◌, ◌⊎◌, ◌↔◌, Bool, true, false, List, ℕ, ◌+◌, ◌<◌, ◌≤◌, ◌++◌, [], ◌∷◌, length, get_or, take, refl}
+use Rattle.std.specs.Prelude.{◌≡◌, ◌⊎◌, ◌↔◌, Bool, true, false, List, ℕ, ◌+◌, ◌<◌, ◌≤◌, ◌++◌, [], ◌∷◌, length, get_or, take}
 use Rattle.std.proofs.Common.{inl, inr, sym, ap, subst, ◌∙◌}
 use Rattle.std.specs.Cmp.{Equal-is}
 use Rattle.std.specs.List.{Contains}
 use Rattle.std.proofs.lemmas.Bool.{false≢true}
 use Rattle.std.proofs.lemmas.List.{take_more}
-use Rattle.std.proofs.lemmas.List.Elements.{Contains-get_or, Contains-append_cases}
+use Rattle.std.proofs.lemmas.List.Elements.{Contains-get_or, Contains-append_cases, Contains-append_right}
 use Rattle.fl_labels.specs.Cap.{cap_name, cap_cmp}
 use Rattle.fl_labels.specs.CapOrder.{cap_exact, cap_tied}
 use Rattle.fl_labels.specs.Found.{Tells}
 use Rattle.fl_labels.specs.contracts.cap.CapPartialEq.TheImpl as caps
 use Rattle.fl_labels.specs.declared.cap.Cap.{Cap}
-use Rattle.fl_labels.specs.declared.cap.Cap.TheVariants.{Plus, Minus, Use, Grow}
+use Rattle.fl_labels.specs.declared.cap.Cap.TheVariants.{Use}
 use Rattle.fl_labels.specs.declared.name.Name.{Name}
 use Rattle.fl_closure.specs.declared.rows.Rows.{Rows}
 use Rattle.fl_closure.specs.parts.Rows.{Holds}
-use Rattle.fl_closure.specs.parts.Closed.{Leads, IsAbove, AreMirrored}
+use Rattle.fl_closure.specs.parts.Closed.{Behind, Leads, IsAbove, AreMirrored}
 use Rattle.fl_closure.proofs.Members.{none, one, first, in_all}
 
 pub same_cap : (a b : Cap) (r : Bool) → r ≡ caps.ghosts.eq a b → r ≡ true → a ≡ b
@@ -65,39 +65,13 @@ only start root is c h = one (subst (λ l. Contains l c) is h)
 it_is : (start : List Cap) (root : Cap) → start ≡ root ∷ [] → (c : Cap) → root ≡ c → Contains start c
 it_is start root is c e = subst (λ l. Contains l c) (sym is) (first [] e)
 
-module _ (rows : Rows) (root : Cap) (none start : List Cap) (empty : none ≡ []) (began : start ≡ none ++ root ∷ []) where
-  begins : start ≡ root ∷ []
-  begins = alone none start root empty began
-
-  -- the use of a group and its row
-  pub led_by_use : (inside : Rows) (group : Name) (now : List Cap) → inside ≡ rows → root ≡ Use group
-      → ((c : Cap) → Contains now c ↔ (Contains start c ⊎ Holds inside group c))
-      → (c : Cap) → Contains now c ↔ Leads rows root c
-  led_by_use inside group now view is pushed c = (
-    λ h. elim ((pushed c).0 h) [
-      | inl m ↦ inl (sym (only start root begins c m))
-      | inr m ↦ subst (λ r. Leads rows r c) (sym is) (inr (subst (λ r. Holds r group c) view m))
-    ],
-    λ h. (pushed c).1 (elim (subst (λ r. Leads rows r c) is h) [
-      | inl e ↦ inl (it_is start root begins c (is ∙ sym e))
-      | inr m ↦ inr (subst (λ r. Holds r group c) (sym view) m)
-    ]),
-  )
-
-  -- and any other capability
-  pub led_alone : (now : List Cap) → now ≡ start → ((group : Name) → ¬ (root ≡ Use group))
-      → (c : Cap) → Contains now c ↔ Leads rows root c
-  led_alone now same no_use c = (
-    λ h. inl (sym (only start root begins c (subst (λ l. Contains l c) same h))),
-    λ h. subst (λ l. Contains l c) (sym same) (it_is start root begins c (by_cases root no_use h)),
-  )
-    where
-      by_cases : (r : Cap) → ((group : Name) → ¬ (r ≡ Use group)) → Leads rows r c → r ≡ c
-      by_cases r never (inl e) = sym e
-      by_cases (Use group) never (inr m) = absurd (never group refl)
-      by_cases (Plus tag) never (inr m) = absurd m
-      by_cases (Minus tag) never (inr m) = absurd m
-      by_cases (Grow group) never (inr m) = absurd m
+-- a capability in front of what is behind it
+pub led : (rows : Rows) (root : Cap) (behind : List Cap) → ((c : Cap) → Contains behind c ↔ Behind rows root c)
+    → (c : Cap) → Contains (root ∷ behind) c ↔ Leads rows root c
+led rows root behind is c = (
+  λ h. elim (Contains-append_cases (root ∷ []) behind c h) [ inl e ↦ inl (sym (one e)) | inr m ↦ inr ((is c).0 m) ],
+  λ h. elim h [ inl e ↦ first behind (sym e) | inr m ↦ Contains-append_right (root ∷ []) behind c ((is c).1 m) ],
+)
 
 -- the use of a group and its users
 pub all_above : (rows reached users : Rows) (group : Name) (none start now : List Cap) → AreMirrored reached users

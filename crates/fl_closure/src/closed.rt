@@ -1,12 +1,12 @@
 //! What each group reaches, and who reaches the use of it.
-ghost use Rattle.std.specs.Prelude.{◌≡◌, ◌↔◌, IfOk, OnOk, OnErr, [], not};
+ghost use Rattle.std.specs.Prelude.{◌≡◌, ◌↔◌, ◌∷◌, IfOk, OnOk, OnErr, [], not};
 ghost use Rattle.std.specs.List.{Contains};
 ghost use Rattle.fl_labels.specs.Found.{Tells};
 ghost use Rattle.fl_labels.specs.declared.name.Name.{Name};
 ghost use Rattle.fl_labels.specs.declared.cap.Cap.{Cap};
 ghost use Rattle.fl_labels.specs.declared.cap.Cap.TheVariants.{Use};
 ghost use Rattle.fl_closure.specs.parts.Rows.{has, Holds, Adds, Takes, IsSameRows};
-ghost use Rattle.fl_closure.specs.parts.Closed.{Leads, IsAbove, AreTransitive, AddsAll, AddsToEach, IsFirstOf, Renews, ClosesWith};
+ghost use Rattle.fl_closure.specs.parts.Closed.{Behind, Leads, IsAbove, AreTransitive, AddsAll, AddsToEach, IsFirstOf, Renews, ClosesWith};
 ghost use Rattle.fl_closure.specs.parts.Noted.{Gains, Loses, Notes};
 
 use crate::rows::Rows;
@@ -14,6 +14,7 @@ use fl_labels::cap::Cap;
 use fl_labels::name::Name;
 use fl_ops::op::{Body, Op};
 use std::alloc::{AllocError, Global};
+use std::collections::BTreeSet;
 use std::marker::Model;
 
 /// A capability in the row of a group.
@@ -114,16 +115,14 @@ impl ClosedRows {
         }
     }
 
-    // The capability, and what it leads to.
-    fn led_to(&self, cap: Cap) -> Result<Vec<Cap>, AllocError>
-        ensures { IfOk result (λ caps. (c : Cap) → Contains caps.items c ↔ Leads self.now cap c) }
+    // What the group that the capability uses reaches; of any other capability nothing.
+    fn behind(&self, cap: Cap) -> Result<BTreeSet<Cap>, AllocError>
+        ensures { IfOk result (λ caps. (c : Cap) → Contains caps.keys c ↔ Behind self.now cap c) }
     {
-        let mut caps = Vec::new(self.alloc);
-        caps.push(cap)?;
-        if let Cap::Use(group) = cap {
-            self.reached.push_row(group, &mut caps)?;
-        }
-        Ok(caps)
+        let Cap::Use(group) = cap else {
+            return Ok(BTreeSet::new(self.alloc));
+        };
+        self.reached.row(group)
     }
 
     // The use of the group, and of each that reaches it.
@@ -153,34 +152,36 @@ impl ClosedRows {
     fn note_all(
         &mut self,
         group: Name,
-        caps: &[Cap],
+        caps: &BTreeSet<Cap>,
         news: &mut Vec<Entry>,
     ) -> Result<(), AllocError>
-        ensures ok { OnOk result (AddsAll self.old group caps.now self.new) }
+        ensures ok { OnOk result (AddsAll self.old group caps.now.keys self.new) }
         ensures news { Notes news.old.items self.old news.new.items self.new }
     {
-        for cap in caps {
+        let lacking = self.reached.lacking(group, caps)?;
+        for cap in &lacking {
             self.note(group, *cap, news)?;
         }
         Ok(())
     }
 
-    // The same where the row has all of these if it has the first, which is looked at alone then.
+    // The same of a capability and of what is behind it, where a row that has it has all of these: it is looked at alone then.
     fn note_from(
         &mut self,
         group: Name,
         first: Cap,
-        caps: &[Cap],
+        behind: &BTreeSet<Cap>,
         news: &mut Vec<Entry>,
     ) -> Result<(), AllocError>
-        requires { IsFirstOf self.old first caps.now }
-        ensures ok { OnOk result (AddsAll self.old group caps.now self.new) }
+        requires { IsFirstOf self.old first behind.now.keys }
+        ensures ok { OnOk result (AddsAll self.old group (first ∷ behind.now.keys) self.new) }
         ensures news { Notes news.old.items self.old news.new.items self.new }
     {
         if self.reached.has(group, first) {
             return Ok(());
         }
-        self.note_all(group, caps, news)
+        self.note(group, first, news)?;
+        self.note_all(group, behind, news)
     }
 
     // The same to the row of each group that is used here.
@@ -188,16 +189,16 @@ impl ClosedRows {
         &mut self,
         uses: &[Cap],
         first: Cap,
-        caps: &[Cap],
+        behind: &BTreeSet<Cap>,
         news: &mut Vec<Entry>,
     ) -> Result<(), AllocError>
-        requires { IsFirstOf self.old first caps.now }
-        ensures ok { OnOk result (AddsToEach self.old uses.now caps.now self.new) }
+        requires { IsFirstOf self.old first behind.now.keys }
+        ensures ok { OnOk result (AddsToEach self.old uses.now (first ∷ behind.now.keys) self.new) }
         ensures news { Notes news.old.items self.old news.new.items self.new }
     {
         for user in uses {
             if let Cap::Use(group) = *user {
-                self.note_from(group, first, caps, news)?;
+                self.note_from(group, first, behind, news)?;
             }
         }
         Ok(())
@@ -212,9 +213,9 @@ impl ClosedRows {
         if self.reached.has(group, cap) {
             return Ok(());
         }
-        let caps = self.led_to(cap)?;
+        let behind = self.behind(cap)?;
         let uses = self.above(group)?;
-        self.note_each(&uses, cap, &caps, news)
+        self.note_each(&uses, cap, &behind, news)
     }
 
     /// Puts what the operations put, and notes what that adds to the rows: after an error too, so that it can be taken out again.

@@ -99,8 +99,8 @@ impl Index {
     /// and then leaves the index.
     ///
     /// A search by order, and the operations above it move. A put also renews the rows of its group and of each group that reaches
-    /// the use of that: a look into each such row, and for each row without the capability two searches for it and for each
-    /// capability that it leads to. A put of what its group reaches already looks into the one row.
+    /// the use of that: a look into each such row, and for each row without the capability a walk along it and what the capability
+    /// leads to, with two searches for each that is new there. A put of what its group reaches already looks into the one row.
     pub fn absorb(&mut self, op: &Op) -> Result<(), AllocError>
         ensures ok { OnOk result (self.new ≡ set.insert self.old op.now) }
         ensures err { OnErr result (self.new ≡ self.old) }

@@ -64,6 +64,28 @@ impl Rows {
         }
     }
 
+    /// The row of this name again. A search by order, and a copy of the row. Fails only where there is not enough memory.
+    pub fn row(&self, name: Name) -> Result<BTreeSet<Cap>, AllocError>
+        ensures { IfOk result (λ row. row.keys ≡ row_caps self.now name) }
+    {
+        match self.rows.get(&name) {
+            Some(row) => row.clone(),
+            None => Ok(BTreeSet::new(self.alloc)),
+        }
+    }
+
+    /// Those of these capabilities that the row of this name lacks. One walk along both, or where these are far fewer a search
+    /// by order for each. Fails only where there is not enough memory.
+    pub fn lacking(&self, name: Name, caps: &BTreeSet<Cap>) -> Result<Vec<Cap>, AllocError>
+        ensures { IfOk result (λ lacking. (c : Cap) →
+            Contains lacking.items c ↔ (Contains caps.now.keys c × ¬ Holds self.now name c)) }
+    {
+        match self.rows.get(&name) {
+            Some(row) => caps.difference(row).copied().collect(self.alloc),
+            None => caps.iter().copied().collect(self.alloc),
+        }
+    }
+
     /// Adds the row of this name to a list, at the end and in order. A search by order, and a copy of the row. Fails only where
     /// there is not enough memory, and then leaves the list.
     pub fn push_row(&self, name: Name, caps: &mut Vec<Cap>) -> Result<(), AllocError>

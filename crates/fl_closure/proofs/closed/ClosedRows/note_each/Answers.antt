@@ -1,6 +1,9 @@
-use Rattle.fl_closure.proofs.Adding.{each_at, each_at_other}
+use Rattle.fl_closure.proofs.Adding.{each_at, each_at_other, first_still}
 use Rattle.fl_closure.proofs.closed.ClosedRows.note_each.Goals.{in-Use+in_ok-note_from, in_default}
 use Rattle.fl_closure.proofs.closed.ClosedRows.note_each.Goals as goal
+
+pub note_from-requires : goal.note_from-requires
+note_from-requires c = first_still c.args.self.now _ _ _ c.args.first c.loop-user.invariant.adds c.requires
 
 pub loop-user-preserved : goal.loop-user-preserved
 loop-user-preserved c = elim c.match-user.branch [
