@@ -55,11 +55,11 @@ fn draw(state: &mut u64, bound: u16) -> u16 {
     (*state >> 33).checked_rem(bound as u64).unwrap_or(0) as u16
 }
 
-/// So many groups, with ten times as many uses of one put into another.
-pub fn dense(alloc: Global, size: u16) -> Result<Index, AllocError> {
+/// So many groups, with so many times as many uses of one put into another, at most 65,535.
+pub fn dense(alloc: Global, size: u16, times: u16) -> Result<Index, AllocError> {
     let mut index = Index::new(alloc);
     let mut state = 1;
-    for number in 0..size.saturating_mul(10) {
+    for number in 0..size.saturating_mul(times) {
         let group = draw(&mut state, size);
         let used = draw(&mut state, size);
         index.absorb(&put(number, group, Cap::Use(name(used))))?;

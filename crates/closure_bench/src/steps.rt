@@ -8,8 +8,10 @@ use std::alloc::{AllocError, Global};
 /// A graph that is made, and questions about it.
 #[derive(Clone, Copy, Debug)]
 pub enum Step {
-    /// Groups that use one another at random.
+    /// Groups that use one another at random, as the first ten puts a group make them.
     Dense,
+    /// The same groups, with two hundred puts a group.
+    Puts,
     /// A chain of groups, made from its first group on.
     ChainFromFirst,
     /// The same chain, from its last group on.
@@ -27,8 +29,9 @@ pub enum Step {
 }
 
 /// All steps, in order.
-pub const STEPS: [Step; 8] = [
+pub const STEPS: [Step; 9] = [
     Step::Dense,
+    Step::Puts,
     Step::ChainFromFirst,
     Step::ChainFromLast,
     Step::Wide,
@@ -123,7 +126,8 @@ impl Step {
     /// Its name.
     pub fn name(self) -> &'static str {
         match self {
-            Step::Dense => "puts into a dense graph",
+            Step::Dense => "puts that make a dense graph",
+            Step::Puts => "puts into a dense graph",
             Step::ChainFromFirst => "chain from its first group",
             Step::ChainFromLast => "chain from its last group",
             Step::Wide => "one group of many capabilities",
@@ -137,7 +141,8 @@ impl Step {
     /// Makes the graph, and counts the answers that are yes. Fails only where there is not enough memory.
     pub fn run(self, alloc: Global, size: u16) -> Result<u32, AllocError> {
         match self {
-            Step::Dense => Ok(count_reached(&dense(alloc, size)?, size)),
+            Step::Dense => Ok(count_reached(&dense(alloc, size, 10)?, size)),
+            Step::Puts => Ok(count_reached(&dense(alloc, size, 200)?, size)),
             Step::ChainFromFirst => Ok(count_reached(&chain_from_first(alloc, size)?, size)),
             Step::ChainFromLast => Ok(count_reached(&chain_from_last(alloc, size)?, size)),
             Step::Wide => Ok(count_tags(&wide(alloc, size)?, 0, size)),
