@@ -1,11 +1,12 @@
 -- Why a call over a keeper's database fails.
-use Rattle.std.proofs.Common.{◌≡◌, ◌⊎◌, inl, inr, ℕ, ◌+◌, ◌≤◌, min, List, [], ◌∷◌, length, Bool, true, false, IsTrue, Some, None, Option, Ok, Err, Result, codes, IfErr, ◌<◌, ◌≢◌, pos, ◌||◌, ◌↔◌, refl, sym, ap, subst, subst₂, ◌∙◌, arith, append-nil}
+use Rattle.std.proofs.Common.{◌≡◌, ◌⊎◌, inl, inr, ℕ, ◌≤◌, List, [], ◌∷◌, length, Bool, true, false, IsTrue, Some, None, Option, Ok, Err, Result, codes, IfErr, ◌<◌, ◌≢◌, pos, ◌||◌, refl, sym, ap, subst, subst₂, ◌∙◌, arith, append-nil}
 use Rattle.std.specs.Prelude.{IsSome}
 use Rattle.sqlite.specs.Disk.{MoreFaults}
 use Rattle.sqlite_trees.specs.declared.error.StoreError.{StoreError}
 use Rattle.sqlite_trees.specs.declared.error.StoreError.TheVariants.{OutOfMemory, Io, Corrupt, Full, Broken, Unstorable}
 use Rattle.sqlite_tied.specs.Compute.{everything}
 use Rattle.sqlite.specs.Order.{Row}
+use Rattle.sqlite.specs.Schema.{Schema}
 use Rattle.sqlite.specs.Tree.{Trees}
 use Rattle.sqlite.specs.Query.{Query}
 use Rattle.sqlite.specs.Program.{overlay, QueryOverflows}
@@ -13,7 +14,7 @@ use Rattle.sqlite_typing.specs.Types.{accepts_program}
 use Rattle.sqlite.specs.declared.error.Error.{Error}
 use Rattle.sqlite.specs.declared.error.Error.TheVariants.{SqliteFailure}
 use Rattle.sqlite.specs.declared.error.ErrorCode.TheVariants as code
-use Rattle.sqlite.specs.Effect.{Database, RefusesToRead}
+use Rattle.sqlite.specs.Effect.{RefusesToRead}
 use Rattle.sqlite.specs.Listing.{understood, reads_listing, IsSourceOf}
 use Rattle.sqlite.specs.Given.{IsPlain}
 use Rattle.sqlite.specs.State.{State, Fails, HasCause, IsNotRun, IsNoStatement, FailsToQuery, store_error, is_disk_error}
@@ -23,7 +24,7 @@ use Rattle.sqlite_resolve.specs.declared.compiled.Compiled.{Compiled}
 use Rattle.sqlite_resolve.specs.declared.error.CompileError.{CompileError}
 use Rattle.sqlite.proofs.Callers.{command_of}
 use Rattle.fl_sql_tables.specs.Tables.{keeper_schema, select_self_text, select_ops_text, insert_op_text, raise_boot_text}
-use Rattle.sqlite.specs.Command.TheVariants.{Update, Insert}
+use Rattle.sqlite.specs.Command.TheVariants.{Update, Insert, CreateTable}
 use Rattle.sqlite.specs.Reading.{IsReadError}
 use Rattle.sqlite.specs.Order.{column}
 use Rattle.sqlite.specs.Values.{type_of}
@@ -34,8 +35,7 @@ use Rattle.fl_ops.specs.declared.op.Op.{Op}
 use Rattle.sqlite.specs.Does.{Does}
 use Rattle.std.specs.Prelude.{◌&&◌, is_some, IsErrAnd}
 use Rattle.sqlite.specs.Effect.{is_query}
-use Rattle.sqlite.specs.State.{mode_of, is_pragma, QueriesRow, Shown, ExecutesIn, ExecutesInside, EndsScope, Escapes, IsMisplaced, shows_rows, RunsCommand, RunsAlone, text_of}
-use Rattle.std.proofs.lemmas.Bool.{cases_Bool}
+use Rattle.sqlite.specs.State.{mode_of, is_pragma, QueriesRow, ExecutesIn, ExecutesInside, EndsScope, Escapes, IsMisplaced, shows_rows, RunsCommand, text_of}
 use Rattle.fl_sql_tables.specs.Stored.{self_row, AddsOps, PutsIn, IsOurs, ops_in, shown_op}
 use Rattle.std.proofs.Common.{take, drop, drop-cons, get_or, suc, ◌++◌, map}
 use Rattle.std.specs.List.Sorted.{IsPermutation}
@@ -118,13 +118,13 @@ fails_fault old new too_big e is_open h = by_cause h.0 h.1 h.2
 pub fails_alone : (old new : State) (e : Error) → IsTrue old.is_open → Fails old new ⊥ e → IsFault old new e
 fails_alone old new e is_open h = elim (fails_fault old new ⊥ e is_open h) [ inl it ↦ it | inr none ↦ absurd none ]
 
-module _ (sql : List ℕ) (params : Row) (old new : State) (has : old.now.schema ≡ keeper_schema) (is_open : IsTrue old.is_open)
-    (plain : IsPlain (understood keeper_schema sql)) (whole : IsWhole sql (length params) (understood keeper_schema sql)) where
+module _ (schema : Schema) (sql : List ℕ) (params : Row) (old new : State) (has : old.now.schema ≡ schema) (is_open : IsTrue old.is_open)
+    (plain : IsPlain (understood schema sql)) (whole : IsWhole sql (length params) (understood schema sql)) where
   -- it is a statement
   is_statement : (e : Error) → ¬ IsNoStatement old sql params e
   is_statement e (inl h) = subst IsPlain (ap (λ s. understood s sql) (sym has) ∙ h.1) plain
   is_statement e (inr h) =
-      let known : understood keeper_schema sql ≡ Ok h.0 = ap (λ s. understood s sql) (sym has) ∙ h.1 in
+      let known : understood schema sql ≡ Ok h.0 = ap (λ s. understood s sql) (sym has) ∙ h.1 in
       let bare = subst IsPlain known plain in
       let one = subst (IsWhole sql (length params)) known whole in
       elim h.2 [
@@ -141,7 +141,7 @@ module _ (sql : List ℕ) (params : Row) (old new : State) (has : old.now.schema
 pub query_fault : (sql : List ℕ) (old new : State) → old.now.schema ≡ keeper_schema → IsTrue old.is_open → IsPlain (understood keeper_schema sql) → IsWhole sql 0 (understood keeper_schema sql)
     → reads_listing keeper_schema sql ≡ false → IsReadAlways (command_of (understood keeper_schema sql)) → (e : Error) → FailsToQuery sql [] old new e → IsFault old new e
 unfolding FailsToQuery
-query_fault sql old new has is_open plain whole unlisted always e (inl h) = not_run_fault sql [] old new has is_open plain whole e h
+query_fault sql old new has is_open plain whole unlisted always e (inl h) = not_run_fault keeper_schema sql [] old new has is_open plain whole e h
 query_fault sql old new has is_open plain whole unlisted always e (inr h) =
     let known = sym h.1.is ∙ ap (λ s. understood s sql) has in
     let bare = subst IsPlain (sym known) plain in
@@ -191,10 +191,11 @@ get_fault old new (Err e) row number boot low is kind named =
 
 -- ---- a statement that writes
 
--- it changes rows, and neither begins nor ends anything
+-- it changes rows or makes a table, and neither begins nor ends anything
 abbrev pub writes : Command → Bool
 writes (Insert at from) = true
 writes (Update at q) = true
+writes CreateTable = true
 writes _ = false
 
 not_written : (command other : Command) → writes command ≡ true → writes other ≡ false → ¬ (command ≡ other)
@@ -219,19 +220,20 @@ shows_none c h none = by_command c.command h none
     by_command : (command : Command) → writes command ≡ true → c.returning ≡ None → (is_query command || (true && (is_pragma command || is_some c.returning))) ≡ false
     by_command (Insert at from) h none = rw none
     by_command (Update at q) h none = rw none
+    by_command CreateTable h none = rw none
     by_command _ h none = absurd cc
 
-module _ (sql : List ℕ) (params : Row) (old new : State) (has : old.now.schema ≡ keeper_schema) (is_open : IsTrue old.is_open)
-    (plain : IsPlain (understood keeper_schema sql)) (whole : IsWhole sql (length params) (understood keeper_schema sql))
-    (writing : writes (command_of (understood keeper_schema sql)) ≡ true) where
+module _ (schema : Schema) (sql : List ℕ) (params : Row) (old new : State) (has : old.now.schema ≡ schema) (is_open : IsTrue old.is_open)
+    (plain : IsPlain (understood schema sql)) (whole : IsWhole sql (length params) (understood schema sql))
+    (writing : writes (command_of (understood schema sql)) ≡ true) where
   abbrev Fault : Error → Type 0
-  Fault e = IsFault old new e ⊎ IsRefused old old.now sql params (understood keeper_schema sql)
+  Fault e = IsFault old new e ⊎ IsRefused old old.now sql params (understood schema sql)
 
   run_fault : (e : Error) → ExecutesIn false sql params old new (Err e) → Fault e
   unfolding ExecutesIn
-  run_fault e (inl h) = inl (not_run_fault sql params old new has is_open plain whole e h)
+  run_fault e (inl h) = inl (not_run_fault schema sql params old new has is_open plain whole e h)
   run_fault e (inr h) =
-      let known : understood keeper_schema sql ≡ Ok h.0 = ap (λ s. understood s sql) (sym has) ∙ h.1.is in
+      let known : understood schema sql ≡ Ok h.0 = ap (λ s. understood s sql) (sym has) ∙ h.1.is in
       let bare = subst IsPlain known plain in
       let change : writes h.0.command ≡ true = ap (λ u. writes (command_of u)) (sym known) ∙ writing in
       let ran : RunsCommand old new sql h.0 params (Err e) = rw (shows_none h.0 change bare.0, bare.1, append-nil params) at h.2 in
@@ -248,7 +250,7 @@ module _ (sql : List ℕ) (params : Row) (old new : State) (has : old.now.schema
   inside_fault e (inl h) = run_fault e h.0
   inside_fault e (inr h) =
       let it = h.0 in
-      let known : understood keeper_schema sql ≡ Ok it.0 = ap (λ s. understood s sql) (sym has) ∙ it.1.is in
+      let known : understood schema sql ≡ Ok it.0 = ap (λ s. understood s sql) (sym has) ∙ it.1.is in
       absurd (stays_inside old it.0.command (ap (λ u. writes (command_of u)) (sym known) ∙ writing) it.2)
 
 writes_raise : writes (command_of (understood keeper_schema raise_boot_text)) ≡ true
@@ -259,11 +261,11 @@ writes_insert = ap writes insert_op_is
 
 pub raise_fault : (old new : State) (boot : ℕ) → old.now.schema ≡ keeper_schema → IsTrue old.is_open
     → (e : Error) → ExecutesInside 0 raise_boot_text (Int (pos boot) ∷ []) old new (Err e) → FailsToRaise boot old new e
-raise_fault old new boot has is_open = inside_fault raise_boot_text (Int (pos boot) ∷ []) old new has is_open plain_4 whole_raise writes_raise
+raise_fault old new boot has is_open = inside_fault keeper_schema raise_boot_text (Int (pos boot) ∷ []) old new has is_open plain_4 whole_raise writes_raise
 
 pub put_fault : (old new : State) (op : Op) → old.now.schema ≡ keeper_schema → IsTrue old.is_open
     → (e : Error) → ExecutesInside 0 insert_op_text (row_of op) old new (Err e) → FailsToPut op old new e
-put_fault old new op has is_open = inside_fault insert_op_text (row_of op) old new has is_open plain_1 whole_insert writes_insert
+put_fault old new op has is_open = inside_fault keeper_schema insert_op_text (row_of op) old new has is_open plain_1 whole_insert writes_insert
 
 -- the commit of a transaction that is under way
 pub commit_fault : (old new : State) (e : Error) → IsTrue old.is_open → IsTrue old.in_transaction → FailsToCommit old new e → IsFault old new e

@@ -1,5 +1,5 @@
 -- The one row of the node itself.
-use Rattle.std.proofs.Common.{if◌then◌else◌, ◌==◌, ◌<◌, ◌≢◌, ◌≡◌, ◌⊎◌, inl, inr, ℕ, pos, List, [], ◌∷◌, map, Bool, true, false, ◌&&◌, ◌+◌, ◌≤◌, length, Option, Some, None, refl, sym, ap, subst, ◌∙◌, arith, Ok, Err, IsTrue}
+use Rattle.std.proofs.Common.{if◌then◌else◌, ◌==◌, ◌<◌, ◌≢◌, ◌≡◌, ℕ, pos, List, [], ◌∷◌, map, Bool, true, false, ◌+◌, ◌≤◌, length, Option, Some, None, refl, sym, ap, subst, ◌∙◌, arith}
 use Rattle.std.specs.List.Sorted.{IsPermutation}
 use Rattle.std.proofs.lemmas.List.Sorted.{length_permutation}
 use Rattle.std.proofs.lemmas.Bool.{and_parts, eqb-true, eq-eqb, lt-ltb, ltb-true}
@@ -8,8 +8,8 @@ use Rattle.sqlite.specs.declared.types.Value.TheVariants.{Null, Int, Real, Text,
 use Rattle.sqlite.specs.Order.{Row, column}
 use Rattle.sqlite.specs.Tree.{Trees}
 use Rattle.sqlite.specs.Ops.{is_null}
-use Rattle.sqlite.specs.Effect.{Database, IsDatabase}
-use Rattle.sqlite.specs.State.{State, IsLive, Shown}
+use Rattle.sqlite.specs.Effect.{IsDatabase}
+use Rattle.sqlite.specs.State.{State, Shown}
 use Rattle.sqlite_schema.specs.Rules.{are_typed, passes, Keeps}
 use Rattle.sqlite_schema.specs.declared.schema.Constraint.TheVariants.{Datatype}
 use Rattle.sqlite_schema.specs.declared.schema.Column.{Column}

@@ -12,5 +12,6 @@ pub mod StateLemmas
 pub mod QueryLemmas
 pub mod ItselfLemmas
 pub mod FailLemmas
+pub mod FoundLemmas
 pub mod LoadLemmas
 pub mod OwnLemmas

@@ -1,14 +1,14 @@
 -- Operations that are loaded row by row.
-use Rattle.std.proofs.Common.{◌≡◌, ◌≢◌, ◌⊎◌, inl, inr, ◌∙◌, refl, sym, ap, subst, ℕ, ◌<◌, ◌≤◌, ◌+◌, length-append, Bool, true, false, List, [], ◌∷◌, ◌++◌, map, length, Option, Some, None, arith, get_or, ◌||◌}
+use Rattle.std.proofs.Common.{◌≡◌, ◌≢◌, inl, inr, ◌∙◌, refl, sym, ap, subst, ℕ, ◌≤◌, ◌+◌, length-append, Bool, true, false, List, [], ◌∷◌, ◌++◌, map, length, Option, Some, None, arith, ◌||◌}
 use Rattle.std.specs.List.Sorted.{IsPermutation}
 use Rattle.std.proofs.lemmas.List.{map-append, length-map, length_push}
-use Rattle.std.proofs.lemmas.Bool.{or_cases, false≢true}
-use Rattle.std.specs.Ordering.{eq_by_cmp, is_eq}
+use Rattle.std.proofs.lemmas.Bool.{or_cases}
+use Rattle.std.specs.Ordering.{eq_by_cmp}
 use Rattle.sqlite.specs.Order.{Row}
 use Rattle.sqlite.specs.Store.{Ghosts}
 use Rattle.sqlite.specs.Held.{Held, state}
 use Rattle.sqlite.specs.Given.{HasGiven, Advances, FailsToAdvance}
-use Rattle.sqlite.specs.State.{State, IsUnchanged, Shown, Survives}
+use Rattle.sqlite.specs.State.{State, IsUnchanged, Survives}
 use Rattle.sqlite.specs.declared.error.Error.{Error}
 use Rattle.fl_sql_tables.specs.Failing.{FailsToLoad}
 use Rattle.fl_sql_tables.proofs.FailLemmas.{ops_fault, fault_within}
@@ -34,7 +34,7 @@ use Rattle.sqlite_resolve.specs.declared.compiled.Compiled.{Compiled}
 use Rattle.std.specs.List.{list_any}
 use Rattle.std.proofs.lemmas.List.Folds.{list_any-append}
 use Rattle.std.proofs.lemmas.List.Sorted.{list_any-IsPermutation, length_permutation}
-use Rattle.std.specs.Prelude.{is_none, is_some, is_err, IsTrue, IfNone, IfSome, OnOk, Result, Ok, Err}
+use Rattle.std.specs.Prelude.{is_none, is_some, is_err, IfNone, IfSome, OnOk, Result, Ok, Err}
 
 same_op : (a b : Op) → eq_by_cmp op_cmp a b ≡ true → a ≡ b
 same_op a b h = op_exact a b (is_equal _ h)

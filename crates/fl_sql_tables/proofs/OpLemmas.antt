@@ -1,27 +1,25 @@
 -- Sets of operations, and rows that spell them.
-use Rattle.std.proofs.Common.{◌≡◌, ◌⊎◌, inl, inr, ℕ, pos, negsuc, List, [], ◌∷◌, ◌++◌, map, Bool, true, false, cond, ◌||◌, Option, Some, None, refl, sym, ap, subst, ◌∙◌, arith}
+use Rattle.std.proofs.Common.{◌≡◌, ℕ, List, [], ◌∷◌, ◌++◌, map, Bool, true, false, ◌||◌, Option, Some, None, refl, sym, ap, subst, ◌∙◌}
 use Rattle.std.specs.declared.cmp.Ordering.{Ordering}
 use Rattle.std.specs.declared.cmp.Ordering.TheVariants.{Less, Equal, Greater}
-use Rattle.std.specs.Ordering.{nat_cmp, ordering_then, eq_by_cmp, is_eq, match_ordering}
-use Rattle.std.specs.Cmp.{IsTotalOrder, nat_cmp_total}
+use Rattle.std.specs.Ordering.{eq_by_cmp, is_eq, match_ordering}
 use Rattle.std.specs.List.{list_any, filter_map, cons_option}
 use Rattle.sqlite.specs.Order.{Row}
 use Rattle.sqlite_value.specs.Order.{value_cmp}
 use Rattle.sqlite.specs.Tree.{put_row, rowid}
 use Rattle.sqlite.specs.Edit.{is_taken}
 use Rattle.fl_ops.specs.declared.op.Op.{Op}
-use Rattle.fl_labels.specs.SetBy.{SetBy, insert, of_list, contains, contains-of_list, contains-insert, same_set}
+use Rattle.fl_labels.specs.SetBy.{insert, of_list, contains, contains-of_list, contains-insert, same_set}
 use Rattle.fl_ops.specs.OpOrder.{op_cmp}
 use Rattle.fl_ops.specs.OpLaws.{op_total, op_exact}
 use Rattle.fl_ops.specs.Bytes.{op_bytes}
-use Rattle.fl_store.specs.Kept.{with_ops}
 use Rattle.fl_sql_tables.specs.Spelling.{op_of, row_of}
 use Rattle.fl_sql_tables.proofs.SpellingLemmas.{op_of-row_of}
 use Rattle.fl_sql_tables.proofs.SetLemmas.{with_one}
-use Rattle.std.proofs.Common.{Ok, append-nil, append_assoc}
+use Rattle.std.proofs.Common.{Ok}
 use Rattle.sqlite.specs.Effect.{Database}
 use Rattle.sqlite.specs.State.{State, ExecutesInside}
-use Rattle.fl_sql_tables.specs.Tables.{keeper_schema, insert_op_text}
+use Rattle.fl_sql_tables.specs.Tables.{insert_op_text}
 use Rattle.fl_sql_tables.specs.Stored.{op_in, ops_in, shown_op, InsertsOp, AddsOps, PutsIn, IsOurs}
 use Rattle.fl_sql_tables.proofs.Inserts.{inserts_op}
 use Rattle.std.specs.List.Sorted.{IsPermutation}

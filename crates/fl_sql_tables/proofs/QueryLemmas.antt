@@ -1,16 +1,15 @@
 -- How a query of a keeper ends, where it is plain.
-use Rattle.std.proofs.Common.{◌≡◌, ◌⊎◌, inl, inr, ℕ, List, [], ◌∷◌, Bool, true, false, Some, None, Ok, Err, Result, OnOk, OnErr, refl, sym, ap, subst, ◌∙◌, arith}
+use Rattle.std.proofs.Common.{◌≡◌, inl, inr, ℕ, List, [], Ok, Err, Result, OnOk, OnErr, sym, subst, ◌∙◌, arith}
 use Rattle.sqlite.specs.Order.{Row}
-use Rattle.sqlite.specs.Tree.{Trees}
 use Rattle.sqlite.specs.declared.error.Error.{Error}
 use Rattle.sqlite.specs.Listing.{understood}
 use Rattle.sqlite.specs.Given.{IsPlain}
-use Rattle.sqlite.specs.State.{State, HasCleanDisk, IsUnchanged, IsRolledBack, IsNotRun, FailsToQuery, QueriesRow, Shown, ShowsRows, FailsToShow, Survives, CommitsShowing}
+use Rattle.sqlite.specs.State.{State, IsUnchanged, IsRolledBack, IsNotRun, FailsToQuery, QueriesRow, Shown, Survives, CommitsShowing}
 use Rattle.sqlite.proofs.StateLemmas.{survives_weaker}
 use Rattle.sqlite.proofs.Callers.{never_commits}
 use Rattle.fl_sql_tables.specs.Tables.{keeper_schema}
 use Rattle.fl_sql_tables.specs.Stored.{IsUndone}
-use Rattle.fl_sql_tables.specs.Serving.{IsReady, IsServing}
+use Rattle.fl_sql_tables.specs.Serving.{IsServing}
 
 pub undone_same : (old new : State) → old.now ≡ old.committed → IsUnchanged old new → IsUndone old new
 undone_same old new settled h = record { was_open = λ _. h.0.was_open; now_is = λ _. h.0.now_is ∙ settled; committed_is = λ _. h.0.committed_is }

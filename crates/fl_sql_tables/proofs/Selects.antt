@@ -1,18 +1,15 @@
 -- What SELECT shows of the table of operations.
-use Rattle.std.proofs.Common.{◌≡◌, ◌⊎◌, inl, inr, ℕ, pos, negsuc, List, [], ◌∷◌, ◌++◌, map, flat_map, codes, Bool, true, false, Some, None, Ok, Err, refl, sym, ap, subst, ◌∙◌, arith}
+use Rattle.std.proofs.Common.{◌≡◌, List, [], ◌∷◌, map, flat_map, refl, sym, ap, subst, ◌∙◌}
 use Rattle.std.specs.List.Sorted.{IsPermutation}
 use Rattle.std.proofs.lemmas.List.Sorted.{IsPermutation-map}
-use Rattle.sqlite.specs.declared.types.Value.TheVariants.{Null, Int, Text, Blob}
+use Rattle.sqlite.specs.declared.types.Value.TheVariants.{Null}
 use Rattle.sqlite.specs.Order.{Row}
-use Rattle.sqlite.specs.Command.TheVariants.{Select}
-use Rattle.sqlite.specs.Query.{Query, IsAnswer, output, page, Output}
+use Rattle.sqlite.specs.Query.{IsAnswer, output, Output}
 use Rattle.sqlite.specs.Program.{overlay}
 use Rattle.sqlite.specs.Term.{Env}
-use Rattle.sqlite.specs.Tree.{Trees}
-use Rattle.sqlite.specs.Effect.{Reads}
 use Rattle.sqlite.specs.State.{State, Shown}
 use Rattle.sqlite.proofs.Callers.{reads_as}
-use Rattle.fl_sql_tables.specs.Tables.{keeper_schema, ops_table, select_ops_text, select_whole_text}
+use Rattle.fl_sql_tables.specs.Tables.{keeper_schema, select_ops_text, select_whole_text}
 use Rattle.fl_sql_tables.specs.Stored.{shown_op}
 use Rattle.fl_sql_tables.proofs.Texts.{select_ops_is, plain_3, unlisted_3, ops_query, select_whole_is, plain_6, unlisted_6, whole_query}
 use Rattle.fl_sql_tables.specs.Founding.{shown_whole}

@@ -4,7 +4,7 @@ use Rattle.std.specs.Prelude.{◌||◌}
 use Rattle.std.specs.Ordering.{eq_by_cmp}
 use Rattle.std.specs.List.{list_any}
 use Rattle.std.proofs.lemmas.List.Folds.{list_any-append}
-use Rattle.fl_labels.specs.SetBy.{SetBy, empty, contains, insert, union, of_list, same_set, contains-empty, contains-insert, contains-of_list, contains-union}
+use Rattle.fl_labels.specs.SetBy.{SetBy, empty, contains, insert, of_list, same_set, contains-empty, contains-insert, contains-of_list, contains-union}
 use Rattle.fl_ops.specs.declared.op.Op.{Op}
 use Rattle.fl_ops.specs.OpOrder.{op_cmp}
 use Rattle.fl_ops.specs.OpLaws.{op_total, op_exact}

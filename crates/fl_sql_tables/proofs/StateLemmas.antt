@@ -1,16 +1,13 @@
 -- States of a connection, one after another.
-use Rattle.std.proofs.Common.{◌≡◌, ◌⊎◌, inl, inr, ℕ, zero, suc, ◌+◌, ◌<◌, ◌≤◌, take, length, get_or, List, [], ◌∷◌, ◌++◌, Bool, true, false, IsTrue, refl, sym, ap, subst, ◌∙◌, arith, map, append_assoc}
+use Rattle.std.proofs.Common.{◌≡◌, ◌⊎◌, inl, inr, ℕ, zero, suc, ◌+◌, ◌<◌, take, length, get_or, List, [], ◌∷◌, ◌++◌, IsTrue, refl, sym, ap, subst, ◌∙◌, arith, map, append_assoc}
 use Rattle.sqlite.specs.Tree.{Trees}
-use Rattle.sqlite.specs.State.{State, HasCleanDisk, Survives, KeepsCommit, Shows}
+use Rattle.sqlite.specs.State.{State, HasCleanDisk, Survives, KeepsCommit}
 use Rattle.sqlite.proofs.StateLemmas.{survives_then}
 use Rattle.fl_ops.specs.declared.op.Op.{Op}
-use Rattle.fl_sql_tables.specs.Tables.{keeper_schema}
-use Rattle.fl_labels.specs.SetBy.{SetBy}
-use Rattle.fl_ops.specs.OpOrder.{op_cmp}
 use Rattle.fl_store.specs.Kept.{with_ops}
 use Rattle.fl_sql_tables.proofs.SetLemmas.{with_ops_on}
 use Rattle.fl_sql_tables.specs.Spelling.{row_of}
-use Rattle.fl_sql_tables.specs.Stored.{AddsOps, PutsIn, ops_in, shown_op, IsOurs}
+use Rattle.fl_sql_tables.specs.Stored.{PutsIn, shown_op, IsOurs}
 use Rattle.std.proofs.lemmas.List.{take_more, map-append}
 use Rattle.std.specs.List.Sorted.{IsPermutation}
 use Rattle.std.proofs.lemmas.List.Sorted.{IsPermutation-trans, IsPermutation-append_left}

@@ -1,14 +1,13 @@
-use Rattle.std.proofs.Common.{◌≡◌, ℕ, List, [], ◌∷◌, refl, codes, Ok, Err, true, false, Some, None, pos, negsuc}
+use Rattle.std.proofs.Common.{◌≡◌, List, [], ◌∷◌, refl, codes}
 use Rattle.sqlite_tied.specs.Compute.{everything}
-use Rattle.sqlite.specs.Listing.{understood, reads_listing}
-use Rattle.sqlite.specs.declared.types.Value.TheVariants.{Null, Int, Text}
-use Rattle.sqlite.specs.Term.{Term, lit, col}
+use Rattle.sqlite.specs.Listing.{understood}
+use Rattle.sqlite.specs.Term.{Term}
 use Rattle.sqlite.specs.Schema.{Schema}
 use Rattle.sqlite.specs.Source.TheVariants.{Values}
-use Rattle.sqlite.specs.Command.TheVariants.{Insert, Select, CreateTable, Update}
-use Rattle.sqlite.proofs.Callers.{IsPlain, command_of, statement_of}
-use Rattle.fl_sql_tables.specs.Tables.{self_table, ops_table, ops_key, insert_op_text, select_ops_text, select_self_text, raise_boot_text}
-use Rattle.fl_sql_tables.proofs.Texts.{op_terms, ops_query, self_query, boot_query}
+use Rattle.sqlite.specs.Command.TheVariants.{Insert, Select, Update}
+use Rattle.sqlite.proofs.Callers.{IsPlain, command_of}
+use Rattle.fl_sql_tables.specs.Tables.{self_table, ops_table, ops_key, insert_op_text, select_ops_text, raise_boot_text}
+use Rattle.fl_sql_tables.proofs.Texts.{op_terms, ops_query, boot_query}
 
 abbrev schema_with : List Term → Schema
 schema_with checks = record { tables = (record self_table { checks = checks }) ∷ ops_table ∷ []; indexes = ops_key ∷ []; views = [] }

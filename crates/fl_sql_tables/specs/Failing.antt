@@ -13,11 +13,11 @@ use Rattle.sqlite.specs.State.{State, IsUnchanged, is_disk_error, mode_of, text_
 use Rattle.sqlite_resolve.specs.declared.compiled.Compiled.{Compiled}
 use Rattle.sqlite_resolve.specs.declared.error.CompileError.{CompileError}
 use Rattle.fl_ops.specs.declared.op.Op.{Op}
-use Rattle.fl_sql_tables.specs.Tables.{keeper_schema, raise_boot_text, insert_op_text}
+use Rattle.fl_sql_tables.specs.Tables.{keeper_schema, raise_boot_text, insert_op_text, insert_self_text}
 use Rattle.fl_sql_tables.specs.Spelling.{row_of}
 use Rattle.fl_sql_tables.specs.declared.load.LoadFault.{LoadFault}
 use Rattle.fl_sql_tables.specs.declared.load.LoadFault.TheVariants.{Failed, Memory, BadRow}
-use Rattle.fl_sql_tables.specs.Stored.{AddsOps, HasBadRow}
+use Rattle.fl_sql_tables.specs.Stored.{AddsOps, HasBadRow, IsListed}
 
 -- there was not enough memory; the disk failed once more; or the limit on steps was met
 abbrev pub IsFault : State → State → Error → Type 0
@@ -35,6 +35,24 @@ IsRefused s db sql params (Err e) = ⊥
 abbrev pub FailsToRaise : ℕ → State → State → Error → Type 0
 FailsToRaise boot old new e =
     IsFault old new e ⊎ IsRefused old old.now raise_boot_text (Int (pos boot) ∷ []) (understood keeper_schema raise_boot_text)
+
+-- why the row of the node itself was not put: a fault, or its table does not take it
+abbrev pub FailsToStart : ℕ → State → State → Error → Type 0
+FailsToStart number old new e =
+    IsFault old new e ⊎ IsRefused old old.now insert_self_text (Int (pos number) ∷ []) (understood keeper_schema insert_self_text)
+
+-- both tables are there, and empty
+pub record HasTables (db : Database) : Type 0 where
+  pub schema : db.schema ≡ keeper_schema
+  pub itself : db.trees 0 ≡ []
+  pub ops : db.trees 1 ≡ []
+  pub listed : IsListed db.trees
+
+-- why the tables were not made: a fault, or, once they are made, the first does not take the row of the node
+abbrev pub FailsToFound : ℕ → State → State → Error → Type 0
+FailsToFound number old new e =
+    IsFault old new e
+    ⊎ ((db : Database) × HasTables db × IsRefused old db insert_self_text (Int (pos number) ∷ []) (understood keeper_schema insert_self_text))
 
 -- why an operation was not put: a fault, or the table of operations does not take it
 abbrev pub FailsToPut : Op → State → State → Error → Type 0

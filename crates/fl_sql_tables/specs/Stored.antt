@@ -1,5 +1,5 @@
 -- What a keeper's database holds.
-use Rattle.std.specs.Prelude.{◌≡◌, ◌⊎◌, is_none, ℕ, pos, List, [], ◌∷◌, ◌++◌, Bool, true, false, map}
+use Rattle.std.specs.Prelude.{◌≡◌, ◌⊎◌, is_none, ℕ, pos, List, [], ◌∷◌, ◌++◌, true, false, map}
 use Rattle.sqlite.specs.declared.types.Value.{Value}
 use Rattle.sqlite.specs.declared.types.Value.TheVariants.{Null, Int, Blob}
 use Rattle.sqlite.specs.Order.{Row, column}
@@ -7,7 +7,7 @@ use Rattle.sqlite.specs.Tree.{Trees, put_row}
 use Rattle.sqlite.specs.Edit.{is_taken}
 use Rattle.sqlite_trees.specs.Objects.{catalog_tree}
 use Rattle.sqlite.specs.Effect.{Database}
-use Rattle.std.specs.Prelude.{Option, Some, None, IsTrue}
+use Rattle.std.specs.Prelude.{Option, IsTrue}
 use Rattle.std.specs.List.{filter_map, list_any}
 use Rattle.std.specs.List.Sorted.{IsPermutation}
 use Rattle.fl_labels.specs.SetBy as set

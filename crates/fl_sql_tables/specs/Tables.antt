@@ -1,12 +1,11 @@
 -- The two tables of a keeper's database.
 use Rattle.sqlite.specs.Collation.TheVariants.{Binary}
-use Rattle.std.specs.Prelude.{Bool, true, false, [], ◌∷◌, None, Some, codes, List, ℕ, pos}
-use Rattle.sqlite.specs.declared.types.Value.TheVariants.{Null, Int, Blob as Bytes}
-use Rattle.sqlite.specs.Order.{Row}
+use Rattle.std.specs.Prelude.{Bool, true, false, [], ◌∷◌, None, Some, codes, List, ℕ}
+use Rattle.sqlite.specs.declared.types.Value.TheVariants.{Null}
 use Rattle.sqlite.specs.Table.{Table}
 use Rattle.sqlite.specs.Schema.{Schema}
 use Rattle.sqlite_schema.specs.declared.schema.Kind.{Kind}
-use Rattle.sqlite.specs.Kind.TheVariants.{Integer, Text, Blob}
+use Rattle.sqlite.specs.Kind.TheVariants.{Integer, Blob}
 use Rattle.sqlite_schema.specs.declared.schema.Column.{Column}
 use Rattle.sqlite.specs.Term.{Term}
 use Rattle.sqlite_schema.specs.declared.schema.Index.{Index}

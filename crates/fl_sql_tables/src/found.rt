@@ -1,11 +1,12 @@
 //! Making the tables.
-ghost use Rattle.std.specs.Prelude.{◌≡◌, ◌≤◌, [], false, IsTrue, OnOk, OnErr};
+ghost use Rattle.std.specs.Prelude.{◌≡◌, ◌≤◌, [], false, IsTrue, OnOk, OnErr, IfErr};
 ghost use Rattle.sqlite.specs.Held.{state};
 ghost use Rattle.sqlite.specs.View.{doubt};
 ghost use Rattle.sqlite.specs.State.{HasCleanDisk, KeepsCommit, Survives};
 ghost use Rattle.fl_sql_tables.specs.Tables.{no_schema, self_schema, keeper_schema};
 ghost use Rattle.fl_sql_tables.specs.Stored.{IsUndone};
 ghost use Rattle.fl_sql_tables.specs.Founding.{MakesSelf, MakesOps, StartsSelf, MakesTables, Founds, FoundsTo};
+ghost use Rattle.fl_sql_tables.specs.Failing.{IsFault, FailsToStart, FailsToFound};
 
 use sqlite::{Alter, Connection, Error, Transaction, params};
 
@@ -15,6 +16,10 @@ fn create_self<S: Alter>(tx: &mut Transaction<'_, S>) -> Result<(), Error>
     ensures ok { HasCleanDisk (state S.Store tx.new.conn.now) → IsTrue
         (state S.Store tx.old.conn.now).in_transaction
         → OnOk result (MakesSelf (state S.Store tx.old.conn.now) (state S.Store tx.new.conn.now)) }
+    ensures fails { HasCleanDisk (state S.Store tx.new.conn.now) → IsTrue
+        (state S.Store tx.old.conn.now).in_transaction → IsTrue
+        (state S.Store tx.old.conn.now).is_open → IfErr result (IsFault
+        (state S.Store tx.old.conn.now) (state S.Store tx.new.conn.now)) }
     ensures kept { HasCleanDisk (state S.Store tx.new.conn.now) → KeepsCommit
         (state S.Store tx.old.conn.now) (state S.Store tx.new.conn.now) }
     ensures survives { Survives (state S.Store tx.old.conn.now)
@@ -33,6 +38,11 @@ fn create_ops<S: Alter>(tx: &mut Transaction<'_, S>) -> Result<(), Error>
         (state S.Store tx.old.conn.now).in_transaction →
         (state S.Store tx.old.conn.now).now.schema ≡ self_schema
         → OnOk result (MakesOps (state S.Store tx.old.conn.now) (state S.Store tx.new.conn.now)) }
+    ensures fails { HasCleanDisk (state S.Store tx.new.conn.now) → IsTrue
+        (state S.Store tx.old.conn.now).in_transaction →
+        (state S.Store tx.old.conn.now).now.schema ≡ self_schema → IsTrue
+        (state S.Store tx.old.conn.now).is_open → IfErr result (IsFault
+        (state S.Store tx.old.conn.now) (state S.Store tx.new.conn.now)) }
     ensures kept { HasCleanDisk (state S.Store tx.new.conn.now) → KeepsCommit
         (state S.Store tx.old.conn.now) (state S.Store tx.new.conn.now) }
     ensures survives { Survives (state S.Store tx.old.conn.now)
@@ -51,6 +61,11 @@ fn insert_self<S: Alter>(tx: &mut Transaction<'_, S>, number: u16) -> Result<(),
         (state S.Store tx.old.conn.now).in_transaction →
         (state S.Store tx.old.conn.now).now.schema ≡ keeper_schema
         → (state S.Store tx.old.conn.now).now.trees 0 ≡ [] → OnOk result (StartsSelf number
+        (state S.Store tx.old.conn.now) (state S.Store tx.new.conn.now)) }
+    ensures fails { HasCleanDisk (state S.Store tx.new.conn.now) → IsTrue
+        (state S.Store tx.old.conn.now).in_transaction →
+        (state S.Store tx.old.conn.now).now.schema ≡ keeper_schema → IsTrue
+        (state S.Store tx.old.conn.now).is_open → IfErr result (FailsToStart number
         (state S.Store tx.old.conn.now) (state S.Store tx.new.conn.now)) }
     ensures kept { HasCleanDisk (state S.Store tx.new.conn.now) → KeepsCommit
         (state S.Store tx.old.conn.now) (state S.Store tx.new.conn.now) }
@@ -72,6 +87,10 @@ fn make_tables<S: Alter>(tx: &mut Transaction<'_, S>, number: u16) -> Result<(),
         (state S.Store tx.old.conn.now).in_transaction
         → OnOk result (MakesTables number (state S.Store tx.old.conn.now)
         (state S.Store tx.new.conn.now)) }
+    ensures fails { HasCleanDisk (state S.Store tx.new.conn.now) → IsTrue
+        (state S.Store tx.old.conn.now).in_transaction → IsTrue
+        (state S.Store tx.old.conn.now).is_open → IfErr result (FailsToFound number
+        (state S.Store tx.old.conn.now) (state S.Store tx.new.conn.now)) }
     ensures kept { HasCleanDisk (state S.Store tx.new.conn.now) → KeepsCommit
         (state S.Store tx.old.conn.now) (state S.Store tx.new.conn.now) }
     ensures survives { Survives (state S.Store tx.old.conn.now)
@@ -82,7 +101,8 @@ fn make_tables<S: Alter>(tx: &mut Transaction<'_, S>, number: u16) -> Result<(),
     insert_self(tx, number)
 }
 
-/// Makes both tables and the row of the node, in one transaction.
+/// Makes both tables and the row of the node, in one transaction. Refused, with nothing made, where memory is, or the disk fails, or the
+/// limit on steps is met, or where the table does not take the row of the node.
 pub fn found<S: Alter>(conn: &mut Connection<S>, number: u16) -> Result<(), Error>
     requires idle { conn.old.in_transaction ≡ false }
     requires blank { (state S.Store conn.old).now.schema ≡ no_schema }
@@ -93,6 +113,8 @@ pub fn found<S: Alter>(conn: &mut Connection<S>, number: u16) -> Result<(), Erro
         (state S.Store conn.old) (state S.Store conn.new)) }
     ensures err { HasCleanDisk (state S.Store conn.new) → OnErr result (IsUndone
         (state S.Store conn.old) (state S.Store conn.new)) }
+    ensures fails { HasCleanDisk (state S.Store conn.new) → IsTrue (state S.Store conn.old).is_open
+        → IfErr result (FailsToFound number (state S.Store conn.old) (state S.Store conn.new)) }
     ensures survives { Survives (state S.Store conn.old) (state S.Store conn.new) (FoundsTo number
         (state S.Store conn.old)) }
 {

@@ -1,18 +1,13 @@
 use Rattle.std.proofs.Common.{◌≡◌, [], refl, sym, subst, rules, arith, inl, inr, ◌∙◌}
-use Rattle.std.proofs.lemmas.List.{map-append}
-use Rattle.std.specs.List.Sorted.{IsPermutation}
 use Rattle.sqlite.specs.Held.{state}
-use Rattle.sqlite.specs.Given.{HasGiven, IsRefused}
-use Rattle.sqlite.specs.State.{HasCleanDisk, Survives, FailsToQuery, CommitsShowing, Shown, IsUnchanged}
+use Rattle.sqlite.specs.Given.{IsRefused}
+use Rattle.sqlite.specs.State.{HasCleanDisk, Survives, FailsToQuery, CommitsShowing, IsUnchanged}
 use Rattle.sqlite.proofs.Callers.{begun_plain, unchanged_then}
 use Rattle.fl_sql_tables.specs.Tables.{select_ops_text}
-use Rattle.fl_sql_tables.specs.Stored.{shown_op, ops_in}
 use Rattle.fl_sql_tables.proofs.Texts.{plain_3}
 use Rattle.fl_sql_tables.proofs.StateLemmas.{clean_before, survives_on}
 use Rattle.fl_sql_tables.proofs.QueryLemmas.{quiet_query, undone_query, plain_here}
-use Rattle.fl_sql_tables.proofs.Selects.{selects_ops}
 use Rattle.fl_store.specs.Kept.{HasNamesOnce}
-use Rattle.fl_sql_tables.proofs.OpLemmas.{loaded}
 use Rattle.fl_sql_tables.proofs.SetLemmas.{once-empty}
 use Rattle.fl_sql_tables.proofs.LoadLemmas.{given_none, given_more, once_with, none_then, some_then, ok_then, ends_whole, bad_step, clash_step, has_rows, step_fails}
 use Rattle.fl_labels.specs.SetBy.{insert}

@@ -1,6 +1,6 @@
 use Rattle.std.proofs.Common.{◌≡◌, Some, sym, subst, ◌∙◌, rules}
 use Rattle.sqlite.specs.Given.{Advances}
-use Rattle.fl_sql_tables.specs.Spelling.{op_of, row_of}
+use Rattle.fl_sql_tables.specs.Spelling.{op_of}
 use Rattle.fl_sql_tables.proofs.SpellingLemmas.{row_is}
 use Rattle.fl_sql_tables.proofs.load.next_op.Goals as goal
 

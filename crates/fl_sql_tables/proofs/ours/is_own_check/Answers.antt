@@ -1,6 +1,5 @@
-use Rattle.std.proofs.Common.{◌≡◌, ◌∙◌, sym, inl, inr, arith}
-use Rattle.fl_sql_tables.specs.OwnCheck.{equals}
-use Rattle.fl_sql_tables.proofs.OwnLemmas.{at, held, own_term, both}
+use Rattle.std.proofs.Common.{◌∙◌, sym, inl, inr, arith}
+use Rattle.fl_sql_tables.proofs.OwnLemmas.{held, own_term, both}
 use Rattle.fl_sql_tables.proofs.ours.is_own_check.Goals as goal
 
 pub returns-then-left-ops-clause-no : goal.returns-then-left-ops-clause-no

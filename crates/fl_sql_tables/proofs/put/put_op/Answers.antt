@@ -1,4 +1,3 @@
-use Rattle.std.proofs.Common.{rules, ◌≡◌, [], ◌∷◌, IsTrue}
 use Rattle.sqlite.specs.Held.{state}
 use Rattle.fl_sql_tables.proofs.OpLemmas.{puts_one}
 use Rattle.fl_sql_tables.proofs.FailLemmas.{put_fault, handed_on}
