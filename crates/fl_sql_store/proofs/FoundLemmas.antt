@@ -17,6 +17,7 @@ use Rattle.sqlite.specs.declared.error.ErrorCode.TheVariants.{OutOfMemory}
 use Rattle.fl_store.specs.declared.keeper.KeeperFault.{KeeperFault}
 use Rattle.fl_store.specs.declared.keeper.KeeperFault.TheVariants.{Memory, Broken}
 use Rattle.fl_sql_tables.specs.Tables.{select_whole_text}
+use Rattle.fl_sql_tables.specs.Failing.{FailsToFound}
 use Rattle.fl_sql_store.specs.Opening.{IsFailure, RefusesToOpen}
 use Rattle.fl_store.specs.Kept.{Kept}
 use Rattle.fl_sql_tables.specs.Stored.{IsListed, if_listed, nothing_kept, kept_by, kept_in, ops_in, boot_in, self_row}
@@ -97,3 +98,12 @@ pub not_shown : (number : ℕ) (old new : State) (e : Error) (fault : KeeperFaul
 not_shown number old new e fault has (inl is) wants fails h =
     subst (RefusesToOpen number old new) (sym is) (inl (has, subst (FailsToQuery select_whole_text [] old new) (wants is) h))
 not_shown number old new e fault has (inr is) wants fails h = subst (RefusesToOpen number old new) (sym is) (inr (inl (has, (e, fails is, h))))
+
+-- the tables were not made
+pub not_made : (number : ℕ) (old new : State) (e : Error) (fault : KeeperFault) → old.now.schema ≡ no_schema → (fault ≡ Memory) ⊎ (fault ≡ Broken)
+    → (fault ≡ Memory → e ≡ SqliteFailure OutOfMemory) → (fault ≡ Broken → IsFailure e) → (IsTrue old.is_open → FailsToFound number old new e)
+    → RefusesToOpen number old new fault
+not_made number old new e fault none (inl is) wants fails h =
+    subst (RefusesToOpen number old new) (sym is) (inr (none, λ is_open. subst (FailsToFound number old new) (wants is) (h is_open)))
+not_made number old new e fault none (inr is) wants fails h =
+    subst (RefusesToOpen number old new) (sym is) (inr (inr (e, fails is, (none, h))))

@@ -36,6 +36,8 @@ fn found_on<S: Alter>(conn: &mut Connection<S>, number: u16) -> Result<(), Keepe
     requires settled { IsSettled (state S.Store conn.old) }
     ensures idle { conn.new.in_transaction ≡ false }
     ensures either { IfErr result (λ e. (e ≡ KeeperFault.Memory) ⊎ (e ≡ KeeperFault.Broken)) }
+    ensures refuses { HasCleanDisk (state S.Store conn.new) → IfErr result
+        (RefusesToOpen number (state S.Store conn.old) (state S.Store conn.new)) }
     ensures founds { HasCleanDisk (state S.Store conn.new)
         → OnOk result (Founds number (state S.Store conn.old) (state S.Store conn.new)) }
     ensures ready { HasCleanDisk (state S.Store conn.new)
