@@ -8,10 +8,8 @@ use std::alloc::{AllocError, Global};
 /// A graph that is made, and questions about it.
 #[derive(Clone, Copy, Debug)]
 pub enum Step {
-    /// Groups that use one another at random, as the first ten puts a group make them.
+    /// Groups that use one another at random, by ten puts a group.
     Dense,
-    /// The same groups, with two hundred puts a group.
-    Puts,
     /// A chain of groups, made from its first group on.
     ChainFromFirst,
     /// The same chain, from its last group on.
@@ -26,12 +24,13 @@ pub enum Step {
     Effective,
     /// The chain, and a hundred thousand times what is in effect for the owner of 50 tags, of which it owns nine of ten.
     Owned,
+    /// Groups that use one another at random, by two hundred puts a group. Last, since what it frees lies about.
+    Puts,
 }
 
 /// All steps, in order.
 pub const STEPS: [Step; 9] = [
     Step::Dense,
-    Step::Puts,
     Step::ChainFromFirst,
     Step::ChainFromLast,
     Step::Wide,
@@ -39,6 +38,7 @@ pub const STEPS: [Step; 9] = [
     Step::Reaches,
     Step::Effective,
     Step::Owned,
+    Step::Puts,
 ];
 
 // How many of the first groups the owner of the first one reaches.
