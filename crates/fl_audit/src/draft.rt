@@ -32,7 +32,6 @@ use sha2::{Digest as Hasher, Sha256};
 use std::alloc::{AllocError, Global};
 
 /// What is noted of a job if it is admitted, but for what hangs on its answer.
-#[derive(Debug, Drop)]
 pub enum Draft {
     /// Nothing, whatever the answer is.
     Nothing,
@@ -42,6 +41,17 @@ pub enum Draft {
     IfYes(Admission),
     /// That this process entered the login of this name by this secret, where the answer is the login's capability.
     IfEntered(Party, Name, Secret),
+}
+
+impl Drop for Draft {
+    fn drop(self) {
+        match self {
+            Draft::Nothing => {}
+            Draft::Always(_) => {}
+            Draft::IfYes(_) => {}
+            Draft::IfEntered(_, _, _) => {}
+        }
+    }
 }
 
 // Whether neither label is too long.

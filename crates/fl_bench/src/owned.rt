@@ -13,7 +13,7 @@ use std::marker::Model;
 
 /// What a process owns: a set of capabilities. Whoever notes it shares it, and a copy is made only where it has
 /// changed since it was shared last.
-#[derive(Debug, Drop)]
+#[derive(Drop)]
 pub struct Owned {
     caps: CapSet,
     noted: Option<SharedCaps>,
@@ -35,7 +35,7 @@ impl Model for Owned {
 }
 
 /// The same, with room for two more, made by `Owned::with_room`.
-#[derive(Debug, Drop)]
+#[derive(Drop)]
 pub struct RoomyOwned {
     caps: RoomyCapSet,
     noted: Option<SharedCaps>,

@@ -16,7 +16,7 @@ use std::alloc::{AllocError, Global};
 use std::mem::replace;
 
 /// The capabilities that a process owns.
-#[derive(Debug, Drop)]
+#[derive(Drop)]
 pub enum Holding {
     /// No operation of the process is under way.
     Idle(Owned),
@@ -25,7 +25,7 @@ pub enum Holding {
 }
 
 /// A process: its labels, the capabilities that it owns, its open endpoints, and the messages that wait for it.
-#[derive(Debug, Drop)]
+#[derive(Drop)]
 pub struct Process {
     pub labels: Labels,
     pub owned: Holding,

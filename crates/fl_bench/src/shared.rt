@@ -8,7 +8,7 @@ use std::marker::Model;
 use std::sync::Arc;
 
 /// A set of capabilities that stays as it is, of which another holder costs no copy.
-#[derive(Debug, Drop)]
+#[derive(Drop)]
 pub struct SharedCaps {
     caps: Arc<CapSet>,
 }

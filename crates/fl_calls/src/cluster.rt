@@ -85,10 +85,10 @@ fn said(is_message: bool, reply: Reply) -> Response
     if !is_message {
         return Response::Reply(reply);
     }
-    match reply {
-        Reply::Refused(fault) => Response::Dropped(fault),
-        reply => Response::Reply(reply),
+    if let Reply::Refused(fault) = &reply {
+        return Response::Dropped(*fault);
     }
+    Response::Reply(reply)
 }
 
 // That the packet of this number comes to the node.

@@ -16,7 +16,6 @@ pub enum Check {
 }
 
 /// What is answered to a line that asks something of a world.
-#[derive(Debug, Drop)]
 pub enum Response {
     /// What an event is answered, or why a node was not opened.
     Reply(Reply),
@@ -34,4 +33,19 @@ pub enum Response {
     Admitted(u64),
     /// The line names a packet that was not sent, or one of which it cannot speak. Nothing has changed.
     Unknown,
+}
+
+impl Drop for Response {
+    fn drop(self) {
+        match self {
+            Response::Reply(_) => {}
+            Response::Dropped(_) => {}
+            Response::Text(_) => {}
+            Response::Union(_) => {}
+            Response::Checked(_) => {}
+            Response::BadPacket(_) => {}
+            Response::Admitted(_) => {}
+            Response::Unknown => {}
+        }
+    }
 }

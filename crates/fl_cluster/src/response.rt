@@ -9,7 +9,6 @@ use fl_system::answer::Fault;
 use fl_system::reply::Reply;
 
 /// What is answered to a line.
-#[derive(Debug, Drop)]
 pub enum Response {
     /// Nothing: the line is empty or a comment.
     Silence,
@@ -17,6 +16,16 @@ pub enum Response {
     Said(Said),
     /// The lines of the aliases that are set, which are written from these themselves.
     Aliases,
+}
+
+impl Drop for Response {
+    fn drop(self) {
+        match self {
+            Response::Silence => {}
+            Response::Said(_) => {}
+            Response::Aliases => {}
+        }
+    }
 }
 
 // The status of a line with this fault.

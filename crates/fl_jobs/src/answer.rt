@@ -48,7 +48,7 @@ pub enum Refusal {
 }
 
 /// What an admitted job is answered.
-#[derive(Debug, Drop, PartialEq, Eq)]
+#[derive(Debug, PartialEq, Eq)]
 pub enum Reply {
     /// The process that was made.
     Made(Pid),
@@ -67,6 +67,23 @@ pub enum Reply {
     Empty,
     /// The process that a message came to.
     Arrived(Pid),
+}
+
+impl Drop for Reply {
+    fn drop(self) {
+        match self {
+            Reply::Made(_) => {}
+            Reply::Done => {}
+            Reply::Yes => {}
+            Reply::NotYet => {}
+            Reply::Entered(_) => {}
+            Reply::Emitted(_) => {}
+            Reply::Opened(_) => {}
+            Reply::Taken(_) => {}
+            Reply::Empty => {}
+            Reply::Arrived(_) => {}
+        }
+    }
 }
 
 /// What comes of an admitted job.

@@ -16,7 +16,7 @@ pub const MOST_CAPS: usize = 64;
 pub const MOST_PAYLOAD_BYTES: usize = 1024;
 
 /// What one process tells another: capabilities and bytes.
-#[derive(Debug, Drop, PartialEq, Eq)]
+#[derive(Debug, PartialEq, Eq)]
 pub struct Message {
     /// At most 64.
     pub caps: CapSet,
@@ -24,6 +24,15 @@ pub struct Message {
     pub payload: Payload,
     pub ghost few_caps: { len caps ≤ 64 },
     pub ghost few_bytes: { length payload ≤ 1024 },
+}
+
+impl Drop for Message {
+    fn drop(self) {
+        let Message {
+            caps: _,
+            payload: _,
+        } = self;
+    }
 }
 
 impl Message {
@@ -61,7 +70,7 @@ pub struct Letter {
 }
 
 /// A message on its way from an endpoint of one process to an endpoint of another.
-#[derive(Debug, Drop, PartialEq, Eq)]
+#[derive(Debug, PartialEq, Eq)]
 pub struct Data {
     pub sender: Pid,
     /// The sender's endpoint.
@@ -78,6 +87,20 @@ pub struct Data {
     pub ghost integrity_fits: { len integrity ≤ 256 },
 }
 
+impl Drop for Data {
+    fn drop(self) {
+        let Data {
+            sender: _,
+            from: _,
+            receiver: _,
+            to: _,
+            secrecy: _,
+            integrity: _,
+            message: _,
+        } = self;
+    }
+}
+
 impl Data {
     /// The same again. Fails only where there is not enough memory.
     pub fn copy(&self, alloc: Global) -> Result<Self, AllocError>
@@ -92,5 +115,22 @@ impl Data {
             integrity: self.integrity.copy(alloc)?,
             message: self.message.copy(alloc)?,
         })
+    }
+
+    /// What its receiver is handed.
+    pub fn into_letter(self) -> Letter
+        ensures sender { result.sender ≡ self.sender }
+        ensures message { result.message ≡ self.message }
+    {
+        let Data {
+            sender,
+            from: _,
+            receiver: _,
+            to: _,
+            secrecy: _,
+            integrity: _,
+            message,
+        } = self;
+        Letter { sender, message }
     }
 }

@@ -75,12 +75,9 @@ pub(crate) fn arrive(process: &mut Process, data: Data) -> Result<Outcome, Refus
     if inbox.is_full() {
         return Err(Refusal::InboxFull);
     }
-    let letter = Letter {
-        sender: data.sender,
-        message: data.message,
-    };
-    let Ok(()) = take_in(inbox, owned, letter) else {
+    let receiver = data.receiver;
+    let Ok(()) = take_in(inbox, owned, data.into_letter()) else {
         return Err(Refusal::Memory);
     };
-    Ok(Outcome::Reply(Reply::Arrived(data.receiver)))
+    Ok(Outcome::Reply(Reply::Arrived(receiver)))
 }

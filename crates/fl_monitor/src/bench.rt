@@ -25,7 +25,7 @@ use std::alloc::{AllocError, Global};
 use std::marker::Model;
 
 /// One of a node's benches: its processes, and the serial of the next.
-#[derive(Debug, Drop)]
+#[derive(Drop)]
 pub struct Bench {
     node: u16,
     boot: u32,

@@ -23,7 +23,7 @@ use std::collections::BTreeMap;
 use std::marker::Model;
 
 /// Processes by what they are called.
-#[derive(Debug, Drop)]
+#[derive(Drop)]
 pub struct Processes {
     alloc: Global,
     all: BTreeMap<Pid, Process>,

@@ -7,7 +7,7 @@ use fl_jobs::answer::{Outcome, Refusal};
 use std::alloc::AllocError;
 
 /// What follows at a bench from an act of one of its processes.
-#[derive(Debug, Drop)]
+#[derive(Drop)]
 pub enum Sequel {
     /// The act is answered, and nothing else follows.
     Answer(Outcome),

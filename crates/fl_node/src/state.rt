@@ -91,10 +91,7 @@ pub fn saved(state: &mut State)
     ensures { (batch : Batch) → state.old ≡ Running (Unsaved batch)
         → state.new ≡ Running (Due batch) }
 {
-    *state = match replace(state, State::Running(Pending::Nothing)) {
-        State::Running(Pending::Unsaved(batch)) => State::Running(Pending::Due(batch)),
-        other => other,
-    };
+    *state = replace(state, State::Running(Pending::Nothing)).saved();
 }
 
 /// What was to be saved is in doubt.
@@ -102,18 +99,12 @@ pub fn doubted(state: &mut State)
     ensures { (batch : Batch) → state.old ≡ Running (Unsaved batch)
         → state.new ≡ Stopped (Some batch) }
 {
-    *state = match replace(state, State::Running(Pending::Nothing)) {
-        State::Running(Pending::Unsaved(batch)) => State::Stopped(Some(batch)),
-        other => other,
-    };
+    *state = replace(state, State::Running(Pending::Nothing)).doubted();
 }
 
 /// Nothing is on its way any more. What was in doubt is so still.
 pub fn halt(state: &mut State)
     ensures { state.new ≡ Stopped (doubt_of state.old) }
 {
-    *state = match replace(state, State::Running(Pending::Nothing)) {
-        State::Running(_) => State::Stopped(None),
-        State::Stopped(doubt) => State::Stopped(doubt),
-    };
+    *state = replace(state, State::Running(Pending::Nothing)).halted();
 }

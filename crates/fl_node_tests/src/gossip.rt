@@ -41,8 +41,8 @@ fn told(
     teller: &Node<MemKeeper>,
     listener: &Node<MemKeeper>,
 ) -> Result<Packet, Fail> {
-    match first_of(given(listener.summary(alloc))?)? {
-        Packet::Have(window) => first_of(given(teller.reply(alloc, &window))?),
+    match &first_of(given(listener.summary(alloc))?)? {
+        Packet::Have(window) => first_of(given(teller.reply(alloc, window))?),
         _ => Err(Fail::from("no window")),
     }
 }

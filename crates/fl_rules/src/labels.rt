@@ -7,10 +7,19 @@ use fl_labels::label::Label;
 use std::alloc::{AllocError, Global};
 
 /// Both labels of a process, or of one of its endpoints.
-#[derive(Debug, Drop, PartialEq, Eq)]
+#[derive(Debug, PartialEq, Eq)]
 pub struct Labels {
     pub secrecy: Label,
     pub integrity: Label,
+}
+
+impl Drop for Labels {
+    fn drop(self) {
+        let Labels {
+            secrecy: _,
+            integrity: _,
+        } = self;
+    }
 }
 
 /// Both labels of a process, or of one of its endpoints, on loan.

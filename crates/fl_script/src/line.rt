@@ -9,7 +9,7 @@ use fl_labels::text::read_node;
 use std::alloc::{AllocError, Global};
 
 /// A line that asks something of one node, of two, or of none. A line that was read names nodes from 1 to 65,535.
-#[derive(Debug, Drop)]
+#[derive(Drop)]
 pub enum Line {
     /// Something is asked of the node.
     Node { node: u16, request: Request },

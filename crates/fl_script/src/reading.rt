@@ -14,7 +14,7 @@ use std::alloc::{AllocError, Global};
 pub const MOST_LINE_BYTES: usize = 20000;
 
 /// What a line says.
-#[derive(Debug, Drop)]
+#[derive(Drop)]
 pub enum Reading {
     /// An empty line or a comment: nothing is answered.
     Quiet,

@@ -19,7 +19,7 @@ use fl_message::payload::Payload;
 use std::alloc::{AllocError, Global};
 
 /// What a line asks of one node.
-#[derive(Debug, Drop)]
+#[derive(Drop)]
 pub enum Request {
     /// It is to do a job, and to save and publish what this begins.
     Job(Job),

@@ -12,15 +12,23 @@ use fl_rules::endpoint::Mode;
 use fl_rules::labels::Labels;
 
 /// A process as the rules judge it: its labels, and what it owned then.
-#[derive(Debug, Drop, PartialEq, Eq)]
 pub struct Party {
     pub pid: Pid,
     pub labels: Labels,
     pub owned: SharedCaps,
 }
 
+impl Drop for Party {
+    fn drop(self) {
+        let Party {
+            pid: _,
+            labels: _,
+            owned: _,
+        } = self;
+    }
+}
+
 /// One thing that was admitted, with all that its safety is judged by.
-#[derive(Debug, Drop, PartialEq, Eq)]
 pub enum Admission {
     /// The label of this side became this one.
     Change(Party, Side, Label),
@@ -38,4 +46,19 @@ pub enum Admission {
     Yes(Party, Cap),
     /// Somebody was told at this node, in this boot, that the first capability reaches the second.
     Reached(u16, u32, Cap, Cap),
+}
+
+impl Drop for Admission {
+    fn drop(self) {
+        match self {
+            Admission::Change(_, _, _) => {}
+            Admission::Endpoint(_, _, _) => {}
+            Admission::Emission(_) => {}
+            Admission::Grant(_, _) => {}
+            Admission::Entry(_, _, _, _) => {}
+            Admission::Message(_, _) => {}
+            Admission::Yes(_, _) => {}
+            Admission::Reached(_, _, _, _) => {}
+        }
+    }
 }

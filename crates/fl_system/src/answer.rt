@@ -22,7 +22,7 @@ pub enum Fault {
 }
 
 /// What an admitted job is answered.
-#[derive(Debug, Drop, PartialEq, Eq)]
+#[derive(Drop)]
 pub enum Answer {
     Reply(Reply),
     /// The packet is to be sent.

@@ -3,7 +3,7 @@
 use fl_jobs::job::Job;
 
 /// One event of a world. Nodes are named by their numbers, packets by theirs, from 1 on.
-#[derive(Debug, Drop)]
+#[derive(Drop)]
 pub enum Event {
     /// A job at a desk of a node. The desk first looks at the node's list, up to this length.
     Job {

@@ -5,7 +5,7 @@ use fl_jobs::answer;
 use fl_labels::name::Name;
 
 /// What an event of a world is answered.
-#[derive(Debug, Drop, PartialEq, Eq)]
+#[derive(PartialEq, Eq)]
 pub enum Reply {
     /// The answer to an admitted job, or to a message that arrived.
     Job(answer::Reply),
@@ -26,4 +26,21 @@ pub enum Reply {
     /// What the event names is not there. Nothing has changed.
     NoSuch,
     Refused(Fault),
+}
+
+impl Drop for Reply {
+    fn drop(self) {
+        match self {
+            Reply::Job(_) => {}
+            Reply::Begun(_) => {}
+            Reply::Taking(_) => {}
+            Reply::Took(_) => {}
+            Reply::Published(_) => {}
+            Reply::Done => {}
+            Reply::Booted(_) => {}
+            Reply::Sent { first: _, count: _ } => {}
+            Reply::NoSuch => {}
+            Reply::Refused(_) => {}
+        }
+    }
 }

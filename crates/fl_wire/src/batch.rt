@@ -68,10 +68,16 @@ impl Eq for OpList {
 }
 
 /// From 1 to 64 operations, each of a greater name than the one before.
-#[derive(Debug, Drop, PartialEq, Eq)]
+#[derive(Debug, PartialEq, Eq)]
 pub struct Batch {
     pub ops: OpList,
     pub ghost some: { 0 < length ops },
     pub ghost few: { length ops ≤ 64 },
     pub ghost rising: { IsStrictlySortedBy by_name ops } by { IsStrictlySortedBy-prop by_name ops },
+}
+
+impl Drop for Batch {
+    fn drop(self) {
+        let Batch { ops: _ } = self;
+    }
 }

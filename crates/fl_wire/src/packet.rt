@@ -5,7 +5,7 @@ use fl_message::message::Data;
 use fl_opset::intervals::Intervals;
 
 /// What nodes send to each other.
-#[derive(Debug, Drop, PartialEq, Eq)]
+#[derive(Debug, PartialEq, Eq)]
 pub enum Packet {
     /// Operations that the sender has saved.
     Full(Batch),
@@ -15,4 +15,15 @@ pub enum Packet {
     Delta(Batch),
     /// A message of a process.
     Data(Data),
+}
+
+impl Drop for Packet {
+    fn drop(self) {
+        match self {
+            Packet::Full(_) => {}
+            Packet::Have(_) => {}
+            Packet::Delta(_) => {}
+            Packet::Data(_) => {}
+        }
+    }
 }
