@@ -25,11 +25,20 @@ pub enum Holding {
 }
 
 /// A process: its labels, the capabilities that it owns, its open endpoints, and the messages that wait for it.
-#[derive(Drop)]
 pub struct Process {
     pub labels: Labels,
     pub owned: Holding,
     pub mailbox: Mailbox,
+}
+
+impl Drop for Process {
+    fn drop(self) {
+        let Process {
+            labels: _,
+            owned: _,
+            mailbox: _,
+        } = self;
+    }
 }
 
 impl Holding {

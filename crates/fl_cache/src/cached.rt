@@ -18,11 +18,20 @@ use std::marker::Model;
 const CAPACITY: usize = 1024;
 
 /// An index, and the questions that it answered yes. Contracts see its operations.
-#[derive(Drop)]
 pub struct CachedIndex {
     index: Index,
     cache: YesCache,
     alloc: Global,
+}
+
+impl Drop for CachedIndex {
+    fn drop(self) {
+        let CachedIndex {
+            index: _,
+            cache: _,
+            alloc: _,
+        } = self;
+    }
 }
 
 impl Model for CachedIndex {

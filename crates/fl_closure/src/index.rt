@@ -24,11 +24,21 @@ use std::marker::Model;
 ///
 /// Each pair of a group and a capability that it reaches takes some 30 bytes, and as much again where that is the use of a
 /// group: ten thousand groups in a chain would have fifty million pairs.
-#[derive(Debug, Drop)]
+#[derive(Debug)]
 pub struct Index {
     ops: OpSet,
     rows: ClosedRows,
     alloc: Global,
+}
+
+impl Drop for Index {
+    fn drop(self) {
+        let Index {
+            ops: _,
+            rows: _,
+            alloc: _,
+        } = self;
+    }
 }
 
 impl Model for Index {

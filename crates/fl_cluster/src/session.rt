@@ -28,6 +28,9 @@ use std::marker::Model;
 /// What an alias stands for until its line is answered.
 const UNMADE: Target = Target::Operation(Name { node: 1, seq: 1 });
 
+// Lets go of a line that is not answered.
+fn let_go(_line: Line) {}
+
 // Has an alias that was placed for a line stand for what the line made. Where it made nothing, all aliases are as they
 // were.
 fn settle(aliases: &mut Aliases, alias: Alias, is_new: bool, made: Option<Target>)
@@ -142,6 +145,7 @@ impl<M: MakesKeepers> Session<M> {
             self.old line (Some alias) result self.new }
     {
         let Ok(is_new) = self.aliases.place(alias, UNMADE) else {
+            let_go(line);
             return Response::starved();
         };
         let response = respond_to(alloc, &mut self.cluster, line);

@@ -110,3 +110,6 @@ pub enum Job {
     /// A message comes to its receiver. Made of a packet that was sent alone.
     Arrive(Data),
 }
+
+/// Lets go of a job that is not done. A call where a job is let go at many exits, so that each is proved in one step.
+pub fn let_go(_job: Job) {}

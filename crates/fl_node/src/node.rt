@@ -28,7 +28,7 @@ use fl_bench::process::Process;
 use fl_bench::shared::SharedCaps;
 use fl_cache::cached::CachedIndex;
 use fl_jobs::answer::{Outcome, Refusal};
-use fl_jobs::job::Job;
+use fl_jobs::job::{Job, let_go};
 use fl_labels::name::Name;
 use fl_labels::pid::Pid;
 use fl_monitor::bench::Bench;
@@ -264,7 +264,10 @@ impl<K: Keeper> Node<K> {
             Jobs self.old.node 1 count job result self.new.node }
         ensures keeper { self.new.keeper ≡ self.old.keeper }
     {
-        running(&self.state)?;
+        if let Err(fault) = running(&self.state) {
+            let_go(job);
+            return Err(fault);
+        }
         self.seen = self.published.len() as u64;
         match self.bench.job(alloc, &mut self.index, job) {
             Ok(Outcome::Reply(reply)) => Ok(Answer::Reply(reply)),

@@ -39,7 +39,8 @@ use Rattle.fl_node.specs.Over.{NodeOver}
 use Rattle.fl_node.specs.Telling.{TellsNothing}
 use Rattle.fl_nodes.specs.Over.{WorldOver}
 use Rattle.fl_nodes.specs.Goes.{MayBe, Goes}
-use Rattle.fl_nodes.specs.parts.Delivering.{Brings, Brought, Sends, Takes, packet_of}
+use Rattle.fl_notes.specs.Bringing.{Brings, Brought, Takes}
+use Rattle.fl_nodes.specs.parts.Delivering.{Sends, packet_of}
 use Rattle.fl_nodes.proofs.Lifting.{lifts_kept, over_went, stays, with_kept}
 use Rattle.fl_nodes.proofs.Entries.{changed, held, of_entries}
 use Rattle.fl_nodes.proofs.TellLemmas.{tells, tells_nothing}

@@ -29,7 +29,7 @@ use Rattle.fl_node.specs.Over.{NodeOver}
 use Rattle.fl_nodes.specs.Over.{WorldOver}
 use Rattle.fl_nodes.specs.Goes.{Goes}
 use Rattle.fl_nodes.specs.parts.There.{IsNoSuch, IsThere}
-use Rattle.fl_nodes.specs.parts.Working.{Works, Worked}
+use Rattle.fl_notes.specs.Working.{Works, Worked}
 use Rattle.fl_nodes.proofs.Lifting.{StandsAs, lifts_kept, node_there, over_went, stays, with_kept}
 use Rattle.fl_nodes.proofs.Entries.{changed, held, of_entries}
 

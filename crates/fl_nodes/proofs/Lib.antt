@@ -2,10 +2,8 @@ pub mod Lifting
 pub mod Entries
 pub mod Highs
 pub mod CallLemmas
-pub mod WorkLemmas
 pub mod JobLemmas
 pub mod TellLemmas
-pub mod BringLemmas
 pub mod DeliverLemmas
 pub mod JoinLemmas
 pub mod Meets

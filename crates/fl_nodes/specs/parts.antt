@@ -4,4 +4,3 @@ pub mod Highest
 pub mod Joined
 pub mod Published
 pub mod There
-pub mod Working

@@ -5,10 +5,10 @@ ghost use Rattle.fl_system.specs.WorldSteps.{Step};
 ghost use Rattle.fl_nodes.specs.Goes.{Goes};
 ghost use Rattle.fl_nodes.specs.parts.Delivering.{packet_of};
 
-use crate::bringing::{bring, receive};
 use crate::highest::raised;
 use crate::nodes::Nodes;
 use crate::sending::send_all;
+use fl_notes::bringing::{bring, receive};
 use fl_store::keeper::Keeper;
 use fl_system::reply::Reply;
 use fl_system::sent::Sent;

@@ -1,10 +1,8 @@
 //! The nodes of a world over their keepers, the packets between them and what was admitted, call by call.
 #![tactic(auto)]
 
-mod bringing;
 mod delivering;
 mod highest;
 mod joining;
 pub mod nodes;
 mod sending;
-mod working;

@@ -12,9 +12,9 @@ ghost use Rattle.fl_nodes.specs.parts.There.{IsNoSuch, IsThere};
 ghost use Rattle.fl_nodes.specs.parts.Published.{published_reply};
 
 use crate::highest::raised;
-use crate::working::work;
-use fl_jobs::job::Job;
+use fl_jobs::job::{Job, let_go};
 use fl_node::node::Node;
+use fl_notes::working::work;
 use fl_sink::sink::WriteFault;
 use fl_store::keeper::Keeper;
 use fl_system::admission::Admission;
@@ -208,9 +208,11 @@ impl<K: Keeper> Nodes<K> {
             (λ w w'. Step w (event.Job number desk upto job) result w') }
     {
         let Some(node) = self.all.get_mut(&number) else {
+            let_go(job);
             return Reply::NoSuch;
         };
         if lacks(node, desk, &job) {
+            let_go(job);
             return Reply::NoSuch;
         }
         let answer = work(alloc, number, node, job, &mut self.audit, &mut self.sent);

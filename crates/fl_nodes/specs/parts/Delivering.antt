@@ -1,4 +1,4 @@
--- What a node does with a packet that comes to it, and how what it tells is sent.
+-- Which packet has a number, and how what a node tells is sent.
 use Rattle.std.specs.Prelude.{◌≡◌, ◌<◌, ◌++◌, ℕ, zero, suc, List, [], length}
 use Rattle.std.specs.List.{slice_get}
 use Rattle.std.specs.declared.option.Option.{Option}
@@ -37,28 +37,3 @@ pub data Sends (number : ℕ) (told : List Packet) (packets : List Sent)
   no_room : Sends number told packets (Refused (faults.Refused Memory)) packets
   sends : Sends number told packets (HasSent (suc (length packets)) (length told))
       (packets ++ told_by number told)
-
--- These operations come to the node n: the answer, and the node after it.
-pub data Takes (n : NodeState) (ops : SetBy op_cmp) : Reply → NodeState → Type 0 where
-  nothing_new : {n' : NodeState} → Receives n ops (Ok 0) n' → Takes n ops (Took 0) n'
-  takes : {count : ℕ} {n' : NodeState} → Receives n ops (Ok count) n' → 0 < count
-      → Takes n ops (Taking count) n'
-  refused : {fault : Fault} {n' : NodeState} → Receives n ops (Err fault) n'
-      → Takes n ops (Refused fault) n'
-
--- This message of this sender comes to the node n: the answer, the node after it, and what is noted.
-pub data Brings (n : NodeState) (sender : Option Party) (d : Data)
-    : Reply → NodeState → List Admission → Type 0 where
-  arrives : {reply : jobs.Reply} {n' : NodeState} → Arrives n d (Ok reply) n'
-      → Brings n sender d (Answered reply) n'
-      (message_entries sender d.receiver (process_of n d.receiver))
-  refused : {fault : Fault} {n' : NodeState} → Arrives n d (Err fault) n'
-      → Brings n sender d (Refused fault) n' []
-  no_room : IsRunning n.state → Brings n sender d (Refused (faults.Refused Memory)) n []
-
--- with what was noted before and after
-pub record Brought (n : NodeState) (sender : Option Party) (d : Data) (result : Reply)
-    (after : NodeState) (audit audit_after : List Admission) : Type 0 where
-  pub admitted : List Admission
-  pub admitted_is : audit_after ≡ audit ++ admitted
-  pub brings : Brings n sender d result after admitted

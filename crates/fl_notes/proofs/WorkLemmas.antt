@@ -41,7 +41,7 @@ use Rattle.fl_audit.specs.Drafts.{asker_of, drafted, listed}
 use Rattle.fl_audit.specs.Senders.{sender_of}
 use Rattle.fl_audit.specs.declared.draft.Draft.{Draft}
 use Rattle.fl_audit.specs.declared.draft.Draft.TheVariants.{Nothing, Always, IfYes, IfEntered}
-use Rattle.fl_nodes.specs.parts.Working.{HasRoom, IsNotable, IsUnready, Shows, Works, Worked}
+use Rattle.fl_notes.specs.Working.{HasRoom, IsNotable, IsUnready, Shows, Works, Worked}
 
 -- ---- drafts
 

@@ -8,14 +8,14 @@ ghost use Rattle.fl_system.specs.WorldJobs.{MayBeNoted};
 ghost use Rattle.fl_audit.specs.Drafts.{asker_of, drafted};
 ghost use Rattle.fl_audit.specs.Noted.{IsNotedWith};
 ghost use Rattle.fl_audit.specs.Senders.{sender_of};
-ghost use Rattle.fl_nodes.specs.parts.Working.{HasRoom, IsNotable, IsUnready, Shows, Worked};
+ghost use Rattle.fl_notes.specs.Working.{HasRoom, IsNotable, IsUnready, Shows, Worked};
 
 use fl_audit::draft::{Draft, names_asker};
 use fl_audit::party::sender;
 use fl_bench::process::Process;
 use fl_bench::shared::SharedCaps;
 use fl_jobs::answer::Refusal;
-use fl_jobs::job::Job;
+use fl_jobs::job::{Job, let_go};
 use fl_node::node::Node;
 use fl_store::keeper::Keeper;
 use fl_system::admission::{Admission, Party};
@@ -168,9 +168,13 @@ fn prepare<K: Keeper>(
     }
 }
 
-// Has the node of this number do the job at its desk, under all that is published. What would be noted and sent is made and
-// has its room before. Copies what who asks owns only where that has changed since it was noted last.
-pub(crate) fn work<K: Keeper>(
+/// Has the node of this number do the job at its desk, under all that is published: gives the answer as it is shown, sends the
+/// message that it may be, and notes what is admitted. What would be noted and sent is made and has its room before. Copies what
+/// who asks owns only where that has changed since it was noted last.
+///
+/// Refused as `Node::job` has it; `Stopped` where the node is stopped, and `Memory` where there is no room for what would be
+/// noted or sent. Nothing is sent or noted then.
+pub fn work<K: Keeper>(
     alloc: Global,
     number: u16,
     node: &mut Node<K>,
@@ -186,7 +190,10 @@ pub(crate) fn work<K: Keeper>(
 {
     let Prepared { draft, sender } = match prepare(alloc, node, &job, audit, sent) {
         Ok(made) => made,
-        Err(fault) => return Reply::Refused(fault),
+        Err(fault) => {
+            let_go(job);
+            return Reply::Refused(fault);
+        }
     };
     match node.job(alloc, job) {
         Ok(answer) => {

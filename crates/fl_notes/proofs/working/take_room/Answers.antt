@@ -1,6 +1,6 @@
 use Rattle.fl_sink.specs.laws.Passing.{on_err_always}
-use Rattle.fl_nodes.proofs.WorkLemmas.{notable, room_if_ok, ok_or_not}
-use Rattle.fl_nodes.proofs.working.take_room.Goals as goal
+use Rattle.fl_notes.proofs.WorkLemmas.{notable, room_if_ok, ok_or_not}
+use Rattle.fl_notes.proofs.working.take_room.Goals as goal
 
 pub returns-in_err-reserve-clause-err : goal.returns-in_err-reserve-clause-err
 returns-in_err-reserve-clause-err c = on_err_always _ (notable _ c.in_default.not-Nothing)

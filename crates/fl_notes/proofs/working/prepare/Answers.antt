@@ -1,8 +1,8 @@
 use Rattle.std.proofs.Common.{◌∙◌, sym, subst}
 use Rattle.fl_system.specs.Waiting.{IsRunning}
-use Rattle.fl_nodes.specs.parts.Working.{IsUnready}
-use Rattle.fl_nodes.proofs.WorkLemmas.{draft_noted, not_running}
-use Rattle.fl_nodes.proofs.working.prepare.Goals as goal
+use Rattle.fl_notes.specs.Working.{IsUnready}
+use Rattle.fl_notes.proofs.WorkLemmas.{draft_noted, not_running}
+use Rattle.fl_notes.proofs.working.prepare.Goals as goal
 
 pub returns-in-Stopped-clause-err : goal.returns-in-Stopped-clause-err
 returns-in-Stopped-clause-err g c = IsUnready.stopped (not_running _ _ (sym c.state.ensures ∙ c.in-Stopped.is))

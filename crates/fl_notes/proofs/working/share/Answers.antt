@@ -1,6 +1,6 @@
 use Rattle.std.proofs.Common.{refl, sym}
 use Rattle.fl_sink.specs.laws.Passing.{on_err_always}
-use Rattle.fl_nodes.proofs.working.share.Goals as goal
+use Rattle.fl_notes.proofs.working.share.Goals as goal
 
 pub returns-in-By-clause-err : goal.returns-in-By-clause-err
 returns-in-By-clause-err g c =

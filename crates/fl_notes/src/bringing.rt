@@ -8,7 +8,7 @@ ghost use Rattle.fl_system.specs.Audit.{message_entries};
 ghost use Rattle.fl_system.specs.Processes.{process_of};
 ghost use Rattle.fl_audit.specs.Drafts.{listed};
 ghost use Rattle.fl_node.specs.Telling.{TellsNothing};
-ghost use Rattle.fl_nodes.specs.parts.Delivering.{Brought, Takes};
+ghost use Rattle.fl_notes.specs.Bringing.{Brought, Takes};
 
 use fl_audit::message::arrival;
 use fl_jobs::answer::Refusal;
@@ -105,9 +105,12 @@ fn note(audit: &mut Vec<Admission>, entry: Option<Admission>)
     }
 }
 
-// Hands a message of this sender to its receiver at the node, and notes it where it arrives. What is noted is made and has its
-// room before. Copies what the receiver owns only where that has changed since it was noted last.
-pub(crate) fn bring<K: Keeper>(
+/// Hands a message of this sender to its receiver at the node, and notes it where it arrives. What is noted is made and has its
+/// room before. Copies what the receiver owns only where that has changed since it was noted last.
+///
+/// Refused as `Node::arrive` has it; `Stopped` where the node is stopped, and `Memory` where there is no room for the message
+/// or for what would be noted. Nothing is noted then.
+pub fn bring<K: Keeper>(
     alloc: Global,
     node: &mut Node<K>,
     sender: &Option<Party>,
@@ -131,8 +134,9 @@ pub(crate) fn bring<K: Keeper>(
     }
 }
 
-// Has the node take the operations of a packet: those that are new are then to be saved.
-pub(crate) fn receive<K: Keeper>(alloc: Global, node: &mut Node<K>, packet: &Packet) -> Reply
+/// Has the node take the operations of a packet, as `Node::receive` has it: those that are new are then to be saved. Answers how
+/// many are new, or why none is taken.
+pub fn receive<K: Keeper>(alloc: Global, node: &mut Node<K>, packet: &Packet) -> Reply
     ensures takes { let ops = set.of_list {R = op_cmp} (ops_of packet.now) in
         Takes node.old.node ops result node.new.node }
     ensures keeper { node.new.keeper ≡ node.old.keeper }

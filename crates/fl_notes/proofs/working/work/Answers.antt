@@ -1,9 +1,9 @@
 use Rattle.std.proofs.Common.{◌∙◌, ◌++◌, length, sym, ap, subst, Ok}
 use Rattle.fl_system.specs.Jobs.{Jobs}
 use Rattle.fl_system.specs.declared.reply.Reply.TheVariants.{Refused}
-use Rattle.fl_nodes.specs.parts.Working.{Worked}
-use Rattle.fl_nodes.proofs.WorkLemmas.{done, jobs_same, jobs_upto, not_done, sends_in_room, unready}
-use Rattle.fl_nodes.proofs.working.work.Goals as goal
+use Rattle.fl_notes.specs.Working.{Worked}
+use Rattle.fl_notes.proofs.WorkLemmas.{done, jobs_same, jobs_upto, not_done, sends_in_room, unready}
+use Rattle.fl_notes.proofs.working.work.Goals as goal
 
 pub returns-in-Err-clause-works : goal.returns-in-Err-clause-works
 returns-in-Err-clause-works g c upto whole =

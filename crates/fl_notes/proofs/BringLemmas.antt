@@ -18,7 +18,7 @@ use Rattle.fl_system.specs.Receives.{Receives}
 use Rattle.fl_system.specs.State.{NodeState}
 use Rattle.fl_audit.specs.Drafts.{listed}
 use Rattle.fl_node.specs.Telling.{TellsNothing}
-use Rattle.fl_nodes.specs.parts.Delivering.{Brings, Brought, Takes}
+use Rattle.fl_notes.specs.Bringing.{Brings, Brought, Takes}
 
 -- ---- messages
 

@@ -1,6 +1,6 @@
-use Rattle.fl_nodes.specs.parts.Delivering.{Takes}
-use Rattle.fl_nodes.proofs.BringLemmas.{takes_none, takes_some}
-use Rattle.fl_nodes.proofs.bringing.receive.Goals as goal
+use Rattle.fl_notes.specs.Bringing.{Takes}
+use Rattle.fl_notes.proofs.BringLemmas.{takes_none, takes_some}
+use Rattle.fl_notes.proofs.bringing.receive.Goals as goal
 
 pub returns-in-Err-clause-takes : goal.returns-in-Err-clause-takes
 returns-in-Err-clause-takes g c = Takes.refused c.in-Err.ensures.receives

@@ -2,9 +2,9 @@ use Rattle.std.proofs.Common.{◌∙◌, ◌++◌, sym, ap, subst, Ok, Err}
 use Rattle.fl_system.specs.Arrives.{Arrives}
 use Rattle.fl_system.specs.declared.reply.Reply.TheVariants.{Refused}
 use Rattle.fl_audit.specs.Drafts.{listed}
-use Rattle.fl_nodes.specs.parts.Delivering.{Brought}
-use Rattle.fl_nodes.proofs.BringLemmas.{brought, not_brought, unready}
-use Rattle.fl_nodes.proofs.bringing.bring.Goals as goal
+use Rattle.fl_notes.specs.Bringing.{Brought}
+use Rattle.fl_notes.proofs.BringLemmas.{brought, not_brought, unready}
+use Rattle.fl_notes.proofs.bringing.bring.Goals as goal
 
 pub returns-in-Err-clause-brings : goal.returns-in-Err-clause-brings
 returns-in-Err-clause-brings g c =

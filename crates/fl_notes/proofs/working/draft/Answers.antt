@@ -3,8 +3,8 @@ use Rattle.std.specs.Prelude.{IsSome}
 use Rattle.fl_sink.specs.laws.Passing.{on_err_always}
 use Rattle.fl_audit.specs.Drafts.{asker_of}
 use Rattle.fl_audit.specs.Senders.{sender_of}
-use Rattle.fl_nodes.proofs.WorkLemmas.{sender_noted}
-use Rattle.fl_nodes.proofs.working.draft.Goals as goal
+use Rattle.fl_notes.proofs.WorkLemmas.{sender_noted}
+use Rattle.fl_notes.proofs.working.draft.Goals as goal
 
 pub returns-in_err-sender-clause-err : goal.returns-in_err-sender-clause-err
 returns-in_err-sender-clause-err g c =

@@ -1,7 +1,7 @@
 use Rattle.std.proofs.Common.{◌∙◌, refl, sym, subst, inl, inr}
 use Rattle.fl_system.specs.Waiting.{IsRunning}
-use Rattle.fl_nodes.proofs.WorkLemmas.{not_running}
-use Rattle.fl_nodes.proofs.bringing.prepare.Goals as goal
+use Rattle.fl_notes.proofs.WorkLemmas.{not_running}
+use Rattle.fl_notes.proofs.bringing.prepare.Goals as goal
 
 pub returns-in-Stopped-clause-err : goal.returns-in-Stopped-clause-err
 returns-in-Stopped-clause-err g c = inl (not_running _ _ (sym c.state.ensures ∙ c.in-Stopped.is))
