@@ -1,4 +1,4 @@
-use Rattle.std.proofs.Common.{sym}
+use Rattle.std.proofs.Common.{◌≡◌, sym}
 use Rattle.fl_monitor.proofs.ArrivalLemmas.{comes_busy, comes_nowhere, comes_unsafe, comes_full, comes_starved, comes_in}
 use Rattle.fl_monitor.proofs.arrive.arrive.Goals as goal
 
@@ -18,4 +18,8 @@ pub returns-in_default-take_in : goal.returns-in_default-take_in
 returns-in_default-take_in c = comes_starved c.args.process.now c.args.data _ c.in-Idle.is _ (sym c.in-Some.ensures) _ _ c.end_left.ensures c.lend.ensures c.in_default-safe_pair.ensures _ c.is_full.ensures c.if-is_full.false _ c.in_default-take_in.ensures.err.1 _ c.in_default-take_in.ensures.err.0
 
 pub returns : goal.returns
-returns c = comes_in c.args.process.now c.args.data _ c.in-Idle.is _ (sym c.in-Some.ensures) _ _ c.end_left.ensures c.lend.ensures c.in_default-safe_pair.ensures _ c.is_full.ensures c.if-is_full.false _ c.in-Ok.ensures.owns _ c.in-Ok.ensures.waits
+returns c =
+    let handed : c.into_letter.result ≡ record { sender = c.args.data.sender; message = c.args.data.message } =
+        λ i. record { sender = c.into_letter.ensures.sender i; message = c.into_letter.ensures.message i } in
+    comes_in c.args.process.now c.args.data _ c.in-Idle.is _ (sym c.in-Some.ensures) _ _ c.end_left.ensures c.lend.ensures
+    c.in_default-safe_pair.ensures _ c.is_full.ensures c.if-is_full.false _ (rw (handed) at c.in-Ok.ensures.owns) _ (rw (handed) at c.in-Ok.ensures.waits)
