@@ -1,11 +1,9 @@
 //! Nodes that join the others, and stopped ones that are opened over another keeper.
 ghost use Rattle.std.specs.Prelude.{◌≡◌, ◌<◌, is_some, IfOk, IfErr, OnErr, OnOk};
 ghost use Rattle.std.specs.Prelude.{None, Some, Err};
-ghost use Rattle.std.specs.BTreeMap.{IsOrdered};
 ghost use Rattle.std.specs.FinMap as map;
 ghost use Rattle.std.specs.Fn.{FnOnceReturnsAtMut};
-ghost use Rattle.std.specs.Ordering.{nat_cmp};
-ghost use Rattle.fl_gossip.specs.Meeting.{FindsLeast, OfSome};
+ghost use Rattle.fl_gossip.specs.Meeting.{FindsLeast};
 ghost use Rattle.fl_jobs.specs.declared.answer.Refusal.TheVariants.{Memory};
 ghost use Rattle.fl_system.specs.declared.answer.Fault.TheVariants as faults;
 ghost use Rattle.fl_system.specs.declared.reply.Reply.TheVariants as replies;
@@ -16,13 +14,13 @@ ghost use Rattle.fl_node.specs.Over.{NodeOver};
 ghost use Rattle.fl_nodes.specs.Goes.{Goes};
 ghost use Rattle.fl_nodes.specs.Joining.{DoesJoin, DoesNotJoin, GivesBack, TakesIn, spare};
 ghost use Rattle.fl_nodes.specs.Joining.{ReturnsOver, TakesOver};
-ghost use Rattle.fl_nodes.specs.parts.Joined.{AreNodes, ClashesWith, IsStrayWith, StraysWith};
+ghost use Rattle.fl_nodes.specs.parts.Joined.{AreNodes, IsStrayWith};
 ghost use Rattle.fl_nodes.specs.parts.Joined.{opened_reply, over_with};
 
 use crate::highest::raised;
 use crate::nodes::Nodes;
-use fl_gossip::meeting::{least_clash, least_stray, lesser};
 use fl_jobs::answer::Refusal;
+use fl_joining::searching::{least_clash_with, least_stray_with};
 use fl_labels::name::Name;
 use fl_node::node::Node;
 use fl_opset::set::OpSet;
@@ -30,7 +28,6 @@ use fl_store::keeper::Keeper;
 use fl_system::answer::Fault;
 use fl_system::reply::Reply;
 use std::alloc::Global;
-use std::collections::BTreeMap;
 
 // What an opening is answered.
 fn opened(outcome: Result<u32, Fault>) -> Reply
@@ -40,44 +37,6 @@ fn opened(outcome: Result<u32, Fault>) -> Reply
         Ok(boot) => Reply::Booted(boot),
         Err(fault) => Reply::Refused(fault),
     }
-}
-
-// The least name under which an operation of the set and one of a node clash.
-fn least_clash_with<K: Keeper>(all: &BTreeMap<u16, Node<K>>, saved: &OpSet) -> Option<Name>
-    ensures least { FindsLeast (OfSome (ClashesWith saved.now) all.now.entries) result }
-    ensures ordered { IsOrdered nat_cmp all.now }
-{
-    let mut least = None;
-    for (_, node) in all {
-        least = lesser(least, least_clash(saved, node.saved()));
-    }
-    least
-}
-
-// The least name of an operation of a newcomer that has the number of this node and is not saved there, or the other way round.
-fn stray_between<K: Keeper>(other: u16, node: &Node<K>, number: u16, saved: &OpSet) -> Option<Name>
-    ensures { FindsLeast (StraysWith number saved.now (other, node.now)) result }
-{
-    let theirs = node.saved();
-    let brought = least_stray(saved, theirs, other);
-    let awaited = least_stray(theirs, saved, number);
-    lesser(brought, awaited)
-}
-
-// The same of a newcomer and all nodes.
-fn least_stray_with<K: Keeper>(
-    all: &BTreeMap<u16, Node<K>>,
-    number: u16,
-    saved: &OpSet,
-) -> Option<Name>
-    ensures least { FindsLeast (OfSome (StraysWith number saved.now) all.now.entries) result }
-    ensures ordered { IsOrdered nat_cmp all.now }
-{
-    let mut least = None;
-    for (other, node) in all {
-        least = lesser(least, stray_between(*other, node, number, saved));
-    }
-    least
 }
 
 impl<K: Keeper> Nodes<K> {

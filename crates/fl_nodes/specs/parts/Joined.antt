@@ -1,4 +1,4 @@
--- What the nodes of a world have against one another, and what is answered of an opening.
+-- What is answered of an opening, and what a newcomer brings that is not its own.
 use Rattle.std.specs.Prelude.{◌≡◌, ℕ}
 use Rattle.std.specs.FinMap as map
 use Rattle.std.specs.declared.result.Result.{Result}
@@ -7,7 +7,6 @@ use Rattle.fl_labels.specs.SetBy.{SetBy, In}
 use Rattle.fl_labels.specs.declared.name.Name.{Name}
 use Rattle.fl_ops.specs.declared.op.Op.{Op}
 use Rattle.fl_ops.specs.OpOrder.{op_cmp}
-use Rattle.fl_gossip.specs.Meeting.{IsClashOf, IsStrayOf}
 use Rattle.fl_system.specs.declared.answer.Fault.{Fault}
 use Rattle.fl_system.specs.declared.reply.Reply.{Reply}
 use Rattle.fl_system.specs.declared.reply.Reply.TheVariants.{Booted, Refused}
@@ -22,11 +21,6 @@ abbrev pub opened_reply : Result ℕ Fault → Reply
 opened_reply (Ok boot) = Booted boot
 opened_reply (Err fault) = Refused fault
 
--- an operation of the set and one of this node clash under the name
-pub record ClashesWith {K : Type 0} (saved : SetBy op_cmp) (e : ℕ × NodeOver K)
-    (name : Name) : Type 0 where
-  pub clash : IsClashOf (In saved) (In e.1.node.saved) name
-
 -- An operation of this name comes with a newcomer of this number, which has saved these, and the node of its number has not saved
 -- it; or one of the newcomer's number is saved, and not by the newcomer.
 pub data IsStrayWith (w : World) (number : ℕ) (saved : SetBy op_cmp) (name : Name) : Type 0 where
@@ -34,12 +28,6 @@ pub data IsStrayWith (w : World) (number : ℕ) (saved : SetBy op_cmp) (name : N
       → IsAt w op.name.node owner → ¬ In owner.node.saved op → IsStrayWith w number saved name
   awaited : (op : Op) → op.name ≡ name → op.name.node ≡ number → Union w op → ¬ In saved op
       → IsStrayWith w number saved name
-
--- the same of this node alone
-pub data StraysWith {K : Type 0} (number : ℕ) (saved : SetBy op_cmp) (e : ℕ × NodeOver K)
-    (name : Name) : Type 0 where
-  brought : IsStrayOf (In saved) (In e.1.node.saved) e.0 name → StraysWith number saved e name
-  awaited : IsStrayOf (In e.1.node.saved) (In saved) number name → StraysWith number saved e name
 
 -- with a node of this number too
 abbrev pub over_with : {K : Type 0} → WorldOver K → ℕ → NodeOver K → WorldOver K

@@ -1,5 +1,5 @@
-use Rattle.fl_nodes.proofs.Meets.{stray_finds}
-use Rattle.fl_nodes.proofs.joining.stray_between.Goals as goal
+use Rattle.fl_joining.proofs.Found.{stray_finds}
+use Rattle.fl_joining.proofs.searching.stray_between.Goals as goal
 
 pub returns : goal.returns
 returns g c =

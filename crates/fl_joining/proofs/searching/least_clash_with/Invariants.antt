@@ -1,6 +1,6 @@
-use Rattle.fl_nodes.specs.parts.Joined.{ClashesWith}
-use Rattle.fl_nodes.proofs.Meets.{LeastSoFar}
-use Rattle.fl_nodes.proofs.joining.least_clash_with.Given as goal
+use Rattle.fl_joining.specs.Against.{ClashesWith}
+use Rattle.fl_joining.proofs.Found.{LeastSoFar}
+use Rattle.fl_joining.proofs.searching.least_clash_with.Given as goal
 
 -- the least of those so far was found
 abbrev pub invariant-loop-node : goal.invariant-loop-node

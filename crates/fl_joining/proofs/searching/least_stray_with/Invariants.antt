@@ -1,6 +1,6 @@
-use Rattle.fl_nodes.specs.parts.Joined.{StraysWith}
-use Rattle.fl_nodes.proofs.Meets.{LeastSoFar}
-use Rattle.fl_nodes.proofs.joining.least_stray_with.Given as goal
+use Rattle.fl_joining.specs.Against.{StraysWith}
+use Rattle.fl_joining.proofs.Found.{LeastSoFar}
+use Rattle.fl_joining.proofs.searching.least_stray_with.Given as goal
 
 -- the least of those so far was found
 abbrev pub invariant-loop-other : goal.invariant-loop-other

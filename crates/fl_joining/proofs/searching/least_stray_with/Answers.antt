@@ -1,8 +1,8 @@
 use Rattle.std.proofs.lemmas.Map.Iter.{rest_all, rest_more}
 use Rattle.std.specs.Map.Iter.{deref_pair}
-use Rattle.fl_nodes.specs.parts.Joined.{StraysWith}
-use Rattle.fl_nodes.proofs.Meets.{least_end, least_step}
-use Rattle.fl_nodes.proofs.joining.least_stray_with.Goals as goal
+use Rattle.fl_joining.specs.Against.{StraysWith}
+use Rattle.fl_joining.proofs.Found.{least_end, least_step}
+use Rattle.fl_joining.proofs.searching.least_stray_with.Goals as goal
 
 pub loop-other-preserved : goal.loop-other-preserved
 loop-other-preserved g c =

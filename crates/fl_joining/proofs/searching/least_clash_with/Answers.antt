@@ -1,8 +1,8 @@
 use Rattle.std.proofs.lemmas.Map.Iter.{rest_all, rest_more}
 use Rattle.std.specs.Map.Iter.{deref_pair}
-use Rattle.fl_nodes.specs.parts.Joined.{ClashesWith}
-use Rattle.fl_nodes.proofs.Meets.{clash_finds, least_end, least_step}
-use Rattle.fl_nodes.proofs.joining.least_clash_with.Goals as goal
+use Rattle.fl_joining.specs.Against.{ClashesWith}
+use Rattle.fl_joining.proofs.Found.{clash_finds, least_end, least_step}
+use Rattle.fl_joining.proofs.searching.least_clash_with.Goals as goal
 
 pub loop-node-preserved : goal.loop-node-preserved
 loop-node-preserved g c =
