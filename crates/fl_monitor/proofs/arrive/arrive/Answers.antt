@@ -20,6 +20,6 @@ returns-in_default-take_in c = comes_starved c.args.process.now c.args.data _ c.
 pub returns : goal.returns
 returns c =
     let handed : c.into_letter.result ≡ record { sender = c.args.data.sender; message = c.args.data.message } =
-        λ i. record { sender = c.into_letter.ensures.sender i; message = c.into_letter.ensures.message i } in
+    λ i. record { sender = c.into_letter.ensures.sender i; message = c.into_letter.ensures.message i } in
     comes_in c.args.process.now c.args.data _ c.in-Idle.is _ (sym c.in-Some.ensures) _ _ c.end_left.ensures c.lend.ensures
     c.in_default-safe_pair.ensures _ c.is_full.ensures c.if-is_full.false _ (rw (handed) at c.in-Ok.ensures.owns) _ (rw (handed) at c.in-Ok.ensures.waits)
