@@ -1,36 +1,17 @@
-//! Orders operations at a node over a keeper in memory, one after the other, each begun, saved and published; then restarts the node so
-//! many times, and prints how many operations it has. The first word says how many orders there are, at most a million, and 20,000 where
-//! it is none; the second how many restarts, none where it is none.
-#![tactic(auto)]
-
-ghost use Rattle.std.specs.Prelude.{◌≤◌, IfOk};
-
+//! Orders operations at a node over a keeper in memory, one after the other, each begun, saved and
+//! published; then restarts the node so many times, and prints how many operations it has. The
+//! first word says how many orders there are, at most a million, and 20,000 where it is none; the
+//! second how many restarts, none where it is none.
 use fl_labels::cap::Cap;
 use fl_labels::name::Name;
 use fl_node::node::Node;
 use fl_ops::op::{Body, Policy};
 use fl_store::mem::MemKeeper;
 use std::alloc::Global;
-use std::env;
 use std::test::Fail;
-
-/// The most orders that there may be here.
-const MOST: u32 = 1_000_000;
 
 /// The group that half of the orders put into.
 const GROUP: Name = Name { node: 1, seq: 1 };
-
-// The word at this place as a number, at most the most orders.
-fn read_count(rt: &HostRuntime, place: usize, other: u32) -> Result<u32, Fail>
-    ensures { IfOk result (λ count. count ≤ 1000000) }
-{
-    let words: Vec<String> = env::args(rt)?.collect(rt.alloc())?;
-    let count = match words.get(place) {
-        Some(word) => word.parse().unwrap_or(other),
-        None => other,
-    };
-    Ok(if count < MOST { count } else { MOST })
-}
 
 // Begins, saves and publishes an operation, and gives its name.
 fn order(alloc: Global, node: &mut Node<MemKeeper>, body: Body) -> Option<Name> {
@@ -69,10 +50,9 @@ fn restart_all(alloc: Global, first: Node<MemKeeper>, count: u32) -> Node<MemKee
     node
 }
 
-fn main(rt: HostRuntime) -> Result<(), Fail> {
+/// Orders so many operations, and restarts the node so many times.
+pub fn measure(rt: &HostRuntime, orders: u32, restarts: u32) -> Result<(), Fail> {
     let alloc = rt.alloc();
-    let orders = read_count(&rt, 1, 20_000)?;
-    let restarts = read_count(&rt, 2, 0)?;
     let Ok(mut node) = Node::open(alloc, MemKeeper::new(alloc, 1), 1) else {
         println!(rt; "not opened")?;
         return Ok(());

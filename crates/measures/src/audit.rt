@@ -1,8 +1,7 @@
-//! Notes a yes of one process so many times, and prints how many entries that makes. The first word says how many, at most a million, and
-//! 20,000 where it is none; the second how many capabilities the process owns, likewise, and 8 where it is none.
-#![tactic(auto)]
-
-ghost use Rattle.std.specs.Prelude.{◌≤◌, IfOk};
+//! Notes a yes of one process so many times, and prints how many entries that makes. The first word
+//! says how many, at most a million, and 20,000 where it is none; the second how many capabilities
+//! the process owns, likewise, and 8 where it is none.
+ghost use Rattle.std.specs.Prelude.{◌≤◌};
 
 use fl_audit::draft::Draft;
 use fl_bench::owned::Owned;
@@ -16,11 +15,7 @@ use fl_labels::pid::Pid;
 use fl_system::admission::Admission;
 use fl_system::answer::Answer;
 use std::alloc::{AllocError, Global};
-use std::env;
 use std::test::Fail;
-
-/// The most entries that there may be here.
-const MOST: u32 = 1_000_000;
 
 /// The process that asks.
 const PID: Pid = Pid {
@@ -31,18 +26,6 @@ const PID: Pid = Pid {
 
 /// What it asks for.
 const CAP: Cap = Cap::Plus(Name { node: 1, seq: 1 });
-
-// The word at this place as a number, at most the most entries.
-fn read_count(rt: &HostRuntime, place: usize, other: u32) -> Result<u32, Fail>
-    ensures { IfOk result (λ count. count ≤ 1000000) }
-{
-    let words: Vec<String> = env::args(rt)?.collect(rt.alloc())?;
-    let count = match words.get(place) {
-        Some(word) => word.parse().unwrap_or(other),
-        None => other,
-    };
-    Ok(if count < MOST { count } else { MOST })
-}
 
 // So many capabilities, rising.
 fn caps(alloc: Global, count: u32) -> Result<CapSet, AllocError>
@@ -77,10 +60,11 @@ fn note_all(
     Ok(audit)
 }
 
-fn main(rt: HostRuntime) -> Result<(), Fail> {
+/// Notes so many answers of a process that owns so many capabilities.
+pub fn measure(rt: &HostRuntime, count: u32, owned: u32) -> Result<(), Fail>
+    requires { owned ≤ 1000000 }
+{
     let alloc = rt.alloc();
-    let count = read_count(&rt, 1, 20_000)?;
-    let owned = read_count(&rt, 2, 8)?;
     let mut process = Process::new(alloc);
     process.owned = Holding::Idle(Owned::new(caps(alloc, owned)?));
     let audit = note_all(alloc, &mut process, count)?;

@@ -4,7 +4,7 @@ use Rattle.fl_labels.specs.SetBy.{In}
 use Rattle.fl_ops.specs.OpOrder.{op_cmp}
 use Rattle.fl_opset.specs.Catching.{HaveNoClash}
 use Rattle.fl_opset.specs.laws.Once.{same_once, empty_once}
-use Rattle.gossip_bench.proofs.registries.registry.Goals as goal
+use Rattle.measures.proofs.gossip.registries.registry.Goals as goal
 
 pub loop-seq-init : goal.loop-seq-init
 loop-seq-init c = same_once set.empty _ c.new-ops.ensures empty_once

@@ -1,12 +1,12 @@
-//! What is measured.
-use crate::graphs::{chain_from_first, chain_from_last, dense, name, shared, wide};
+//! The steps of closure.
+use crate::closure::graphs::{chain_from_first, chain_from_last, dense, name, shared, wide};
 use fl_closure::index::Index;
 use fl_labels::cap::Cap;
 use fl_labels::cap_set::CapSet;
 use std::alloc::{AllocError, Global};
 
 /// A graph that is made, and questions about it.
-#[derive(Clone, Copy, Debug)]
+#[derive(Clone, Copy)]
 pub enum Step {
     /// Groups that use one another at random, by ten puts a group.
     Dense,
@@ -22,9 +22,11 @@ pub enum Step {
     Reaches,
     /// The chain, and a thousand times what is in effect for the owner of 50 capabilities.
     Effective,
-    /// The chain, and a hundred thousand times what is in effect for the owner of 50 tags, of which it owns nine of ten.
+    /// The chain, and a hundred thousand times what is in effect for the owner of 50 tags, of which
+    /// it owns nine of ten.
     Owned,
-    /// Groups that use one another at random, by two hundred puts a group. Last, since what it frees lies about.
+    /// Groups that use one another at random, by two hundred puts a group. Last, since what it
+    /// frees lies about.
     Puts,
 }
 
@@ -138,7 +140,8 @@ impl Step {
         }
     }
 
-    /// Makes the graph, and counts the answers that are yes. Fails only where there is not enough memory.
+    /// Makes the graph, and counts the answers that are yes. Fails only where there is not enough
+    /// memory.
     pub fn run(self, alloc: Global, size: u16) -> Result<u32, AllocError> {
         match self {
             Step::Dense => Ok(count_reached(&dense(alloc, size, 10)?, size)),

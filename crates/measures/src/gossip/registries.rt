@@ -38,7 +38,8 @@ fn operation(node: u16, seq: u32) -> Op
     Op { name, body }
 }
 
-/// So many operations of the node, in 500 spans of one length; and where it is whole, those between them too.
+/// So many operations of the node, in 500 spans of one length; and where it is whole, those between
+/// them too.
 pub fn registry(alloc: Global, node: u16, count: u32, whole: bool) -> Result<OpSet, AllocError>
     requires node { 0 < node }
     requires few { count ≤ 1000000 }

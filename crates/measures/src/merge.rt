@@ -1,30 +1,13 @@
-//! Merges two sets of operations whose names alternate, both ways, and prints how many operations come of it. Its first word says how
-//! many operations each set has, at most a million; where it is none there are 100,000.
-#![tactic(auto)]
-
-ghost use Rattle.std.specs.Prelude.{◌<◌, ◌≤◌, IfOk};
+//! Merges two sets of operations whose names alternate, both ways, and prints how many operations
+//! come of it. The first word says how many operations each set has, at most a million; where it is
+//! none there are 100,000.
+ghost use Rattle.std.specs.Prelude.{◌<◌, ◌≤◌};
 
 use fl_labels::name::Name;
 use fl_ops::op::{Body, Op};
 use fl_opset::set::OpSet;
 use std::alloc::Global;
-use std::env;
 use std::test::Fail;
-
-/// The most operations that a set may have here.
-const MOST: u32 = 1_000_000;
-
-// How many operations each of the two sets is to have.
-fn read_count(rt: &HostRuntime) -> Result<u32, Fail>
-    ensures { IfOk result (λ count. count ≤ 1000000) }
-{
-    let words: Vec<String> = env::args(rt)?.collect(rt.alloc())?;
-    let count = match words.get(1) {
-        Some(word) => word.parse().unwrap_or(100_000),
-        None => 100_000,
-    };
-    Ok(if count < MOST { count } else { MOST })
-}
 
 // So many of every second name of node 1, from this one on.
 fn every_second(alloc: Global, first: u32, count: u32) -> Result<OpSet, Fail>
@@ -46,9 +29,11 @@ fn every_second(alloc: Global, first: u32, count: u32) -> Result<OpSet, Fail>
     Ok(ops)
 }
 
-fn main(rt: HostRuntime) -> Result<(), Fail> {
+/// Merges sets of so many operations each.
+pub fn measure(rt: &HostRuntime, count: u32) -> Result<(), Fail>
+    requires { count ≤ 1000000 }
+{
     let alloc = rt.alloc();
-    let count = read_count(&rt)?;
     let odd = every_second(alloc, 1, count)?;
     let even = every_second(alloc, 2, count)?;
     let mut all = OpSet::new(alloc);

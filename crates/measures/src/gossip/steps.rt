@@ -1,4 +1,4 @@
-//! The steps that are measured.
+//! The steps of gossip.
 
 /// What is measured.
 #[derive(Clone, Copy)]

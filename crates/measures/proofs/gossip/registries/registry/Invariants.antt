@@ -1,6 +1,6 @@
 use Rattle.fl_labels.specs.SetBy.{In}
 use Rattle.fl_opset.specs.Catching.{HaveNoClash}
-use Rattle.gossip_bench.proofs.registries.registry.Given as goal
+use Rattle.measures.proofs.gossip.registries.registry.Given as goal
 
 -- each name so far stands once
 abbrev pub invariant-loop-seq : goal.invariant-loop-seq

@@ -3,8 +3,8 @@ ghost use Rattle.std.specs.Prelude.{◌≤◌};
 ghost use Rattle.fl_labels.specs.SetBy.{In};
 ghost use Rattle.fl_opset.specs.Catching.{HaveNoClash};
 
-use crate::registries::registry;
-use crate::steps::Step;
+use crate::gossip::registries::registry;
+use crate::gossip::steps::Step;
 use fl_gossip::replying::reply;
 use fl_gossip::taking::take;
 use fl_opset::intervals::Intervals;
@@ -17,7 +17,7 @@ use std::test::Fail;
 
 /// Sets of the size that was asked for, and packets of their operations.
 #[derive(Drop)]
-pub struct Bench {
+pub struct Sets {
     alloc: Global,
     // Of node 1, in 500 spans.
     saved: OpSet,
@@ -58,9 +58,9 @@ fn written(alloc: Global, packets: &[Packet]) -> Result<Vec<Vec<u8>>, Fail> {
     Ok(all)
 }
 
-impl Bench {
+impl Sets {
     /// Sets of so many operations.
-    pub fn new(alloc: Global, count: u32) -> Result<Bench, Fail>
+    pub fn new(alloc: Global, count: u32) -> Result<Sets, Fail>
         requires { count ≤ 1000000 }
     {
         let saved = registry(alloc, 1, count, false)?;
@@ -70,7 +70,7 @@ impl Bench {
         let bytes = written(alloc, &deltas)?;
         let whole = registry(alloc, 1, count, true)?;
         let others = registry(alloc, 2, count, false)?;
-        Ok(Bench {
+        Ok(Sets {
             alloc,
             saved,
             whole,
