@@ -1,8 +1,0 @@
-use Rattle.fl_process_laws.specs.laws.Pids.{reached_tidy}
-use Rattle.fl_deed_laws.specs.laws.Changing.{relabelled}
-use Rattle.fl_life_laws.specs.laws.Living.{altered}
-use Rattle.fl_deed_laws.proofs.laws.law_labels.Goals as goal
-
-pub returns : goal.returns
-returns c = λ w after move reply pid old new reached moves lives still.
-    relabelled (altered (reached_tidy w reached) moves pid old new lives still)

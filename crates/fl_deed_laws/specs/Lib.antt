@@ -1,5 +1,0 @@
-pub mod Owned
-pub mod Endpoints
-pub mod Labels
-pub mod Sent
-pub mod laws

@@ -1,4 +1,0 @@
-//! Laws of what the processes of a world do: what they own, open, set and send.
-#![tactic(auto)]
-
-pub mod laws;

@@ -1,4 +1,0 @@
-//! Laws of the processes of a world.
-#![tactic(auto)]
-
-pub mod laws;
