@@ -1,0 +1,4 @@
+//! The words of the program `flume-tags`.
+#![tactic(auto)]
+
+pub mod words;
