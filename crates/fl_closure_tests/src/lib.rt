@@ -1,6 +1,8 @@
-//! Tests of the index of who reaches what.
+//! Tests of the index of who reaches what, and of the cache of its answers.
 #![tactic(auto)]
 
+#[cfg(test)]
+mod cache;
 #[cfg(test)]
 mod graphs;
 #[cfg(test)]

@@ -1,17 +1,38 @@
-//! Tests of names and sets, operations and their bytes, sets of operations, and packets: rows of a question and its answer.
+//! Tests of names and sets, operations and their bytes, sets of operations and their windows, packets, rules, mailboxes, aliases, the
+//! text of answers, and the bytes that wait to be written.
 #![tactic(auto)]
 
 #[cfg(test)]
+mod aliases;
+#[cfg(test)]
+mod answers;
+#[cfg(test)]
 mod caps;
 #[cfg(test)]
+mod exchanges;
+#[cfg(test)]
+mod gossip;
+#[cfg(test)]
 mod labels;
+#[cfg(test)]
+mod mailbox;
 #[cfg(test)]
 mod operations;
 #[cfg(test)]
 mod packets;
 #[cfg(test)]
+mod read_packets;
+#[cfg(test)]
 mod registries;
 #[cfg(test)]
 mod rows;
+#[cfg(test)]
+mod rules;
+#[cfg(test)]
+mod secrets;
+#[cfg(test)]
+mod sink;
+#[cfg(test)]
+mod windows;
 #[cfg(test)]
 mod words;

@@ -1,6 +1,6 @@
 //! Operations, their order, and their bytes both ways.
 use crate::packets::{self, VECTOR};
-use crate::rows::{check, compare, hex, parts};
+use crate::rows::{check, compare, parts, push_hex};
 use fl_labels::name::Name;
 use fl_labels::text::{read_cap, read_name};
 use fl_ops::digest::Digest;
@@ -90,7 +90,7 @@ fn spell(alloc: Global, out: &mut String, op: &Op) -> Result<(), AllocError> {
 
 fn spell_as(out: &mut String, op: &Op, bytes: &mut Vec<u8>) -> Result<(), AllocError> {
     write!(out, "{} {} ", op.body.kind(), op.length())?;
-    hex(out, bytes)?;
+    push_hex(out, bytes)?;
     push_op(bytes, op)?;
     let is_read = decode(bytes) == Ok((*op, op.length()));
     out.push_str(if is_read { " again" } else { " no more" })

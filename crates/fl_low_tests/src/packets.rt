@@ -1,5 +1,5 @@
 //! Packets and their bytes, both ways, with the place of each fault.
-use crate::rows::{check, hex, parts};
+use crate::rows::{check, parts, push_hex};
 use fl_labels::cap_set::CapSet;
 use fl_labels::endpoint::Endpoint;
 use fl_labels::error::SetError;
@@ -77,7 +77,7 @@ fn show(out: &mut String, sent: &Data) -> Result<(), AllocError> {
     write!(out, "{} {} ", sent.receiver, sent.to)?;
     write!(out, "{} {} ", sent.secrecy, sent.integrity)?;
     write!(out, "{} ", sent.message.caps)?;
-    hex(out, sent.message.payload.as_slice())
+    push_hex(out, sent.message.payload.as_slice())
 }
 
 // Whether it is written as the same bytes.

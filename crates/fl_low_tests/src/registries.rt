@@ -1,6 +1,6 @@
 //! Sets of operations: changes, unions, first logins, and texts.
 use crate::operations::read_op;
-use crate::rows::{check, hex, parts};
+use crate::rows::{check, parts, push_hex};
 use fl_labels::text::{read_name, read_node};
 use fl_ops::op::Op;
 use fl_opset::laws::{law_equal_text, law_join};
@@ -89,7 +89,7 @@ fn login(out: &mut String, set: &OpSet, with: &str) -> Result<(), AllocError> {
     match read_name(with).and_then(|name| set.first_login(name)) {
         Some((cap, digest)) => {
             write!(out, "{cap} ")?;
-            hex(out, &digest.bytes)
+            push_hex(out, &digest.bytes)
         }
         None => out.push_str("none"),
     }

@@ -1,5 +1,5 @@
 //! Rows of a question, ` => ` and its answer.
-use crate::{caps, labels, operations, packets, registries, words};
+use crate::{caps, gossip, labels, operations, packets, read_packets, registries, windows, words};
 use std::alloc::{AllocError, AllocGlobal, Global};
 use std::process::Abort;
 
@@ -38,6 +38,15 @@ fn say(alloc: Global, out: &mut String, what: &str, rest: &str) -> Result<(), Al
         "packet" => packets::say(alloc, out, rest),
         "sized" => packets::sized(alloc, out, rest),
         "message" => packets::message(alloc, out, rest),
+        "read" => read_packets::read(alloc, out, rest),
+        "cut" => read_packets::cut(alloc, out, rest),
+        "windows" => windows::windows(alloc, out, rest),
+        "have" => windows::have(alloc, out, rest),
+        "copy" => windows::copy(alloc, out, rest),
+        "take" => gossip::taken(alloc, out, rest),
+        "reply" => gossip::counts(alloc, out, rest),
+        "answer" => gossip::answers(alloc, out, rest),
+        "catch" => gossip::caught_up(alloc, out, rest),
         _ => out.push_str("no question"),
     }
 }
@@ -66,7 +75,7 @@ pub fn compare<T: Ord + Copy + Drop>(
 }
 
 /// The bytes as hexadecimal digits.
-pub fn hex(out: &mut String, bytes: &[u8]) -> Result<(), AllocError> {
+pub fn push_hex(out: &mut String, bytes: &[u8]) -> Result<(), AllocError> {
     for byte in bytes {
         write!(out, "{byte:02x}")?;
     }

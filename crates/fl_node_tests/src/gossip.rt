@@ -1,31 +1,12 @@
 //! Tests of nodes that tell each other.
-ghost use Rattle.std.specs.Prelude.{◌<◌};
-
+use crate::opened::{given, opened};
 use fl_labels::name::Name;
 use fl_node::node::Node;
 use fl_ops::op::Body;
 use fl_store::mem::MemKeeper;
-use fl_system::answer::Fault;
 use fl_wire::packet::Packet;
 use std::alloc::Global;
 use std::test::Fail;
-
-// What a call of a node gives that is not refused.
-fn given<T: Drop>(said: Result<T, Fault>) -> Result<T, Fail> {
-    match said {
-        Ok(value) => Ok(value),
-        Err(_) => Err(Fail::from("refused")),
-    }
-}
-
-fn opened(alloc: Global, number: u16) -> Result<Node<MemKeeper>, Fail>
-    requires { 0 < number }
-{
-    match Node::open(alloc, MemKeeper::new(alloc, number), number) {
-        Ok(node) => Ok(node),
-        Err(_) => Err(Fail::from("not opened")),
-    }
-}
 
 // The first packet of these.
 fn first_of(packets: Vec<Packet>) -> Result<Packet, Fail> {
@@ -50,8 +31,8 @@ fn told(
 #[test]
 fn gossip_teaches_a_group(rt: HostRuntime) -> Result<(), Fail> {
     let alloc = rt.alloc();
-    let mut teller = opened(alloc, 1)?;
-    let mut listener = opened(alloc, 2)?;
+    let mut teller = opened(alloc, MemKeeper::new(alloc, 1), 1)?;
+    let mut listener = opened(alloc, MemKeeper::new(alloc, 2), 2)?;
     let name = given(teller.begin(Body::MakeGroup, None))?;
     assert!(rt; name == Name { node: 1, seq: 1 });
     given(teller.save())?;

@@ -1,15 +1,17 @@
-//! Tests of a node over a keeper in memory.
+//! Tests of a node over a keeper in memory, of its bench, and of what its index tells.
 #![tactic(auto)]
 
 #[cfg(test)]
-mod answers;
-#[cfg(test)]
 mod batches;
 #[cfg(test)]
-mod desk;
+mod benches;
 #[cfg(test)]
 mod gossip;
+#[cfg(test)]
+mod opened;
 #[cfg(test)]
 mod restarts;
 #[cfg(test)]
 mod steps;
+#[cfg(test)]
+mod views;

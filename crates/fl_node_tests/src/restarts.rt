@@ -1,97 +1,72 @@
-//! Tests of restarts, and of keepers that break.
+//! Tests of keepers that break, and of nodes that are opened again.
 ghost use Rattle.std.specs.Prelude.{◌<◌};
 
-use crate::desk::check;
+use crate::opened::{first, given, makes, opened};
+use fl_jobs::answer::Refusal;
+use fl_labels::name::Name;
+use fl_node::node::Node;
+use fl_ops::op::Body;
 use fl_store::mem::MemKeeper;
+use fl_system::answer::Fault;
 use std::alloc::Global;
 use std::test::Fail;
 
-#[test]
-fn restart_with_a_pending_order(rt: HostRuntime) -> Result<(), Fail> {
-    check(
-        &rt,
-        MemKeeper::new(rt.alloc(), 1),
-        &[
-            ("1 proc", "p1.1.1"),
-            ("1 tag p1.1.1 export", "begun 1.1"),
-            ("restart", "boot 2"),
-            ("1 ask p1.1.1 +1.1", "refused F1 p1.1.1"),
-            ("1 proc", "p1.2.1"),
-            ("1 tag p1.2.1 export", "begun 1.1"),
-            ("restart kept", "boot 3"),
-            ("text", "1.1 tag export\n"),
-            ("1 proc", "p1.3.1"),
-            ("1 ask p1.3.1 +1.1", "yes"),
-            ("1 ask p1.3.1 -1.1", "not-yet"),
-            ("1 group p1.3.1", "begun 1.2"),
-        ],
-    )
-}
+const FIRST: Name = Name { node: 1, seq: 1 };
 
-// A keeper of node 1 that breaks at its save of this number.
-fn breaking(alloc: Global, save: u64, keeps: bool) -> MemKeeper
-    requires { 0 < save }
-{
+const SECOND: Name = Name { node: 1, seq: 2 };
+
+// A node with a process that begins a group. Its keeper breaks at its second save.
+fn begun(alloc: Global, keeps: bool) -> Result<Node<MemKeeper>, Fail> {
     let mut keeper = MemKeeper::new(alloc, 1);
-    keeper.break_at(save, keeps);
-    keeper
+    keeper.break_at(2, keeps);
+    let mut node = opened(alloc, keeper, 1)?;
+    if !makes(alloc, &mut node, first(1)) {
+        return Err(Fail::from("no process"));
+    }
+    if given(node.begin(Body::MakeGroup, Some(first(1))))? == FIRST {
+        Ok(node)
+    } else {
+        Err(Fail::from("another name"))
+    }
 }
 
-#[test]
-fn keeper_breaks_at_first_save(rt: HostRuntime) -> Result<(), Fail> {
-    check(
-        &rt,
-        breaking(rt.alloc(), 1, false),
-        &[
-            ("1 proc", "p1.1.1"),
-            ("1 tag p1.1.1 export", "begun 1.1"),
-            ("save", "refused F15"),
-            ("1 proc", "refused F21"),
-            ("text", "refused F21"),
-            ("save", "refused F21"),
-            ("publish", "refused F21"),
-            ("cancel", "refused F21"),
-            ("restart", "refused F15"),
-        ],
-    )
+// Of the node above: its group is published, and its keeper breaks as it saves another.
+fn breaks(alloc: Global, node: &mut Node<MemKeeper>) -> Result<bool, Fail> {
+    given(node.save())?;
+    let count = given(node.publish(alloc))?;
+    let name = given(node.begin(Body::MakeGroup, Some(first(1))))?;
+    Ok(count == 1 && name == SECOND && node.save() == Err(Fault::KeeperFailed))
 }
 
 #[test]
 fn reopened_after_a_break(rt: HostRuntime) -> Result<(), Fail> {
-    check(
-        &rt,
-        breaking(rt.alloc(), 2, false),
-        &[
-            ("1 proc", "p1.1.1"),
-            ("1 group p1.1.1", "begun 1.1"),
-            ("mend", "refused F24"),
-            ("save", "ok"),
-            ("publish", "published 1"),
-            ("1 group p1.1.1", "begun 1.2"),
-            ("save", "refused F15"),
-            ("mend", "boot 2"),
-            ("text", "1.1 group\n"),
-            ("1 proc", "p1.2.1"),
-            ("1 group p1.2.1", "begun 1.2"),
-        ],
-    )
+    let alloc = rt.alloc();
+    let node = begun(alloc, false)?;
+    let (mut node, boot) = node.reopen(alloc, |keeper: MemKeeper| keeper.mend());
+    assert!(rt; boot == Err(Fault::Refused(Refusal::Busy)));
+    assert!(rt; breaks(alloc, &mut node)?);
+    let (mut node, boot) = node.reopen(alloc, |keeper: MemKeeper| keeper.mend());
+    assert!(rt; boot == Ok(2));
+    let mut text = Vec::new(alloc);
+    given(node.text(&mut text))??;
+    assert_eq!(rt; text.as_slice(), b"1.1 group\n".as_slice());
+    assert!(rt; makes(alloc, &mut node, first(2)));
+    assert!(rt; node.begin(Body::MakeGroup, Some(first(2))) == Ok(SECOND));
+    Ok(())
 }
 
 #[test]
 fn reopened_with_what_was_in_doubt(rt: HostRuntime) -> Result<(), Fail> {
-    check(
-        &rt,
-        breaking(rt.alloc(), 2, true),
-        &[
-            ("1 proc", "p1.1.1"),
-            ("1 group p1.1.1", "begun 1.1"),
-            ("save", "ok"),
-            ("publish", "published 1"),
-            ("1 group p1.1.1", "begun 1.2"),
-            ("save", "refused F15"),
-            ("swap", "refused F20"),
-            ("restart", "refused F20"),
-            ("text", "refused F21"),
-        ],
-    )
+    let alloc = rt.alloc();
+    let mut node = begun(alloc, true)?;
+    assert!(rt; breaks(alloc, &mut node)?);
+    let empty = MemKeeper::new(alloc, 1);
+    let (node, boot) = node.reopen(alloc, |_| empty);
+    assert!(rt; boot == Err(Fault::WrongNode));
+    let (node, boot) = node.restart(alloc, false);
+    assert!(rt; boot == Err(Fault::WrongNode));
+    let mut text = Vec::new(alloc);
+    assert!(rt; node.text(&mut text) == Err(Fault::Stopped));
+    assert!(rt; text.is_empty());
+    Ok(())
 }

@@ -1,9 +1,7 @@
 //! Tests of whole runs.
 use crate::rows::{
-    ALIASES_AND_BIRTHS, ALIASES_IN_WORDS, BIRTHS_AND_EXITS, CYCLE_OF_GROUPS, EMPTY_SCRIPT,
-    EXPORT_TAG_TAINTS, FIRST_TAG, FORMS_OF_LINES, GROUP_LENDS, GROUP_LETS_OUT, LABEL_RANGES,
-    LAST_RETURN_STAYS, LOGIN_DIGESTS, LOGIN_GIVES_BACK_A_DROP, NODES_APART,
-    READ_AND_INTEGRITY_TAGS, READ_TAG_ALONE, Row, UNION_OF_REGISTRIES,
+    ALIASES_AND_BIRTHS, FORMS_OF_LINES, LAST_RETURN_STAYS, READ_AND_INTEGRITY_TAGS,
+    RECEIVED_BATCH_IN_STEPS, Row, TUNED_ENDPOINT_SENDS,
 };
 use crate::streams::{AskingReader, FailingReader, FailingWriter, FlushedWriter};
 use fl_cluster::fault::RunFault;
@@ -17,8 +15,8 @@ use std::process::Abort;
 use std::test::Fail;
 
 /// The row as it stands, in pieces of all sizes, with each read and with each byte of writing failing once.
-pub(crate) fn check_row(rt: &(impl Abort + AllocGlobal), row: &Row) -> Result<(), Fail> {
-    check_once(rt, row)?;
+fn check_row(rt: &(impl Abort + AllocGlobal), row: &Row) -> Result<(), Fail> {
+    check_over(rt, row, MemMaker)?;
     for piece in 1..=row.script.len() {
         check_pieces(rt, row, piece)?;
     }
@@ -27,11 +25,6 @@ pub(crate) fn check_row(rt: &(impl Abort + AllocGlobal), row: &Row) -> Result<()
         check_writes(rt, row, room, true)?;
     }
     Ok(())
-}
-
-/// The row as it stands.
-pub(crate) fn check_once(rt: &(impl Abort + AllocGlobal), row: &Row) -> Result<(), Fail> {
-    check_over(rt, row, MemMaker)
 }
 
 /// The row as it stands, over these keepers.
@@ -104,48 +97,8 @@ fn check_writes(
 }
 
 #[test]
-fn empty_script(rt: HostRuntime) -> Result<(), Fail> {
-    check_row(&rt, &EMPTY_SCRIPT)
-}
-
-#[test]
-fn first_tag(rt: HostRuntime) -> Result<(), Fail> {
-    check_row(&rt, &FIRST_TAG)
-}
-
-#[test]
 fn read_and_integrity_tags(rt: HostRuntime) -> Result<(), Fail> {
     check_row(&rt, &READ_AND_INTEGRITY_TAGS)
-}
-
-#[test]
-fn label_ranges(rt: HostRuntime) -> Result<(), Fail> {
-    check_row(&rt, &LABEL_RANGES)
-}
-
-#[test]
-fn read_tag_alone(rt: HostRuntime) -> Result<(), Fail> {
-    check_row(&rt, &READ_TAG_ALONE)
-}
-
-#[test]
-fn cycle_of_groups(rt: HostRuntime) -> Result<(), Fail> {
-    check_row(&rt, &CYCLE_OF_GROUPS)
-}
-
-#[test]
-fn group_lends(rt: HostRuntime) -> Result<(), Fail> {
-    check_row(&rt, &GROUP_LENDS)
-}
-
-#[test]
-fn union_of_registries(rt: HostRuntime) -> Result<(), Fail> {
-    check_row(&rt, &UNION_OF_REGISTRIES)
-}
-
-#[test]
-fn nodes_apart(rt: HostRuntime) -> Result<(), Fail> {
-    check_row(&rt, &NODES_APART)
 }
 
 #[test]
@@ -159,38 +112,18 @@ fn last_return_stays(rt: HostRuntime) -> Result<(), Fail> {
 }
 
 #[test]
-fn export_tag_taints(rt: HostRuntime) -> Result<(), Fail> {
-    check_row(&rt, &EXPORT_TAG_TAINTS)
-}
-
-#[test]
 fn aliases_and_births(rt: HostRuntime) -> Result<(), Fail> {
     check_row(&rt, &ALIASES_AND_BIRTHS)
 }
 
 #[test]
-fn login_gives_back_a_drop(rt: HostRuntime) -> Result<(), Fail> {
-    check_row(&rt, &LOGIN_GIVES_BACK_A_DROP)
+fn tuned_endpoint_sends(rt: HostRuntime) -> Result<(), Fail> {
+    check_row(&rt, &TUNED_ENDPOINT_SENDS)
 }
 
 #[test]
-fn login_digests(rt: HostRuntime) -> Result<(), Fail> {
-    check_once(&rt, &LOGIN_DIGESTS)
-}
-
-#[test]
-fn births_and_exits(rt: HostRuntime) -> Result<(), Fail> {
-    check_once(&rt, &BIRTHS_AND_EXITS)
-}
-
-#[test]
-fn group_lets_out(rt: HostRuntime) -> Result<(), Fail> {
-    check_once(&rt, &GROUP_LETS_OUT)
-}
-
-#[test]
-fn aliases_in_words(rt: HostRuntime) -> Result<(), Fail> {
-    check_once(&rt, &ALIASES_IN_WORDS)
+fn received_batch_in_steps(rt: HostRuntime) -> Result<(), Fail> {
+    check_row(&rt, &RECEIVED_BATCH_IN_STEPS)
 }
 
 /// Who asks line by line sees each answer before it is asked for the next line.

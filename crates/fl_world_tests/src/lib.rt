@@ -4,6 +4,8 @@
 #[cfg(test)]
 mod gossip;
 #[cfg(test)]
+mod keepers;
+#[cfg(test)]
 mod reopening;
 #[cfg(test)]
 mod scene;

@@ -45,8 +45,8 @@ pub fn happens(
     }
 }
 
-// A job at node 1.
-fn job(job: Job) -> Event
+/// A job at node 1.
+pub fn job(job: Job) -> Event
     ensures { LooksFar result }
 {
     Event::Job {
@@ -74,7 +74,22 @@ pub fn tag_is_begun(world: &mut World<MemKeeper>, alloc: Global, boot: u32) -> R
 
 /// What is begun there is saved and published.
 pub fn tag_is_made(world: &mut World<MemKeeper>, alloc: Global) -> Result<(), Fail> {
-    let name = Name { node: 1, seq: 1 };
+    is_made(world, alloc, Name { node: 1, seq: 1 })
+}
+
+fn is_made(world: &mut World<MemKeeper>, alloc: Global, name: Name) -> Result<(), Fail> {
     happens(world, alloc, Event::Save(1), &Reply::Done)?;
     happens(world, alloc, Event::Publish(1), &Reply::Published(name))
+}
+
+/// The first process of node 1 makes a group of this name.
+pub fn group_is_made(world: &mut World<MemKeeper>, alloc: Global, name: Name) -> Result<(), Fail> {
+    let pid = Pid {
+        node: 1,
+        boot: 1,
+        serial: 1,
+    };
+    let order = Job::By(pid, Act::Order(Order::Group));
+    happens(world, alloc, job(order), &Reply::Begun(name))?;
+    is_made(world, alloc, name)
 }
