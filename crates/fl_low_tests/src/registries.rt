@@ -160,10 +160,13 @@ set text 1.7 login *1.5 mixed => 1.7 login *1.5 000102030405060708090a0b0c0d0e0f
 set text 1.7 login *1.5 160 => 1.7 login *1.5 a0a0a0a0a0a0a0a0a0a0a0a0a0a0a0a0a0a0a0a0a0a0a0a0a0a0a0a0a0a0a0a0; 
 set text 1.7 login *1.5 159 => 1.7 login *1.5 9f9f9f9f9f9f9f9f9f9f9f9f9f9f9f9f9f9f9f9f9f9f9f9f9f9f9f9f9f9f9f9f; ";
 
+// Two operations of one name.
+const CLASHING: &str = "\
+set merge 1.1 tag export | 1.1 group => 1.1 tag export; 1.1 group; 
+set merge 1.1 group | 1.1 tag export => 1.1 tag export; 1.1 group; ";
+
 // Two sets whose operations alternate in many ways come to all six.
 const MERGED: &str = "\
-set merge 1.1 tag export | 1.1 group => 1.1 tag export; 1.1 group; 
-set merge 1.1 group | 1.1 tag export => 1.1 tag export; 1.1 group; 
 set merge 1.1 tag export; 1.10 tag read; 3.1 tag integrity | 1.2 group; 2.1 group; 3.2 group => \
 1.1 tag export; 1.2 group; 1.10 tag read; 2.1 group; 3.1 tag integrity; 3.2 group; 
 set merge 1.2 group; 2.1 group; 3.2 group | 1.1 tag export; 1.10 tag read; 3.1 tag integrity => \
@@ -202,4 +205,9 @@ fn registries(rt: HostRuntime) -> Result<(), AllocError> {
     law_join();
     law_equal_text();
     Ok(())
+}
+
+#[test]
+fn clashing_sets_merge(rt: HostRuntime) -> Result<(), AllocError> {
+    check(&rt, CLASHING)
 }
