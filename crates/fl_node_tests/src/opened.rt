@@ -39,8 +39,8 @@ pub fn opened(alloc: Global, keeper: MemKeeper, number: u16) -> Result<Node<MemK
 
 /// Whether the node is asked for a process, and makes this one.
 pub fn makes(alloc: Global, node: &mut Node<MemKeeper>, pid: Pid) -> bool {
-    match node.job(alloc, Job::Proc) {
-        Ok(Answer::Reply(Reply::Made(made))) => made == pid,
+    match &node.job(alloc, Job::Proc) {
+        Ok(Answer::Reply(Reply::Made(made))) => *made == pid,
         _ => false,
     }
 }

@@ -29,10 +29,7 @@ fn ordered(alloc: Global, node: &mut Node<MemKeeper>) -> Result<Answer, Fault> {
 // Whether that process may use the group of the last name.
 fn owns_last(alloc: Global, node: &mut Node<MemKeeper>) -> bool {
     let job = Job::By(first(1), Act::Ask(Cap::Use(LAST)));
-    match node.job(alloc, job) {
-        Ok(Answer::Reply(reply)) => reply == Reply::Yes,
-        _ => false,
-    }
+    matches!(&node.job(alloc, job), Ok(Answer::Reply(Reply::Yes)))
 }
 
 #[test]
@@ -48,11 +45,11 @@ fn last_name_is_spent(rt: HostRuntime) -> Result<(), Fail> {
     let mut node = opened(alloc, keeper_with(alloc, last_but_one)?, 1)?;
     assert!(rt; makes(alloc, &mut node, first(1)));
     let begun = ordered(alloc, &mut node);
-    assert!(rt; matches!(begun, Ok(Answer::Begun(LAST))));
+    assert!(rt; matches!(&begun, Ok(Answer::Begun(LAST))));
     given(node.save())?;
     assert!(rt; node.publish(alloc) == Ok(2));
     let spent = ordered(alloc, &mut node);
-    assert!(rt; matches!(spent, Err(Fault::Refused(Refusal::NamesSpent))));
+    assert!(rt; matches!(&spent, Err(Fault::Refused(Refusal::NamesSpent))));
     assert!(rt; owns_last(alloc, &mut node));
     Ok(())
 }
