@@ -1,4 +1,4 @@
-//! A cache asked again: after another question took its place, after a no, and after it was renewed.
+//! A cache asked again: after another question took its place, after a no, and once it is renewed.
 ghost use Rattle.std.specs.Prelude.{◌<◌};
 
 use fl_cache::cached::CachedIndex;

@@ -1,5 +1,5 @@
-//! Tests of names and sets, operations and their bytes, sets of operations and their windows, packets, rules, mailboxes, aliases, the
-//! text of answers, and the bytes that wait to be written.
+//! Tests of names and sets, operations and their bytes, sets of operations and their windows,
+//! packets, rules, mailboxes, aliases, the text of answers, and the bytes that wait to be written.
 #![tactic(auto)]
 
 #[cfg(test)]

@@ -1,4 +1,5 @@
-//! Tests of whole runs in pieces, and over streams and keepers that fail. Scripts that are only answered are rows of examples/rows.
+//! Tests of whole runs in pieces, and over streams and keepers that fail. Scripts that are only
+//! answered are rows of examples/rows.
 #![tactic(auto)]
 
 #[cfg(test)]

@@ -55,7 +55,7 @@ fn gossip_teaches_a_tag(rt: HostRuntime) -> Result<(), Fail> {
     Ok(())
 }
 
-// The window of a node comes to another, as the packet of this number, and is answered by the next packet.
+// The window of a node comes to another, as the packet of this number. The next packet answers it.
 fn asks(
     world: &mut World<MemKeeper>,
     alloc: Global,
