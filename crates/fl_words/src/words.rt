@@ -1,4 +1,8 @@
 //! What the words of the program say.
+ghost use Rattle.std.specs.Prelude.{◌≡◌, IfOk, IfSome, codes, map, string_bytes};
+ghost use Rattle.clap.specs.Words.{app_of, first_value, found_of};
+ghost use Rattle.fl_words.specs.Words.{AreRight, named_path, path_of, program};
+
 use clap::builder::ValueParser;
 use clap::{ArgMatches, Command, Error, arg};
 use std::alloc::{AllocError, AllocGlobal, Global};
@@ -30,7 +34,9 @@ pub enum Place<'a> {
 }
 
 /// The program, with its option `--dir`.
-fn command<'a>(alloc: Global) -> Result<Command<'a>, AllocError> {
+fn command<'a>(alloc: Global) -> Result<Command<'a>, AllocError>
+    ensures { IfOk result (λ command. app_of command ≡ program) }
+{
     let dir =
         arg!(in alloc; --dir <PATH> "Keep node n in the file node-n.db of this directory, which has to be there");
     Command::new(alloc, "flume-tags")
@@ -42,7 +48,12 @@ fn command<'a>(alloc: Global) -> Result<Command<'a>, AllocError> {
         .arg(dir.value_parser(ValueParser::NonEmptyString))
 }
 
-fn parsed<'a>(alloc: Global, words: &'a [String]) -> Result<ArgMatches<'a>, Error> {
+/// What the parser finds in the words.
+fn parsed<'a>(alloc: Global, words: &'a [String]) -> Result<ArgMatches<'a>, Error>
+    ensures dir { IfOk result (λ matches. first_value (found_of matches) (codes "dir")
+        ≡ named_path (map string_bytes words.entry.now)) }
+    ensures right { IfOk result (λ _. AreRight (map string_bytes words.entry.now)) }
+{
     command(alloc)?.try_get_matches_from(words)
 }
 
@@ -52,7 +63,11 @@ fn parsed<'a>(alloc: Global, words: &'a [String]) -> Result<ArgMatches<'a>, Erro
 pub fn read_words<'a, RT: AllocGlobal + Print + Eprint>(
     rt: &RT,
     words: &'a [String],
-) -> Option<Place<'a>> {
+) -> Option<Place<'a>>
+    ensures place { IfSome result (λ place.
+        path_of place ≡ named_path (map string_bytes words.entry.now)) }
+    ensures right { IfSome result (λ _. AreRight (map string_bytes words.entry.now)) }
+{
     match parsed(rt.alloc(), words) {
         Ok(matches) => Some(match matches.get_str("dir") {
             Some(dir) => Place::Directory(dir),
