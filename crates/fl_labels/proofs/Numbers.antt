@@ -9,7 +9,7 @@ use Rattle.std.proofs.lemmas.Fmt.{decimal-digits_value, decimal_digit, parse-dec
 use Rattle.std.proofs.lemmas.Bool.{cases_eq}
 use Rattle.std.proofs.lemmas.Option.{same_Some, none-some}
 use Rattle.fl_labels.specs.Found.{Finds}
-use Rattle.fl_labels.specs.Words.{IsNumber, IsNode}
+use Rattle.fl_labels.specs.Words.{IsNumber}
 use Rattle.fl_labels.specs.ItemText.{own}
 use Rattle.fl_labels.specs.Text.{pid_text}
 use Rattle.fl_labels.specs.declared.name.Name.{Name}
@@ -41,15 +41,6 @@ reads_number bs (Some n) (Err x) e h first = absurd (cc)
 pub first_digit : (bs : List ℕ) (n : ℕ) → IsNumber n bs → 48 < get_or bs 0 0
 first_digit bs n is = omega (arith, first_decimal n is.above (omega (arith, is.in_range)), ap (λ l. get_or l 0 0) is.written)
 
--- a cast to a node's number
-pub reads_node : {E : Type 0} (bs : List ℕ) (k : ℕ) (r : Result ℕ E) (o : Option ℕ) → IsNumber k bs → OkIff r (k < 2 ^ 16) k → o ≡ result_ok r → Finds o (λ n. IsNode n bs)
-reads_node bs k (Ok x) None is h e = absurd (cc)
-reads_node bs k (Err f) None is h e = λ n node. h (subst (λ m. m < 2 ^ 16) (decimal_injective n k (omega (arith, node.in_range)) (omega (arith, is.in_range)) (sym node.written ∙ is.written)) node.in_range)
-reads_node bs k (Ok x) (Some n) is h e =
-    let same : k ≡ n = cc in
-    record { above = omega (arith, is.above); in_range = omega (arith, h.0); written = is.written ∙ ap decimal same }
-reads_node bs k (Err f) (Some n) is h e = absurd (cc)
-
 -- a number is cut from what stands behind the dot after it
 pub cut_number : (bs : List ℕ) (r : Option (Bor (List ℕ) × Bor (List ℕ))) (n : ℕ) (rest : List ℕ) → IsSplitOnceResult 46 bs r → n < 2 ^ 32 → bs ≡ decimal n ++ 46 ∷ rest → MatchOption r ⊥ (λ x. (x.0.now ≡ decimal n) × (x.1.now ≡ rest))
 cut_number bs r n rest h high e =
@@ -69,7 +60,7 @@ cut_pid bs rest r p front h e = cut_number rest r p.node _ h (omega (arith, p.no
 pub cut_pid_rest : (bs : List ℕ) (r : Option (Bor (List ℕ) × Bor (List ℕ))) (p : Pid) → IsSplitOnceResult 46 bs r → bs ≡ decimal p.boot ++ 46 ∷ decimal p.serial → BootAndSerial r p
 cut_pid_rest bs r p h e = cut_number bs r p.boot _ h (omega (arith, p.boot_in_range)) e
 
-pub pid_node : (p : Pid) (bs : List ℕ) → bs ≡ decimal p.node → IsNode p.node bs
+pub pid_node : (p : Pid) (bs : List ℕ) → bs ≡ decimal p.node → IsNumber p.node bs
 pid_node p bs e = record { above = p.node_in_range.0; in_range = p.node_in_range.1; written = e }
 
 pub pid_boot : (p : Pid) (bs : List ℕ) → bs ≡ decimal p.boot → IsNumber p.boot bs
@@ -78,7 +69,7 @@ pid_boot p bs e = record { above = p.boot_in_range.0; in_range = p.boot_in_range
 pub pid_serial : (p : Pid) (bs : List ℕ) → bs ≡ decimal p.serial → IsNumber p.serial bs
 pid_serial p bs e = record { above = p.serial_in_range.0; in_range = p.serial_in_range.1; written = e }
 
-pub name_node : (n : Name) (bs : List ℕ) → bs ≡ decimal n.node → IsNode n.node bs
+pub name_node : (n : Name) (bs : List ℕ) → bs ≡ decimal n.node → IsNumber n.node bs
 name_node n bs e = record { above = n.node_in_range.0; in_range = n.node_in_range.1; written = e }
 
 pub name_seq : (n : Name) (bs : List ℕ) → bs ≡ decimal n.seq → IsNumber n.seq bs

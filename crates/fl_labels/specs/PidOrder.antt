@@ -23,7 +23,7 @@ pid_total =
 pub same_pid : (a b : Pid) → a.node ≡ b.node → a.boot ≡ b.boot → a.serial ≡ b.serial → a ≡ b
 same_pid a b p q r =
     let parts : ◌≡◌ {A = (f : ℕ × (ℕ × ℕ))
-    × ((0 < f.0 × f.0 < 2 ^ 16) × ((0 < f.1.0 × f.1.0 < 2 ^ 32) × (0 < f.1.1 × f.1.1 < 2 ^ 32)))}
+    × ((0 < f.0 × f.0 < 2 ^ 32) × ((0 < f.1.0 × f.1.0 < 2 ^ 32) × (0 < f.1.1 × f.1.1 < 2 ^ 32)))}
     ((a.node, (a.boot, a.serial)), (a.node_in_range, (a.boot_in_range, a.serial_in_range)))
     ((b.node, (b.boot, b.serial)), (b.node_in_range, (b.boot_in_range, b.serial_in_range)))
     = Σ_prop_path (λ f. ×_prop (×_prop le_prop le_prop) (×_prop (×_prop le_prop le_prop) (×_prop le_prop le_prop)))

@@ -6,16 +6,10 @@ use Rattle.std.specs.declared.cmp.Ordering.{Ordering}
 use Rattle.fl_labels.specs.SetBy.{SetBy, of_list}
 use Rattle.fl_labels.specs.Text.{braces}
 
--- the word is the decimal of n, a boot, a serial or a sequence number
+-- the word is the decimal of n, a number from 1 to 4294967295
 pub record IsNumber (n : ℕ) (word : List ℕ) : Type 0 where
   pub above : 0 < n
   pub in_range : n < 2 ^ 32
-  pub written : word ≡ decimal n
-
--- the word is the decimal of n, a node's number
-pub record IsNode (n : ℕ) (word : List ℕ) : Type 0 where
-  pub above : 0 < n
-  pub in_range : n < 2 ^ 16
   pub written : word ≡ decimal n
 
 -- the bytes list the members of s in braces, in any order, a repeated one once

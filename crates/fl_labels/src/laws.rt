@@ -14,7 +14,7 @@ ghost use Rattle.fl_labels.specs.Cap.{cap_cmp};
 ghost use Rattle.fl_labels.specs.SetBy as set;
 ghost use Rattle.fl_labels.specs.SetBy.{SetBy, In, SameMembers};
 ghost use Rattle.fl_labels.specs.Text.{name_text, cap_text, pid_text, endpoint_text, label_text, caps_text};
-ghost use Rattle.fl_labels.specs.Words.{IsNumber, IsNode, IsListing};
+ghost use Rattle.fl_labels.specs.Words.{IsNumber, IsListing};
 
 use crate::cap::Cap;
 use crate::cap_set::CapSet;
@@ -63,7 +63,6 @@ pub fn law_set<T: Ord>()
 /// A text spells one value at most.
 pub fn law_one_reading()
     ensures numbers { (m n : ℕ) (word : List ℕ) → IsNumber m word → IsNumber n word → m ≡ n }
-    ensures nodes { (m n : ℕ) (word : List ℕ) → IsNode m word → IsNode n word → m ≡ n }
     ensures names { (m n : Name) → name_text m ≡ name_text n → m ≡ n }
     ensures caps { (c d : Cap) → cap_text c ≡ cap_text d → c ≡ d }
     ensures pids { (p q : Pid) → pid_text p ≡ pid_text q → p ≡ q }

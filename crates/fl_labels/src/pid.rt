@@ -7,13 +7,13 @@ use std::fmt;
 /// Ordered by these three in turn. Written `p1.1.1`.
 #[derive(Clone, Copy, Debug, PartialEq, Eq, PartialOrd, Ord, Hash)]
 pub struct Pid {
-    /// From 1 to 65535.
-    pub node: u16,
+    /// From 1 to 4294967295.
+    pub node: u32,
     /// From 1 to 4294967295.
     pub boot: u32,
     /// From 1 to 4294967295.
     pub serial: u32,
-    pub ghost node_in_range: { (0 < node) × (node < 2 ^ 16) },
+    pub ghost node_in_range: { (0 < node) × (node < 2 ^ 32) },
     pub ghost boot_in_range: { (0 < boot) × (boot < 2 ^ 32) },
     pub ghost serial_in_range: { (0 < serial) × (serial < 2 ^ 32) },
 }

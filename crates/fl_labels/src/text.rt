@@ -2,7 +2,7 @@
 ghost use Rattle.std.specs.Prelude.{◌≡◌, ℕ, ◌<◌, ◌∷◌, List};
 ghost use Rattle.fl_labels.specs.Found.{Finds};
 ghost use Rattle.fl_labels.specs.Text.{name_text, cap_text, pid_text, endpoint_text};
-ghost use Rattle.fl_labels.specs.Words.{IsNumber, IsNode};
+ghost use Rattle.fl_labels.specs.Words.{IsNumber};
 
 use crate::cap::Cap;
 use crate::endpoint::{Endpoint, LAST_ENDPOINT};
@@ -20,19 +20,12 @@ pub fn read_number(text: &str) -> Option<u32>
     text.parse().ok()
 }
 
-/// The number from 1 to 65535 that a word spells, as `read_number` reads it. `None` of any other word.
-pub fn read_node(text: &str) -> Option<u16>
-    ensures { Finds result (λ n. IsNode n text.now) }
-{
-    u16::try_from(read_number(text)?).ok()
-}
-
 /// The name that a word such as `1.4` spells. `None` of any other word.
 pub fn read_name(text: &str) -> Option<Name>
     ensures { Finds result (λ name. text.now ≡ name_text name) }
 {
     let (node, seq) = text.split_once('.')?;
-    let node = read_node(node)?;
+    let node = read_number(node)?;
     let seq = read_number(seq)?;
     Some(Name { node, seq })
 }
@@ -68,7 +61,7 @@ pub fn read_pid(text: &str) -> Option<Pid>
 {
     let (node, rest) = text.strip_prefix('p')?.split_once('.')?;
     let (boot, serial) = rest.split_once('.')?;
-    let node = read_node(node)?;
+    let node = read_number(node)?;
     let boot = read_number(boot)?;
     let serial = read_number(serial)?;
     Some(Pid { node, boot, serial })

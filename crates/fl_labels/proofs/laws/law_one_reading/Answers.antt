@@ -1,4 +1,4 @@
-use Rattle.std.proofs.Common.{sym, ◌∙◌, arith}
+use Rattle.std.proofs.Common.{sym, ◌∙◌}
 use Rattle.fl_labels.specs.Text.{name_text, cap_text}
 use Rattle.fl_labels.specs.ItemText.{no_comma-name_text, no_comma-cap_text}
 use Rattle.fl_labels.specs.laws.OneReading.{same_number, name_text_injective, name_text_some, cap_text_injective, cap_text_some, pid_text_injective, endpoint_text_injective, same_listing}
@@ -6,9 +6,6 @@ use Rattle.fl_labels.proofs.laws.law_one_reading.Goals as goal
 
 pub returns-clause-numbers : goal.returns-clause-numbers
 returns-clause-numbers c = λ m n word p q. same_number m n p.in_range q.in_range (sym p.written ∙ q.written)
-
-pub returns-clause-nodes : goal.returns-clause-nodes
-returns-clause-nodes c = λ m n word p q. same_number m n (omega (arith, p.in_range)) (omega (arith, q.in_range)) (sym p.written ∙ q.written)
 
 pub returns-clause-names : goal.returns-clause-names
 returns-clause-names c = name_text_injective
