@@ -1,4 +1,6 @@
+pub mod Format
 pub mod Bytes
+pub mod Fits
 pub mod Grammar
 pub mod OpOrder
 pub mod OpLaws

@@ -18,7 +18,7 @@ use Rattle.fl_ops.specs.contracts.op.Op as ops_row
 use Rattle.fl_ops.specs.declared.op.Policy.{Policy}
 use Rattle.fl_ops.specs.declared.op.Policy.TheVariants.{Export, Read, Integrity}
 use Rattle.fl_ops.specs.declared.op.Body.{Body}
-use Rattle.fl_ops.specs.declared.op.Body.TheVariants.{MakeTag, MakeGroup, Put, MakeLogin}
+use Rattle.fl_ops.specs.declared.op.Body.TheVariants.{MakeTag, MakeGroup, Put, MakeLogin, Open}
 use Rattle.fl_ops.specs.declared.op.Op.{Op}
 use Rattle.fl_ops.specs.declared.digest.Digest.{Digest}
 use Rattle.fl_ops.specs.Bytes.{policy_byte}
@@ -66,6 +66,7 @@ body_same (MakeLogin c d) (MakeLogin c' d') e =
     let cap = cap_same c c' (ap (at 1) e) (same_name (cap_name c) (cap_name c') (ap (at 2) e) (ap (at 3) e)) in
     let digest = same_digest d d' (ap (drop 4) e) in
     λ i. MakeLogin (cap i) (digest i)
+body_same (Open g) (Open h) e = ap Open (same_name g h (ap (at 1) e) (ap (at 2) e))
 body_same a b e = absurd (cc)
 
 level : (o p : Ordering) → ordering_then o p ≡ Equal → (o ≡ Equal) × (p ≡ Equal)

@@ -6,7 +6,7 @@ use Rattle.std.specs.Cmp.Lexicographic.{slice_cmp}
 use Rattle.fl_labels.specs.Name.{name_cmp}
 use Rattle.fl_labels.specs.Cap.{cap_name, cap_rank}
 use Rattle.fl_ops.specs.declared.op.Body.{Body}
-use Rattle.fl_ops.specs.declared.op.Body.TheVariants.{MakeTag, MakeGroup, Put, MakeLogin}
+use Rattle.fl_ops.specs.declared.op.Body.TheVariants.{MakeTag, MakeGroup, Put, MakeLogin, Open}
 use Rattle.fl_ops.specs.declared.op.Op.{Op}
 use Rattle.fl_ops.specs.Bytes.{policy_byte}
 
@@ -16,6 +16,7 @@ body_key (MakeTag p) = 1 ∷ policy_byte p ∷ []
 body_key MakeGroup = 2 ∷ []
 body_key (Put g c) = 3 ∷ g.node ∷ g.seq ∷ cap_rank c ∷ (cap_name c).node ∷ (cap_name c).seq ∷ []
 body_key (MakeLogin c d) = 4 ∷ cap_rank c ∷ (cap_name c).node ∷ (cap_name c).seq ∷ d.bytes
+body_key (Open g) = 5 ∷ g.node ∷ g.seq ∷ []
 
 -- by name, and then as their bytes are
 abbrev pub op_cmp : Op → Op → Ordering

@@ -9,7 +9,7 @@ use Rattle.fl_labels.specs.declared.cap.Cap.TheVariants.{Plus, Minus, Use, Grow}
 use Rattle.fl_ops.specs.declared.digest.Digest.{Digest}
 use Rattle.fl_ops.specs.declared.op.Op.{Op}
 use Rattle.fl_ops.specs.declared.op.Body.{Body}
-use Rattle.fl_ops.specs.declared.op.Body.TheVariants.{MakeTag, MakeGroup, Put, MakeLogin}
+use Rattle.fl_ops.specs.declared.op.Body.TheVariants.{MakeTag, MakeGroup, Put, MakeLogin, Open}
 use Rattle.fl_ops.specs.declared.op.Policy.{Policy}
 use Rattle.fl_ops.specs.declared.op.Policy.TheVariants.{Export, Integrity}
 
@@ -25,12 +25,17 @@ tag_op tag policy = record { name = tag; body = MakeTag policy }
 abbrev pub login_op : Name → Cap → Digest → Op
 login_op login c digest = record { name = login; body = MakeLogin c digest }
 
+-- an operation that opens a group
+abbrev pub open_op : Name → Name → Op
+open_op name group = record { name = name; body = Open group }
+
 -- the operation puts c into the group
 abbrev pub Puts : Body → Name → Cap → Type 0
 Puts (MakeTag policy) group c = ⊥
 Puts MakeGroup group c = ⊥
 Puts (Put into what) group c = (into ≡ group) × (what ≡ c)
 Puts (MakeLogin cap digest) group c = ⊥
+Puts (Open opened) group c = ⊥
 
 -- A chain leads from the first capability to the last: each but the last is the use of a group
 -- into which the registry puts the next one.
@@ -50,16 +55,28 @@ From root c = c ≡ root
 pub record IsClosed (U : Registry) (P : Caps) : Type 0 where
   pub step : (op : Op) (group : Name) (c : Cap) → U op → Puts op.body group c → P (Use group) → P c
 
--- everybody may add an export tag, and remove an integrity tag
+-- some operation opens the group
+abbrev pub IsOpened : Registry → Name → Type 0
+IsOpened U group = (name : Name) × U (open_op name group)
+
+-- everybody may add an export tag, remove an integrity tag, and use an opened group
 abbrev pub IsGlobal : Registry → Caps
 IsGlobal U (Plus tag) = U (tag_op tag Export)
 IsGlobal U (Minus tag) = U (tag_op tag Integrity)
-IsGlobal U (Use group) = ⊥
+IsGlobal U (Use group) = IsOpened U group
 IsGlobal U (Grow group) = ⊥
 
--- what the owner of these capabilities has in effect
+-- what the owner of these capabilities has: these, and everybody's
+abbrev pub WithGlobal : Registry → Caps → Caps
+WithGlobal U owned c = owned c ⊎ IsGlobal U c
+
+-- what it has in effect: all that this leads to
 abbrev pub InEffect : Registry → Caps → Caps
-InEffect U owned c = Reach U owned c ⊎ IsGlobal U c
+InEffect U owned = Reach U (WithGlobal U owned)
+
+-- no operation opens a group
+pub record OpensNone (U : Registry) : Type 0 where
+  pub none : (group : Name) → ¬ IsOpened U group
 
 -- the registry has a login of this name, to this capability, whose secret has this digest
 abbrev pub IsLogin : Registry → Name → Cap → Digest → Type 0

@@ -4,6 +4,7 @@
 pub mod digest;
 pub mod fault;
 pub mod fields;
+pub mod format;
 pub mod laws;
 pub mod op;
 pub mod reading;

@@ -9,13 +9,10 @@ ghost use Rattle.fl_ops.specs.PolicyText.{policy_text};
 ghost use Rattle.fl_ops.specs.OpOrder.{body_key, op_cmp};
 
 use crate::digest::Digest;
-use crate::fields::{CAP_SIZE, NAME_SIZE};
+use crate::format::Format;
 use fl_labels::cap::Cap;
 use fl_labels::name::{Group, Name};
 use std::cmp::Ordering;
-
-/// Where the body begins in the bytes of an operation: after the format, the kind and the name.
-pub const BODY_PLACE: usize = 2 + NAME_SIZE;
 
 /// Which capability of a new tag everyone gets: to add it, none, or to remove it.
 #[derive(Clone, Copy, Debug, PartialEq, Eq)]
@@ -39,6 +36,8 @@ pub enum Body {
     Put(Group, Cap),
     /// Makes the login of the operation's name: who knows the secret of this digest gets the capability.
     MakeLogin(Cap, Digest),
+    /// Opens the group: everybody may use it.
+    Open(Group),
 }
 
 /// An entry of the tag registry. Ordered by name, then by its bytes.
@@ -84,21 +83,24 @@ impl Body {
             Body::MakeGroup => 2,
             Body::Put(_, _) => 3,
             Body::MakeLogin(_, _) => 4,
+            Body::Open(_) => 5,
         }
     }
 }
 
 impl Op {
-    /// How many bytes its spelling takes.
-    pub fn length(&self) -> usize
-        ensures { result ≡ length (op_bytes self.now) }
+    /// How many bytes its spelling takes in this format.
+    pub fn length(&self, format: Format) -> usize
+        ensures { result ≡ length (op_bytes format self.now) }
     {
-        match self.body {
-            Body::MakeTag(_) => BODY_PLACE + 1,
-            Body::MakeGroup => BODY_PLACE,
-            Body::Put(_, _) => BODY_PLACE + NAME_SIZE + CAP_SIZE,
-            Body::MakeLogin(_, _) => BODY_PLACE + CAP_SIZE + 32,
-        }
+        let body = match self.body {
+            Body::MakeTag(_) => 1,
+            Body::MakeGroup => 0,
+            Body::Put(_, _) => format.name_size() + format.cap_size(),
+            Body::MakeLogin(_, _) => format.cap_size() + 32,
+            Body::Open(_) => format.name_size(),
+        };
+        format.body_place() + body
     }
 }
 
@@ -116,6 +118,7 @@ fn cmp_bodies(a: &Body, b: &Body) -> Ordering
     match (a, b) {
         (Body::MakeTag(p), Body::MakeTag(q)) => p.number().cmp(&q.number()),
         (Body::Put(g, c), Body::Put(h, d)) => g.cmp(h).then(cmp_caps(*c, *d)),
+        (Body::Open(g), Body::Open(h)) => g.cmp(h),
         (Body::MakeLogin(c, x), Body::MakeLogin(d, y)) => {
             cmp_caps(*c, *d).then(x.bytes.as_slice().cmp(y.bytes.as_slice()))
         }

@@ -1,153 +1,79 @@
--- What an operation spells has no fault, and is spelled by no other.
-use Rattle.std.proofs.Common.{◌≡◌, ℕ, ◌+◌, ◌≤◌, Bool, true, ◌&&◌, List, [], ◌∷◌, ◌++◌, length, get_or, take, drop, slice_index, nat_lt, nat_le, sym, ap, refl, ◌∙◌, lit≤, append_assoc, arith, length-append, None}
-use Rattle.std.specs.List.{AllByRecursion}
-use Rattle.std.specs.Int.{w16, w32, to_be_bytes, from_be_bytes}
-use Rattle.std.proofs.lemmas.Nat.{from_be_bytes-to_be_bytes_2, from_be_bytes-to_be_bytes_4}
-use Rattle.std.proofs.lemmas.Bool.{le-leb, lt-ltb}
-use Rattle.std.proofs.lemmas.List.{drop-drop}
-use Rattle.std.proofs.Math.Seq.{drop-append_seam, get_or-append_seam}
+-- What an operation spells has no fault, and is spelled by no other, in either format.
+use Rattle.std.proofs.Common.{◌≡◌, ℕ, ◌≤◌, List, [], ◌∷◌, ◌++◌, length, get_or, take, drop, sym, ap, subst, refl, ◌∙◌, lit≤, append_assoc, arith, None}
+use Rattle.std.specs.Int.{w32, from_be_bytes}
 use Rattle.fl_labels.specs.declared.name.Name.{Name}
 use Rattle.fl_labels.specs.declared.cap.Cap.{Cap}
-use Rattle.fl_labels.specs.declared.cap.Cap.TheVariants.{Plus, Minus, Use, Grow}
-use Rattle.fl_labels.specs.Cap.{cap_name, cap_rank}
+use Rattle.fl_labels.specs.Cap.{cap_name}
 use Rattle.fl_labels.specs.NameOrder.{same_name}
+use Rattle.fl_ops.specs.declared.format.Format.{Format}
+use Rattle.fl_ops.specs.declared.format.Format.TheVariants.{One, Two}
 use Rattle.fl_ops.specs.declared.op.Policy.{Policy}
 use Rattle.fl_ops.specs.declared.op.Policy.TheVariants.{Export, Read, Integrity}
 use Rattle.fl_ops.specs.declared.op.Body.{Body}
-use Rattle.fl_ops.specs.declared.op.Body.TheVariants.{MakeTag, MakeGroup, Put, MakeLogin}
+use Rattle.fl_ops.specs.declared.op.Body.TheVariants.{MakeTag, MakeGroup, Put, MakeLogin, Open}
 use Rattle.fl_ops.specs.declared.op.Op.{Op}
-use Rattle.fl_ops.specs.Bytes.{name_bytes, cap_bytes, policy_byte, kind_byte, body_bytes, op_bytes}
+use Rattle.fl_ops.specs.Format.{format_byte, node_width, node_size}
+use Rattle.fl_ops.specs.Bytes.{name_bytes, cap_bytes, name_size, policy_byte, kind_byte, body_bytes, op_bytes}
+use Rattle.fl_ops.specs.Fits.{HasName, HasCap, HasNames, HasOp}
 use Rattle.fl_ops.specs.OpLaws.{cap_same, same_digest}
-use Rattle.fl_ops.specs.Grammar.{op_fields, has_byte, has_name, first_fault, op_fault}
-
-node_back : (n : Name) → from_be_bytes w16 (to_be_bytes w16 n.node) ≡ n.node
-node_back n = from_be_bytes-to_be_bytes_2 n.node n.node_in_range.1
-
-seq_back : (n : Name) → from_be_bytes w32 (to_be_bytes w32 n.seq) ≡ n.seq
-seq_back n = from_be_bytes-to_be_bytes_4 n.seq n.seq_in_range.1
+use Rattle.fl_ops.specs.Grammar.{format_of, later_fields, first_fault, op_fault}
+use Rattle.fl_ops.specs.laws.Spelled.{name_parts, there, byte_is, op_is}
 
 -- ---- no fault
 
-byte_there : (front : List ℕ) (b : ℕ) (rest : List ℕ) (low high : ℕ) → low ≤ b → b ≤ high
-    → has_byte (front ++ b ∷ rest) (length front) low high ≡ true
-byte_there front b rest low high p q =
-    let here : slice_index (front ++ b ∷ rest) (length front) ≡ b =
-    get_or-append_seam front b rest 0 in
-    rw (
-      lt-ltb (length front) (length (front ++ b ∷ rest))
-          (omega (arith, length-append front (b ∷ rest))),
-      here,
-      le-leb low b p,
-      le-leb b high q,
-    ) refl
+said : (f : Format) → format_of (format_byte f) ≡ f
+said One = refl
+said Two = refl
 
-all_three : {a b c : Bool} → a ≡ true → b ≡ true → c ≡ true → (a && (b && c)) ≡ true
-all_three p q r = rw (p, q, r) refl
-
-name_there : (front : List ℕ) (n : Name) (rest : List ℕ)
-    → has_name (front ++ (name_bytes n ++ rest)) (length front) ≡ true
-name_there front n rest =
-    let bs = front ++ (name_bytes n ++ rest) in
-    let at : drop (length front) bs ≡ name_bytes n ++ rest =
-    drop-append_seam front (name_bytes n ++ rest) in
-    let node : from_be_bytes w16 (take 2 (drop (length front) bs)) ≡ n.node =
-    ap (λ l. from_be_bytes w16 (take 2 l)) at ∙ node_back n in
-    let seq : from_be_bytes w32 (take 4 (drop (length front + 2) bs)) ≡ n.seq =
-    ap (λ l. from_be_bytes w32 (take 4 l)) (sym (drop-drop 2 (length front) bs) ∙ ap (drop 2) at)
-    ∙ seq_back n in
-    all_three (le-leb (length front + 6) (length bs)
-    (omega (arith, length-append front (name_bytes n ++ rest))))
-    (ap (nat_lt 0) node ∙ lt-ltb 0 n.node n.node_in_range.0)
-    (ap (nat_lt 0) seq ∙ lt-ltb 0 n.seq n.seq_in_range.0)
-
-no_faults : (fs : List (ℕ × Bool)) → AllByRecursion (λ f. f.1 ≡ true) fs → first_fault fs ≡ None
-no_faults [] h = refl
-no_faults (f ∷ fs) h = rw h.0 (no_faults fs h.1)
-
-rank_range : (c : Cap) → (1 ≤ cap_rank c) × (cap_rank c ≤ 4)
-rank_range (Plus n) = (lit≤ tt, lit≤ tt)
-rank_range (Minus n) = (lit≤ tt, lit≤ tt)
-rank_range (Use n) = (lit≤ tt, lit≤ tt)
-rank_range (Grow n) = (lit≤ tt, lit≤ tt)
-
-policy_range : (p : Policy) → (1 ≤ policy_byte p) × (policy_byte p ≤ 3)
-policy_range Export = (lit≤ tt, lit≤ tt)
-policy_range Read = (lit≤ tt, lit≤ tt)
-policy_range Integrity = (lit≤ tt, lit≤ tt)
-
--- a capability in its place
-cap_there : (front : List ℕ) (c : Cap) (rest : List ℕ)
-    → (has_byte (front ++ (cap_bytes c ++ rest)) (length front) 1 4 ≡ true) ×
-    (has_name (front ++ (cap_bytes c ++ rest)) (length front + 1) ≡ true)
-cap_there front c rest =
-    let r = rank_range c in (
-      byte_there front (cap_rank c) (name_bytes (cap_name c) ++ rest) 1 4 r.0 r.1,
-      let one : (front ++ cap_rank c ∷ []) ++ (name_bytes (cap_name c) ++ rest) ≡ front ++
-          (cap_bytes c ++ rest) = append_assoc front (cap_rank c ∷ [])
-          (name_bytes (cap_name c) ++ rest) in
-          let long : length (front ++ cap_rank c ∷ []) ≡ length front + 1 =
-          length-append front (cap_rank c ∷ []) in
-          ap (λ l. has_name l (length front + 1)) (sym one)
-          ∙ ap (has_name ((front ++ cap_rank c ∷ []) ++ (name_bytes (cap_name c) ++ rest)))
-          (sym long) ∙ name_there (front ++ cap_rank c ∷ []) (cap_name c) rest,
-    )
-
--- the two bytes before the name, and the name
-head_there : (kind : ℕ) (n : Name) (rest : List ℕ) → 1 ≤ kind → kind ≤ 4 →
-    (has_byte (1 ∷ kind ∷ (name_bytes n ++ rest)) 0 1 1 ≡ true) ×
-    (has_byte (1 ∷ kind ∷ (name_bytes n ++ rest)) 1 1 4 ≡ true) ×
-    (has_name (1 ∷ kind ∷ (name_bytes n ++ rest)) 2 ≡ true)
-head_there kind n rest low high = (
-  byte_there [] 1 (kind ∷ (name_bytes n ++ rest)) 1 1 (lit≤ tt) (lit≤ tt),
-  byte_there
-      (1 ∷ []) kind (name_bytes n ++ rest) 1 4 low high,
-  name_there (1 ∷ kind ∷ []) n rest,
-)
+format_range : (f : Format) → (1 ≤ format_byte f) × (format_byte f ≤ 2)
+format_range One = (lit≤ tt, lit≤ tt)
+format_range Two = (lit≤ tt, lit≤ tt)
 
 -- what an operation spells has no fault
-pub no_fault : (n : Name) (body : Body) (rest : List ℕ)
-    → op_fault (op_bytes (record { name = n; body = body }) ++ rest) ≡ None
-no_fault n (MakeTag p) rest =
-    let r = policy_range p in
-    let h = head_there 1 n (policy_byte p ∷ rest) (lit≤ tt) (lit≤ tt) in
-    let k : has_byte (1 ∷ 1 ∷ (name_bytes n ++ policy_byte p ∷ rest)) 8 1 3 ≡ true =
-    byte_there (1 ∷ 1 ∷ name_bytes n) (policy_byte p) rest 1 3 r.0 r.1 in
-    no_faults (op_fields (op_bytes (record { name = n; body = MakeTag p }) ++ rest) 0)
-    (h.0, (h.1, (h.2, (k, tt))))
-no_fault n MakeGroup rest =
-    let h = head_there 2 n rest (lit≤ tt) (lit≤ tt) in
-    no_faults (op_fields (op_bytes (record { name = n; body = MakeGroup }) ++ rest) 0)
-    (h.0, (h.1, (h.2, tt)))
-no_fault n (Put g c) rest =
-    let h = head_there 3 n (name_bytes g ++ (cap_bytes c ++ rest)) (lit≤ tt) (lit≤ tt) in
-    let m = name_there (1 ∷ 3 ∷ name_bytes n) g (cap_bytes c ++ rest) in
-    let k = cap_there (1 ∷ 3 ∷ (name_bytes n ++ name_bytes g)) c rest in
-    no_faults (op_fields (op_bytes (record { name = n; body = Put g c }) ++ rest) 0)
-    (h.0, (h.1, (h.2, (m, (k.0, (k.1, tt))))))
-no_fault n (MakeLogin c d) rest =
-    let h = head_there 4 n (cap_bytes c ++ (d.bytes ++ rest)) (lit≤ tt) (lit≤ tt) in
-    let k = cap_there (1 ∷ 4 ∷ name_bytes n) c (d.bytes ++ rest) in
-    let bs = op_bytes (record { name = n; body = MakeLogin c d }) ++ rest in
-    let whole : nat_le 47 (length bs) ≡ true =
-    le-leb 47 (length bs) (omega (arith, length-append d.bytes rest, d.sized)) in
-    no_faults (op_fields bs 0) (h.0, (h.1, (h.2, (k.0, (k.1, (whole, tt))))))
+pub no_fault : (f : Format) (op : Op) (rest : List ℕ) → HasOp f op → op_fault (op_bytes f op ++ rest) ≡ None
+no_fault f op rest has =
+    let bs = op_bytes f op ++ rest in
+    let range = format_range f in
+    let first = byte_is bs 0 (format_byte f) (kind_byte op.body ∷ ((name_bytes f op.name ++ body_bytes f op.body) ++ rest)) 1 2 range.0 range.1 refl in
+    there 0 (later_fields (format_of (format_byte f)) bs 0) first.0 (ap (λ g. first_fault (later_fields g bs 0)) (said f) ∙ (op_is bs f 0 op rest has refl).later)
+
+-- the second format has all operations
+pub second_has : (op : Op) → HasOp Two op
+second_has op = record { name = op.name.node_in_range.1; body = record { kind = kind_most op.body; names = names op.body } }
+  where
+    kind_most : (body : Body) → kind_byte body ≤ 5
+    kind_most (MakeTag p) = lit≤ tt
+    kind_most MakeGroup = lit≤ tt
+    kind_most (Put g c) = lit≤ tt
+    kind_most (MakeLogin c d) = lit≤ tt
+    kind_most (Open g) = lit≤ tt
+
+    names : (body : Body) → HasNames Two body
+    names (MakeTag p) = tt
+    names MakeGroup = tt
+    names (Put g c) = (g.node_in_range.1, (cap_name c).node_in_range.1)
+    names (MakeLogin c d) = (cap_name c).node_in_range.1
+    names (Open g) = g.node_in_range.1
 
 -- ---- one operation
 
 -- a name, before whatever follows it
-pub name_front : (n m : Name) (u v : List ℕ) → name_bytes n ++ u ≡ name_bytes m ++ v
-    → (n ≡ m) × (u ≡ v)
-name_front n m u v e = (
-  same_name n m
-      (sym (node_back n) ∙ ap (λ l. from_be_bytes w16 (take 2 l)) e ∙ node_back m)
-      (sym (seq_back n) ∙ ap (λ l. from_be_bytes w32 (take 4 (drop 2 l))) e ∙ seq_back m),
-  ap (drop 6) e,
-)
+pub name_front : (f : Format) (n m : Name) (u v : List ℕ) → HasName f n → HasName f m
+    → name_bytes f n ++ u ≡ name_bytes f m ++ v → (n ≡ m) × (u ≡ v)
+name_front f n m u v has other e =
+    let first = name_parts f n u has in
+    let second = name_parts f m v other in (
+      same_name n m
+          (sym first.node ∙ ap (λ l. from_be_bytes (node_width f) (take (node_size f) l)) e ∙ second.node)
+          (sym first.seq ∙ ap (λ l. from_be_bytes w32 (take 4 (drop (node_size f) l))) e ∙ second.seq),
+      sym first.after ∙ ap (drop (name_size f)) e ∙ second.after,
+    )
 
 -- and a capability
-pub cap_front : (a b : Cap) (u v : List ℕ) → cap_bytes a ++ u ≡ cap_bytes b ++ v → (a ≡ b) × (u ≡ v)
-cap_front a b u v e =
-    let rest = name_front (cap_name a) (cap_name b) u v (ap (drop 1) e) in
+pub cap_front : (f : Format) (a b : Cap) (u v : List ℕ) → HasCap f a → HasCap f b
+    → cap_bytes f a ++ u ≡ cap_bytes f b ++ v → (a ≡ b) × (u ≡ v)
+cap_front f a b u v has other e =
+    let rest = name_front f (cap_name a) (cap_name b) u v has other (ap (drop 1) e) in
     (cap_same a b (ap (λ l. get_or l 0 0) e) rest.0, rest.1)
 
 policy_same : (p q : Policy) → policy_byte p ≡ policy_byte q → p ≡ q
@@ -164,28 +90,46 @@ bytes_front (x ∷ a) (y ∷ b) u v n e =
     let rest = bytes_front a b u v (omega arith) (ap (drop 1) e) in
     (λ i. (ap (λ l. get_or l 0 0) e i) ∷ rest.0 i, rest.1)
 
-body_front : (a b : Body) (u v : List ℕ) → kind_byte a ≡ kind_byte b
-    → body_bytes a ++ u ≡ body_bytes b ++ v → (a ≡ b) × (u ≡ v)
-body_front (MakeTag p) (MakeTag q) u v k e =
+body_front : (f : Format) (a b : Body) (u v : List ℕ) → HasNames f a → HasNames f b → kind_byte a ≡ kind_byte b
+    → body_bytes f a ++ u ≡ body_bytes f b ++ v → (a ≡ b) × (u ≡ v)
+body_front f (MakeTag p) (MakeTag q) u v has other k e =
     (ap MakeTag (policy_same p q (ap (λ l. get_or l 0 0) e)), ap (drop 1) e)
-body_front MakeGroup MakeGroup u v k e = (refl, e)
-body_front (Put g c) (Put h d) u v k e =
-    let first = name_front g h (cap_bytes c ++ u) (cap_bytes d ++ v) e in
-    let second = cap_front c d u v first.1 in
+body_front f MakeGroup MakeGroup u v has other k e = (refl, e)
+body_front f (Put g c) (Put h d) u v has other k e =
+    let first = name_front f g h (cap_bytes f c ++ u) (cap_bytes f d ++ v) has.0 other.0
+    (sym (append_assoc (name_bytes f g) (cap_bytes f c) u) ∙ e ∙ append_assoc (name_bytes f h) (cap_bytes f d) v) in
+    let second = cap_front f c d u v has.1 other.1 first.1 in
     (λ x. Put (first.0 x) (second.0 x), second.1)
-body_front (MakeLogin c d) (MakeLogin c' d') u v k e =
-    let first = cap_front c c' (d.bytes ++ u) (d'.bytes ++ v) e in
+body_front f (MakeLogin c d) (MakeLogin c' d') u v has other k e =
+    let first = cap_front f c c' (d.bytes ++ u) (d'.bytes ++ v) has other
+    (sym (append_assoc (cap_bytes f c) d.bytes u) ∙ e ∙ append_assoc (cap_bytes f c') d'.bytes v) in
     let second = bytes_front d.bytes d'.bytes u v (d.sized ∙ sym d'.sized) first.1 in
     let digest = same_digest d d' second.0 in
     (λ x. MakeLogin (first.0 x) (digest x), second.1)
-body_front a b u v k e = absurd (cc)
+body_front f (Open g) (Open h) u v has other k e =
+    let group = name_front f g h u v has other e in
+    (ap Open group.0, group.1)
+body_front f a b u v has other k e = absurd (cc)
+
+-- no spelling of a format begins another of it
+front_in : (f : Format) (a b : Op) (u v : List ℕ) → HasOp f a → HasOp f b → op_bytes f a ++ u ≡ op_bytes f b ++ v → (a ≡ b) × (u ≡ v)
+front_in f a b u v has other e =
+    let regroup : (o : Op) (w : List ℕ) → drop 2 (op_bytes f o ++ w) ≡ name_bytes f o.name ++ (body_bytes f o.body ++ w) =
+    λ o w. append_assoc (name_bytes f o.name) (body_bytes f o.body) w in
+    let first = name_front f a.name b.name (body_bytes f a.body ++ u) (body_bytes f b.body ++ v) has.name other.name
+    (sym (regroup a u) ∙ ap (drop 2) e ∙ regroup b v) in
+    let second = body_front f a.body b.body u v has.body.names other.body.names (ap (λ l. get_or l 1 0) e) first.1 in
+    (λ x. record { name = first.0 x; body = second.0 x }, second.1)
+
+same_format : (f g : Format) → format_byte f ≡ format_byte g → f ≡ g
+same_format One One e = refl
+same_format Two Two e = refl
+same_format f g e = absurd (cc)
 
 -- no spelling begins another
-pub op_front : (a b : Op) (u v : List ℕ) → op_bytes a ++ u ≡ op_bytes b ++ v → (a ≡ b) × (u ≡ v)
-op_front a b u v e =
-    let regroup : (o : Op) (w : List ℕ)
-    → drop 2 (op_bytes o ++ w) ≡ name_bytes o.name ++ (body_bytes o.body ++ w) = λ o w. refl in
-    let first = name_front a.name b.name (body_bytes a.body ++ u) (body_bytes b.body ++ v)
-    (sym (regroup a u) ∙ ap (drop 2) e ∙ regroup b v) in
-    let second = body_front a.body b.body u v (ap (λ l. get_or l 1 0) e) first.1 in
-    (λ x. record { name = first.0 x; body = second.0 x }, second.1)
+pub op_front : (f g : Format) (a b : Op) (u v : List ℕ) → HasOp f a → HasOp g b → op_bytes f a ++ u ≡ op_bytes g b ++ v
+    → (f ≡ g) × (a ≡ b) × (u ≡ v)
+op_front f g a b u v has other e =
+    let same = same_format f g (ap (λ l. get_or l 0 0) e) in
+    let rest = front_in f a b u v has (subst (λ h. HasOp h b) (sym same) other) (e ∙ ap (λ h. op_bytes h b ++ v) (sym same)) in
+    (same, rest.0, rest.1)

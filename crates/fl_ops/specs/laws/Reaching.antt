@@ -1,10 +1,11 @@
 -- What is reached through a registry.
+use Rattle.std.specs.Prelude.{◌⊎◌, ◌↔◌}
 use Rattle.std.proofs.Common.{inl, inr, refl, subst}
 use Rattle.fl_labels.specs.declared.cap.Cap.{Cap}
 use Rattle.fl_labels.specs.declared.cap.Cap.TheVariants.{Plus, Minus, Use, Grow}
 use Rattle.fl_labels.specs.Found.{Within}
 use Rattle.fl_ops.specs.declared.op.Op.{Op}
-use Rattle.fl_ops.specs.Registry.{Chain, here, into, Reach, From, IsClosed, IsGlobal, InEffect}
+use Rattle.fl_ops.specs.Registry.{Chain, here, into, Reach, From, IsClosed, IsGlobal, WithGlobal, InEffect, OpensNone}
 
 -- one chain goes on where another ends
 pub chain_on : {U : Op → Type 0} {a b c : Cap} → Chain U a b → Chain U b c → Chain U a c
@@ -36,8 +37,11 @@ module _ {U : Op → Type 0} {roots : Cap → Type 0} where
   pub reach_again : Within (Reach U (Reach U roots)) (Reach U roots)
   reach_again c h = reach_on h.1 h.2
 
-  pub owned_eff : (c : Cap) → roots c → InEffect U roots c
-  owned_eff c h = inl (root_reached c h)
+pub owned_eff : {U : Op → Type 0} {owned : Cap → Type 0} (c : Cap) → owned c → InEffect U owned c
+owned_eff c h = root_reached c (inl h)
+
+pub global_eff : {U : Op → Type 0} {owned : Cap → Type 0} (c : Cap) → IsGlobal U c → InEffect U owned c
+global_eff c h = root_reached c (inr h)
 
 -- what is reached from one root is at the end of a chain from it
 pub from_chain : {U : Op → Type 0} {root : Cap} (c : Cap) → Reach U (From root) c → Chain U root c
@@ -55,13 +59,34 @@ module _ {U V : Op → Type 0} (more : Within U V) where
   pub global_more : Within (IsGlobal U) (IsGlobal V)
   global_more (Plus tag) h = more _ h
   global_more (Minus tag) h = more _ h
-  global_more (Use group) h = absurd h
+  global_more (Use group) h = (h.0, more _ h.1)
   global_more (Grow group) h = absurd h
 
   module _ {O P : Cap → Type 0} (owned : Within O P) where
     pub reach_more : Within (Reach U O) (Reach V P)
     reach_more c h = (h.0, owned _ h.1, chain_more h.2)
 
+  module _ {O P : Cap → Type 0} (owned : Within O P) where
+    with_global_more : Within (WithGlobal U O) (WithGlobal V P)
+    with_global_more c (inl h) = inl (owned c h)
+    with_global_more c (inr h) = inr (global_more c h)
+
     pub eff_more : Within (InEffect U O) (InEffect V P)
-    eff_more c (inl h) = inl (reach_more c h)
-    eff_more c (inr h) = inr (global_more c h)
+    eff_more c h = reach_more with_global_more c h
+
+-- where no group is opened, what everybody has leads to nothing else
+global_alone : {U : Op → Type 0} → OpensNone U → {a c : Cap} → Chain U a c → IsGlobal U a → IsGlobal U c
+global_alone never here h = h
+global_alone never (into {group} u puts rest) h = absurd (never.none group h)
+
+-- and what is in effect is what is reached from what is owned, and what everybody has
+pub no_open : {U : Op → Type 0} {O : Cap → Type 0} → OpensNone U → (c : Cap) → InEffect U O c ↔ (Reach U O c ⊎ IsGlobal U c)
+no_open {U} {O} never c = (λ h. to h.1 h.2, from)
+  where
+    to : {a : Cap} → WithGlobal U O a → Chain U a c → Reach U O c ⊎ IsGlobal U c
+    to {a} (inl owned) way = inl (a, owned, way)
+    to (inr global) way = inr (global_alone never way global)
+
+    from : Reach U O c ⊎ IsGlobal U c → InEffect U O c
+    from (inl h) = (h.0, inl h.1, h.2)
+    from (inr h) = global_eff c h
