@@ -1,5 +1,5 @@
 -- The logins of a name among operations that rise.
-use Rattle.std.specs.Prelude.{◌≡◌, ◌≢◌, ℕ, ◌+◌, ◌-◌, ◌<◌, ◌≤◌, List, length, get_or, take, drop, true, false, refl}
+use Rattle.std.specs.Prelude.{◌≡◌, ◌≢◌, ◌⊎◌, ℕ, ◌+◌, ◌-◌, ◌<◌, ◌≤◌, List, length, get_or, take, drop, true, false, refl}
 use Rattle.std.proofs.Common.{inl, inr, sym, ap, subst, ◌∙◌, arith}
 use Rattle.std.specs.declared.cmp.Ordering.{Ordering}
 use Rattle.std.specs.declared.cmp.Ordering.TheVariants.{Less, Equal, Greater}
@@ -15,7 +15,7 @@ use Rattle.fl_labels.specs.declared.cap.Cap.{Cap}
 use Rattle.fl_labels.specs.declared.name.Name.{Name}
 use Rattle.fl_ops.specs.declared.digest.Digest.{Digest}
 use Rattle.fl_ops.specs.declared.op.Body.{Body}
-use Rattle.fl_ops.specs.declared.op.Body.TheVariants.{MakeTag, MakeGroup, Put, MakeLogin}
+use Rattle.fl_ops.specs.declared.op.Body.TheVariants.{MakeTag, MakeGroup, Put, MakeLogin, Open}
 use Rattle.fl_ops.specs.declared.op.Op.{Op}
 use Rattle.fl_ops.specs.Bytes.{kind_byte}
 use Rattle.fl_ops.specs.OpOrder.{op_cmp, body_key}
@@ -35,6 +35,12 @@ kinds_rise (MakeLogin c d) (MakeTag p) less h = absurd (cc)
 kinds_rise (MakeLogin c d) MakeGroup less h = absurd (cc)
 kinds_rise (MakeLogin c d) (Put g e) less h = absurd (cc)
 kinds_rise (MakeLogin c d) (MakeLogin e f) less h = h
+kinds_rise (MakeLogin c d) (Open g) less h = absurd (cc)
+kinds_rise (Open g) (MakeTag p) less h = absurd (cc)
+kinds_rise (Open g) MakeGroup less h = absurd (cc)
+kinds_rise (Open g) (Put h' e) less h = absurd (cc)
+kinds_rise (Open g) (MakeLogin e f) less h = absurd (cc)
+kinds_rise (Open g) (Open h') less h = h
 
 -- p is how the names stand, q how the first of them stands to the name, r how the second does
 module _ (name : Name) where
@@ -71,11 +77,14 @@ level Less q low high = absurd (cc)
 level Equal q low high = refl
 level Greater q low high = absurd (cc)
 
-other_kind : (body : Body) → ((c : Cap) (digest : Digest) → body ≢ MakeLogin c digest) → is_lt (nat_cmp (kind_byte body) 4) ≡ true
-other_kind (MakeTag p) none = refl
-other_kind MakeGroup none = refl
-other_kind (Put g c) none = refl
-other_kind (MakeLogin c digest) none = absurd (none c digest refl)
+-- what is no login is of a lesser kind, or stands above each login of its name
+other_kind : (body : Body) → ((c : Cap) (digest : Digest) → body ≢ MakeLogin c digest) → (c : Cap) (digest : Digest)
+    → (is_lt (nat_cmp (kind_byte body) 4) ≡ true) ⊎ (is_gt (slice_cmp nat_cmp (body_key body) (body_key (MakeLogin c digest))) ≡ true)
+other_kind (MakeTag p) none c digest = inl refl
+other_kind MakeGroup none c digest = inl refl
+other_kind (Put g c') none c digest = inl refl
+other_kind (MakeLogin c' digest') none c digest = absurd (none c' digest' refl)
+other_kind (Open g) none c digest = inr refl
 
 module _ (xs : List Op) (up : IsStrictlySortedBy op_cmp xs) (name : Name) where
   pub logins_parted : IsPartitionedBy (λ op. is_lt (login_place name op)) xs
@@ -122,9 +131,6 @@ module _ (xs : List Op) (up : IsStrictlySortedBy op_cmp xs) (name : Name) where
       pub none_of_name : first.name ≢ name → HasNoLogin (Listed xs) name
       none_of_name other c digest h = other (of_name c digest h)
 
-      pub none_of_kind : ((c : Cap) (digest : Digest) → first.body ≢ MakeLogin c digest) → HasNoLogin (Listed xs) name
-      none_of_kind other c digest h = absurd (false≢true (sym high ∙ at_other name first (of_name c digest h) (other_kind first.body other)))
-
       first_least : (k : ℕ) (d : Op) → start ≤ k → k < length xs → is_gt (op_cmp first (get_or xs k d)) ≡ false
       first_least k d order within =
           ap (λ (op : Op). is_gt (op_cmp op (get_or xs k d))) (sym (is d)) ∙ elim (cases_lt start k) [
@@ -132,6 +138,19 @@ module _ (xs : List Op) (up : IsStrictlySortedBy op_cmp xs) (name : Name) where
             | inr after ↦
                 let same : start ≡ k = omega arith in
                 ap (λ n. is_gt (op_cmp (get_or xs n d) (get_or xs k d))) same ∙ ap is_gt (tied_itself op_total (get_or xs k d))
+          ]
+
+      pub none_of_kind : ((c : Cap) (digest : Digest) → first.body ≢ MakeLogin c digest) → HasNoLogin (Listed xs) name
+      none_of_kind other c digest h =
+          let same = of_name c digest h in
+          elim (other_kind first.body other c digest) [
+            | inl low ↦ absurd (false≢true (sym high ∙ at_other name first same low))
+            | inr above ↦
+                let tied = ap (λ n. name_cmp n name) same ∙ tied_itself name_total name in
+                let more : is_gt (op_cmp first (login_op name c digest)) ≡ true =
+                ap (λ o. is_gt (ordering_then o (slice_cmp nat_cmp (body_key first.body) (body_key (MakeLogin c digest))))) tied ∙ above in
+                let least = first_least h.0 (login_op name c digest) (login_after c digest h) h.1 in
+                absurd (false≢true (sym least ∙ ap (λ (op : Op). is_gt (op_cmp first op)) h.2 ∙ more))
           ]
 
       pub is_first : (c : Cap) (digest : Digest) → first.name ≡ name → first.body ≡ MakeLogin c digest → IsFirstLogin (Listed xs) name c digest

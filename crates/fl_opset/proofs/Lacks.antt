@@ -70,6 +70,12 @@ front_rises n xs ys near inside front up i j d order within =
     let at : (k : ℕ) → k < near → get_or ys k d ≡ get_or xs k d = λ k here. ap (λ l. get_or l k d) front ∙ get_or-take near xs k d here in
     omega (arith, up i j d order (omega (arith, long)), ap n (at i (omega (arith, long))), ap n (at j (omega (arith, long))))
 
+pub rest_rises : {X : Type 0} (n : X → ℕ) (xs ys : List X) (place : ℕ) → place ≤ length xs → ys ≡ drop place xs → IsNonDecreasingBy n xs → IsNonDecreasingBy n ys
+rest_rises n xs ys place inside rest up i j d order within =
+    let long : length ys ≡ length xs - place = ap length rest ∙ length-drop place xs in
+    let at : (k : ℕ) → get_or ys k d ≡ get_or xs (place + k) d = λ k. ap (λ l. get_or l k d) rest ∙ get_or-drop place xs k d in
+    omega (arith, up (place + i) (place + j) d (omega arith) (omega (arith, long)), ap n (at i), ap n (at j))
+
 -- none behind an item of a list that does not fall is below it
 pub rest_above : {X : Type 0} (n : X → ℕ) (xs : List X) (place low : ℕ) (x : X) → IsNonDecreasingBy n xs → place < length xs → x ≡ get_or xs place x → low ≤ n x → All (λ y. low ≤ n y) (drop place xs)
 rest_above n xs place low x up here is le k d within =

@@ -1,5 +1,5 @@
 -- Operations that rise have ranks that do not fall.
-use Rattle.std.proofs.Common.{◌≡◌, inl, inr, ℕ, ◌+◌, ◌*◌, ◌<◌, ◌≤◌, false, List, get_or, arith}
+use Rattle.std.proofs.Common.{◌≡◌, inl, inr, ℕ, ◌+◌, ◌-◌, ◌*◌, ◌<◌, ◌≤◌, false, List, get_or, arith}
 use Rattle.std.specs.List.Sorted.{IsStrictlySortedBy, IsNonDecreasingBy}
 use Rattle.std.specs.Ordering.{is_gt, nat_cmp, ordering_then}
 use Rattle.std.proofs.lemmas.Bool.{cases_lt}
@@ -26,5 +26,8 @@ two_parts m n i j short le tie = elim (cases_lt m n) [
 -- operations that rise have ranks that do not fall
 pub ranks_rise : (xs : List Op) → IsStrictlySortedBy op_cmp xs → IsNonDecreasingBy op_rank xs
 ranks_rise xs up i j d order within =
-    let h = not_above _ _ _ _ (names_rise op_cmp name_total (λ (op : Op). op.name) by_name xs up i j d order within) in
-    two_parts _ _ _ _ ((get_or xs i d).name.seq_in_range.1) h.0 h.1
+    let a = (get_or xs i d).name in
+    let b = (get_or xs j d).name in
+    let h = not_above a.node b.node a.seq b.seq (names_rise op_cmp name_total (λ (op : Op). op.name) by_name xs up i j d order within) in
+    two_parts (a.node - 1) (b.node - 1) a.seq b.seq a.seq_in_range.1
+    (omega (arith, h.0)) (λ same. h.1 (omega (arith, same, a.node_in_range.0, b.node_in_range.0)))

@@ -9,16 +9,17 @@ use Rattle.hex.specs.Hex.{encode_lower}
 use Rattle.fl_ops.specs.PolicyText.{policy_text}
 use Rattle.fl_ops.specs.declared.digest.Digest.{Digest}
 use Rattle.fl_ops.specs.declared.op.Body.{Body}
-use Rattle.fl_ops.specs.declared.op.Body.TheVariants.{MakeTag, MakeGroup, Put, MakeLogin}
+use Rattle.fl_ops.specs.declared.op.Body.TheVariants.{MakeTag, MakeGroup, Put, MakeLogin, Open}
 use Rattle.fl_ops.specs.declared.op.Op.{Op}
 use Rattle.fl_ops.specs.OpOrder.{op_cmp}
 
--- `tag export`, `group`, `put 1.4 *1.5`, `login *1.5` and the 64 digits of the digest
+-- `tag export`, `group`, `put 1.4 *1.5`, `login *1.5` and the 64 digits of the digest, `open 1.5`
 abbrev pub body_text : Body → List ℕ
 body_text (MakeTag p) = codes "tag " ++ policy_text p
 body_text MakeGroup = codes "group"
 body_text (Put g c) = codes "put " ++ (name_text g ++ 32 ∷ cap_text c)
 body_text (MakeLogin c d) = codes "login " ++ (cap_text c ++ 32 ∷ encode_lower d.bytes)
+body_text (Open g) = codes "open " ++ name_text g
 
 -- `1.1 tag export`, and a line feed
 abbrev pub op_line : Op → List ℕ
@@ -31,6 +32,10 @@ put_line name group cap = op_line (record { name = name; body = Put group cap })
 -- `1.7 login *1.5`, the 64 digits, and a line feed
 abbrev pub login_line : Name → Cap → Digest → List ℕ
 login_line name cap digest = op_line (record { name = name; body = MakeLogin cap digest })
+
+-- `1.8 open 1.5`
+abbrev pub open_line : Name → Name → List ℕ
+open_line name group = op_line (record { name = name; body = Open group })
 
 -- the lines of the members, rising
 abbrev pub registry_text : SetBy op_cmp → List ℕ

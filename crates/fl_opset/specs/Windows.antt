@@ -42,7 +42,7 @@ abbrev pub IsLeastName : Name → Type 0
 IsLeastName n = (n.node ≡ 1) × (n.seq ≡ 1)
 
 abbrev pub IsGreatestName : Name → Type 0
-IsGreatestName n = (n.node ≡ 65535) × (n.seq ≡ 4294967295)
+IsGreatestName n = (n.node ≡ 4294967295) × (n.seq ≡ 4294967295)
 
 -- n follows m, and no name is between them
 abbrev pub IsNextName : Name → Name → Type 0

@@ -13,12 +13,12 @@ const NODE: u64 = 0x1_0000_0000;
 pub fn rank(name: Name) -> u64
     ensures { result ≡ name_rank name }
 {
-    u64::from(name.node) * NODE + u64::from(name.seq)
+    u64::from(name.node - 1) * NODE + u64::from(name.seq)
 }
 
 /// The rank of the last name of a span.
 pub fn last_rank_of(span: &Span) -> u64
     ensures { result ≡ last_rank span.now }
 {
-    u64::from(span.first.node) * NODE + u64::from(span.last)
+    u64::from(span.first.node - 1) * NODE + u64::from(span.last)
 }

@@ -30,7 +30,7 @@ pub fn place_of(ops: &[Op], op: &Op) -> Result<usize, usize>
 }
 
 /// The greatest sequence number of a node, or 0 where it has none.
-pub fn last_seq(ops: &[Op], node: u16) -> u32
+pub fn last_seq(ops: &[Op], node: u32) -> u32
     requires { IsStrictlySortedBy op_cmp ops.now }
     ensures upper { All (λ op. op.name.node ≡ node → op.name.seq ≤ result) ops.now }
     ensures reached { 0 < result
@@ -67,7 +67,7 @@ pub fn has_other(ops: &[Op], op: &Op) -> bool
     false
 }
 
-// The kind of logins, the greatest: they come last among the operations of a name.
+// The kind of logins: among the operations of a name they come before those that open groups alone.
 const LOGIN: u8 = 4;
 
 // Whether the operation stands before all logins of this name.

@@ -104,7 +104,7 @@ impl OpSet {
     }
 
     /// The greatest sequence number of the node's members, or 0 where it has none. A binary search.
-    pub fn last_of(&self, node: u16) -> u32
+    pub fn last_of(&self, node: u32) -> u32
         ensures upper { (op : Op) → In self.now op → op.name.node ≡ node → op.name.seq ≤ result }
         ensures reached { 0 < result
             → (op : Op) × In self.now op × (op.name.node ≡ node) × (op.name.seq ≡ result) }

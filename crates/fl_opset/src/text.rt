@@ -4,7 +4,7 @@ ghost use Rattle.std.specs.List.{flat_map};
 ghost use Rattle.fl_labels.specs.Text.{name_text};
 ghost use Rattle.hex.specs.Hex.{encode_lower};
 ghost use Rattle.fl_sink.specs.Sink.{Puts};
-ghost use Rattle.fl_opset.specs.RegistryText.{op_line, put_line, login_line};
+ghost use Rattle.fl_opset.specs.RegistryText.{op_line, put_line, login_line, open_line};
 
 use fl_labels::cap::Cap;
 use fl_labels::name::{Group, Name};
@@ -107,6 +107,32 @@ fn write_login<W: Writer>(
     sink.put_all(output, &pieces)
 }
 
+// `1.8 open 1.5`, and a line feed.
+fn write_open<W: Writer>(
+    name: Name,
+    group: Group,
+    sink: &mut Sink,
+    output: &mut W,
+) -> Result<(), WriteFault>
+    ensures puts { let text = open_line name group in
+        Puts (W.contents output.old) (W.contents output.new) sink.old text sink.new result }
+    ensures cause { OnErr result (W.has_failed output.new) }
+{
+    let (mut node, mut seq) = (Buffer::new(), Buffer::new());
+    let (mut group_node, mut group_seq) = (Buffer::new(), Buffer::new());
+    let pieces = [
+        node.format(name.node).as_bytes(),
+        b".",
+        seq.format(name.seq).as_bytes(),
+        b" open ",
+        group_node.format(group.node).as_bytes(),
+        b".",
+        group_seq.format(group.seq).as_bytes(),
+        b"\n",
+    ];
+    sink.put_all(output, &pieces)
+}
+
 // The line of an operation.
 fn write_line<W: Writer>(op: &Op, sink: &mut Sink, output: &mut W) -> Result<(), WriteFault>
     ensures puts { let text = op_line op.now in
@@ -120,6 +146,7 @@ fn write_line<W: Writer>(op: &Op, sink: &mut Sink, output: &mut W) -> Result<(),
         Body::MakeGroup => write_words(op.name, b" group", b"", sink, output),
         Body::Put(group, cap) => write_put(op.name, group, cap, sink, output),
         Body::MakeLogin(cap, digest) => write_login(op.name, cap, &digest, sink, output),
+        Body::Open(group) => write_open(op.name, group, sink, output),
     }
 }
 

@@ -21,7 +21,7 @@ fn greatest_name() -> Name
     ensures { IsGreatestName result }
 {
     Name {
-        node: u16::MAX,
+        node: u32::MAX,
         seq: u32::MAX,
     }
 }

@@ -30,20 +30,24 @@ parts_next m n i j short some small low high = (omega arith, omega arith)
 
 pub rank_exact : (a b : Name) → name_rank a ≡ name_rank b → a ≡ b
 rank_exact a b h =
-    let p = parts_same a.node b.node a.seq b.seq a.seq_in_range.1 b.seq_in_range.1 h in
-    same_name a b p.0 p.1
+    let p = parts_same (a.node - 1) (b.node - 1) a.seq b.seq a.seq_in_range.1 b.seq_in_range.1 h in
+    same_name a b (omega (arith, p.0, a.node_in_range.0, b.node_in_range.0)) p.1
 
 less_parts : (m n i j : ℕ) → (m < n) ⊎ ((m ≡ n) × (i < j)) → ordering_then (nat_cmp m n) (nat_cmp i j) ≡ Less
 less_parts m n i j (inl h) = grind (arith, nat_tests)
 less_parts m n i j (inr h) = let a = h.0 in let b = h.1 in grind (arith, nat_tests)
 
 pub rank_less : (a b : Name) → name_rank a < name_rank b → name_cmp a b ≡ Less
-rank_less a b h = less_parts a.node b.node a.seq b.seq (parts_less a.node b.node a.seq b.seq b.seq_in_range.1 h)
+rank_less a b h =
+    less_parts a.node b.node a.seq b.seq (elim (parts_less (a.node - 1) (b.node - 1) a.seq b.seq b.seq_in_range.1 h) [
+      | inl less ↦ inl (omega arith)
+      | inr same ↦ inr (omega (arith, same.0, a.node_in_range.0, b.node_in_range.0), same.1)
+    ])
 
 pub same_span : (s t : Span) → name_rank s.first ≡ name_rank t.first → last_rank s ≡ last_rank t → s ≡ t
 same_span s t p q =
     let first = rank_exact s.first t.first p in
-    let last = parts_same s.first.node t.first.node s.last t.last s.last_in_range t.last_in_range q in
+    let last = parts_same (s.first.node - 1) (t.first.node - 1) s.last t.last s.last_in_range t.last_in_range q in
     let parts : ◌≡◌ {A = (f : Name × ℕ) × ((f.0.seq ≤ f.1) × (f.1 < 2 ^ 32))} ((s.first, s.last), (s.rises, s.last_in_range)) ((t.first, t.last), (t.rises, t.last_in_range)) = Σ_prop_path (λ f. ×_prop le_prop le_prop) (λ i. (first i, last.1 i)) in
     λ i. record { first = (parts i).0.0; last = (parts i).0.1; rises = (parts i).1.0; last_in_range = (parts i).1.1 }
 
