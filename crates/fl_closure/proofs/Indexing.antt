@@ -9,6 +9,7 @@ use Rattle.std.proofs.lemmas.List.{take_more}
 use Rattle.std.proofs.lemmas.List.Elements.{Contains-get_or, Contains-append_cases}
 use Rattle.fl_labels.specs.Cap.{cap_cmp, is_use}
 use Rattle.fl_labels.specs.CapOrder.{cap_total, cap_exact}
+use Rattle.fl_labels.specs.Caps.{Caps}
 use Rattle.fl_labels.specs.Found.{Tells}
 use Rattle.fl_labels.specs.SetBy as set
 use Rattle.fl_labels.specs.SetBy.{SetBy, In, IsMissing, members, contains-empty, contains-insert, contains-union, contains-of_list, contains-members, same_set}
@@ -18,26 +19,30 @@ use Rattle.fl_labels.specs.declared.cap.Cap.TheVariants.{Plus, Minus, Use, Grow}
 use Rattle.fl_labels.specs.Uses.{AreUsesOf}
 use Rattle.fl_labels.specs.laws.Rising.{insert_member}
 use Rattle.fl_ops.specs.declared.op.Op.{Op}
+use Rattle.fl_ops.specs.declared.op.Body.{Body}
+use Rattle.fl_ops.specs.declared.op.Body.TheVariants.{MakeTag, MakeGroup, Put, MakeLogin, Open}
 use Rattle.fl_ops.specs.OpOrder.{op_cmp}
 use Rattle.fl_ops.specs.OpLaws.{op_total, op_exact}
-use Rattle.fl_ops.specs.Registry.{Registry, Reach, From, IsGlobal, InEffect}
-use Rattle.fl_ops.specs.laws.Reaching.{from_chain, chain_from, owned_eff}
+use Rattle.fl_ops.specs.Registry.{Registry, Chain, here, into, Reach, From, open_op, IsOpened, IsGlobal, WithGlobal, InEffect}
+use Rattle.fl_ops.specs.laws.Reaching.{from_chain, chain_from, owned_eff, global_eff}
 use Rattle.fl_closure.specs.declared.rows.Rows.{Rows}
+use Rattle.fl_closure.specs.declared.rows.Owner.{Owner}
+use Rattle.fl_closure.specs.declared.rows.Owner.TheVariants.{Everybody}
 use Rattle.fl_closure.specs.declared.closed.Entry.{Entry}
 use Rattle.fl_closure.specs.parts.Rows.{Holds, IsSameRows}
-use Rattle.fl_closure.specs.parts.Closed.{AreClosed, Leads, With, ClosesWith}
+use Rattle.fl_closure.specs.parts.Closed.{OpensUse, IsGiven, AreClosed, Leads, With, ClosesWith, IsTag}
 use Rattle.fl_closure.specs.parts.Noted.{Gains, Loses}
 use Rattle.fl_closure.proofs.Members.{none, one, first, in_all, any_has, has_any, in_has, has_in}
 use Rattle.fl_closure.proofs.Noting.{taken_back}
-use Rattle.fl_closure.proofs.Growing.{same_puts, leads_chain, chain_leads}
+use Rattle.fl_closure.proofs.Growing.{same_gifts, leads_chain, chain_leads}
 use Rattle.fl_closure.proofs.Leading.{told, told_yes}
 
 -- the same operations
 same_ops : {U V : Registry} {rows : Rows} → ((op : Op) → U op ↔ V op) → AreClosed U rows → AreClosed V rows
-same_ops same closed = same_puts (λ op. (same op).0) (λ h x p. (p.0, (same p.0).1 p.1, p.2)) closed
+same_ops same closed = same_gifts (λ op. (same op).0) (λ h x p. (p.0, (same p.0).1 p.1, p.2)) closed
 
 pub closed_nothing : (ops : SetBy op_cmp) (rows : Rows) → ops ≡ set.empty
-    → ((group : Name) (c : Cap) → ¬ Holds rows group c) → AreClosed (In ops) rows
+    → ((owner : Owner) (c : Cap) → ¬ Holds rows owner c) → AreClosed (In ops) rows
 closed_nothing ops rows e nothing = record {
   way = λ group c. (
     λ h. absurd (nothing group c h),
@@ -176,28 +181,77 @@ leading_used owned uses rows are_uses (Plus tag) c there other (inr h) = absurd 
 leading_used owned uses rows are_uses (Minus tag) c there other (inr h) = absurd h
 leading_used owned uses rows are_uses (Grow group) c there other (inr h) = absurd h
 
+-- ---- what everybody has
+
+tag_global : (U : Registry) (c : Cap) → IsTag U c → IsGlobal U c
+tag_global U (Plus tag) g = g
+tag_global U (Minus tag) g = g
+tag_global U (Use group) g = absurd g
+tag_global U (Grow group) g = absurd g
+
+-- c is the use of an opened group, as the registry says it, and as it is given
+opened_given : (U : Registry) (group : Name) → IsOpened U group → IsGiven U Everybody (Use group)
+opened_given U group h = (open_op h.0 group, h.1, refl)
+
+given_global : (U : Registry) (c : Cap) → IsGiven U Everybody c → IsGlobal U c
+given_global U c (op, u, opens) = go op.body refl opens
+  where
+    go : (body : Body) → op.body ≡ body → OpensUse body c → IsGlobal U c
+    go (Open group) is e =
+        subst (IsGlobal U) (sym e) (op.name, subst (λ b. U (record { name = op.name; body = b })) is u)
+    go (MakeTag policy) is e = absurd e
+    go MakeGroup is e = absurd e
+    go (Put g d) is e = absurd e
+    go (MakeLogin d digest) is e = absurd e
+
+-- what everybody has leads to everybody's row, and to tags alone
+tag_leads : {U : Registry} {a c : Cap} → Chain U a c → IsTag U a → IsTag U c
+tag_leads here g = g
+tag_leads (into u p rest) g = absurd g
+
+global_leads : (U : Registry) (rows : Rows) → AreClosed U rows → (a c : Cap) → IsGlobal U a → Chain U a c
+    → IsTag U c ⊎ Holds rows Everybody c
+global_leads U rows closed (Plus tag) c g way = inl (tag_leads way g)
+global_leads U rows closed (Minus tag) c g way = inl (tag_leads way g)
+global_leads U rows closed (Use group) c g way = inr ((closed.way Everybody c).1 (Use group, opened_given U group g, way))
+global_leads U rows closed (Grow group) c g way = absurd g
+
+row_reached : (U : Registry) (rows : Rows) → AreClosed U rows → (owned : Caps) (c : Cap) → Holds rows Everybody c → InEffect U owned c
+row_reached U rows closed owned c h =
+    let w = (closed.way Everybody c).0 h in
+    (w.0, inr (given_global U w.0 w.1), w.2)
+
 module _ (s : SetBy op_cmp) (owned : SetBy cap_cmp) (c : Cap) where
   pub told_owned : In owned c → Tells true (InEffect (In s) (In owned) c)
   told_owned h = told_yes (owned_eff c h)
 
-  pub told_global : IsGlobal (In s) c → Tells true (InEffect (In s) (In owned) c)
-  told_global g = told_yes (inr g)
+  pub told_tag : IsTag (In s) c → Tells true (InEffect (In s) (In owned) c)
+  told_tag g = told_yes (global_eff c (tag_global (In s) c g))
+
+  pub told_row : (inside : SetBy op_cmp) (rows : Rows) → inside ≡ s → AreClosed (In inside) rows → Holds rows Everybody c
+      → Tells true (InEffect (In s) (In owned) c)
+  told_row inside rows view as_kept h =
+      told_yes (row_reached (In s) rows (subst (λ o. AreClosed (In o) rows) view as_kept) (In owned) c h)
 
   -- what is neither owned nor everybody's
   pub told_led : (inside : SetBy op_cmp) (rows : Rows) (uses : List Cap) (b : Bool) → inside ≡ s
       → AreClosed (In inside) rows → AreUsesOf owned uses
-      → set.contains owned c ≡ false → ¬ IsGlobal (In s) c
+      → set.contains owned c ≡ false → ¬ IsTag (In s) c → ¬ Holds rows Everybody c
       → Tells b ((root : Cap) × Contains uses root × Leads rows root c) → Tells b (InEffect (In s) (In owned) c)
-  told_led inside rows uses b view as_kept are_uses lacking not_global t = told b to from t
+  told_led inside rows uses b view as_kept are_uses lacking no_tag no_row t = told b to (λ h. from h.0 h.1 h.2) t
     where
       closed : AreClosed (In s) rows
       closed = subst (λ o. AreClosed (In o) rows) view as_kept
 
       to : (root : Cap) × Contains uses root × Leads rows root c → InEffect (In s) (In owned) c
-      to h = inl (h.0, used_owned owned uses are_uses h.0 h.1, leads_chain closed h.0 c h.2)
+      to h = (h.0, inl (used_owned owned uses are_uses h.0 h.1), leads_chain closed h.0 c h.2)
 
-      from : InEffect (In s) (In owned) c → (root : Cap) × Contains uses root × Leads rows root c
-      from (inl r) =
-          let led = chain_leads closed r.2 in
-          (r.0, leading_used owned uses rows are_uses r.0 c r.1 (λ e. false≢true (sym lacking ∙ subst (In owned) (sym e) r.1)) led, led)
-      from (inr g) = absurd (not_global g)
+      nobodys : IsTag (In s) c ⊎ Holds rows Everybody c → ⊥
+      nobodys (inl tag) = no_tag tag
+      nobodys (inr row) = no_row row
+
+      from : (a : Cap) → WithGlobal (In s) (In owned) a → Chain (In s) a c → (root : Cap) × Contains uses root × Leads rows root c
+      from a (inl there) way =
+          let led = chain_leads closed way in
+          (a, leading_used owned uses rows are_uses a c there (λ e. false≢true (sym lacking ∙ subst (In owned) (sym e) there)) led, led)
+      from a (inr g) way = absurd (nobodys (global_leads (In s) rows closed a c g way))

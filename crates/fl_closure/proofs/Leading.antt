@@ -14,6 +14,7 @@ use Rattle.fl_labels.specs.declared.cap.Cap.{Cap}
 use Rattle.fl_labels.specs.declared.cap.Cap.TheVariants.{Use}
 use Rattle.fl_labels.specs.declared.name.Name.{Name}
 use Rattle.fl_closure.specs.declared.rows.Rows.{Rows}
+use Rattle.fl_closure.specs.declared.rows.Owner.TheVariants.{Group}
 use Rattle.fl_closure.specs.parts.Rows.{Holds}
 use Rattle.fl_closure.specs.parts.Closed.{Behind, Leads, IsAbove, AreMirrored}
 use Rattle.fl_closure.proofs.Members.{none, one, first, in_all}
@@ -73,19 +74,22 @@ led rows root behind is c = (
   λ h. elim h [ inl e ↦ first behind (sym e) | inr m ↦ Contains-append_right (root ∷ []) behind c ((is c).1 m) ],
 )
 
+same_group : {a b : Name} → Group a ≡ Group b → a ≡ b
+same_group e = cc
+
 -- the use of a group and its users
 pub all_above : (rows reached users : Rows) (group : Name) (none start now : List Cap) → AreMirrored reached users
     → reached ≡ rows → none ≡ [] → start ≡ none ++ Use group ∷ []
-    → ((c : Cap) → Contains now c ↔ (Contains start c ⊎ Holds users group c))
-    → (user : Name) → Contains now (Use user) ↔ IsAbove rows group user
+    → ((c : Cap) → Contains now c ↔ (Contains start c ⊎ Holds users (Group group) c))
+    → (user : Name) → Contains now (Use user) ↔ IsAbove rows (Group group) (Group user)
 all_above rows reached users group none start now mirrored view empty began pushed user =
     let is = alone none start (Use group) empty began in (
       λ h. elim ((pushed (Use user)).0 h) [
-        | inl m ↦ inl (ap cap_name (sym (only start (Use group) is (Use user) m)))
-        | inr m ↦ inr (subst (λ r. Holds r user (Use group)) view ((mirrored.used user group).0 m))
+        | inl m ↦ inl (ap Group (ap cap_name (sym (only start (Use group) is (Use user) m))))
+        | inr m ↦ inr (subst (λ r. Holds r (Group user) (Use group)) view ((mirrored.used user group).0 m))
       ],
       λ h. (pushed (Use user)).1 (elim h [
-        | inl e ↦ inl (it_is start (Use group) is (Use user) (ap Use (sym e)))
-        | inr m ↦ inr ((mirrored.used user group).1 (subst (λ r. Holds r user (Use group)) (sym view) m))
+        | inl e ↦ inl (it_is start (Use group) is (Use user) (ap Use (sym (same_group e))))
+        | inr m ↦ inr ((mirrored.used user group).1 (subst (λ r. Holds r (Group user) (Use group)) (sym view) m))
       ]),
     )

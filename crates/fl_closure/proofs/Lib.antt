@@ -8,3 +8,4 @@ mod Adding
 mod Closing
 mod Indexing
 mod Looks
+mod Mirroring

@@ -14,17 +14,18 @@ use Rattle.fl_labels.specs.declared.name.Name.{Name}
 use Rattle.fl_labels.specs.declared.cap.Cap.{Cap}
 use Rattle.fl_labels.specs.declared.cap.Cap.TheVariants.{Plus, Minus, Use, Grow}
 use Rattle.fl_closure.specs.declared.rows.Rows.{Rows}
+use Rattle.fl_closure.specs.declared.rows.Owner.TheVariants.{Everybody, Group}
 use Rattle.fl_closure.specs.parts.Rows.{row_has, Holds, listed, row_caps}
 use Rattle.fl_closure.specs.parts.Closed.{Behind}
 use Rattle.fl_closure.proofs.Members.{none, any_has, has_any}
 
 -- a row as the code walks it, after what was there and has room now
 pub row_pushed : (rows : Rows) (name : Name) (old roomy now keys left : List Cap) (row : BTreeSet Cap)
-    → left ≡ [] → roomy ≡ old → now ++ left ≡ roomy ++ keys → keys ≡ row.keys → Some row ≡ get name_cmp rows.rows name
-    → (c : Cap) → Contains now c ↔ (Contains old c ⊎ Holds rows name c)
+    → left ≡ [] → roomy ≡ old → now ++ left ≡ roomy ++ keys → keys ≡ row.keys → Some row ≡ get name_cmp rows.groups name
+    → (c : Cap) → Contains now c ↔ (Contains old c ⊎ Holds rows (Group name) c)
 row_pushed rows name old roomy now keys left row done kept same is there c =
     let whole : now ≡ old ++ row.keys = sym (append-nil now) ∙ ap (λ l. now ++ l) (sym done) ∙ same ∙ (λ i. kept i ++ is i) in
-    let held : contains cap_cmp row c ≡ row_has (get name_cmp rows.rows name) c = ap (λ r. row_has r c) there in (
+    let held : contains cap_cmp row c ≡ row_has (get name_cmp rows.groups name) c = ap (λ r. row_has r c) there in (
       λ h. elim (Contains-append_cases old row.keys c (subst (λ l. Contains l c) whole h)) [
         | inl m ↦ inl m
         | inr m ↦ inr (sym held ∙ has_any cap_total cap_exact row.keys c m)
@@ -45,9 +46,9 @@ pub row_behind : {E : Type 0} (rows inside : Rows) (root : Cap) (group : Name) (
     → inside ≡ rows → IfOk r (λ row. row.keys ≡ row_caps inside group)
     → IfOk r (λ caps. (c : Cap) → Contains caps.keys c ↔ Behind rows root c)
 row_behind rows inside root group (Ok row) is view same = λ c.
-    let held = listed_has (get name_cmp inside.rows group) c in (
-      λ h. subst (λ b. Behind rows b c) (sym is) (subst (λ r. Holds r group c) view (held.0 (subst (λ l. Contains l c) same h))),
-      λ h. subst (λ l. Contains l c) (sym same) (held.1 (subst (λ r. Holds r group c) (sym view) (subst (λ b. Behind rows b c) is h))),
+    let held = listed_has (get name_cmp inside.groups group) c in (
+      λ h. subst (λ b. Behind rows b c) (sym is) (subst (λ r. Holds r (Group group) c) view (held.0 (subst (λ l. Contains l c) same h))),
+      λ h. subst (λ l. Contains l c) (sym same) (held.1 (subst (λ r. Holds r (Group group) c) (sym view) (subst (λ b. Behind rows b c) is h))),
     )
 row_behind rows inside root group (Err e) is view same = tt
 
@@ -76,15 +77,25 @@ beside false b h n = absurd (false≢true h)
 
 -- what a set has and the row lacks
 pub lacks : (rows : Rows) (name : Name) (caps row : BTreeSet Cap) (items : List Cap) → IsDifference cap_cmp caps row items
-    → Some row ≡ get name_cmp rows.rows name
-    → (c : Cap) → Contains items c ↔ (Contains caps.keys c × ¬ Holds rows name c)
+    → Some row ≡ get name_cmp rows.groups name
+    → (c : Cap) → Contains items c ↔ (Contains caps.keys c × ¬ Holds rows (Group name) c)
 lacks rows name caps row items is there c =
-    let held : contains cap_cmp row c ≡ row_has (get name_cmp rows.rows name) c = ap (λ r. row_has r c) there in (
+    let held : contains cap_cmp row c ≡ row_has (get name_cmp rows.groups name) c = ap (λ r. row_has r c) there in (
       λ h.
           let two = apart (contains cap_cmp caps c) (contains cap_cmp row c) (sym (is c) ∙ has_any cap_total cap_exact items c h) in
           (any_has cap_total cap_exact caps.keys c two.0, λ m. two.1 (held ∙ m)),
       λ h. any_has cap_total cap_exact items c (is c ∙ beside (contains cap_cmp caps c) (contains cap_cmp row c) (has_any cap_total cap_exact caps.keys c h.0) (λ m. h.1 (sym held ∙ m))),
     )
+
+-- and what everybody's row does
+pub lacks_all : (rows : Rows) (caps : BTreeSet Cap) (items : List Cap) → IsDifference cap_cmp caps rows.everybody items
+    → (c : Cap) → Contains items c ↔ (Contains caps.keys c × ¬ Holds rows Everybody c)
+lacks_all rows caps items is c = (
+  λ h.
+      let two = apart (contains cap_cmp caps c) (contains cap_cmp rows.everybody c) (sym (is c) ∙ has_any cap_total cap_exact items c h) in
+      (any_has cap_total cap_exact caps.keys c two.0, two.1),
+  λ h. any_has cap_total cap_exact items c (is c ∙ beside (contains cap_cmp caps c) (contains cap_cmp rows.everybody c) (has_any cap_total cap_exact caps.keys c h.0) h.1),
+)
 
 pub if_ok : {A E : Type 0} {P Q : A → Type 0} (r : Result A E) → ((a : A) → P a → Q a) → IfOk r P → IfOk r Q
 if_ok (Ok a) to p = to a p

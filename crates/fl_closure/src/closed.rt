@@ -1,15 +1,17 @@
-//! What each group reaches, and who reaches the use of it.
+//! What each group reaches and what everybody does, and who reaches the use of a group.
 ghost use Rattle.std.specs.Prelude.{◌≡◌, ◌↔◌, ◌∷◌, IfOk, OnOk, OnErr, [], not};
 ghost use Rattle.std.specs.List.{Contains};
 ghost use Rattle.fl_labels.specs.Found.{Tells};
 ghost use Rattle.fl_labels.specs.declared.name.Name.{Name};
+ghost use Rattle.fl_closure.specs.declared.rows.Owner.{Owner};
+ghost use Rattle.fl_closure.specs.declared.rows.Owner.TheVariants.{Everybody, Group};
 ghost use Rattle.fl_labels.specs.declared.cap.Cap.{Cap};
 ghost use Rattle.fl_labels.specs.declared.cap.Cap.TheVariants.{Use};
 ghost use Rattle.fl_closure.specs.parts.Rows.{has, Holds, Adds, Takes, IsSameRows};
-ghost use Rattle.fl_closure.specs.parts.Closed.{Behind, Leads, IsAbove, AreTransitive, AddsAll, AddsToEach, IsFirstOf, Renews, ClosesWith};
+ghost use Rattle.fl_closure.specs.parts.Closed.{Behind, Leads, IsAbove, AreTransitive, AddsAll, AddsToEach, AddsAbove, IsFirstOf, Renews, ClosesWith};
 ghost use Rattle.fl_closure.specs.parts.Noted.{Gains, Loses, Notes};
 
-use crate::rows::Rows;
+use crate::rows::{Owner, Rows};
 use fl_labels::cap::Cap;
 use fl_labels::name::Name;
 use fl_ops::op::{Body, Op};
@@ -17,14 +19,14 @@ use std::alloc::{AllocError, Global};
 use std::collections::BTreeSet;
 use std::marker::Model;
 
-/// A capability in the row of a group.
+/// A capability in a row.
 #[derive(Clone, Copy, Debug)]
 pub struct Entry {
-    pub group: Name,
+    pub owner: Owner,
     pub cap: Cap,
 }
 
-/// For each group what it reaches, and the groups that reach the use of it.
+/// For each group what it reaches, and the groups that reach the use of it; and what everybody reaches.
 #[derive(Debug, Drop)]
 pub struct ClosedRows {
     reached: Rows,
@@ -50,13 +52,20 @@ impl Model for ClosedRows {
 impl ClosedRows {
     /// No group reaches anything. Takes no memory.
     pub fn new(alloc: Global) -> Self
-        ensures { (group : Name) (c : Cap) → ¬ Holds result group c }
+        ensures { (owner : Owner) (c : Cap) → ¬ Holds result owner c }
     {
         ClosedRows {
             reached: Rows::new(alloc),
             users: Rows::new(alloc),
             alloc,
         }
+    }
+
+    /// Whether everybody reaches the capability. One search by order.
+    pub fn is_everybodys(&self, cap: Cap) -> bool
+        ensures { Tells result (Holds self.now Everybody cap) }
+    {
+        self.reached.has(Owner::Everybody, cap)
     }
 
     /// Whether the one capability leads to the other: it is the same one, or the use of a group that reaches it. Two searches by
@@ -68,7 +77,7 @@ impl ClosedRows {
             return true;
         }
         match root {
-            Cap::Use(group) => self.reached.has(group, cap),
+            Cap::Use(group) => self.reached.group_has(group, cap),
             Cap::Plus(_) | Cap::Minus(_) | Cap::Grow(_) => false,
         }
     }
@@ -86,32 +95,38 @@ impl ClosedRows {
         false
     }
 
-    // Adds a capability to the row of the group, and answers whether it is new there. An error leaves the rows.
-    fn add(&mut self, group: Name, cap: Cap) -> Result<bool, AllocError>
-        ensures ok { OnOk result (Adds self.old group cap self.new) }
-        ensures new { IfOk result (λ new. new ≡ not (has self.old group cap)) }
+    // Adds a capability to the owner's row, and answers whether it is new there. An error leaves the rows.
+    fn add(&mut self, owner: Owner, cap: Cap) -> Result<bool, AllocError>
+        ensures ok { OnOk result (Adds self.old owner cap self.new) }
+        ensures new { IfOk result (λ new. new ≡ not (has self.old owner cap)) }
         ensures err { OnErr result (IsSameRows self.old self.new) }
     {
-        if !self.reached.add(group, cap)? {
+        if !self.reached.add(owner, cap)? {
             return Ok(false);
         }
+        let Owner::Group(group) = owner else {
+            return Ok(true);
+        };
         let Cap::Use(used) = cap else {
             return Ok(true);
         };
-        if let Err(error) = self.users.add(used, Cap::Use(group)) {
-            self.reached.take(group, cap);
+        if let Err(error) = self.users.add(Owner::Group(used), Cap::Use(group)) {
+            self.reached.take(owner, cap);
             return Err(error);
         }
         Ok(true)
     }
 
-    // Takes a capability out of the row of the group. Takes no memory.
-    fn take(&mut self, group: Name, cap: Cap)
-        ensures { Takes self.old group cap self.new }
+    // Takes a capability out of the owner's row. Takes no memory.
+    fn take(&mut self, owner: Owner, cap: Cap)
+        ensures { Takes self.old owner cap self.new }
     {
-        self.reached.take(group, cap);
+        self.reached.take(owner, cap);
+        let Owner::Group(group) = owner else {
+            return;
+        };
         if let Cap::Use(used) = cap {
-            self.users.take(used, Cap::Use(group));
+            self.users.take(Owner::Group(used), Cap::Use(group));
         }
     }
 
@@ -128,7 +143,7 @@ impl ClosedRows {
     // The use of the group, and of each that reaches it.
     fn above(&self, group: Name) -> Result<Vec<Cap>, AllocError>
         ensures { IfOk result (λ uses. (user : Name) →
-            Contains uses.items (Use user) ↔ IsAbove self.now group user) }
+            Contains uses.items (Use user) ↔ IsAbove self.now (Group group) (Group user)) }
     {
         let mut uses = Vec::new(self.alloc);
         uses.push(Cap::Use(group))?;
@@ -136,31 +151,31 @@ impl ClosedRows {
         Ok(uses)
     }
 
-    // Adds a capability to the row of the group, and notes it if it is new there.
-    fn note(&mut self, group: Name, cap: Cap, news: &mut Vec<Entry>) -> Result<(), AllocError>
-        ensures ok { OnOk result (Adds self.old group cap self.new) }
+    // Adds a capability to the owner's row, and notes it if it is new there.
+    fn note(&mut self, owner: Owner, cap: Cap, news: &mut Vec<Entry>) -> Result<(), AllocError>
+        ensures ok { OnOk result (Adds self.old owner cap self.new) }
         ensures news { Notes news.old.items self.old news.new.items self.new }
     {
         news.try_reserve(1)?;
-        if self.add(group, cap)? {
-            news.push(Entry { group, cap })?;
+        if self.add(owner, cap)? {
+            news.push(Entry { owner, cap })?;
         }
         Ok(())
     }
 
-    // Adds capabilities to the row of the group, and notes what is new there.
+    // Adds capabilities to the owner's row, and notes what is new there.
     fn note_all(
         &mut self,
-        group: Name,
+        owner: Owner,
         caps: &BTreeSet<Cap>,
         news: &mut Vec<Entry>,
     ) -> Result<(), AllocError>
-        ensures ok { OnOk result (AddsAll self.old group caps.now.keys self.new) }
+        ensures ok { OnOk result (AddsAll self.old owner caps.now.keys self.new) }
         ensures news { Notes news.old.items self.old news.new.items self.new }
     {
-        let lacking = self.reached.lacking(group, caps)?;
+        let lacking = self.reached.lacking(owner, caps)?;
         for cap in &lacking {
-            self.note(group, *cap, news)?;
+            self.note(owner, *cap, news)?;
         }
         Ok(())
     }
@@ -168,20 +183,20 @@ impl ClosedRows {
     // The same of a capability and of what is behind it, where a row that has it has all of these: it is looked at alone then.
     fn note_from(
         &mut self,
-        group: Name,
+        owner: Owner,
         first: Cap,
         behind: &BTreeSet<Cap>,
         news: &mut Vec<Entry>,
     ) -> Result<(), AllocError>
         requires { IsFirstOf self.old first behind.now.keys }
-        ensures ok { OnOk result (AddsAll self.old group (first ∷ behind.now.keys) self.new) }
+        ensures ok { OnOk result (AddsAll self.old owner (first ∷ behind.now.keys) self.new) }
         ensures news { Notes news.old.items self.old news.new.items self.new }
     {
-        if self.reached.has(group, first) {
+        if self.reached.has(owner, first) {
             return Ok(());
         }
-        self.note(group, first, news)?;
-        self.note_all(group, behind, news)
+        self.note(owner, first, news)?;
+        self.note_all(owner, behind, news)
     }
 
     // The same to the row of each group that is used here.
@@ -198,36 +213,60 @@ impl ClosedRows {
     {
         for user in uses {
             if let Cap::Use(group) = *user {
-                self.note_from(group, first, behind, news)?;
+                self.note_from(Owner::Group(group), first, behind, news)?;
             }
         }
         Ok(())
     }
 
-    // Puts a capability into a group, and notes what that adds to the rows.
-    fn put(&mut self, group: Name, cap: Cap, news: &mut Vec<Entry>) -> Result<(), AllocError>
-        requires { AreTransitive self.old }
-        ensures ok { OnOk result (Renews self.old group cap self.new) }
+    // The same to the row of the group, and of each that reaches the use of it: everybody too, where everybody does.
+    fn note_above(
+        &mut self,
+        group: Name,
+        first: Cap,
+        behind: &BTreeSet<Cap>,
+        news: &mut Vec<Entry>,
+    ) -> Result<(), AllocError>
+        requires { IsFirstOf self.old first behind.now.keys }
+        ensures ok { OnOk result (AddsAbove self.old (Group group) (first ∷ behind.now.keys) self.new) }
         ensures news { Notes news.old.items self.old news.new.items self.new }
     {
-        if self.reached.has(group, cap) {
+        let uses = self.above(group)?;
+        if !self.is_everybodys(Cap::Use(group)) {
+            return self.note_each(&uses, first, behind, news);
+        }
+        self.note_each(&uses, first, behind, news)?;
+        self.note_from(Owner::Everybody, first, behind, news)
+    }
+
+    // Gives a capability to the owner, and notes what that adds to the rows.
+    fn give(&mut self, owner: Owner, cap: Cap, news: &mut Vec<Entry>) -> Result<(), AllocError>
+        requires { AreTransitive self.old }
+        ensures ok { OnOk result (Renews self.old owner cap self.new) }
+        ensures news { Notes news.old.items self.old news.new.items self.new }
+    {
+        if self.reached.has(owner, cap) {
             return Ok(());
         }
         let behind = self.behind(cap)?;
-        let uses = self.above(group)?;
-        self.note_each(&uses, cap, &behind, news)
+        match owner {
+            Owner::Group(group) => self.note_above(group, cap, &behind, news),
+            Owner::Everybody => self.note_from(Owner::Everybody, cap, &behind, news),
+        }
     }
 
-    /// Puts what the operations put, and notes what that adds to the rows: after an error too, so that it can be taken out again.
-    pub fn put_all(&mut self, ops: &[Op], news: &mut Vec<Entry>) -> Result<(), AllocError>
+    /// Gives what the operations put and open, and notes what that adds to the rows: after an error too, so that it can be taken out again.
+    pub fn give_all(&mut self, ops: &[Op], news: &mut Vec<Entry>) -> Result<(), AllocError>
         requires transitive { AreTransitive self.old }
         requires none { news.old.items ≡ [] }
         ensures ok { OnOk result (ClosesWith self.old ops.now self.new) }
         ensures news { Gains self.old news.new.items self.new }
     {
         for op in ops {
-            if let Body::Put(group, cap) = op.body {
-                self.put(group, cap, news)?;
+            match op.body {
+                Body::Put(group, cap) => self.give(Owner::Group(group), cap, news)?,
+                Body::Open(group) => self.give(Owner::Everybody, Cap::Use(group), news)?,
+                _ => (),
             }
         }
         Ok(())
@@ -238,7 +277,7 @@ impl ClosedRows {
         ensures { Loses self.old entries.now self.new }
     {
         for entry in entries {
-            self.take(entry.group, entry.cap);
+            self.take(entry.owner, entry.cap);
         }
     }
 }

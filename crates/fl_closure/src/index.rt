@@ -8,7 +8,8 @@ ghost use Rattle.fl_ops.specs.declared.op.Op.{Op};
 ghost use Rattle.fl_ops.specs.OpOrder.{op_cmp};
 ghost use Rattle.fl_ops.specs.Logins.{FindsLogin};
 ghost use Rattle.fl_ops.specs.Registry as spec;
-ghost use Rattle.fl_ops.specs.Registry.{Reach, From, IsGlobal, InEffect};
+ghost use Rattle.fl_ops.specs.Registry.{Reach, From, InEffect};
+ghost use Rattle.fl_closure.specs.parts.Closed.{IsTag};
 
 use crate::closed::ClosedRows;
 use fl_labels::cap::Cap;
@@ -120,7 +121,7 @@ impl Index {
             return Ok(());
         }
         let mut news = Vec::new(self.alloc);
-        if let Err(error) = self.rows.put_all(&[*op], &mut news) {
+        if let Err(error) = self.rows.give_all(&[*op], &mut news) {
             self.rows.take_all(&news);
             return Err(error);
         }
@@ -144,7 +145,7 @@ impl Index {
             return Ok(());
         }
         let mut news = Vec::new(alloc);
-        if let Err(error) = self.rows.put_all(ops.as_slice(), &mut news) {
+        if let Err(error) = self.rows.give_all(ops.as_slice(), &mut news) {
             self.rows.take_all(&news);
             return Err(error);
         }
@@ -163,9 +164,9 @@ impl Index {
         self.rows.leads(root, cap)
     }
 
-    /// Whether everybody has the capability: to add an export tag, or to remove an integrity tag. A binary search; takes no memory.
-    pub fn global(&self, cap: Cap) -> bool
-        ensures { Tells result (IsGlobal (In self.now) cap) }
+    // Whether everybody has the capability of a tag: to add an export tag, or to remove an integrity tag.
+    fn has_tag(&self, cap: Cap) -> bool
+        ensures { Tells result (IsTag (In self.now) cap) }
     {
         match cap {
             Cap::Plus(tag) => self.ops.contains(&tag_op(tag, Policy::Export)),
@@ -176,12 +177,12 @@ impl Index {
 
     /// Whether the owner of these capabilities has this one in effect: reaches it, or everybody has it. Takes no memory.
     ///
-    /// A binary search in what is owned, and one in the operations. Where it is neither owned nor everybody's, then two searches by
-    /// order for each use of a group that is owned.
+    /// A binary search in what is owned, one in the operations, and one in what the groups reach that are opened, however many
+    /// these are. Where it is neither owned nor everybody's, then two searches by order for each use of a group that is owned.
     pub fn effective(&self, owned: &CapSet, cap: Cap) -> bool
         ensures { Tells result (InEffect (In self.now) (In owned.now) cap) }
     {
-        if owned.contains(cap) || self.global(cap) {
+        if owned.contains(cap) || self.has_tag(cap) || self.rows.is_everybodys(cap) {
             return true;
         }
         self.rows.one_leads(owned.uses(), cap)

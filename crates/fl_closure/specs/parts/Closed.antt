@@ -1,4 +1,4 @@
--- What each group reaches, and what one put more adds to that.
+-- What each group reaches and what everybody does, and what one operation more adds to that.
 use Rattle.std.specs.Prelude.{◌≡◌, ◌⊎◌, ◌↔◌, List}
 use Rattle.std.specs.List.{Contains}
 use Rattle.fl_labels.specs.SetBy.{SetBy, In}
@@ -8,29 +8,54 @@ use Rattle.fl_labels.specs.declared.cap.Cap.{Cap}
 use Rattle.fl_labels.specs.declared.cap.Cap.TheVariants.{Plus, Minus, Use, Grow}
 use Rattle.fl_ops.specs.declared.op.Op.{Op}
 use Rattle.fl_ops.specs.OpOrder.{op_cmp}
-use Rattle.fl_ops.specs.Registry.{Registry, Puts, Chain}
+use Rattle.fl_ops.specs.declared.op.Policy.TheVariants.{Export, Integrity}
+use Rattle.fl_ops.specs.declared.op.Body.{Body}
+use Rattle.fl_ops.specs.declared.op.Body.TheVariants.{MakeTag, MakeGroup, Put, MakeLogin, Open}
+use Rattle.fl_ops.specs.Registry.{Registry, Puts, Chain, tag_op}
 use Rattle.fl_closure.specs.declared.rows.Rows.{Rows}
+use Rattle.fl_closure.specs.declared.rows.Owner.{Owner}
+use Rattle.fl_closure.specs.declared.rows.Owner.TheVariants.{Everybody, Group}
 use Rattle.fl_closure.specs.parts.Rows.{Holds}
 
--- some operation puts c into the group
-abbrev pub IsPut : Registry → Name → Caps
-IsPut U group c = (op : Op) × U op × Puts op.body group c
+-- c is the use of the group that the operation opens
+abbrev pub OpensUse : Body → Caps
+OpensUse (MakeTag policy) c = ⊥
+OpensUse MakeGroup c = ⊥
+OpensUse (Put into what) c = ⊥
+OpensUse (MakeLogin cap digest) c = ⊥
+OpensUse (Open group) c = c ≡ Use group
 
--- a chain of at least one put leads from the use of the group to c
-abbrev pub Way : Registry → Name → Caps
-Way U group c = (b : Cap) × IsPut U group b × Chain U b c
+-- the operation gives c to who may use the group, or to everybody
+abbrev pub Gives : Body → Owner → Caps
+Gives body (Group group) c = Puts body group c
+Gives body Everybody c = OpensUse body c
 
--- each row has what its group reaches through the registry
+-- everybody may add an export tag, or remove an integrity tag
+abbrev pub IsTag : Registry → Caps
+IsTag U (Plus tag) = U (tag_op tag Export)
+IsTag U (Minus tag) = U (tag_op tag Integrity)
+IsTag U (Use group) = ⊥
+IsTag U (Grow group) = ⊥
+
+-- some operation does
+abbrev pub IsGiven : Registry → Owner → Caps
+IsGiven U owner c = (op : Op) × U op × Gives op.body owner c
+
+-- a chain leads to c from what is given to the owner
+abbrev pub Way : Registry → Owner → Caps
+Way U owner c = (b : Cap) × IsGiven U owner b × Chain U b c
+
+-- each row has what its owner reaches through the registry
 pub record AreClosed (U : Registry) (rows : Rows) : Type 0 where
-  pub way : (group : Name) (c : Cap) → Holds rows group c ↔ Way U group c
+  pub way : (owner : Owner) (c : Cap) → Holds rows owner c ↔ Way U owner c
 
--- the users of a group are those that reach its use
+-- the users of a group are the groups that reach its use
 pub record AreMirrored (reached users : Rows) : Type 0 where
-  pub used : (user group : Name) → Holds users group (Use user) ↔ Holds reached user (Use group)
+  pub used : (user group : Name) → Holds users (Group group) (Use user) ↔ Holds reached (Group user) (Use group)
 
 -- what the group that the capability uses reaches
 abbrev pub Behind : Rows → Cap → Caps
-Behind rows (Use group) c = Holds rows group c
+Behind rows (Use group) c = Holds rows (Group group) c
 Behind rows (Plus tag) c = ⊥
 Behind rows (Minus tag) c = ⊥
 Behind rows (Grow group) c = ⊥
@@ -39,32 +64,47 @@ Behind rows (Grow group) c = ⊥
 abbrev pub Leads : Rows → Cap → Caps
 Leads rows root c = (c ≡ root) ⊎ Behind rows root c
 
--- the group itself, or one that reaches the use of it
-abbrev pub IsAbove : Rows → Name → Name → Type 0
-IsAbove rows group user = (user ≡ group) ⊎ Holds rows user (Use group)
+-- the user reaches the use of the owner's group; of everybody there is none
+abbrev pub IsUser : Rows → Owner → Owner → Type 0
+IsUser rows (Group group) user = Holds rows user (Use group)
+IsUser rows Everybody user = ⊥
+
+-- the owner itself, or one that reaches the use of it
+abbrev pub IsAbove : Rows → Owner → Owner → Type 0
+IsAbove rows owner user = (user ≡ owner) ⊎ IsUser rows owner user
 
 -- who reaches the use of a group reaches what that reaches
 pub record AreTransitive (rows : Rows) : Type 0 where
-  pub on : (user group : Name) (c : Cap) → Holds rows user (Use group) → Holds rows group c → Holds rows user c
+  pub on : (user : Owner) (group : Name) (c : Cap) → Holds rows user (Use group) → Holds rows (Group group) c → Holds rows user c
 
 -- one row has these capabilities, and all else is as it was
-pub record AddsAll (old : Rows) (group : Name) (caps : List Cap) (new : Rows) : Type 0 where
-  pub holds : (other : Name) (c : Cap)
-      → Holds new other c ↔ (Holds old other c ⊎ ((other ≡ group) × Contains caps c))
+pub record AddsAll (old : Rows) (owner : Owner) (caps : List Cap) (new : Rows) : Type 0 where
+  pub holds : (other : Owner) (c : Cap)
+      → Holds new other c ↔ (Holds old other c ⊎ ((other ≡ owner) × Contains caps c))
+
+-- the owner's group is used here
+abbrev pub IsUsed : List Cap → Owner → Type 0
+IsUsed uses (Group group) = Contains uses (Use group)
+IsUsed uses Everybody = ⊥
 
 -- the row of each group that is used here has these capabilities, and all else is as it was
 pub record AddsToEach (old : Rows) (uses caps : List Cap) (new : Rows) : Type 0 where
-  pub holds : (other : Name) (c : Cap)
-      → Holds new other c ↔ (Holds old other c ⊎ (Contains uses (Use other) × Contains caps c))
+  pub holds : (other : Owner) (c : Cap)
+      → Holds new other c ↔ (Holds old other c ⊎ (IsUsed uses other × Contains caps c))
+
+-- the row of the owner, and of each that reaches the use of it
+pub record AddsAbove (old : Rows) (owner : Owner) (caps : List Cap) (new : Rows) : Type 0 where
+  pub holds : (other : Owner) (c : Cap)
+      → Holds new other c ↔ (Holds old other c ⊎ (IsAbove old owner other × Contains caps c))
 
 -- a row with the first of these has all of them
 pub record IsFirstOf (rows : Rows) (first : Cap) (caps : List Cap) : Type 0 where
-  pub all : (group : Name) (c : Cap) → Holds rows group first → Contains caps c → Holds rows group c
+  pub all : (owner : Owner) (c : Cap) → Holds rows owner first → Contains caps c → Holds rows owner c
 
--- after a put of b into the group, those above it reach what b leads to
-pub record Renews (old : Rows) (group : Name) (b : Cap) (new : Rows) : Type 0 where
-  pub holds : (user : Name) (c : Cap)
-      → Holds new user c ↔ (Holds old user c ⊎ (IsAbove old group user × Leads old b c))
+-- after b is given to the owner, those above it reach what b leads to
+pub record Renews (old : Rows) (owner : Owner) (b : Cap) (new : Rows) : Type 0 where
+  pub holds : (user : Owner) (c : Cap)
+      → Holds new user c ↔ (Holds old user c ⊎ (IsAbove old owner user × Leads old b c))
 
 -- the members of the set and of the list
 abbrev pub With : SetBy op_cmp → List Op → Registry

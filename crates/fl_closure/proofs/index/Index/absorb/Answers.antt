@@ -7,8 +7,8 @@ pub returns-then-contains-clause-ok : goal.returns-then-contains-clause-ok
 returns-then-contains-clause-ok c =
     known_already _ _ c.args.op.now c.self.view_is (sym c.contains.ensures ∙ c.if-contains.true)
 
-pub put_all-requires-clause-transitive : goal.put_all-requires-clause-transitive
-put_all-requires-clause-transitive c = are_transitive c.self.invariant
+pub give_all-requires-clause-transitive : goal.give_all-requires-clause-transitive
+give_all-requires-clause-transitive c = are_transitive c.self.invariant
 
 pub invariant_of-self : goal.invariant_of-self
 invariant_of-self c =

@@ -7,8 +7,8 @@ pub returns-then-not-lacks_one_of-clause-ok : goal.returns-then-not-lacks_one_of
 returns-then-not-lacks_one_of-clause-ok c =
     nothing_new _ _ c.args.ops.now _ c.self.view_is c.as_slice.ensures (c.lacks_one_of.ensures.fails c.if-not-lacks_one_of.true)
 
-pub put_all-requires-clause-transitive : goal.put_all-requires-clause-transitive
-put_all-requires-clause-transitive c = are_transitive c.self.invariant
+pub give_all-requires-clause-transitive : goal.give_all-requires-clause-transitive
+give_all-requires-clause-transitive c = are_transitive c.self.invariant
 
 pub invariant_of-self : goal.invariant_of-self
 invariant_of-self c =

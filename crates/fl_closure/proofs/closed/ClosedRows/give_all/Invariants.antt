@@ -1,7 +1,7 @@
 use Rattle.std.specs.Prelude.{take}
 use Rattle.fl_closure.specs.parts.Closed.{AreTransitive, ClosesWith}
 use Rattle.fl_closure.specs.parts.Noted.{Gains}
-use Rattle.fl_closure.proofs.closed.ClosedRows.put_all.Given as goal
+use Rattle.fl_closure.proofs.closed.ClosedRows.give_all.Given as goal
 
 abbrev pub invariant-loop-op : goal.invariant-loop-op
 invariant-loop-op l = record {
