@@ -48,7 +48,7 @@ pub trait Keeper {
     ghost is_honest: { Self → Type 0 };
 
     /// The node whose operations are kept.
-    fn number(&self) -> u16
+    fn number(&self) -> u32
         ensures { result ≡ number self.now };
 
     /// How many faults there were since the opening, those for want of memory left out.
