@@ -1,13 +1,13 @@
 pub mod Faults
 pub mod Spelled
-pub mod Shift
 pub mod Pushed
 pub mod Parts
 pub mod Sets
 pub mod OnePacket
 pub mod SpanRead
 pub mod SpansRead
-pub mod NextOp
 pub mod OpsRead
 pub mod NoFault
 pub mod Added
+pub mod Windows
+pub mod Heads

@@ -1,16 +1,13 @@
 -- What a packet spells has no fault.
-use Rattle.std.proofs.Common.{◌≡◌, ℕ, leb, ◌-◌, zero, suc, if◌then◌else◌, ◌+◌, ◌*◌, ◌≤◌, ◌<◌, ◌^◌, add-zero, Bool, true, ◌&&◌, List, [], ◌∷◌, ◌++◌, length, get_or, take, drop, slice_index, Option, Some, None, refl, sym, ap, ◌∙◌, arith, lit≤, length-drop, length-append, get_or-drop, append_assoc, Ordering, Less, Equal, Greater}
-use Rattle.std.specs.Int.{w16, w32, to_be_bytes, from_be_bytes}
+use Rattle.std.proofs.Common.{◌≡◌, ℕ, leb, ◌-◌, suc, if◌then◌else◌, ◌+◌, ◌*◌, ◌≤◌, ◌<◌, Bool, true, ◌&&◌, List, [], ◌∷◌, ◌++◌, length, drop, slice_index, Option, Some, None, refl, sym, ap, ◌∙◌, arith, lit≤, length-drop, length-append, append_assoc, Ordering, Less, Equal, Greater}
+use Rattle.std.specs.Int.{w16, w32, to_be_bytes}
 use Rattle.std.specs.List.{flat_map, AllByRecursion}
 use Rattle.std.specs.List.Sorted.{IsStrictlySortedBy}
 use Rattle.std.specs.Cmp.Lexicographic.{slice_cmp}
 use Rattle.std.specs.Ordering.{nat_cmp, is_lt, ordering_then}
-use Rattle.std.proofs.lemmas.Nat.{from_be_bytes-to_be_bytes_2, from_be_bytes-to_be_bytes_4}
-use Rattle.std.proofs.lemmas.Bool.{le-leb, lt-ltb}
-use Rattle.std.proofs.lemmas.List.{drop-drop, take_at}
+use Rattle.std.proofs.lemmas.Bool.{le-leb}
 use Rattle.fl_labels.specs.declared.name.Name.{Name}
 use Rattle.fl_labels.specs.declared.cap.Cap.{Cap}
-use Rattle.fl_labels.specs.declared.cap.Cap.TheVariants.{Plus, Minus, Use, Grow}
 use Rattle.fl_labels.specs.declared.pid.Pid.{Pid}
 use Rattle.fl_labels.specs.declared.endpoint.Endpoint.{Endpoint}
 use Rattle.fl_labels.specs.Name.{name_cmp}
@@ -18,10 +15,14 @@ use Rattle.fl_labels.specs.Cap.{cap_name, cap_rank, cap_cmp}
 use Rattle.fl_labels.specs.SetBy.{SetBy, members, len, len-members, members_rise}
 use Rattle.fl_ops.specs.declared.op.Op.{Op}
 use Rattle.fl_ops.specs.declared.op.Body.{Body}
-use Rattle.fl_ops.specs.declared.op.Body.TheVariants.{MakeTag, MakeGroup, Put, MakeLogin}
-use Rattle.fl_ops.specs.Bytes.{name_bytes, cap_bytes, op_bytes, kind_byte, body_bytes}
-use Rattle.fl_ops.specs.Grammar.{first_fault, has_byte, has_name, op_fault}
-use Rattle.fl_ops.specs.laws.OneSpelling.{no_fault as op_no_fault}
+use Rattle.fl_ops.specs.declared.op.Body.TheVariants.{MakeTag, MakeGroup, Put, MakeLogin, Open}
+use Rattle.fl_ops.specs.declared.format.Format.{Format}
+use Rattle.fl_ops.specs.declared.format.Format.TheVariants.{One, Two}
+use Rattle.fl_ops.specs.Format.{node_width, node_size, last_kind}
+use Rattle.fl_ops.specs.Bytes.{name_bytes, name_size, cap_bytes, cap_size, op_bytes, kind_byte, body_place}
+use Rattle.fl_ops.specs.Fits.{HasName, HasCap, HasOp}
+use Rattle.fl_ops.specs.laws.Spelled.{name_parts, there, behind, within, byte_is, op_is}
+use Rattle.fl_ops.specs.Grammar.{first_fault, has_byte, has_name, body_fields}
 use Rattle.fl_opset.specs.declared.span.Span.{Span}
 use Rattle.fl_opset.specs.declared.intervals.Intervals.{Intervals}
 use Rattle.fl_opset.specs.Rank.{name_rank, last_rank}
@@ -34,14 +35,14 @@ use Rattle.fl_message.specs.declared.message.Message.{Message}
 use Rattle.fl_message.specs.declared.message.Data.{Data}
 use Rattle.fl_wire.specs.declared.packet.Packet.{Packet}
 use Rattle.fl_wire.specs.declared.packet.Packet.TheVariants as kinds
-use Rattle.fl_wire.specs.parts.Items.{name_key, key_of_cap, key_before, is_above, IsNext}
-use Rattle.fl_wire.specs.Fields.{is_next, short_at, long_at, has_short, has_long, has_cap, tag_key, cap_key, rising_fields}
-use Rattle.fl_wire.specs.PacketBytes.{pid_bytes, label_bytes, caps_bytes, payload_bytes, message_bytes, data_bytes, batch_bytes, span_bytes, intervals_bytes, packet_bytes}
-use Rattle.fl_wire.specs.PacketGrammar.{end_fields, tag_fields, label_fields, after_label, each_cap, caps_fields, after_caps, payload_fields, message_fields, content_fields, data_fields, next_op, op_size, ops_fields, batch_fields, rank_at, last_at, spans_fields, window_fields, kind_fields, packet_fault}
+use Rattle.fl_wire.specs.parts.Items.{name_key, key_of_cap, key_before, is_above}
+use Rattle.fl_wire.specs.Fields.{is_next, pid_size, short_at, has_cap, tag_key, cap_key, rising_fields}
+use Rattle.fl_wire.specs.PacketBytes.{pid_bytes, label_bytes, caps_bytes, payload_bytes, message_bytes, data_bytes, batch_bytes, span_bytes, intervals_bytes, packet_byte, packet_bytes}
+use Rattle.fl_wire.specs.PacketFits.{HasPid, HasLabel, HasCaps, HasSpan, HasData, HasWindow, HasPacket}
+use Rattle.fl_wire.specs.PacketGrammar.{end_size, span_size, packet_format, end_fields, tag_fields, label_fields, after_label, each_cap, caps_fields, after_caps, payload_fields, message_fields, content_fields, data_fields, next_op, op_size, ops_fields, batch_fields, rank_at, last_at, spans_fields, window_fields, kind_fields, packet_fault}
 use Rattle.fl_wire.proofs.Faults.{fault_rest}
-use Rattle.fl_wire.proofs.NextOp.{op_read}
 use Rattle.fl_wire.proofs.SpanRead.{rank_read}
-use Rattle.fl_wire.proofs.Spelled.{within, behind, byte_is, short_is, long_is, name_is, cap_is}
+use Rattle.fl_wire.proofs.Spelled.{short_is, long_is, node_is, tag_is, whole_cap_is}
 
 -- xs rise above what is before them
 abbrev RisesFrom : {K : Type 0} → (K → K → Ordering) → Option K → List K → Type 0
@@ -58,17 +59,17 @@ unfolding IsStrictlySortedBy
 rises_all R [] s = tt
 rises_all R (x ∷ xs) s = (refl, rises_from R x xs s.0 s.1)
 
-module _ {K : Type 0} (R : K → K → Ordering) (spell : K → List ℕ) (key_of : K → List ℕ) (there : ℕ → Bool) (key : ℕ → List ℕ) (size : ℕ) (bs : List ℕ)
-    (is : (at : ℕ) (x : K) (rest : List ℕ) → drop at bs ≡ spell x ++ rest → (there at ≡ true) × (key at ≡ key_of x) × (drop (at + size) bs ≡ rest))
+module _ {K : Type 0} (R : K → K → Ordering) (Has : K → Type 0) (spell : K → List ℕ) (key_of : K → List ℕ) (there : ℕ → Bool) (key : ℕ → List ℕ) (size : ℕ) (bs : List ℕ)
+    (is : (at : ℕ) (x : K) (rest : List ℕ) → Has x → drop at bs ≡ spell x ++ rest → (there at ≡ true) × (key at ≡ key_of x) × (drop (at + size) bs ≡ rest))
     (rising : (b : Option K) (x : K) → is_lt (slice_cmp nat_cmp (key_before key_of b) (key_of x)) ≡ is_above R b x) where
-  items_are : (xs : List K) (at : ℕ) (b : Option K) (rest : List ℕ) → RisesFrom R b xs → drop at bs ≡ flat_map spell xs ++ rest
+  items_are : (xs : List K) (at : ℕ) (b : Option K) (rest : List ℕ) → AllByRecursion Has xs → RisesFrom R b xs → drop at bs ≡ flat_map spell xs ++ rest
       → (first_fault (rising_fields there key size at (key_before key_of b) (length xs)) ≡ None) × (drop (at + size * length xs) bs ≡ rest)
-  items_are [] at b rest h e =
+  items_are [] at b rest has h e =
       let place : at + size * 0 ≡ at = omega arith in
       (refl, ap (λ n. drop n bs) place ∙ e)
-  items_are (x ∷ xs) at b rest h e =
-      let one = is at x (flat_map spell xs ++ rest) (e ∙ append_assoc (spell x) (flat_map spell xs) rest) in
-      let more = items_are xs (at + size) (Some x) rest h.1 one.2 in
+  items_are (x ∷ xs) at b rest has h e =
+      let one = is at x (flat_map spell xs ++ rest) has.0 (e ∙ append_assoc (spell x) (flat_map spell xs) rest) in
+      let more = items_are xs (at + size) (Some x) rest has.1 h.1 one.2 in
       let next : is_next there key at (key_before key_of b) ≡ true =
       ap (λ t. t && is_lt (slice_cmp nat_cmp (key_before key_of b) (key at))) one.0 ∙ ap (λ k. is_lt (slice_cmp nat_cmp (key_before key_of b) k)) one.1 ∙ rising b x ∙ h.0 in
       let place : at + size * suc (length xs) ≡ at + size + size * length xs = omega arith in (
@@ -99,26 +100,26 @@ cap_rising (Some y) x =
     let rank = nat_cmp (cap_rank y) (cap_rank x) in
     ap is_lt (ap (λ o. ordering_then node (ordering_then seq o)) (then_level rank) ∙ then_then node seq rank)
 
-module _ (bs : List ℕ) where
-  label_is : (at : ℕ) (s : SetBy name_cmp) (rest : List ℕ) → len s ≤ 256 → drop at bs ≡ label_bytes s ++ rest
-      → (first_fault (label_fields bs at) ≡ None) × (drop (after_label bs at) bs ≡ rest)
-  label_is at s rest few e =
-      let first = short_is bs at (len s) (flat_map name_bytes (members s) ++ rest) 0 256 (omega (arith, few)) (omega arith) few e in
-      let items = items_are name_cmp name_bytes name_key (has_name bs) (tag_key bs) 6 bs (name_is bs) name_rising (members s) (at + 2) None rest (rises_all name_cmp (members s) (members_rise s)) first.2 in
+module _ (f : Format) (bs : List ℕ) where
+  label_is : (at : ℕ) (s : SetBy name_cmp) (rest : List ℕ) → HasLabel f s → len s ≤ 256 → drop at bs ≡ label_bytes f s ++ rest
+      → (first_fault (label_fields f bs at) ≡ None) × (drop (after_label f bs at) bs ≡ rest)
+  label_is at s rest has few e =
+      let first = short_is bs at (len s) (flat_map (name_bytes f) (members s) ++ rest) 0 256 (omega (arith, few)) (omega arith) few e in
+      let items = items_are name_cmp (HasName f) (name_bytes f) name_key (has_name f bs) (tag_key f bs) (name_size f) bs (tag_is bs f) name_rising (members s) (at + 2) None rest has (rises_all name_cmp (members s) (members_rise s)) first.2 in
       let count : length (members s) ≡ short_at bs at = sym (len-members s) ∙ sym first.1 in
-      let place : after_label bs at ≡ at + 2 + 6 * length (members s) = omega (arith, count) in (
-        ap (λ c. if c then first_fault (tag_fields bs (at + 2) (short_at bs at)) else Some at) first.0 ∙ ap (λ n. first_fault (tag_fields bs (at + 2) n)) (sym count) ∙ items.0,
+      let place : after_label f bs at ≡ at + 2 + name_size f * length (members s) = rw count (omega arith) in (
+        ap (λ c. if c then first_fault (tag_fields f bs (at + 2) (short_at bs at)) else Some at) first.0 ∙ ap (λ n. first_fault (tag_fields f bs (at + 2) n)) (sym count) ∙ items.0,
         ap (λ n. drop n bs) place ∙ items.1,
       )
 
-  caps_are : (at : ℕ) (s : SetBy cap_cmp) (rest : List ℕ) → len s ≤ 64 → drop at bs ≡ caps_bytes s ++ rest
-      → (first_fault (caps_fields bs at) ≡ None) × (drop (after_caps bs at) bs ≡ rest)
-  caps_are at s rest few e =
-      let first = byte_is bs at (len s) (flat_map cap_bytes (members s) ++ rest) 0 64 (omega arith) few e in
-      let items = items_are cap_cmp cap_bytes key_of_cap (has_cap bs) (cap_key bs) 7 bs (cap_is bs) cap_rising (members s) (at + 1) None rest (rises_all cap_cmp (members s) (members_rise s)) first.2 in
+  caps_are : (at : ℕ) (s : SetBy cap_cmp) (rest : List ℕ) → HasCaps f s → len s ≤ 64 → drop at bs ≡ caps_bytes f s ++ rest
+      → (first_fault (caps_fields f bs at) ≡ None) × (drop (after_caps f bs at) bs ≡ rest)
+  caps_are at s rest has few e =
+      let first = byte_is bs at (len s) (flat_map (cap_bytes f) (members s) ++ rest) 0 64 (omega arith) few e in
+      let items = items_are cap_cmp (HasCap f) (cap_bytes f) key_of_cap (has_cap f bs) (cap_key f bs) (cap_size f) bs (whole_cap_is bs f) cap_rising (members s) (at + 1) None rest has (rises_all cap_cmp (members s) (members_rise s)) first.2 in
       let count : length (members s) ≡ slice_index bs at = sym (len-members s) ∙ sym first.1 in
-      let place : after_caps bs at ≡ at + 1 + 7 * length (members s) = omega (arith, count) in (
-        ap (λ c. if c then first_fault (each_cap bs (at + 1) (slice_index bs at)) else Some at) first.0 ∙ ap (λ n. first_fault (each_cap bs (at + 1) n)) (sym count) ∙ items.0,
+      let place : after_caps f bs at ≡ at + 1 + cap_size f * length (members s) = rw count (omega arith) in (
+        ap (λ c. if c then first_fault (each_cap f bs (at + 1) (slice_index bs at)) else Some at) first.0 ∙ ap (λ n. first_fault (each_cap f bs (at + 1) n)) (sym count) ∙ items.0,
         ap (λ n. drop n bs) place ∙ items.1,
       )
 
@@ -130,39 +131,41 @@ module _ (bs : List ℕ) where
       let end : at + 2 + short_at bs at ≡ length bs = omega (arith, front, long, length-drop (at + 2) bs, first.1) in
       rw (first.0, le-leb (at + 2 + short_at bs at) (length bs) (omega (arith, end)), le-leb (length bs) (at + 2 + short_at bs at) (omega (arith, end))) refl
 
-  message_is : (at : ℕ) (m : Message) → drop at bs ≡ message_bytes m → first_fault (message_fields bs at) ≡ None
-  message_is at m e =
-      let caps = caps_are at m.caps (payload_bytes m.payload) m.few_caps e in
-      fault_rest (caps_fields bs at) (payload_fields bs (after_caps bs at)) caps.0 ∙ payload_is (after_caps bs at) m.payload m.few_bytes caps.1
+  message_is : (at : ℕ) (m : Message) → HasCaps f m.caps → drop at bs ≡ message_bytes f m → first_fault (message_fields f bs at) ≡ None
+  message_is at m has e =
+      let caps = caps_are at m.caps (payload_bytes m.payload) has m.few_caps e in
+      fault_rest (caps_fields f bs at) (payload_fields bs (after_caps f bs at)) caps.0 ∙ payload_is (after_caps f bs at) m.payload m.few_bytes caps.1
 
-  content_is : (at : ℕ) (d : Data) → drop at bs ≡ label_bytes d.secrecy ++ (label_bytes d.integrity ++ message_bytes d.message) → first_fault (content_fields bs at) ≡ None
-  content_is at d e =
-      let first = label_is at d.secrecy (label_bytes d.integrity ++ message_bytes d.message) d.secrecy_fits e in
-      let middle = after_label bs at in
-      let second = label_is middle d.integrity (message_bytes d.message) d.integrity_fits first.1 in
-      fault_rest (label_fields bs at) (label_fields bs middle ++ message_fields bs (after_label bs middle)) first.0
-      ∙ fault_rest (label_fields bs middle) (message_fields bs (after_label bs middle)) second.0
-      ∙ message_is (after_label bs middle) d.message second.1
+  content_is : (at : ℕ) (d : Data) → HasData f d → drop at bs ≡ label_bytes f d.secrecy ++ (label_bytes f d.integrity ++ message_bytes f d.message) → first_fault (content_fields f bs at) ≡ None
+  content_is at d has e =
+      let first = label_is at d.secrecy (label_bytes f d.integrity ++ message_bytes f d.message) has.secrecy d.secrecy_fits e in
+      let middle = after_label f bs at in
+      let second = label_is middle d.integrity (message_bytes f d.message) has.integrity d.integrity_fits first.1 in
+      fault_rest (label_fields f bs at) (label_fields f bs middle ++ message_fields f bs (after_label f bs middle)) first.0
+      ∙ fault_rest (label_fields f bs middle) (message_fields f bs (after_label f bs middle)) second.0
+      ∙ message_is (after_label f bs middle) d.message has.caps second.1
 
-  end_is : (at : ℕ) (p : Pid) (x : Endpoint) (rest : List ℕ) → drop at bs ≡ pid_bytes p ++ x.number ∷ rest
-      → (first_fault (end_fields bs at) ≡ None) × (drop (at + 11) bs ≡ rest)
-  end_is at p x rest e =
-      let a = short_is bs at p.node (to_be_bytes w32 p.boot ++ (to_be_bytes w32 p.serial ++ x.number ∷ rest)) 1 65535 p.node_in_range.1 p.node_in_range.0 (omega (arith, p.node_in_range.1)) e in
-      let b = long_is bs (at + 2) p.boot (to_be_bytes w32 p.serial ++ x.number ∷ rest) p.boot_in_range.0 p.boot_in_range.1 a.2 in
-      let six : at + 6 ≡ at + 2 + 4 = omega arith in
-      let c = long_is bs (at + 6) p.serial (x.number ∷ rest) p.serial_in_range.0 p.serial_in_range.1 (ap (λ n. drop n bs) six ∙ b.2) in
-      let ten : at + 10 ≡ at + 6 + 4 = omega arith in
-      let d = byte_is bs (at + 10) x.number rest 1 64 x.number_in_range.0 x.number_in_range.1 (ap (λ n. drop n bs) ten ∙ c.2) in
-      let eleven : at + 11 ≡ at + 10 + 1 = omega arith in
-      (rw (a.0, b.0, c.0, d.0) refl, ap (λ n. drop n bs) eleven ∙ d.2)
+  end_is : (at : ℕ) (p : Pid) (x : Endpoint) (rest : List ℕ) → HasPid f p → drop at bs ≡ pid_bytes f p ++ x.number ∷ rest
+      → (first_fault (end_fields f bs at) ≡ None) × (drop (at + end_size f) bs ≡ rest)
+  end_is at p x rest has e =
+      let whole = e ∙ append_assoc (to_be_bytes (node_width f) p.node) (to_be_bytes w32 p.boot ++ to_be_bytes w32 p.serial) (x.number ∷ rest) in
+      let a = node_is bs f at p.node (to_be_bytes w32 p.boot ++ (to_be_bytes w32 p.serial ++ x.number ∷ rest)) p.node_in_range.0 has whole in
+      let b = long_is bs (at + node_size f) p.boot (to_be_bytes w32 p.serial ++ x.number ∷ rest) p.boot_in_range.0 p.boot_in_range.1 a.1 in
+      let c = long_is bs (at + node_size f + 4) p.serial (x.number ∷ rest) p.serial_in_range.0 p.serial_in_range.1 b.2 in
+      let last : at + pid_size f ≡ at + node_size f + 4 + 4 = omega arith in
+      let d = byte_is bs (at + pid_size f) x.number rest 1 64 x.number_in_range.0 x.number_in_range.1 (ap (λ n. drop n bs) last ∙ c.2) in
+      let end : at + end_size f ≡ at + pid_size f + 1 = omega arith in
+      (rw (a.0, b.0, c.0, d.0) refl, ap (λ n. drop n bs) end ∙ d.2)
 
-  data_is : (d : Data) → drop 2 bs ≡ data_bytes d → first_fault (data_fields bs 2) ≡ None
-  data_is d e =
-      let content = label_bytes d.secrecy ++ (label_bytes d.integrity ++ message_bytes d.message) in
-      let first = end_is 2 d.sender d.from (pid_bytes d.receiver ++ d.to.number ∷ content) e in
-      let second = end_is 13 d.receiver d.to content first.1 in
-      fault_rest (end_fields bs 2) (end_fields bs 13 ++ content_fields bs 24) first.0
-      ∙ fault_rest (end_fields bs 13) (content_fields bs 24) second.0 ∙ content_is 24 d second.1
+  data_is : (d : Data) → HasData f d → drop 2 bs ≡ data_bytes f d → first_fault (data_fields f bs 2) ≡ None
+  data_is d has e =
+      let content = label_bytes f d.secrecy ++ (label_bytes f d.integrity ++ message_bytes f d.message) in
+      let two : 2 + 2 * end_size f ≡ 2 + end_size f + end_size f = omega arith in
+      let first = end_is 2 d.sender d.from (pid_bytes f d.receiver ++ d.to.number ∷ content) has.sender e in
+      let second = end_is (2 + end_size f) d.receiver d.to content has.receiver first.1 in
+      fault_rest (end_fields f bs 2) (end_fields f bs (2 + end_size f) ++ content_fields f bs (2 + 2 * end_size f)) first.0
+      ∙ fault_rest (end_fields f bs (2 + end_size f)) (content_fields f bs (2 + 2 * end_size f)) second.0
+      ∙ content_is (2 + 2 * end_size f) d has (ap (λ n. drop n bs) two ∙ second.1)
 
 -- the operations' names rise above what is before them
 abbrev NamesRise : Option Name → List Op → Type 0
@@ -179,88 +182,125 @@ unfolding IsStrictlySortedBy
 names_all [] s = tt
 names_all (x ∷ xs) s = (refl, names_from x xs s.0 s.1)
 
-module _ (bs : List ℕ) where
-  pub next_is : (at : ℕ) (before : Option Name) (x : Op) (rest : List ℕ) → is_above name_cmp before x.name ≡ true → drop at bs ≡ op_bytes x ++ rest → IsNextOp bs at before x (at + length (op_bytes x))
-  next_is at before x rest above e =
-      let format = byte_is bs at 1 (kind_byte x.body ∷ (name_bytes x.name ++ body_bytes x.body) ++ rest) 1 1 (lit≤ tt) (lit≤ tt) e in
-      let range = kind_range x.body in
-      let kind = byte_is bs (at + 1) (kind_byte x.body) ((name_bytes x.name ++ body_bytes x.body) ++ rest) 1 4 range.0 range.1 format.2 in
-      let two : at + 2 ≡ at + 1 + 1 = omega arith in
-      let start : drop (at + 2) bs ≡ name_bytes x.name ++ (body_bytes x.body ++ rest) = ap (λ n. drop n bs) two ∙ kind.2 ∙ append_assoc (name_bytes x.name) (body_bytes x.body) rest in
-      let name = name_is bs (at + 2) x.name (body_bytes x.body ++ rest) start in
-      let next : IsNext name_cmp name_bytes name_key (has_name bs) (tag_key bs) 6 bs (at + 2) before x.name = record {
-        next = ap (λ t. t && is_lt (slice_cmp nat_cmp (key_before name_key before) (tag_key bs (at + 2)))) name.0 ∙ ap (λ k. is_lt (slice_cmp nat_cmp (key_before name_key before) k)) name.1 ∙ name_rising before x.name ∙ above;
+size_of : (f : Format) (n : Name) (b : Body) → op_size f (kind_byte b) ≡ length (op_bytes f (record { name = n; body = b }))
+size_of One n (MakeTag p) = refl
+size_of One n MakeGroup = refl
+size_of One n (Put g c) = refl
+size_of One n (MakeLogin c d) = omega (arith, d.sized)
+size_of One n (Open g) = refl
+size_of Two n (MakeTag p) = refl
+size_of Two n MakeGroup = refl
+size_of Two n (Put g c) = refl
+size_of Two n (MakeLogin c d) = omega (arith, d.sized)
+size_of Two n (Open g) = refl
+
+size_within : (f : Format) (b : Body) → op_size f (kind_byte b) ≤ 51
+size_within One (MakeTag p) = omega arith
+size_within One MakeGroup = omega arith
+size_within One (Put g c) = omega arith
+size_within One (MakeLogin c d) = omega arith
+size_within One (Open g) = omega arith
+size_within Two (MakeTag p) = omega arith
+size_within Two MakeGroup = omega arith
+size_within Two (Put g c) = omega arith
+size_within Two (MakeLogin c d) = omega arith
+size_within Two (Open g) = omega arith
+
+module _ (f : Format) (bs : List ℕ) where
+  pub next_is : (at : ℕ) (before : Option Name) (x : Op) (rest : List ℕ) → HasOp f x → is_above name_cmp before x.name ≡ true → drop at bs ≡ op_bytes f x ++ rest
+      → IsNextOp f bs at before x (at + length (op_bytes f x))
+  next_is at before x rest has above e =
+      let is = op_is bs f at x rest has e in
+      let keyed : tag_key f bs (at + 2) ≡ name_key x.name = λ i. is.name.node i ∷ is.name.seq i ∷ [] in
+      let next : is_next (has_name f bs) (tag_key f bs) (at + 2) (key_before name_key before) ≡ true =
+      ap (λ t. t && is_lt (slice_cmp nat_cmp (key_before name_key before) (tag_key f bs (at + 2)))) is.name.there
+      ∙ ap (λ k. is_lt (slice_cmp nat_cmp (key_before name_key before) k)) keyed ∙ name_rising before x.name ∙ above in
+      let body : first_fault (body_fields f bs (slice_index bs (at + 1)) (at + body_place f)) ≡ None =
+      ap (λ k. first_fault (body_fields f bs k (at + body_place f))) is.kind ∙ is.body in
+      let named : ℕ × Bool = (at + 2, is_next (has_name f bs) (tag_key f bs) (at + 2) (key_before name_key before)) in
+      let fields = body_fields f bs (slice_index bs (at + 1)) (at + body_place f) in
+      record {
+        whole = there at ((at + 1, has_byte bs (at + 1) 1 (last_kind f)) ∷ named ∷ fields) is.exact (there (at + 1) (named ∷ fields) is.known (there (at + 2) fields next body));
         above = above;
-        keyed = name.1;
-        spelled = start ∙ ap (λ l. name_bytes x.name ++ l) (sym name.2);
-      } in
-      op_read bs at before x.name format.0 kind.0 next x (length (op_bytes x)) (ap op_fault e ∙ op_no_fault x.name x.body rest, refl, ap (take (length (op_bytes x))) e ∙ take_at (op_bytes x) rest (length (op_bytes x)) refl)
-    where
-      kind_range : (b : Body) → (1 ≤ kind_byte b) × (kind_byte b ≤ 4)
-      kind_range (MakeTag p) = (lit≤ tt, lit≤ tt)
-      kind_range MakeGroup = (lit≤ tt, lit≤ tt)
-      kind_range (Put g c) = (lit≤ tt, lit≤ tt)
-      kind_range (MakeLogin c d) = (lit≤ tt, lit≤ tt)
+        spelled = e ∙ ap (λ l. op_bytes f x ++ l) (sym is.after);
+        keyed = keyed;
+        ends = ap (λ k. at + op_size f k) is.kind ∙ ap (λ m. at + m) (size_of f x.name x.body);
+        short = omega (arith, size_of f x.name x.body, size_within f x.body);
+        has = has;
+      }
 
-  ops_are : (at : ℕ) (before : Option Name) (xs : List Op) → NamesRise before xs → drop at bs ≡ flat_map op_bytes xs → first_fault (ops_fields bs at (key_before name_key before) (length xs)) ≡ None
-  ops_are at before [] h e =
+  ops_are : (at : ℕ) (before : Option Name) (xs : List Op) → AllByRecursion (HasOp f) xs → NamesRise before xs → drop at bs ≡ flat_map (op_bytes f) xs → first_fault (ops_fields f bs at (key_before name_key before) (length xs)) ≡ None
+  ops_are at before [] has h e =
       let long : length bs - at ≡ 0 = sym (length-drop at bs) ∙ ap length e in
       ap (λ b. if b then None else Some at) (le-leb (length bs) at (omega (arith, long)))
-  ops_are at before (x ∷ xs) h e =
-      let n = next_is at before x (flat_map op_bytes xs) h.0 e in
-      let rest = ops_are (at + length (op_bytes x)) (Some x.name) xs h.1 (behind bs at (length (op_bytes x)) (op_bytes x) (flat_map op_bytes xs) refl e) in
-      fault_rest (next_op bs at (key_before name_key before)) (ops_fields bs (at + op_size (slice_index bs (at + 1))) (tag_key bs (at + 2)) (length xs)) n.whole
-      ∙ (λ i. first_fault (ops_fields bs (n.ends i) (n.keyed i) (length xs))) ∙ rest
+  ops_are at before (x ∷ xs) has h e =
+      let n = next_is at before x (flat_map (op_bytes f) xs) has.0 h.0 e in
+      let rest = ops_are (at + length (op_bytes f x)) (Some x.name) xs has.1 h.1 (behind bs at (length (op_bytes f x)) (op_bytes f x) (flat_map (op_bytes f) xs) refl e) in
+      fault_rest (next_op f bs at (key_before name_key before)) (ops_fields f bs (at + op_size f (slice_index bs (at + 1))) (tag_key f bs (at + 2)) (length xs)) n.whole
+      ∙ (λ i. first_fault (ops_fields f bs (n.ends i) (n.keyed i) (length xs))) ∙ rest
 
-  batch_is : (at : ℕ) (b : Batch) → drop at bs ≡ batch_bytes b.ops → first_fault (batch_fields bs at) ≡ None
-  batch_is at b e =
-      let count = byte_is bs at (length b.ops) (flat_map op_bytes b.ops) 1 64 b.some b.few e in
-      ap (λ c. if c then first_fault (ops_fields bs (at + 1) [] (slice_index bs at)) else Some at) count.0
-      ∙ ap (λ n. first_fault (ops_fields bs (at + 1) [] n)) count.1 ∙ ops_are (at + 1) None b.ops (names_all b.ops b.rising) count.2
+  batch_is : (at : ℕ) (b : Batch) → AllByRecursion (HasOp f) b.ops → drop at bs ≡ batch_bytes f b.ops → first_fault (batch_fields f bs at) ≡ None
+  batch_is at b has e =
+      let count = byte_is bs at (length b.ops) (flat_map (op_bytes f) b.ops) 1 64 b.some b.few e in
+      ap (λ c. if c then first_fault (ops_fields f bs (at + 1) [] (slice_index bs at)) else Some at) count.0
+      ∙ ap (λ n. first_fault (ops_fields f bs (at + 1) [] n)) count.1 ∙ ops_are (at + 1) None b.ops has (names_all b.ops b.rising) count.2
 
-  spans_are : (at low high : ℕ) (ss : List Span) → fit low high ss ≡ true → drop at bs ≡ flat_map span_bytes ss → first_fault (spans_fields bs at low high (length ss)) ≡ None
-  spans_are at low high [] h e =
+  spans_are : (at low high : ℕ) (ss : List Span) → AllByRecursion (HasSpan f) ss → fit low high ss ≡ true → drop at bs ≡ flat_map (span_bytes f) ss → first_fault (spans_fields f bs at low high (length ss)) ≡ None
+  spans_are at low high [] has h e =
       let long : length bs - at ≡ 0 = sym (length-drop at bs) ∙ ap length e in
       ap (λ b. if b then None else Some at) (le-leb (length bs) at (omega (arith, long)))
-  spans_are at low high (s ∷ ss) h e =
-      let f = fit_at low high s ss h in
-      let start = e ∙ append_assoc (name_bytes s.first) (to_be_bytes w32 s.last) (flat_map span_bytes ss) in
-      let name = name_is bs at s.first (to_be_bytes w32 s.last ++ flat_map span_bytes ss) start in
-      let last = long_is bs (at + 6) s.last (flat_map span_bytes ss) (omega (arith, s.rises, s.first.seq_in_range.0)) s.last_in_range name.2 in
-      let begins : rank_at bs at ≡ name_rank s.first = rank_read bs at s.first name.1 in
-      let ends : last_at bs at ≡ last_rank s = λ i. slice_index (name.1 i) 0 * 4294967296 + last.1 i in
-      let first_there : (has_name bs at && leb low (rank_at bs at)) ≡ true = λ i. name.0 i && (ap (leb low) begins ∙ le-leb low (name_rank s.first) f.starts) i in
-      let reach : at + 10 ≤ length bs = within bs at 10 (span_bytes s) (flat_map span_bytes ss) refl (omega arith) e in
-      let rises : leb (rank_at bs at) (last_at bs at) ≡ true = le-leb (rank_at bs at) (last_at bs at) (omega (arith, begins, ends, s.rises)) in
-      let below : leb (last_at bs at) high ≡ true = le-leb (last_at bs at) high (omega (arith, ends, f.ends)) in
-      let last_there : (leb (at + 10) (length bs) && (leb (rank_at bs at) (last_at bs at) && leb (last_at bs at) high)) ≡ true = λ i. le-leb (at + 10) (length bs) reach i && (rises i && below i) in
-      let ten : at + 10 ≡ at + 6 + 4 = omega arith in
-      let rest = spans_are (at + 10) (last_rank s + 2) high ss f.rest (ap (λ n. drop n bs) ten ∙ last.2) in
-      (λ i. if first_there i then (if last_there i then first_fault (spans_fields bs (at + 10) (ends i + 2) high (length ss)) else Some (at + 6)) else Some at) ∙ rest
+  spans_are at low high (s ∷ ss) has h e =
+      let t = fit_at low high s ss h in
+      let tail = flat_map (span_bytes f) ss in
+      let start : drop at bs ≡ name_bytes f s.first ++ (to_be_bytes w32 s.last ++ tail) = e ∙ append_assoc (name_bytes f s.first) (to_be_bytes w32 s.last) tail in
+      let name = tag_is bs f at s.first (to_be_bytes w32 s.last ++ tail) has.0 start in
+      let last = long_is bs (at + name_size f) s.last tail (omega (arith, s.rises, s.first.seq_in_range.0)) s.last_in_range name.2 in
+      let begins : rank_at f bs at ≡ name_rank s.first = rank_read f bs at s.first name.1 in
+      let ends : last_at f bs at ≡ last_rank s = λ i. (slice_index (name.1 i) 0 - 1) * 4294967296 + last.1 i in
+      let first_there : (has_name f bs at && leb low (rank_at f bs at)) ≡ true = λ i. name.0 i && (ap (leb low) begins ∙ le-leb low (name_rank s.first) t.starts) i in
+      let long : length (span_bytes f s) ≡ span_size f = omega (arith, length-append (name_bytes f s.first) (to_be_bytes w32 s.last), (name_parts f s.first [] has.0).size) in
+      let some : 0 < span_size f = omega arith in
+      let reach : at + span_size f ≤ length bs = within bs at (span_size f) (span_bytes f s) tail long some e in
+      let rises : leb (rank_at f bs at) (last_at f bs at) ≡ true = le-leb (rank_at f bs at) (last_at f bs at) (omega (arith, begins, ends, s.rises)) in
+      let below : leb (last_at f bs at) high ≡ true = le-leb (last_at f bs at) high (omega (arith, ends, t.ends)) in
+      let last_there : (leb (at + span_size f) (length bs) && (leb (rank_at f bs at) (last_at f bs at) && leb (last_at f bs at) high)) ≡ true = λ i. le-leb (at + span_size f) (length bs) reach i && (rises i && below i) in
+      let place : at + span_size f ≡ at + name_size f + 4 = omega arith in
+      let rest = spans_are (at + span_size f) (last_rank s + 2) high ss has.1 t.rest (ap (λ n. drop n bs) place ∙ last.2) in
+      (λ i. if first_there i then (if last_there i then first_fault (spans_fields f bs (at + span_size f) (ends i + 2) high (length ss)) else Some (at + name_size f)) else Some at) ∙ rest
 
-  window_is : (at : ℕ) (w : Intervals) → drop at bs ≡ intervals_bytes w → first_fault (window_fields bs at) ≡ None
-  window_is at w e =
-      let after = to_be_bytes w16 (length w.spans) ++ flat_map span_bytes w.spans in
-      let from = name_is bs at w.from (name_bytes w.to ++ after) e in
-      let to = name_is bs (at + 6) w.to after from.2 in
-      let twelve : at + 12 ≡ at + 6 + 6 = omega arith in
-      let count = short_is bs (at + 12) (length w.spans) (flat_map span_bytes w.spans) 0 512 (omega (arith, w.few)) (omega arith) w.few (ap (λ n. drop n bs) twelve ∙ to.2) in
-      let fourteen : at + 14 ≡ at + 12 + 2 = omega arith in
-      let low : rank_at bs at ≡ name_rank w.from = rank_read bs at w.from from.1 in
-      let high : rank_at bs (at + 6) ≡ name_rank w.to = rank_read bs (at + 6) w.to to.1 in
-      let ordered : (has_name bs (at + 6) && leb (rank_at bs at) (rank_at bs (at + 6))) ≡ true = λ i. to.0 i && le-leb (rank_at bs at) (rank_at bs (at + 6)) (omega (arith, low, high, w.ordered)) i in
-      let rest = spans_are (at + 14) (name_rank w.from) (name_rank w.to) w.spans w.fitting (ap (λ n. drop n bs) fourteen ∙ count.2) in
-      (λ i. if from.0 i then (if ordered i then (if count.0 i then first_fault (spans_fields bs (at + 14) (low i) (high i) (count.1 i)) else Some (at + 12)) else Some (at + 6)) else Some at) ∙ rest
+  window_is : (at : ℕ) (w : Intervals) → HasWindow f w → drop at bs ≡ intervals_bytes f w → first_fault (window_fields f bs at) ≡ None
+  window_is at w has e =
+      let after = to_be_bytes w16 (length w.spans) ++ flat_map (span_bytes f) w.spans in
+      let from = tag_is bs f at w.from (name_bytes f w.to ++ after) has.from e in
+      let to = tag_is bs f (at + name_size f) w.to after has.to from.2 in
+      let second : at + 2 * name_size f ≡ at + name_size f + name_size f = omega arith in
+      let count = short_is bs (at + 2 * name_size f) (length w.spans) (flat_map (span_bytes f) w.spans) 0 512 (omega (arith, w.few)) (omega arith) w.few (ap (λ n. drop n bs) second ∙ to.2) in
+      let third : at + (2 * name_size f + 2) ≡ at + 2 * name_size f + 2 = omega arith in
+      let low : rank_at f bs at ≡ name_rank w.from = rank_read f bs at w.from from.1 in
+      let high : rank_at f bs (at + name_size f) ≡ name_rank w.to = rank_read f bs (at + name_size f) w.to to.1 in
+      let ordered : (has_name f bs (at + name_size f) && leb (rank_at f bs at) (rank_at f bs (at + name_size f))) ≡ true = λ i. to.0 i && le-leb (rank_at f bs at) (rank_at f bs (at + name_size f)) (omega (arith, low, high, w.ordered)) i in
+      let rest = spans_are (at + (2 * name_size f + 2)) (name_rank w.from) (name_rank w.to) w.spans has.spans w.fitting (ap (λ n. drop n bs) third ∙ count.2) in
+      (λ i. if from.0 i then (if ordered i then (if count.0 i then first_fault (spans_fields f bs (at + (2 * name_size f + 2)) (low i) (high i) (count.1 i)) else Some (at + 2 * name_size f)) else Some (at + name_size f)) else Some at) ∙ rest
 
-  -- after the format and the kind
-  opened : (kind : ℕ) (rest : List ℕ) → 1 ≤ kind → kind ≤ 4 → bs ≡ 241 ∷ kind ∷ rest → first_fault (kind_fields bs kind) ≡ None → packet_fault bs ≡ None
-  opened kind rest low high e h =
-      let format = byte_is bs 0 241 (kind ∷ rest) 241 241 (lit≤ tt) (lit≤ tt) e in
-      let kinds = byte_is bs 1 kind rest 1 4 low high (ap (drop 1) e) in
-      (λ i. if format.0 i then (if kinds.0 i then first_fault (kind_fields bs (kinds.1 i)) else Some 1) else Some 0) ∙ h
+packet_said : (f : Format) → packet_format (packet_byte f) ≡ f
+packet_said One = refl
+packet_said Two = refl
 
-pub no_fault : (p : Packet) → packet_fault (packet_bytes p) ≡ None
-no_fault (kinds.Full b) = opened (packet_bytes (kinds.Full b)) 1 (batch_bytes b.ops) (lit≤ tt) (lit≤ tt) refl (batch_is (packet_bytes (kinds.Full b)) 2 b refl)
-no_fault (kinds.Have w) = opened (packet_bytes (kinds.Have w)) 2 (intervals_bytes w) (lit≤ tt) (lit≤ tt) refl (window_is (packet_bytes (kinds.Have w)) 2 w refl)
-no_fault (kinds.Delta b) = opened (packet_bytes (kinds.Delta b)) 3 (batch_bytes b.ops) (lit≤ tt) (lit≤ tt) refl (batch_is (packet_bytes (kinds.Delta b)) 2 b refl)
-no_fault (kinds.Data d) = opened (packet_bytes (kinds.Data d)) 4 (data_bytes d) (lit≤ tt) (lit≤ tt) refl (data_is (packet_bytes (kinds.Data d)) d refl)
+packet_range : (f : Format) → (241 ≤ packet_byte f) × (packet_byte f ≤ 242)
+packet_range One = (lit≤ tt, lit≤ tt)
+packet_range Two = (lit≤ tt, lit≤ tt)
+
+-- after the format and the kind
+opened : (f : Format) (bs : List ℕ) (kind : ℕ) (rest : List ℕ) → 1 ≤ kind → kind ≤ 4 → bs ≡ packet_byte f ∷ kind ∷ rest → first_fault (kind_fields f bs kind) ≡ None → packet_fault bs ≡ None
+opened f bs kind rest low high e h =
+    let range = packet_range f in
+    let format = byte_is bs 0 (packet_byte f) (kind ∷ rest) 241 242 range.0 range.1 e in
+    let said : packet_format (slice_index bs 0) ≡ f = ap packet_format format.1 ∙ packet_said f in
+    let kinds = byte_is bs 1 kind rest 1 4 low high (ap (drop 1) e) in
+    (λ i. if format.0 i then (if kinds.0 i then first_fault (kind_fields (said i) bs (kinds.1 i)) else Some 1) else Some 0) ∙ h
+
+pub no_fault : (f : Format) (p : Packet) → HasPacket f p → packet_fault (packet_bytes f p) ≡ None
+no_fault f (kinds.Full b) has = opened f (packet_bytes f (kinds.Full b)) 1 (batch_bytes f b.ops) (lit≤ tt) (lit≤ tt) refl (batch_is f (packet_bytes f (kinds.Full b)) 2 b has refl)
+no_fault f (kinds.Have w) has = opened f (packet_bytes f (kinds.Have w)) 2 (intervals_bytes f w) (lit≤ tt) (lit≤ tt) refl (window_is f (packet_bytes f (kinds.Have w)) 2 w has refl)
+no_fault f (kinds.Delta b) has = opened f (packet_bytes f (kinds.Delta b)) 3 (batch_bytes f b.ops) (lit≤ tt) (lit≤ tt) refl (batch_is f (packet_bytes f (kinds.Delta b)) 2 b has refl)
+no_fault f (kinds.Data d) has = opened f (packet_bytes f (kinds.Data d)) 4 (data_bytes f d) (lit≤ tt) (lit≤ tt) refl (data_is f (packet_bytes f (kinds.Data d)) d has refl)

@@ -9,6 +9,9 @@ use Rattle.std.proofs.lemmas.List.{flat_map_more, drop_all}
 use Rattle.fl_labels.specs.declared.name.Name.{Name}
 use Rattle.fl_labels.specs.Name.{name_cmp}
 use Rattle.fl_ops.specs.declared.op.Op.{Op}
+use Rattle.std.specs.List.{AllByRecursion}
+use Rattle.fl_ops.specs.declared.format.Format.{Format}
+use Rattle.fl_ops.specs.Fits.{HasOp}
 use Rattle.fl_ops.specs.Bytes.{op_bytes}
 use Rattle.fl_ops.specs.Grammar.{first_fault}
 use Rattle.fl_wire.specs.declared.fault.ReadFault.{ReadFault}
@@ -19,16 +22,17 @@ use Rattle.fl_wire.specs.NameOrder.{by_name, by_name_total}
 use Rattle.fl_wire.specs.parts.Ops.{IsNextOp, AreOps, AddsNextOp, last_name}
 use Rattle.fl_wire.specs.PacketGrammar.{next_op, ops_fields}
 use Rattle.fl_wire.proofs.Faults.{fault_rest, bad_front, bad_only}
-use Rattle.fl_wire.proofs.Sets.{less_of, rises_more}
+use Rattle.fl_wire.proofs.Sets.{less_of, rises_more, all_more}
 
 -- after the operations xs, of which before names the last, so many are left from a place on
-pub record OpsTo (bytes : List ℕ) (at count place left : ℕ) (xs : List Op) (before : Option Name) : Type 0 where
-  pub faults : first_fault (ops_fields bytes at [] count) ≡ first_fault (ops_fields bytes place (key_before name_key before) left)
-  pub spelled : drop at bytes ≡ flat_map op_bytes xs ++ drop place bytes
+pub record OpsTo (f : Format) (bytes : List ℕ) (at count place left : ℕ) (xs : List Op) (before : Option Name) : Type 0 where
+  pub faults : first_fault (ops_fields f bytes at [] count) ≡ first_fault (ops_fields f bytes place (key_before name_key before) left)
+  pub spelled : drop at bytes ≡ flat_map (op_bytes f) xs ++ drop place bytes
   pub counted : length xs + left ≡ count
+  pub has : AllByRecursion (HasOp f) xs
   pub rises : IsStrictlySortedBy by_name xs
   pub above : (x : Op) → is_above name_cmp before x.name ≡ true → IsStrictlySortedBy by_name (xs ++ x ∷ [])
-  pub near : place + 47 * left ≤ at + 47 * count
+  pub near : place + 51 * left ≤ at + 51 * count
 
 -- the last of one operation more
 last_more : (xs : List Op) (x : Op) → last_name (xs ++ x ∷ []) ≡ Some x.name
@@ -41,60 +45,63 @@ last_more xs x = ap (λ n. option_map (λ op. op.name) (slice_get (xs ++ x ∷ [
     at_end [] = refl
     at_end (y ∷ ys) = at_end ys
 
-module _ {bytes : List ℕ} {at count : ℕ} where
-  ops_none : (left : ℕ) (xs : List Op) → left ≡ count → xs ≡ [] → OpsTo bytes at count at left xs None
+module _ {f : Format} {bytes : List ℕ} {at count : ℕ} where
+  ops_none : (left : ℕ) (xs : List Op) → left ≡ count → xs ≡ [] → OpsTo f bytes at count at left xs None
   unfolding IsStrictlySortedBy
-  ops_none left xs q none = subst (λ l. OpsTo bytes at count at left l None) (sym none) (record {
-    faults = ap (λ n. first_fault (ops_fields bytes at [] n)) (sym q);
+  ops_none left xs q none = subst (λ l. OpsTo f bytes at count at left l None) (sym none) (record {
+    faults = ap (λ n. first_fault (ops_fields f bytes at [] n)) (sym q);
     spelled = refl;
     counted = omega (arith, q);
+    has = tt;
     rises = tt;
     above = λ x h. (tt, tt);
     near = omega (arith, q);
   })
 
-  pub ops_start : (left : ℕ) (xs : List Op) → left ≡ count → xs ≡ [] → OpsTo bytes at count at left xs (last_name xs)
-  ops_start left xs q none = subst (OpsTo bytes at count at left xs) (sym (ap last_name none)) (ops_none left xs q none)
+  pub ops_start : (left : ℕ) (xs : List Op) → left ≡ count → xs ≡ [] → OpsTo f bytes at count at left xs (last_name xs)
+  ops_start left xs q none = subst (OpsTo f bytes at count at left xs) (sym (ap last_name none)) (ops_none left xs q none)
 
-  ops_more : (place left : ℕ) (xs ys : List Op) (before : Option Name) (x : Op) (end less : ℕ) → OpsTo bytes at count place left xs before → IsNextOp bytes place before x end
-      → left ≡ suc less → ys ≡ xs ++ x ∷ [] → OpsTo bytes at count end less ys (Some x.name)
-  ops_more place left xs ys before x end less r n q new = subst (λ l. OpsTo bytes at count end less l (Some x.name)) (sym new) (record {
-    faults = r.faults ∙ ap (λ m. first_fault (ops_fields bytes place (key_before name_key before) m)) q
-        ∙ fault_rest (next_op bytes place (key_before name_key before)) _ n.whole
-        ∙ (λ i. first_fault (ops_fields bytes (n.ends i) (n.keyed i) less));
-    spelled = r.spelled ∙ ap (λ l. flat_map op_bytes xs ++ l) n.spelled
-        ∙ sym (append_assoc (flat_map op_bytes xs) (op_bytes x) (drop end bytes)) ∙ ap (λ l. l ++ drop end bytes) (flat_map_more op_bytes [] xs x);
+  ops_more : (place left : ℕ) (xs ys : List Op) (before : Option Name) (x : Op) (end less : ℕ) → OpsTo f bytes at count place left xs before → IsNextOp f bytes place before x end
+      → left ≡ suc less → ys ≡ xs ++ x ∷ [] → OpsTo f bytes at count end less ys (Some x.name)
+  ops_more place left xs ys before x end less r n q new = subst (λ l. OpsTo f bytes at count end less l (Some x.name)) (sym new) (record {
+    faults = r.faults ∙ ap (λ m. first_fault (ops_fields f bytes place (key_before name_key before) m)) q
+        ∙ fault_rest (next_op f bytes place (key_before name_key before)) _ n.whole
+        ∙ (λ i. first_fault (ops_fields f bytes (n.ends i) (n.keyed i) less));
+    spelled = r.spelled ∙ ap (λ l. flat_map (op_bytes f) xs ++ l) n.spelled
+        ∙ sym (append_assoc (flat_map (op_bytes f) xs) (op_bytes f x) (drop end bytes)) ∙ ap (λ l. l ++ drop end bytes) (flat_map_more (op_bytes f) [] xs x);
     counted = omega (arith, length-append xs (x ∷ []), r.counted, q);
+    has = all_more (HasOp f) xs x r.has n.has;
     rises = r.above x n.above;
     above = λ y h. rises_more by_name_total xs x y (r.above x n.above) (less_of (by_name x y) h);
     near = omega (arith, r.near, n.short, q);
   })
 
-  pub ops_added : (place left : ℕ) (xs ys : List Op) (end less : ℕ) → OpsTo bytes at count place left xs (last_name xs) → AddsNextOp bytes place xs ys end
-      → left ≡ suc less → OpsTo bytes at count end less ys (last_name ys)
+  pub ops_added : (place left : ℕ) (xs ys : List Op) (end less : ℕ) → OpsTo f bytes at count place left xs (last_name xs) → AddsNextOp f bytes place xs ys end
+      → left ≡ suc less → OpsTo f bytes at count end less ys (last_name ys)
   ops_added place left xs ys end less r n q =
-      subst (OpsTo bytes at count end less ys) (sym (ap last_name n.added ∙ last_more xs n.op)) (ops_more place left xs ys (last_name xs) n.op end less r n.next q n.added)
+      subst (OpsTo f bytes at count end less ys) (sym (ap last_name n.added ∙ last_more xs n.op)) (ops_more place left xs ys (last_name xs) n.op end less r n.next q n.added)
 
-  pub ops_bad : (place left : ℕ) (xs : List Op) (before : Option Name) (less : ℕ) (f : ReadFault) → OpsTo bytes at count place left xs before → left ≡ suc less
-      → IsBad (next_op bytes place (key_before name_key before)) f → IsBadOrMemory (ops_fields bytes at [] count) f
+  pub ops_bad : (place left : ℕ) (xs : List Op) (before : Option Name) (less : ℕ) (x : ReadFault) → OpsTo f bytes at count place left xs before → left ≡ suc less
+      → IsBad (next_op f bytes place (key_before name_key before)) x → IsBadOrMemory (ops_fields f bytes at [] count) x
   ops_bad place left xs before less (BadPacket p) r q bad =
-      r.faults ∙ ap (λ m. first_fault (ops_fields bytes place (key_before name_key before) m)) q
-      ∙ bad_front (next_op bytes place (key_before name_key before)) _ (BadPacket p) (bad_only (next_op bytes place (key_before name_key before)) (BadPacket p) bad)
+      r.faults ∙ ap (λ m. first_fault (ops_fields f bytes place (key_before name_key before) m)) q
+      ∙ bad_front (next_op f bytes place (key_before name_key before)) _ (BadPacket p) (bad_only (next_op f bytes place (key_before name_key before)) (BadPacket p) bad)
   ops_bad place left xs before less Memory r q bad = tt
 
-  pub ops_all : (place left : ℕ) (xs : List Op) (before : Option Name) → OpsTo bytes at count place left xs before → left ≡ 0 → length bytes ≤ place → AreOps bytes at count xs
+  pub ops_all : (place left : ℕ) (xs : List Op) (before : Option Name) → OpsTo f bytes at count place left xs before → left ≡ 0 → length bytes ≤ place → AreOps f bytes at count xs
   ops_all place left xs before r done end = record {
-    whole = r.faults ∙ ap (λ m. first_fault (ops_fields bytes place (key_before name_key before) m)) done
+    whole = r.faults ∙ ap (λ m. first_fault (ops_fields f bytes place (key_before name_key before) m)) done
         ∙ ap (λ b. if b then None else Some place) (le-leb (length bytes) place end);
+    has = r.has;
     rises = r.rises;
     counted = omega (arith, r.counted, done);
-    spelled = r.spelled ∙ ap (λ l. flat_map op_bytes xs ++ l) (drop_all place bytes end) ∙ append-nil (flat_map op_bytes xs);
+    spelled = r.spelled ∙ ap (λ l. flat_map (op_bytes f) xs ++ l) (drop_all place bytes end) ∙ append-nil (flat_map (op_bytes f) xs);
   }
 
-  pub ops_after : (place left : ℕ) (xs : List Op) (before : Option Name) → OpsTo bytes at count place left xs before → left ≡ 0 → place < length bytes
-      → first_fault (ops_fields bytes at [] count) ≡ Some place
+  pub ops_after : (place left : ℕ) (xs : List Op) (before : Option Name) → OpsTo f bytes at count place left xs before → left ≡ 0 → place < length bytes
+      → first_fault (ops_fields f bytes at [] count) ≡ Some place
   ops_after place left xs before r done more =
-      r.faults ∙ ap (λ m. first_fault (ops_fields bytes place (key_before name_key before) m)) done
+      r.faults ∙ ap (λ m. first_fault (ops_fields f bytes place (key_before name_key before) m)) done
       ∙ ap (λ b. if b then None else Some place) (over place (length bytes) more)
     where
       over : (a b : ℕ) → a < b → leb b a ≡ false

@@ -1,5 +1,5 @@
 -- What is written one after another.
-use Rattle.std.proofs.Common.{◌≡◌, ℕ, ◌+◌, ◌<◌, ◌≤◌, List, [], ◌∷◌, ◌++◌, length, get_or, take, sym, ap, ◌∙◌, append_assoc}
+use Rattle.std.proofs.Common.{◌≡◌, ℕ, ◌+◌, ◌<◌, ◌≤◌, List, [], ◌∷◌, ◌++◌, length, get_or, take, Result, Ok, Err, OnOk, sym, ap, ◌∙◌, append_assoc}
 use Rattle.std.specs.List.{flat_map}
 use Rattle.std.proofs.lemmas.List.{take_more, flat_map_more, take_all}
 
@@ -15,6 +15,12 @@ pub all_pushed : {K : Type 0} (spell : K → List ℕ) (first base out head : Li
     → base ≡ first ++ head → out ≡ base ++ flat_map spell (take n xs) → out ≡ first ++ (head ++ flat_map spell xs)
 all_pushed spell first base out head xs n whole start end =
     end ∙ (λ i. start i ++ flat_map spell (take_all n xs whole i)) ∙ append_assoc first head (flat_map spell xs)
+
+-- three parts, the last of which may fail
+pub three : {A E : Type 0} (r : Result A E) (o a b c d o1 o2 o3 : List ℕ) → o1 ≡ o ++ a → o2 ≡ o1 ++ b → c ≡ d → OnOk r (o3 ≡ o2 ++ c) → OnOk r (o3 ≡ o ++ (a ++ (b ++ d)))
+three (Ok x) o a b c d o1 o2 o3 e1 e2 same h =
+    h ∙ ap (λ l. l ++ c) (e2 ∙ ap (λ l. l ++ b) e1) ∙ append_assoc (o ++ a) b c ∙ append_assoc o a (b ++ c) ∙ ap (λ l. o ++ (a ++ (b ++ l))) same
+three (Err x) o a b c d o1 o2 o3 e1 e2 same h = h
 
 -- four parts, one after another
 pub chained : (o a b c d o1 o2 o3 o4 : List ℕ) → o1 ≡ o ++ a → o2 ≡ o1 ++ b → o3 ≡ o2 ++ c → o4 ≡ o3 ++ d → o4 ≡ o ++ ((a ++ (b ++ c)) ++ d)

@@ -4,6 +4,8 @@ use Rattle.std.specs.List.{flat_map}
 use Rattle.std.proofs.lemmas.Bool.{le-leb}
 use Rattle.std.proofs.lemmas.Bool.Decides.{nat_tests}
 use Rattle.std.proofs.lemmas.List.{flat_map_more, drop_all}
+use Rattle.std.specs.List.{AllByRecursion}
+use Rattle.fl_ops.specs.declared.format.Format.{Format}
 use Rattle.fl_ops.specs.Grammar.{first_fault}
 use Rattle.fl_opset.specs.declared.span.Span.{Span}
 use Rattle.fl_opset.specs.Rank.{last_rank}
@@ -13,58 +15,64 @@ use Rattle.fl_wire.specs.declared.fault.ReadFault.{ReadFault}
 use Rattle.fl_wire.specs.declared.fault.ReadFault.TheVariants.{BadPacket, Memory}
 use Rattle.fl_wire.specs.Faults.{IsBad, IsBadOrMemory}
 use Rattle.fl_wire.specs.PacketBytes.{span_bytes}
-use Rattle.fl_wire.specs.PacketGrammar.{span_fields, spans_fields, last_at}
+use Rattle.fl_wire.specs.PacketFits.{HasSpan}
+use Rattle.fl_wire.specs.PacketGrammar.{span_size, span_fields, spans_fields, last_at}
 use Rattle.fl_wire.specs.parts.SpansRead.{IsSpanAt, AreSpansAt}
+use Rattle.fl_wire.proofs.Sets.{all_more}
 use Rattle.fl_wire.proofs.Faults.{fault_rest, bad_front, bad_only}
 
 -- after the spans xs so many are left from a place on, the next one from a rank on
-pub record SpansTo (bytes : List ℕ) (at from high count place low left : ℕ) (xs : List Span) : Type 0 where
-  pub faults : first_fault (spans_fields bytes at from high count) ≡ first_fault (spans_fields bytes place low high left)
-  pub spelled : drop at bytes ≡ flat_map span_bytes xs ++ drop place bytes
+pub record SpansTo (f : Format) (bytes : List ℕ) (at from high count place low left : ℕ) (xs : List Span) : Type 0 where
+  pub faults : first_fault (spans_fields f bytes at from high count) ≡ first_fault (spans_fields f bytes place low high left)
+  pub spelled : drop at bytes ≡ flat_map (span_bytes f) xs ++ drop place bytes
   pub counted : length xs + left ≡ count
+  pub has : AllByRecursion (HasSpan f) xs
   pub more : (ss : List Span) → fit low high ss ≡ true → fit from high (xs ++ ss) ≡ true
 
-module _ {bytes : List ℕ} {at from high count : ℕ} where
-  pub spans_none : (place left : ℕ) (xs : List Span) → at ≡ place → left ≡ count → xs ≡ [] → SpansTo bytes at from high count place from left xs
-  spans_none place left xs p q none = subst (λ l. SpansTo bytes at from high count place from left l) (sym none) (record {
-    faults = λ i. first_fault (spans_fields bytes (p i) from high (sym q i));
+module _ {f : Format} {bytes : List ℕ} {at from high count : ℕ} where
+  pub spans_none : (place left : ℕ) (xs : List Span) → at ≡ place → left ≡ count → xs ≡ [] → SpansTo f bytes at from high count place from left xs
+  spans_none place left xs p q none = subst (λ l. SpansTo f bytes at from high count place from left l) (sym none) (record {
+    faults = λ i. first_fault (spans_fields f bytes (p i) from high (sym q i));
     spelled = ap (λ n. drop n bytes) p;
     counted = omega (arith, q);
+    has = tt;
     more = λ ss h. h;
   })
 
-  pub spans_more : (place low left : ℕ) (xs ys : List Span) (s : Span) (next rank less : ℕ) → SpansTo bytes at from high count place low left xs → IsSpanAt bytes place low high s
-      → place + 10 ≡ next → rank ≡ last_rank s → left ≡ suc less → ys ≡ xs ++ s ∷ [] → SpansTo bytes at from high count next (rank + 2) less ys
-  spans_more place low left xs ys s next rank less r n p e q new = subst (λ l. SpansTo bytes at from high count next (rank + 2) less l) (sym new) (record {
-    faults = r.faults ∙ ap (λ m. first_fault (spans_fields bytes place low high m)) q
-        ∙ fault_rest (span_fields bytes place low high) (spans_fields bytes (place + 10) (last_at bytes place + 2) high less) n.whole
-        ∙ (λ i. first_fault (spans_fields bytes (p i) ((n.last ∙ sym e) i + 2) high less));
-    spelled = r.spelled ∙ ap (λ l. flat_map span_bytes xs ++ l) (n.spelled ∙ ap (λ m. span_bytes s ++ drop m bytes) p)
-        ∙ sym (append_assoc (flat_map span_bytes xs) (span_bytes s) (drop next bytes)) ∙ ap (λ l. l ++ drop next bytes) (flat_map_more span_bytes [] xs s);
+  pub spans_more : (place low left : ℕ) (xs ys : List Span) (s : Span) (next rank less : ℕ) → SpansTo f bytes at from high count place low left xs → IsSpanAt f bytes place low high s
+      → place + span_size f ≡ next → rank ≡ last_rank s → left ≡ suc less → ys ≡ xs ++ s ∷ [] → SpansTo f bytes at from high count next (rank + 2) less ys
+  spans_more place low left xs ys s next rank less r n p e q new = subst (λ l. SpansTo f bytes at from high count next (rank + 2) less l) (sym new) (record {
+    faults = r.faults ∙ ap (λ m. first_fault (spans_fields f bytes place low high m)) q
+        ∙ fault_rest (span_fields f bytes place low high) (spans_fields f bytes (place + span_size f) (last_at f bytes place + 2) high less) n.whole
+        ∙ (λ i. first_fault (spans_fields f bytes (p i) ((n.last ∙ sym e) i + 2) high less));
+    spelled = r.spelled ∙ ap (λ l. flat_map (span_bytes f) xs ++ l) (n.spelled ∙ ap (λ m. span_bytes f s ++ drop m bytes) p)
+        ∙ sym (append_assoc (flat_map (span_bytes f) xs) (span_bytes f s) (drop next bytes)) ∙ ap (λ l. l ++ drop next bytes) (flat_map_more (span_bytes f) [] xs s);
     counted = omega (arith, length-append xs (s ∷ []), r.counted, q);
+    has = all_more (HasSpan f) xs s r.has n.has;
     more = λ ss h. subst (λ l. fit from high l ≡ true) (sym (append_assoc xs (s ∷ []) ss))
         (r.more (s ∷ ss) (at_fit low high s ss (record { starts = n.starts; ends = n.ends; rest = subst (λ m. fit (m + 2) high ss ≡ true) e h })));
   })
 
-  pub spans_bad : (place low left : ℕ) (xs : List Span) (less : ℕ) (f : ReadFault) → SpansTo bytes at from high count place low left xs → left ≡ suc less
-      → IsBad (span_fields bytes place low high) f → IsBadOrMemory (spans_fields bytes at from high count) f
+  pub spans_bad : (place low left : ℕ) (xs : List Span) (less : ℕ) (x : ReadFault) → SpansTo f bytes at from high count place low left xs → left ≡ suc less
+      → IsBad (span_fields f bytes place low high) x → IsBadOrMemory (spans_fields f bytes at from high count) x
   spans_bad place low left xs less (BadPacket p) r q bad =
-      r.faults ∙ ap (λ m. first_fault (spans_fields bytes place low high m)) q
-      ∙ bad_front (span_fields bytes place low high) (spans_fields bytes (place + 10) (last_at bytes place + 2) high less) (BadPacket p) (bad_only (span_fields bytes place low high) (BadPacket p) bad)
+      r.faults ∙ ap (λ m. first_fault (spans_fields f bytes place low high m)) q
+      ∙ bad_front (span_fields f bytes place low high) (spans_fields f bytes (place + span_size f) (last_at f bytes place + 2) high less) (BadPacket p) (bad_only (span_fields f bytes place low high) (BadPacket p) bad)
   spans_bad place low left xs less Memory r q bad = tt
 
-  pub spans_all : (place low left : ℕ) (xs : List Span) → SpansTo bytes at from high count place low left xs → left ≡ 0 → length bytes ≤ place → AreSpansAt bytes at from high count xs
+  pub spans_all : (place low left : ℕ) (xs : List Span) → SpansTo f bytes at from high count place low left xs → left ≡ 0 → length bytes ≤ place → AreSpansAt f bytes at from high count xs
   spans_all place low left xs r done end = record {
-    whole = r.faults ∙ ap (λ m. first_fault (spans_fields bytes place low high m)) done ∙ ap (λ b. if b then None else Some place) (le-leb (length bytes) place end);
+    whole = r.faults ∙ ap (λ m. first_fault (spans_fields f bytes place low high m)) done ∙ ap (λ b. if b then None else Some place) (le-leb (length bytes) place end);
     fitting = subst (λ l. fit from high l ≡ true) (append-nil xs) (r.more [] refl);
     counted = omega (arith, r.counted, done);
-    spelled = r.spelled ∙ ap (λ l. flat_map span_bytes xs ++ l) (drop_all place bytes end) ∙ append-nil (flat_map span_bytes xs);
+    has = r.has;
+    spelled = r.spelled ∙ ap (λ l. flat_map (span_bytes f) xs ++ l) (drop_all place bytes end) ∙ append-nil (flat_map (span_bytes f) xs);
   }
 
-  pub spans_after : (place low left : ℕ) (xs : List Span) (end : ℕ) → SpansTo bytes at from high count place low left xs → left ≡ 0 → place ≡ end → end < length bytes
-      → first_fault (spans_fields bytes at from high count) ≡ Some end
+  pub spans_after : (place low left : ℕ) (xs : List Span) (end : ℕ) → SpansTo f bytes at from high count place low left xs → left ≡ 0 → place ≡ end → end < length bytes
+      → first_fault (spans_fields f bytes at from high count) ≡ Some end
   spans_after place low left xs end r done is more =
-      r.faults ∙ ap (λ m. first_fault (spans_fields bytes place low high m)) done
+      r.faults ∙ ap (λ m. first_fault (spans_fields f bytes place low high m)) done
       ∙ ap (λ p. if leb (length bytes) p then None else Some p) is ∙ ap (λ b. if b then None else Some end) (over end (length bytes) more)
     where
       over : (a b : ℕ) → a < b → leb b a ≡ false

@@ -1,5 +1,6 @@
 pub mod NameOrder
 pub mod PacketBytes
+pub mod PacketFits
 pub mod Fields
 pub mod Faults
 pub mod PacketGrammar

@@ -1,11 +1,17 @@
 //! Laws of packets and their bytes.
 ghost use Rattle.std.specs.Prelude.{◌≡◌, None};
 ghost use Rattle.fl_wire.specs.declared.packet.Packet.{Packet};
+ghost use Rattle.fl_ops.specs.declared.format.Format.{Format};
+ghost use Rattle.fl_ops.specs.declared.format.Format.TheVariants.{Two};
 ghost use Rattle.fl_wire.specs.PacketBytes.{packet_bytes};
+ghost use Rattle.fl_wire.specs.PacketFits.{HasPacket};
 ghost use Rattle.fl_wire.specs.PacketGrammar.{packet_fault};
 
-/// What a packet spells has no fault, and bytes spell one packet at most. So bytes with a fault spell none.
+/// What a packet spells has no fault, in each format that has it, and bytes spell one packet at most. So bytes with a fault spell
+/// none.
 pub fn law_one_packet()
-    ensures whole { (packet : Packet) → packet_fault (packet_bytes packet) ≡ None }
-    ensures one { (a b : Packet) → packet_bytes a ≡ packet_bytes b → a ≡ b }
+    ensures whole { (f : Format) (packet : Packet) → HasPacket f packet → packet_fault (packet_bytes f packet) ≡ None }
+    ensures one { (f g : Format) (a b : Packet) → HasPacket f a → HasPacket g b
+        → packet_bytes f a ≡ packet_bytes g b → (f ≡ g) × (a ≡ b) }
+    ensures written { (packet : Packet) → HasPacket Two packet }
 {}

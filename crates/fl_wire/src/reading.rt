@@ -1,9 +1,10 @@
 //! Packets from bytes.
-ghost use Rattle.std.specs.Prelude.{◌≡◌, ◌<◌, ◌≤◌, ◌+◌, ◌^◌, MatchResult, length, drop, None, ◌++◌};
+ghost use Rattle.std.specs.Prelude.{◌≡◌, ◌<◌, ◌≤◌, ◌+◌, ◌^◌, ◌*◌, MatchResult, length, drop, slice_index, None, ◌++◌};
 ghost use Rattle.fl_ops.specs.Grammar.{first_fault};
 ghost use Rattle.fl_wire.specs.Faults.{IsBadOrMemory, IsBadOrMemoryAfter};
+ghost use Rattle.fl_wire.specs.PacketFits.{HasCaps, HasData, HasPacket};
 ghost use Rattle.fl_wire.specs.PacketBytes.{payload_bytes, message_bytes, data_bytes, packet_bytes};
-ghost use Rattle.fl_wire.specs.PacketGrammar.{payload_fields, message_fields, data_head, data_fields, packet_head, packet_fields};
+ghost use Rattle.fl_wire.specs.PacketGrammar.{payload_fields, message_fields, data_head, data_fields, packet_head, packet_fields, packet_format};
 
 use crate::fault::ReadFault;
 use crate::fields::{end_at, short_at};
@@ -13,8 +14,18 @@ use crate::packet::Packet;
 use crate::window::window_at;
 use fl_message::message::{Data, Message};
 use fl_message::payload::Payload;
-use fl_ops::fields::{CAP_SIZE, NAME_SIZE, byte_at};
+use fl_ops::fields::byte_at;
+use fl_ops::format::Format;
 use std::alloc::Global;
+
+// How many bytes so many items of a size take.
+fn sized(size: usize, count: usize) -> usize
+    requires size { size ≤ 9 }
+    requires count { count ≤ 256 }
+    ensures { result ≡ size * count }
+{
+    size * count
+}
 
 // The payload, and the end of the bytes after it.
 fn payload_at(alloc: Global, bytes: &[u8], at: usize) -> Result<Payload, ReadFault>
@@ -36,30 +47,38 @@ fn payload_at(alloc: Global, bytes: &[u8], at: usize) -> Result<Payload, ReadFau
 }
 
 // The message, which ends the bytes.
-fn message_at(alloc: Global, bytes: &[u8], at: usize) -> Result<Message, ReadFault>
+fn message_at(alloc: Global, format: Format, bytes: &[u8], at: usize) -> Result<Message, ReadFault>
     requires { at < 2 ^ 29 }
     ensures { MatchResult result
-        (λ m. (first_fault (message_fields bytes.now at) ≡ None)
-        × (drop at bytes.now ≡ message_bytes m))
-        (IsBadOrMemory (message_fields bytes.now at)) }
+        (λ m. (first_fault (message_fields format bytes.now at) ≡ None)
+        × HasCaps format m.caps × (drop at bytes.now ≡ message_bytes format m))
+        (IsBadOrMemory (message_fields format bytes.now at)) }
 {
-    let caps = caps_at(alloc, bytes, at)?;
-    let payload = payload_at(alloc, bytes, at + (1 + CAP_SIZE * caps.len()))?;
+    let caps = caps_at(alloc, format, bytes, at)?;
+    let payload = payload_at(
+        alloc,
+        bytes,
+        at + (1 + sized(format.cap_size(), caps.len())),
+    )?;
     Ok(Message { caps, payload })
 }
 
 // The message with its ends and its labels, which ends the bytes.
-fn data_at(alloc: Global, bytes: &[u8]) -> Result<Data, ReadFault>
+fn data_at(alloc: Global, format: Format, bytes: &[u8]) -> Result<Data, ReadFault>
     ensures { MatchResult result
-        (λ d. (first_fault (data_fields bytes.now 2) ≡ None) × (drop 2 bytes.now ≡ data_bytes d))
-        (IsBadOrMemoryAfter (data_head bytes.now 2) (data_fields bytes.now 2)) }
+        (λ d. (first_fault (data_fields format bytes.now 2) ≡ None) × HasData format d
+        × (drop 2 bytes.now ≡ data_bytes format d))
+        (IsBadOrMemoryAfter (data_head format bytes.now 2) (data_fields format bytes.now 2)) }
 {
-    let (sender, from) = end_at(bytes, 2)?;
-    let (receiver, to) = end_at(bytes, 13)?;
-    let secrecy = label_at(alloc, bytes, 24)?;
-    let middle = 24 + (2 + NAME_SIZE * secrecy.len());
-    let integrity = label_at(alloc, bytes, middle)?;
-    let message = message_at(alloc, bytes, middle + (2 + NAME_SIZE * integrity.len()))?;
+    let end = format.node_size() + 9;
+    let (sender, from) = end_at(format, bytes, 2)?;
+    let (receiver, to) = end_at(format, bytes, 2 + end)?;
+    let first = 2 + 2 * end;
+    let secrecy = label_at(alloc, format, bytes, first)?;
+    let second = first + (2 + sized(format.name_size(), secrecy.len()));
+    let integrity = label_at(alloc, format, bytes, second)?;
+    let third = second + (2 + sized(format.name_size(), integrity.len()));
+    let message = message_at(alloc, format, bytes, third)?;
     Ok(Data {
         sender,
         from,
@@ -71,21 +90,33 @@ fn data_at(alloc: Global, bytes: &[u8]) -> Result<Data, ReadFault>
     })
 }
 
-/// The packet that the bytes spell, all of them. Linear, and takes memory for the sets, the operations, the spans and the
+// The format that the byte of a packet says.
+fn format_of(byte: u8) -> Format
+    ensures { result ≡ packet_format byte }
+{
+    if byte == 0xf1 {
+        Format::One
+    } else {
+        Format::Two
+    }
+}
+
+/// The packet that the bytes spell, all of them, in either format. Linear, and takes memory for the sets, the operations, the spans and the
 /// payload alone, none before the head is right: the format, the kind, and what stands before the first of these.
 ///
 /// `BadPacket` where no packet spells them, at the first byte of the first field that is cut off, out of its range or against a
 /// rule with what came before it, or at the first byte after the packet's end. `Memory` where there is not enough memory.
 pub fn decode(alloc: Global, bytes: &[u8]) -> Result<Packet, ReadFault>
     ensures { MatchResult result
-        (λ packet. packet_bytes packet ≡ bytes.now)
+        (λ packet. let f = packet_format (slice_index bytes.now 0) in
+        HasPacket f packet × (packet_bytes f packet ≡ bytes.now))
         (IsBadOrMemoryAfter (packet_head bytes.now) (packet_fields bytes.now)) }
 {
-    byte_at(bytes, 0, 0xf1, 0xf1)?;
+    let format = format_of(byte_at(bytes, 0, 0xf1, 0xf2)?);
     match byte_at(bytes, 1, 1, 4)? {
-        1 => Ok(Packet::Full(batch_at(alloc, bytes, 2)?)),
-        2 => Ok(Packet::Have(window_at(alloc, bytes, 2)?)),
-        3 => Ok(Packet::Delta(batch_at(alloc, bytes, 2)?)),
-        _ => Ok(Packet::Data(data_at(alloc, bytes)?)),
+        1 => Ok(Packet::Full(batch_at(alloc, format, bytes, 2)?)),
+        2 => Ok(Packet::Have(window_at(alloc, format, bytes, 2)?)),
+        3 => Ok(Packet::Delta(batch_at(alloc, format, bytes, 2)?)),
+        _ => Ok(Packet::Data(data_at(alloc, format, bytes)?)),
     }
 }

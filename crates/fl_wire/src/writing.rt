@@ -1,8 +1,9 @@
-//! Packets to bytes.
+//! Packets to bytes, in the second format.
 ghost use Rattle.std.specs.Prelude.{◌≡◌, ◌≤◌, ◌++◌, ◌∷◌, [], IfOk, OnOk, length};
 ghost use Rattle.std.specs.Int.{w16, to_be_bytes};
 ghost use Rattle.std.specs.List.{flat_map};
 ghost use Rattle.fl_labels.specs.SetBy.{len};
+ghost use Rattle.fl_ops.specs.declared.format.Format.TheVariants.{Two};
 ghost use Rattle.fl_wire.specs.PacketBytes.{pid_bytes, label_bytes, caps_bytes, message_bytes, data_bytes, batch_bytes, span_bytes, intervals_bytes, packet_bytes};
 
 use crate::batch::Batch;
@@ -21,7 +22,7 @@ use std::alloc::{AllocError, Global};
 // A process and one of its endpoints.
 fn push_end(out: &mut Vec<u8>, pid: Pid, endpoint: Endpoint) -> Result<(), AllocError>
     ensures { OnOk result
-        (out.new.items ≡ out.old.items ++ (pid_bytes pid ++ endpoint.number ∷ [])) }
+        (out.new.items ≡ out.old.items ++ (pid_bytes Two pid ++ endpoint.number ∷ [])) }
 {
     out.extend_from_slice(&pid.node.to_be_bytes())?;
     out.extend_from_slice(&pid.boot.to_be_bytes())?;
@@ -32,7 +33,7 @@ fn push_end(out: &mut Vec<u8>, pid: Pid, endpoint: Endpoint) -> Result<(), Alloc
 
 // How many tags a label has, and the tags.
 fn push_label(out: &mut Vec<u8>, label: &Label) -> Result<(), AllocError>
-    ensures { OnOk result (out.new.items ≡ out.old.items ++ label_bytes label.now) }
+    ensures { OnOk result (out.new.items ≡ out.old.items ++ label_bytes Two label.now) }
 {
     let count = label.len() as u16;
     out.extend_from_slice(&count.to_be_bytes())?;
@@ -46,7 +47,7 @@ fn push_label(out: &mut Vec<u8>, label: &Label) -> Result<(), AllocError>
 // How many capabilities there are, and each.
 fn push_caps(out: &mut Vec<u8>, caps: &CapSet) -> Result<(), AllocError>
     requires { len caps.now ≤ 64 }
-    ensures { OnOk result (out.new.items ≡ out.old.items ++ caps_bytes caps.now) }
+    ensures { OnOk result (out.new.items ≡ out.old.items ++ caps_bytes Two caps.now) }
 {
     out.push(caps.len() as u8)?;
     let members = caps.as_slice();
@@ -58,7 +59,7 @@ fn push_caps(out: &mut Vec<u8>, caps: &CapSet) -> Result<(), AllocError>
 
 // The capabilities of a message, how many bytes it has, and the bytes.
 fn push_message(out: &mut Vec<u8>, message: &Message) -> Result<(), AllocError>
-    ensures { OnOk result (out.new.items ≡ out.old.items ++ message_bytes message.now) }
+    ensures { OnOk result (out.new.items ≡ out.old.items ++ message_bytes Two message.now) }
 {
     push_caps(out, &message.caps)?;
     let bytes = message.payload.as_slice();
@@ -69,7 +70,7 @@ fn push_message(out: &mut Vec<u8>, message: &Message) -> Result<(), AllocError>
 
 // A message with its ends and its labels.
 fn push_data(out: &mut Vec<u8>, sent: &Data) -> Result<(), AllocError>
-    ensures { OnOk result (out.new.items ≡ out.old.items ++ data_bytes sent.now) }
+    ensures { OnOk result (out.new.items ≡ out.old.items ++ data_bytes Two sent.now) }
 {
     push_end(out, sent.sender, sent.from)?;
     push_end(out, sent.receiver, sent.to)?;
@@ -80,7 +81,7 @@ fn push_data(out: &mut Vec<u8>, sent: &Data) -> Result<(), AllocError>
 
 // How many operations there are, and each.
 fn push_batch(out: &mut Vec<u8>, batch: &Batch) -> Result<(), AllocError>
-    ensures { OnOk result (out.new.items ≡ out.old.items ++ batch_bytes batch.now.ops) }
+    ensures { OnOk result (out.new.items ≡ out.old.items ++ batch_bytes Two batch.now.ops) }
 {
     let ops = batch.ops.as_slice();
     out.push(ops.len() as u8)?;
@@ -92,7 +93,7 @@ fn push_batch(out: &mut Vec<u8>, batch: &Batch) -> Result<(), AllocError>
 
 // The first name of a span, and the number of its last one.
 fn push_span(out: &mut Vec<u8>, span: &Span) -> Result<(), AllocError>
-    ensures { OnOk result (out.new.items ≡ out.old.items ++ span_bytes span.now) }
+    ensures { OnOk result (out.new.items ≡ out.old.items ++ span_bytes Two span.now) }
 {
     push_name(out, span.first)?;
     out.extend_from_slice(&span.last.to_be_bytes())
@@ -102,7 +103,7 @@ fn push_span(out: &mut Vec<u8>, span: &Span) -> Result<(), AllocError>
 fn push_spans(out: &mut Vec<u8>, spans: &[Span]) -> Result<(), AllocError>
     requires { length spans.now ≤ 512 }
     ensures { let count = to_be_bytes w16 (length spans.now) in
-        OnOk result (out.new.items ≡ out.old.items ++ (count ++ flat_map span_bytes spans.now)) }
+        OnOk result (out.new.items ≡ out.old.items ++ (count ++ flat_map (span_bytes Two) spans.now)) }
 {
     let count = spans.len() as u16;
     out.extend_from_slice(&count.to_be_bytes())?;
@@ -114,7 +115,7 @@ fn push_spans(out: &mut Vec<u8>, spans: &[Span]) -> Result<(), AllocError>
 
 // The two ends of a window, and its spans.
 fn push_intervals(out: &mut Vec<u8>, window: &Intervals) -> Result<(), AllocError>
-    ensures { OnOk result (out.new.items ≡ out.old.items ++ intervals_bytes window.now) }
+    ensures { OnOk result (out.new.items ≡ out.old.items ++ intervals_bytes Two window.now) }
 {
     push_name(out, window.from)?;
     push_name(out, window.to)?;
@@ -123,10 +124,10 @@ fn push_intervals(out: &mut Vec<u8>, window: &Intervals) -> Result<(), AllocErro
 
 /// The spelling of a packet. Linear in it. An error says that there was no memory for it.
 pub fn encode(alloc: Global, packet: &Packet) -> Result<Vec<u8>, AllocError>
-    ensures { IfOk result (λ bytes. bytes.items ≡ packet_bytes packet.now) }
+    ensures { IfOk result (λ bytes. bytes.items ≡ packet_bytes Two packet.now) }
 {
     let mut bytes = Vec::new(alloc);
-    bytes.push(0xf1)?;
+    bytes.push(0xf2)?;
     match packet {
         Packet::Full(batch) => {
             bytes.push(1)?;

@@ -2,7 +2,7 @@
 use Rattle.std.specs.Prelude.{◌≡◌, ℕ, ◌+◌, ◌*◌, Bool, true, List, [], ◌∷◌, ◌++◌, length, drop, Option, Some, None}
 use Rattle.std.specs.declared.cmp.Ordering.{Ordering}
 use Rattle.std.specs.Ordering.{is_lt}
-use Rattle.std.specs.List.{flat_map}
+use Rattle.std.specs.List.{flat_map, AllByRecursion}
 use Rattle.std.specs.List.Sorted.{IsStrictlySortedBy}
 use Rattle.fl_labels.specs.declared.name.Name.{Name}
 use Rattle.fl_labels.specs.declared.cap.Cap.{Cap}
@@ -28,18 +28,20 @@ abbrev pub is_above : {K : Type 0} → (K → K → Ordering) → Option K → K
 is_above R None x = true
 is_above R (Some before) x = is_lt (R before x)
 
--- x is the item at the place, above the one before
-pub record IsNext {K : Type 0} (R : K → K → Ordering) (spell : K → List ℕ) (key_of : K → List ℕ)
+-- x is the item at the place, above the one before, and one of the format
+pub record IsNext {K : Type 0} (R : K → K → Ordering) (Has : K → Type 0) (spell : K → List ℕ) (key_of : K → List ℕ)
     (there : ℕ → Bool) (key : ℕ → List ℕ) (size : ℕ) (bytes : List ℕ) (at : ℕ) (before : Option K) (x : K)
     : Type 0 where
+  pub has : Has x
   pub next : is_next there key at (key_before key_of before) ≡ true
   pub above : is_above R before x ≡ true
   pub keyed : key at ≡ key_of x
   pub spelled : drop at bytes ≡ spell x ++ drop (at + size) bytes
 
 -- xs are the items that stand in these fields, so many from a place on
-pub record AreRead {K : Type 0} (R : K → K → Ordering) (spell : K → List ℕ) (fields : List (ℕ × Bool))
+pub record AreRead {K : Type 0} (R : K → K → Ordering) (Has : K → Type 0) (spell : K → List ℕ) (fields : List (ℕ × Bool))
     (size : ℕ) (bytes : List ℕ) (at count : ℕ) (xs : List K) : Type 0 where
+  pub has : AllByRecursion Has xs
   pub whole : first_fault fields ≡ None
   pub rises : IsStrictlySortedBy R xs
   pub counted : length xs ≡ count

@@ -1,25 +1,40 @@
-use Rattle.std.proofs.Common.{◌+◌, ◌-◌, ◌*◌, arith, rules}
+use Rattle.std.proofs.Common.{◌≡◌, ◌+◌, ◌-◌, ◌*◌, refl, sym, arith, rules}
 use Rattle.std.proofs.lemmas.Result.{err_from_is_err_and}
 use Rattle.fl_labels.specs.NameOrder.{name_total}
+use Rattle.fl_ops.specs.Bytes.{name_size}
 use Rattle.fl_wire.specs.PacketGrammar.{tag_fields}
 use Rattle.fl_wire.proofs.Faults.{bad_at}
 use Rattle.fl_wire.proofs.Sets.{read_none, read_more, read_all, read_fault}
+use Rattle.fl_wire.proofs.Spelled.{name_few}
 use Rattle.fl_wire.proofs.items.tags_at.Goals as goal
 
 pub loop-i-init : goal.loop-i-init
-loop-i-init c = read_none _ _ _ (omega arith) (omega arith) (search rules)
+loop-i-init c = (read_none _ _ _ refl (omega arith) (search rules), omega arith, omega arith)
+
+pub tag_above-requires : goal.tag_above-requires
+tag_above-requires c = omega (arith, c.requires.place, c.requires.few, c.loop-i.invariant.2, c.loop-i-test.true)
+
+pub overflow_add-place : goal.overflow_add-place
+overflow_add-place c = omega (arith, c.requires.place, c.requires.few, c.loop-i.invariant.2, c.loop-i-test.true, c.name_size-place.ensures, name_few c.args.format)
 
 pub loop-i-preserved : goal.loop-i-preserved
 loop-i-preserved c =
     let i = c.loop-i.i in
-    read_more name_total (c.args.at + 6 * i) (c.args.count - i) c.loop-i.tags.items c.push.new.self.items c.loop-i.before c.in_ok-tag.tag (c.args.at + 6 * (i + 1)) (c.args.count - (i + 1)) c.loop-i.invariant c.in_ok-tag.ensures (omega arith) (omega arith) (search rules)
+    let place : c.loop-i.place + name_size c.args.format ≡ c.loop-i.place + c.name_size-place.result = omega (arith, c.name_size-place.ensures) in (
+      read_more name_total c.loop-i.place (c.args.count - i) c.loop-i.tags.items c.push.new.self.items c.loop-i.before c.in_ok-tag.tag (c.loop-i.place + c.name_size-place.result) (c.args.count - (i + 1)) c.loop-i.invariant.0 c.in_ok-tag.ensures place (omega arith) (search rules),
+      omega (arith, c.loop-i.invariant.1, c.name_size-place.ensures),
+      omega (arith, c.loop-i.invariant.2, c.name_size-place.ensures, name_few c.args.format),
+    )
 
 pub returns-in_err-tag : goal.returns-in_err-tag
 returns-in_err-tag c =
     let i = c.loop-i.i in
     let p = err_from_is_err_and c.from_residual-in_err-tag.result c.from_residual-in_err-tag.ensures.1 in
-    rw (p.1, p.2) (bad_at (tag_fields c.args.bytes.now c.args.at c.args.count) (c.args.at + 6 * i) c.in_err-tag.field-0.0 c.in_err-tag.ensures.1
-    (read_fault (c.args.at + 6 * i) (c.args.count - i) c.loop-i.tags.items c.loop-i.before (c.args.count - (i + 1)) c.loop-i.invariant (omega arith) c.in_err-tag.ensures.0))
+    rw (p.1, p.2) (bad_at (tag_fields c.args.format c.args.bytes.now c.args.at c.args.count) c.loop-i.place c.in_err-tag.field-0.0 c.in_err-tag.ensures.1
+    (read_fault c.loop-i.place (c.args.count - i) c.loop-i.tags.items c.loop-i.before (c.args.count - (i + 1)) c.loop-i.invariant.0 (omega arith) c.in_err-tag.ensures.0))
 
 pub returns : goal.returns
-returns c = read_all _ _ _ _ c.loop-i.invariant (omega arith) (omega arith)
+returns c =
+    let last : c.loop-i.i ≡ c.args.count = omega arith in
+    let end : c.loop-i.place ≡ c.args.at + name_size c.args.format * c.args.count = rw (sym last) c.loop-i.invariant.1 in
+    read_all _ _ _ _ c.loop-i.invariant.0 (omega arith) end
