@@ -40,7 +40,7 @@ pub fn least_clash(ours: &OpSet, theirs: &OpSet) -> Option<Name>
 }
 
 // The operations of nodes below a number, and the others. A binary search.
-fn cut(ops: &[Op], bound: u32) -> (&[Op], &[Op])
+fn cut(ops: &[Op], bound: u64) -> (&[Op], &[Op])
     requires { IsStrictlySortedBy op_cmp ops.now }
     ensures whole { ops.now ≡ result.0.now ++ result.1.now }
     ensures first { IsStrictlySortedBy op_cmp result.0.now }
@@ -48,11 +48,11 @@ fn cut(ops: &[Op], bound: u32) -> (&[Op], &[Op])
     ensures below { All (λ op. op.name.node < bound) result.0.now }
     ensures above { All (λ op. bound ≤ op.name.node) result.1.now }
 {
-    ops.split_at(ops.partition_point(|op| u32::from(op.name.node) < bound))
+    ops.split_at(ops.partition_point(|op| u64::from(op.name.node) < bound))
 }
 
 // The operations of one number.
-fn of_number(ops: &[Op], number: u16) -> &[Op]
+fn of_number(ops: &[Op], number: u32) -> &[Op]
     requires { IsStrictlySortedBy op_cmp ops.now }
     ensures rise { IsStrictlySortedBy op_cmp result.now }
     ensures only { (op : Op) → Contains result.now op
@@ -60,7 +60,7 @@ fn of_number(ops: &[Op], number: u16) -> &[Op]
     ensures all { (op : Op) → Contains ops.now op → op.name.node ≡ number
         → Contains result.now op }
 {
-    let number = u32::from(number);
+    let number = u64::from(number);
     let (_, from) = cut(ops, number);
     let (of, _) = cut(from, number + 1);
     of
@@ -69,7 +69,7 @@ fn of_number(ops: &[Op], number: u16) -> &[Op]
 /// The least name of an operation whose name has this number, which the one set has and the other, its owner's, has not; or none
 /// where there is no such operation. Two binary searches, and then one in the owner's set for each operation of that number, up
 /// to that name.
-pub fn least_stray(there: &OpSet, owner: &OpSet, number: u16) -> Option<Name>
+pub fn least_stray(there: &OpSet, owner: &OpSet, number: u32) -> Option<Name>
     ensures { FindsLeast (IsStrayOf (In there.now) (In owner.now) number) result }
 {
     let ops = of_number(there.as_slice(), number);

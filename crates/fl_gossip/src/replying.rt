@@ -19,9 +19,9 @@ use fl_wire::packet::Packet;
 use std::alloc::{AllocError, Global};
 
 // The ranks of the first name of all, 1.1, and of the last.
-const LEAST_RANK: u64 = 0x1_0000_0001;
+const LEAST_RANK: u64 = 1;
 
-const GREATEST_RANK: u64 = 0xffff_ffff_ffff;
+const GREATEST_RANK: u64 = 18_446_744_069_414_584_319;
 
 // The delta of these operations, which are copied.
 fn delta_of(alloc: Global, ops: &[Op]) -> Result<Packet, AllocError>
