@@ -1,7 +1,7 @@
 -- The lines of the script, each by the words that spell it.
 use Rattle.std.specs.Prelude.{◌≡◌, ◌⊎◌, ℕ, Bool, true, false, List, [], ◌∷◌, codes}
 use Rattle.fl_labels.specs.Text.{name_text, pid_text, cap_text, endpoint_text}
-use Rattle.fl_labels.specs.Words.{IsNode, IsNumber}
+use Rattle.fl_labels.specs.Words.{IsNumber}
 use Rattle.fl_jobs.specs.declared.job.Order.TheVariants.{Tag, Group, Put, MakeLogin}
 use Rattle.fl_jobs.specs.declared.job.Act.TheVariants.{Order as Orders, Relabel, Ask, Spawn, Exit, Drop, Enter, Emit, Mail as Mailbox}
 use Rattle.fl_jobs.specs.declared.job.Mail.TheVariants.{Open, Tune, Close, Send, Take}
@@ -73,8 +73,8 @@ request_forms (Check bytes) = Is (codes "check") ∷ IsBytesWord bytes ∷ []
 
 -- the table of the lines
 abbrev pub forms : Line → List (Word → Type 0)
-forms (OfNode n request) = IsNode n ∷ request_forms request
-forms (Union n m) = Is (codes "union") ∷ IsNode n ∷ IsNode m ∷ []
+forms (OfNode n request) = IsNumber n ∷ request_forms request
+forms (Union n m) = Is (codes "union") ∷ IsNumber n ∷ IsNumber m ∷ []
 forms Audit = Is (codes "audit") ∷ []
 forms Aliases = Is (codes "aliases") ∷ []
 

@@ -5,16 +5,16 @@ ghost use Rattle.fl_script.specs.parts.Reads.{Reads};
 ghost use Rattle.fl_script.specs.Grammar.{HoldsList, IsListVerb, Spells};
 
 use crate::request::{Request, request_from_words};
-use fl_labels::text::read_node;
+use fl_labels::text::read_number;
 use std::alloc::{AllocError, Global};
 
 /// A line that asks something of one node, of two, or of none. A line that was read names nodes from 1 to 65,535.
 #[derive(Drop)]
 pub enum Line {
     /// Something is asked of the node.
-    Node { node: u16, request: Request },
+    Node { node: u32, request: Request },
     /// What both nodes have published is to be written together.
-    Union { first: u16, second: u16 },
+    Union { first: u32, second: u32 },
     /// How much was admitted is to be written.
     Audit,
     /// The aliases that are set are to be written.
@@ -25,8 +25,8 @@ fn union_line(rest: &[&str]) -> Option<Line>
     ensures { Finds result (λ l. Spells l (codes "union" ∷ map (λ w. w.now) rest.now)) }
 {
     let [first, second] = rest else { return None };
-    let first = read_node(first)?;
-    let second = read_node(second)?;
+    let first = read_number(first)?;
+    let second = read_number(second)?;
     Some(Line::Union { first, second })
 }
 
@@ -36,7 +36,7 @@ fn node_line(alloc: Global, n: &str, verb: &str, rest: &[&str]) -> Result<Option
     ensures ok { Reads result (λ l. Spells l (n.now ∷ verb.now ∷ map (λ w. w.now) rest.now)) }
     ensures err { OnErr result (IsListVerb verb.now) }
 {
-    let Some(node) = read_node(n) else {
+    let Some(node) = read_number(n) else {
         return Ok(None);
     };
     match request_from_words(alloc, verb, rest)? {

@@ -11,7 +11,7 @@ use Rattle.fl_labels.specs.ItemText.{own}
 use Rattle.fl_labels.specs.Name.{name_cmp}
 use Rattle.fl_labels.specs.SetBy.{SetBy}
 use Rattle.fl_labels.specs.Text.{name_text, pid_text, cap_text, endpoint_text}
-use Rattle.fl_labels.specs.Words.{IsNode, IsNumber}
+use Rattle.fl_labels.specs.Words.{IsNumber}
 use Rattle.fl_labels.specs.declared.cap.Cap.{Cap}
 use Rattle.fl_labels.specs.declared.cap.Cap.TheVariants.{Plus, Minus, Use, Grow}
 use Rattle.fl_labels.specs.declared.endpoint.Endpoint.{Endpoint}
@@ -71,10 +71,10 @@ digit_only : (ds : List ℕ) → AllDigits 10 ds → Lacks (Is ds)
 digit_only [] a e = absurd (omega (arith, ap length e))
 digit_only (c ∷ ds) a e = digit (c ∷ ds) [] a (omega arith) (e ∙ sym (append-nil (c ∷ ds)))
 
-node : (n : ℕ) → Lacks (IsNode n)
+node : (n : ℕ) → Lacks (IsNumber n)
 node n s = digit_only (decimal n) (digits_decimal own n (small n s.in_range)) s.written
   where
-    small : (n : ℕ) → n < 2 ^ 16 → n < 2 ^ 64
+    small : (n : ℕ) → n < 2 ^ 32 → n < 2 ^ 64
     small n low = omega (arith, low)
 
 packet : (n : ℕ) → Lacks (IsNumber n)

@@ -33,7 +33,7 @@ use Rattle.fl_aliases.specs.Words.{Word}
 use Rattle.fl_labels.specs.laws.OneReading.{name_text_injective, pid_text_injective, cap_text_injective, endpoint_text_injective, name_text_some, cap_text_some, same_number, same_listing}
 use Rattle.fl_script.specs.Grammar.{Is}
 use Rattle.fl_script.specs.laws.Agreement.{Both}
-use Rattle.fl_labels.specs.Words.{IsNode, IsNumber, IsListing}
+use Rattle.fl_labels.specs.Words.{IsNumber, IsListing}
 use Rattle.fl_ops.specs.PolicyText.{policy_text}
 use Rattle.fl_script.specs.Words.{side_text, mode_text, ListsLabel, ListsTooMany, IsLabelWord, IsCapsWord, HasDigits, IsSecretWord, IsBytesWord}
 
@@ -55,22 +55,22 @@ same_endpoint = same_text endpoint_text endpoint_text_injective
 pub same_packet : (m n : ℕ) → Both (IsNumber m) (IsNumber n) → m ≡ n
 same_packet m n g = same_number m n g.left.in_range g.right.in_range (sym g.left.written ∙ g.right.written)
 
-pub same_node : (m n : ℕ) → Both (IsNode m) (IsNode n) → m ≡ n
+pub same_node : (m n : ℕ) → Both (IsNumber m) (IsNumber n) → m ≡ n
 same_node m n g =
-    let a : m < 2 ^ 16 = g.left.in_range in
-    let b : n < 2 ^ 16 = g.right.in_range in
+    let a : m < 2 ^ 32 = g.left.in_range in
+    let b : n < 2 ^ 32 = g.right.in_range in
     decimal_injective m n (omega arith) (omega arith) (sym g.left.written ∙ g.right.written)
 
 -- no node has a word that begins with a letter
-pub no_letter : (n b : ℕ) (rest w : Word) → 57 < b → IsNode n w → w ≡ b ∷ rest → ⊥
+pub no_letter : (n b : ℕ) (rest w : Word) → 57 < b → IsNumber n w → w ≡ b ∷ rest → ⊥
 no_letter n b rest w letter s e =
-    let small : n < 2 ^ 16 = s.in_range in
+    let small : n < 2 ^ 32 = s.in_range in
     let digits : AllDigits 10 (b ∷ rest) = subst (AllDigits 10) (sym s.written ∙ e) (digits_decimal own n (omega arith)) in
     let first = digit_from_value b digits.0 in
     absurd (omega (arith, letter, first.0))
 
 -- no node has the word `union`
-pub no_node : (n : ℕ) (w : Word) → IsNode n w → w ≡ codes "union" → ⊥
+pub no_node : (n : ℕ) (w : Word) → IsNumber n w → w ≡ codes "union" → ⊥
 no_node n w s e = no_letter n 117 _ w (omega arith) s e
 
 pub same_policy : (a b : Policy) → Both (Is (policy_text a)) (Is (policy_text b)) → a ≡ b
