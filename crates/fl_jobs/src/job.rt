@@ -56,6 +56,8 @@ pub enum Order {
     Put(Name, Cap),
     /// A new login, by which the capability is given to who shows the secret.
     MakeLogin(Cap, Secret),
+    /// This group is opened, so that everybody may use it.
+    OpenGroup(Name),
 }
 
 /// What a process does with its endpoints, and with the messages that wait for it.
