@@ -11,7 +11,7 @@ use Rattle.fl_labels.specs.Pid.{pid_cmp}
 use Rattle.fl_labels.specs.declared.pid.Pid.{Pid}
 use Rattle.fl_ops.specs.declared.op.Op.{Op}
 use Rattle.fl_ops.specs.declared.op.Body.{Body}
-use Rattle.fl_ops.specs.declared.op.Body.TheVariants.{MakeTag, MakeGroup, Put, MakeLogin}
+use Rattle.fl_ops.specs.declared.op.Body.TheVariants.{MakeTag, MakeGroup, Put, MakeLogin, Open}
 use Rattle.fl_bench.specs.declared.process.Holding.{Holding}
 use Rattle.fl_bench.specs.declared.process.Holding.TheVariants.{Idle, Ordering}
 use Rattle.fl_bench.specs.declared.process.Process.{Process}
@@ -24,6 +24,7 @@ given_by (MakeTag policy) tag = Plus tag ∷ Minus tag ∷ []
 given_by MakeGroup group = Use group ∷ Grow group ∷ []
 given_by (Put group c) name = []
 given_by (MakeLogin c digest) name = []
+given_by (Open group) name = []
 
 -- the same, of the operation
 abbrev pub given : Op → List Cap

@@ -8,14 +8,14 @@ use Rattle.fl_labels.specs.SetBy as set
 use Rattle.fl_labels.specs.SetBy.{In}
 use Rattle.fl_labels.specs.declared.name.Name.{Name}
 use Rattle.fl_labels.specs.declared.cap.Cap.{Cap}
-use Rattle.fl_labels.specs.declared.cap.Cap.TheVariants.{Grow}
+use Rattle.fl_labels.specs.declared.cap.Cap.TheVariants.{Use, Grow}
 use Rattle.fl_ops.specs.declared.op.Body.{Body}
 use Rattle.fl_ops.specs.declared.op.Body.TheVariants as bodies
 use Rattle.fl_ops.specs.Registry.{Registry, InEffect}
 use Rattle.fl_jobs.specs.declared.job.Side.{Side}
 use Rattle.fl_jobs.specs.declared.job.Side.TheVariants.{Secrecy, Integrity}
 use Rattle.fl_jobs.specs.declared.job.Order.{Order}
-use Rattle.fl_jobs.specs.declared.job.Order.TheVariants.{Tag, Group, Put, MakeLogin}
+use Rattle.fl_jobs.specs.declared.job.Order.TheVariants.{Tag, Group, Put, MakeLogin, OpenGroup}
 use Rattle.fl_rules.specs.declared.labels.Labels.{Labels}
 use Rattle.fl_message.specs.declared.message.Data.{Data}
 use Rattle.fl_mailbox.specs.Mailbox.{closed}
@@ -85,6 +85,7 @@ body_of (Tag policy) = bodies.MakeTag policy
 body_of Group = bodies.MakeGroup
 body_of (Put group c) = bodies.Put group c
 body_of (MakeLogin c secret) = bodies.MakeLogin c (digest_of secret)
+body_of (OpenGroup group) = bodies.Open group
 
 abbrev pub OneOf : Cap → Cap → Cap → Type 0
 OneOf a b c = (c ≡ a) ⊎ (c ≡ b)
@@ -92,3 +93,7 @@ OneOf a b c = (c ≡ a) ⊎ (c ≡ b)
 -- what a put takes: to grow the group, and the capability itself
 abbrev pub PutTakes : Name → Cap → Cap → Type 0
 PutTakes group c = OneOf (Grow group) c
+
+-- what an opening takes: to use the group, and to grow it
+abbrev pub OpenTakes : Name → Cap → Type 0
+OpenTakes group = OneOf (Use group) (Grow group)

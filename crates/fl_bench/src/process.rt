@@ -104,7 +104,7 @@ fn receive(owned: RoomyOwned, op: &Op) -> Owned
     match op.body {
         Body::MakeTag(_) => owned.with_both(Cap::Plus(op.name), Cap::Minus(op.name)),
         Body::MakeGroup => owned.with_both(Cap::Use(op.name), Cap::Grow(op.name)),
-        Body::Put(_, _) | Body::MakeLogin(_, _) => owned.without_room(),
+        Body::Put(_, _) | Body::MakeLogin(_, _) | Body::Open(_) => owned.without_room(),
     }
 }
 
