@@ -25,7 +25,7 @@ use Rattle.fl_jobs.specs.declared.job.Job.TheVariants.{By}
 use Rattle.fl_jobs.specs.declared.job.Mail as mailbox
 use Rattle.fl_jobs.specs.declared.secret.Secret.{Secret}
 use Rattle.fl_jobs.specs.declared.job.Order as orders
-use Rattle.fl_jobs.specs.declared.job.Order.TheVariants.{Tag, Group, Put, MakeLogin}
+use Rattle.fl_jobs.specs.declared.job.Order.TheVariants.{Tag, Group, Put, MakeLogin, OpenGroup}
 use Rattle.fl_jobs.specs.declared.job.Side.{Side}
 use Rattle.fl_jobs.specs.declared.job.TooLong.{TooLong}
 use Rattle.fl_jobs.specs.declared.answer.Refusal.{Refusal}
@@ -35,7 +35,7 @@ use Rattle.fl_jobs.specs.declared.answer.Reply.TheVariants.{Done, Yes, NotYet, E
 use Rattle.fl_jobs.specs.declared.answer.Outcome.{Outcome}
 use Rattle.fl_rules.specs.declared.labels.Labels.{Labels}
 use Rattle.fl_mailbox.specs.declared.mailbox.Mailbox.{Mailbox}
-use Rattle.fl_bench.specs.Process.{is_under_way, ordering, child_of, with_side, body_of, OneOf, PutTakes}
+use Rattle.fl_bench.specs.Process.{is_under_way, ordering, child_of, with_side, body_of, OneOf, PutTakes, OpenTakes}
 use Rattle.fl_bench.specs.Checks.{demand, with, ◌then◌}
 use Rattle.fl_bench.specs.Guards.{grant_check}
 use Rattle.fl_bench.specs.Bench.{BenchState, has_at, gone}
@@ -128,6 +128,9 @@ module _ (E : Caps) where
   alone : (c : Cap) {r : Result (Unit {0}) Refusal} → Required E c r → Checked (demand cap_cmp (From c) E MissingCap) r
   alone c (Required.there h) = Checked.passed (λ d is. subst E (sym is) h)
   alone c (Required.missing out) = Checked.failed (c, refl, record { member = refl; lacking = out; least = λ d is n. ap (λ y. is_gt (cap_cmp c y)) is ∙ ap is_gt (tied_itself cap_total c) })
+
+  pub open_checked : (order : orders.Order) (group : Name) → order ≡ OpenGroup group → {r : Result (Unit {0}) Refusal} → Checked (demand cap_cmp (OpenTakes group) E MissingCap) r → Checked (order_checks E order) r
+  open_checked order group e {r} h = subst (λ o. Checked (order_checks E o) r) (sym e) h
 
   pub login_checked : (order : orders.Order) (c : Cap) (secret : Secret) → order ≡ MakeLogin c secret → {r : Result (Unit {0}) Refusal} → Required E c r → Checked (order_checks E order) r
   login_checked order c secret e {r} h = subst (λ o. Checked (order_checks E o) r) (sym e) (alone c h)

@@ -39,6 +39,7 @@ fn body_of_order(order: Order) -> Body
         Order::Group => Body::MakeGroup,
         Order::Put(group, cap) => Body::Put(group, cap),
         Order::MakeLogin(cap, secret) => Body::MakeLogin(cap, digest_of_secret(secret)),
+        Order::OpenGroup(group) => Body::Open(group),
     }
 }
 
@@ -101,6 +102,7 @@ fn check_order<V: View>(view: &mut V, owned: &CapSet, order: Order) -> Result<()
         Order::Group => Ok(()),
         Order::Put(group, cap) => check_put(view, owned, group, cap),
         Order::MakeLogin(cap, _) => require(view, owned, cap),
+        Order::OpenGroup(group) => require_both(view, owned, Cap::Use(group), Cap::Grow(group)),
     }
 }
 

@@ -27,7 +27,7 @@ use std::marker::Model;
 /// One of a node's benches: its processes, and the serial of the next.
 #[derive(Drop)]
 pub struct Bench {
-    node: u16,
+    node: u32,
     boot: u32,
     next: u64,
     stride: u32,
@@ -58,7 +58,7 @@ impl Model for Bench {
 impl Bench {
     /// A bench with no process, as one of `stride` benches at this boot of the node: its processes get the
     /// serials `index`, `index + stride` and so on, so that no two benches give the same. Takes no memory.
-    pub fn new(alloc: Global, node: u16, boot: u32, index: u32, stride: u32) -> Self
+    pub fn new(alloc: Global, node: u32, boot: u32, index: u32, stride: u32) -> Self
         requires node_known { 0 < node }
         requires boot_known { 0 < boot }
         requires index_from_one { 1 ≤ index }

@@ -25,3 +25,6 @@ returns-in_ok-tag-in-Endpoint-clause-refuses g c = rw c.in-Endpoint.is (_, refl,
 
 pub returns-in_ok-found-in-Endpoints-clause-refuses : goal.returns-in_ok-found-in-Endpoints-clause-refuses
 returns-in_ok-found-in-Endpoints-clause-refuses g c = rw c.in-Endpoints.is (_, refl, c.in_ok-found-in-Endpoints.ensures.found)
+
+pub returns-in_err-safe_change-in-Change-clause-refuses : goal.returns-in_err-safe_change-in-Change-clause-refuses
+returns-in_err-safe_change-in-Change-clause-refuses g c = rw c.from_residual.ensures (rw c.in-Change.is c.in_err-safe_change-in-Change.ensures.found)
