@@ -22,7 +22,7 @@ use fl_jobs::job::{Act, GivenLabels, Job, Mail, Order};
 use fl_jobs::secret::Secret;
 use fl_labels::cap::Cap;
 use fl_labels::cap_set::CapSet;
-use fl_labels::name::Name;
+use fl_labels::name::{Name, NodeNumber};
 use fl_labels::pid::Pid;
 use fl_ops::digest::Digest;
 use fl_rules::endpoint::Mode;
@@ -245,7 +245,7 @@ impl Draft {
     /// names.
     pub fn new(
         alloc: Global,
-        number: u16,
+        number: NodeNumber,
         boot: u32,
         asker: Option<&Process>,
         owned: Option<SharedCaps>,

@@ -9,6 +9,7 @@ ghost use Rattle.fl_calls.specs.Calls.{counted, Tells, Unites, ChecksAt};
 
 use crate::response::{Check, Response};
 use fl_jobs::answer::Refusal;
+use fl_labels::name::NodeNumber;
 use fl_opset::set::OpSet;
 use fl_store::keeper::Keeper;
 use fl_system::answer::Fault;
@@ -34,7 +35,7 @@ fn starved() -> Response
 }
 
 /// Has the text of the node of this number be written, where it is there. `Stopped` of a stopped one.
-pub fn tell<K: Keeper>(world: &World<K>, number: u16) -> Response
+pub fn tell<K: Keeper>(world: &World<K>, number: NodeNumber) -> Response
     ensures { (w : AnyWorld) (s : KeptNode) → MayBe K.may_hold world.now w → IsAt w number s
         → Tells w number (shown world.now result) w }
 {
@@ -71,7 +72,12 @@ fn united(alloc: Global, first: &OpSet, second: &OpSet) -> Result<OpSet, AllocEr
 
 /// Copies what both nodes have published into one set, where they are there. `Stopped` where one is stopped, and `Memory` only
 /// where there are operations.
-pub fn unite<K: Keeper>(alloc: Global, world: &World<K>, first: u16, second: u16) -> Response
+pub fn unite<K: Keeper>(
+    alloc: Global,
+    world: &World<K>,
+    first: NodeNumber,
+    second: NodeNumber,
+) -> Response
     ensures { (w : AnyWorld) (s t : KeptNode) → MayBe K.may_hold world.now w → IsAt w first s
         → IsAt w second t → Unites w first second (shown world.now result) w }
 {
@@ -105,7 +111,12 @@ fn counted(packet: &Packet, count: u64) -> Check
 
 /// What a packet of these bytes would bring to the node of this number, where it is there: `BadPacket` where the bytes are none, and
 /// else as `Node::check` has it.
-pub fn check<K: Keeper>(alloc: Global, world: &World<K>, number: u16, bytes: &[u8]) -> Response
+pub fn check<K: Keeper>(
+    alloc: Global,
+    world: &World<K>,
+    number: NodeNumber,
+    bytes: &[u8],
+) -> Response
     ensures { (w : AnyWorld) (s : KeptNode) → MayBe K.may_hold world.now w → IsAt w number s
         → ChecksAt w number bytes.now (shown world.now result) w }
 {

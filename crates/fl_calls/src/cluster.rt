@@ -19,6 +19,7 @@ ghost use Rattle.fl_calls.specs.parts.Coming.{coming, is_message, sent_at};
 use crate::asking::{check, tell, unite};
 use crate::completing::{complete, number_of};
 use crate::response::Response;
+use fl_labels::name::NodeNumber;
 use fl_makers::maker::MakesKeepers;
 use fl_sink::sink::{Sink, WriteFault};
 use fl_sink::writer::Writer;
@@ -92,7 +93,7 @@ fn said(is_message: bool, reply: Reply) -> Response
 }
 
 // That the packet of this number comes to the node.
-fn arrival(number: u16, packet: u32) -> Event
+fn arrival(number: NodeNumber, packet: u32) -> Event
     ensures { result ≡ Event.Deliver packet number }
 {
     Event::Deliver {
@@ -145,7 +146,7 @@ impl<M: MakesKeepers> Cluster<M> {
     }
 
     // Opens the node of this number, which is not there. An error leaves the world.
-    fn open(&mut self, alloc: Global, number: u16) -> Result<(), Fault>
+    fn open(&mut self, alloc: Global, number: NodeNumber) -> Result<(), Fault>
         requires known { 0 < number }
         requires absent { map.get self.old.world.nodes number ≡ None }
         ensures { GoesOn M.K.is_honest M.K.may_hold M.finds M.refuses self.old self.new
@@ -158,7 +159,7 @@ impl<M: MakesKeepers> Cluster<M> {
     }
 
     // Opens the node of this number where it is not there. An error leaves the world.
-    fn enter(&mut self, alloc: Global, number: u16) -> Result<(), Fault>
+    fn enter(&mut self, alloc: Global, number: NodeNumber) -> Result<(), Fault>
         requires { 0 < number }
         ensures { GoesOn M.K.is_honest M.K.may_hold M.finds M.refuses self.old self.new
             (λ openings w w'. Enters openings w number result w') }
@@ -210,7 +211,7 @@ impl<M: MakesKeepers> Cluster<M> {
     /// Has the packet of this number, counted from 1, come to the node, which is opened where it is not there, and saves and
     /// publishes what it brings. A message that does not arrive is `Dropped`. `Unknown` where fewer were sent, and then no node is
     /// opened.
-    pub fn deliver(&mut self, alloc: Global, number: u16, packet: u32) -> Response
+    pub fn deliver(&mut self, alloc: Global, number: NodeNumber, packet: u32) -> Response
         requires { 0 < number }
         ensures { GoesOn M.K.is_honest M.K.may_hold M.finds M.refuses self.old self.new
             (λ openings w w'. Delivers openings w number packet (shown self.new.world result) w') }
@@ -231,7 +232,7 @@ impl<M: MakesKeepers> Cluster<M> {
     /// Has the packet of this number, counted from 1, come to the node, which is opened where it is not there. What it brings is to
     /// be saved and published by further events. `Unknown` where fewer were sent, or where it is not one of operations, and then
     /// no node is opened.
-    pub fn begin_to_take(&mut self, alloc: Global, number: u16, packet: u32) -> Response
+    pub fn begin_to_take(&mut self, alloc: Global, number: NodeNumber, packet: u32) -> Response
         requires { 0 < number }
         ensures { GoesOn M.K.is_honest M.K.may_hold M.finds M.refuses self.old self.new
             (λ openings w w'. BeginsToTake openings w number packet (shown self.new.world result) w') }
@@ -249,7 +250,7 @@ impl<M: MakesKeepers> Cluster<M> {
     }
 
     /// Has the text of the node be written, which is opened where it is not there. `Stopped` of a stopped one.
-    pub fn text(&mut self, alloc: Global, number: u16) -> Response
+    pub fn text(&mut self, alloc: Global, number: NodeNumber) -> Response
         requires { 0 < number }
         ensures { GoesOn M.K.is_honest M.K.may_hold M.finds M.refuses self.old self.new
             (λ openings w w'. AsksForText openings w number (shown self.new.world result) w') }
@@ -262,7 +263,7 @@ impl<M: MakesKeepers> Cluster<M> {
 
     /// What both nodes have published, copied into one set. The first is opened and then the second, where they are not there.
     /// `Stopped` where one is stopped.
-    pub fn union(&mut self, alloc: Global, first: u16, second: u16) -> Response
+    pub fn union(&mut self, alloc: Global, first: NodeNumber, second: NodeNumber) -> Response
         requires first { 0 < first }
         requires second { 0 < second }
         ensures { GoesOn M.K.is_honest M.K.may_hold M.finds M.refuses self.old self.new
@@ -279,7 +280,7 @@ impl<M: MakesKeepers> Cluster<M> {
 
     /// What a packet of these bytes would bring to the node, which is opened where it is not there: `BadPacket` where they are
     /// none, and else as `Node::check` has it.
-    pub fn check(&mut self, alloc: Global, number: u16, bytes: &[u8]) -> Response
+    pub fn check(&mut self, alloc: Global, number: NodeNumber, bytes: &[u8]) -> Response
         requires { 0 < number }
         ensures { GoesOn M.K.is_honest M.K.may_hold M.finds M.refuses self.old self.new
             (λ openings w w'. AsksToCheck openings w number bytes.now (shown self.new.world result) w') }
@@ -301,7 +302,7 @@ impl<M: MakesKeepers> Cluster<M> {
     /// Puts the lines of what the node has published into the sink, and nothing where it is stopped or not there.
     pub fn write_text<W: Writer>(
         &self,
-        number: u16,
+        number: NodeNumber,
         sink: &mut Sink,
         output: &mut W,
     ) -> Result<(), WriteFault>

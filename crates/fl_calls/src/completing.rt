@@ -6,6 +6,7 @@ ghost use Rattle.fl_world.specs.Looking.{LooksFar};
 ghost use Rattle.fl_calls.specs.Completing.{begins, starved, Finishes, Completes};
 
 use fl_jobs::answer::Refusal;
+use fl_labels::name::NodeNumber;
 use fl_store::keeper::Keeper;
 use fl_system::answer::Fault;
 use fl_system::event::Event;
@@ -14,7 +15,7 @@ use fl_world::world::World;
 use std::alloc::Global;
 
 /// The number of the node to which the event happens.
-pub fn number_of(event: &Event) -> u16
+pub fn number_of(event: &Event) -> NodeNumber
     ensures { result ≡ node_of event.now }
 {
     match event {
@@ -47,7 +48,7 @@ fn is_starved(reply: &Reply) -> bool
 }
 
 // Saves what is to be saved at the node, and publishes it. Where saving wants memory, it is given up.
-fn finish<K: Keeper>(alloc: Global, world: &mut World<K>, number: u16) -> Reply
+fn finish<K: Keeper>(alloc: Global, world: &mut World<K>, number: NodeNumber) -> Reply
     ensures { Goes K.is_honest K.may_hold world.old world.new (λ w w'. Finishes w number result w') }
 {
     let reply = world.save(number);

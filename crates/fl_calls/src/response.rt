@@ -1,5 +1,6 @@
 //! What is answered to a line that asks something of a world.
 
+use fl_labels::name::NodeNumber;
 use fl_opset::set::OpSet;
 use fl_system::answer::Fault;
 use fl_system::reply::Reply;
@@ -22,7 +23,7 @@ pub enum Response {
     /// The message does not arrive.
     Dropped(Fault),
     /// The operations of the node of this number, which are written from the node itself.
-    Text(u16),
+    Text(NodeNumber),
     /// These operations of two nodes.
     Union(OpSet),
     /// What the packet would bring.

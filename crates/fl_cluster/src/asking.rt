@@ -10,6 +10,7 @@ use crate::response::Response;
 use fl_calls::cluster::Cluster;
 use fl_calls::response::Response as Said;
 use fl_jobs::job::{Act, Job};
+use fl_labels::name::NodeNumber;
 use fl_makers::maker::MakesKeepers;
 use fl_script::line::Line;
 use fl_script::request::Request;
@@ -20,7 +21,7 @@ use std::alloc::Global;
 const DESK: u8 = 1;
 
 // The job at the node's only desk, which looks at all that is published.
-fn job_at(node: u16, job: Job) -> Event
+fn job_at(node: NodeNumber, job: Job) -> Event
     ensures { result ≡ job_at node job }
 {
     Event::Job {
@@ -36,7 +37,7 @@ fn job_at(node: u16, job: Job) -> Event
 fn respond_for<M: MakesKeepers>(
     alloc: Global,
     cluster: &mut Cluster<M>,
-    node: u16,
+    node: NodeNumber,
     request: Request,
 ) -> Said
     requires { 0 < node }

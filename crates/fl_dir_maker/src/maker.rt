@@ -6,6 +6,7 @@ use crate::fault::Cause;
 use crate::file::file_of;
 use crate::opening::open;
 use fl_jobs::answer::Refusal;
+use fl_labels::name::NodeNumber;
 use fl_makers::maker::MakesKeepers;
 use fl_sql_store::sql_keeper::SqlKeeper;
 use fl_system::answer::Fault;
@@ -56,7 +57,11 @@ impl<'a> MakesKeepers for DirMaker<'a> {
     /// Refused with `Memory`; with `WrongNode` where the file is another node's; and with `KeeperFailed` where the file cannot be
     /// opened, is open already, or is no keeper's database. The first time of that last one, the path and the cause are written
     /// to standard error.
-    fn make(&mut self, alloc: Global, number: u16) -> Result<SqlKeeper<FileStore<File>>, Fault> {
+    fn make(
+        &mut self,
+        alloc: Global,
+        number: NodeNumber,
+    ) -> Result<SqlKeeper<FileStore<File>>, Fault> {
         let Ok(path) = file_of(alloc, self.dir, number) else {
             return Err(Fault::Refused(Refusal::Memory));
         };

@@ -3,6 +3,7 @@ ghost use Rattle.std.specs.Prelude.{◌≡◌, ℕ, List, IfOk};
 ghost use Rattle.fl_dir_maker.specs.NodeFile.{node_file};
 
 use crate::fault::{Cause, of_database, of_files, of_keeper, of_system};
+use fl_labels::name::NodeNumber;
 use fl_sql_store::sql_keeper::SqlKeeper;
 use sqlite::{Connection, File, FileStore, Options, Unknown};
 use std::hash::{BuildHasher, RandomState};
@@ -25,7 +26,11 @@ fn connect(rt: &HostRuntime, path: &str) -> Result<Connection<FileStore<File>>, 
 }
 
 /// The keeper of this node over its file in some directory, which is made if it is missing.
-pub fn open(rt: &HostRuntime, path: &str, number: u16) -> Result<SqlKeeper<FileStore<File>>, Cause>
+pub fn open(
+    rt: &HostRuntime,
+    path: &str,
+    number: NodeNumber,
+) -> Result<SqlKeeper<FileStore<File>>, Cause>
     requires { (dir : List ℕ) × (path.now ≡ node_file dir number) }
     ensures { IfOk result (λ keeper. keeper.number ≡ number) }
 {

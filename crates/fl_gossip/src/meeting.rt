@@ -9,7 +9,7 @@ ghost use Rattle.fl_ops.specs.OpOrder.{op_cmp};
 ghost use Rattle.fl_ops.specs.Registry.{Listed};
 ghost use Rattle.fl_gossip.specs.Meeting.{FindsLeast, IsClashOf, IsStrayOf, lesser_of};
 
-use fl_labels::name::Name;
+use fl_labels::name::{Name, NodeNumber};
 use fl_ops::op::Op;
 use fl_opset::set::OpSet;
 
@@ -52,7 +52,7 @@ fn cut(ops: &[Op], bound: u64) -> (&[Op], &[Op])
 }
 
 // The operations of one number.
-fn of_number(ops: &[Op], number: u32) -> &[Op]
+fn of_number(ops: &[Op], number: NodeNumber) -> &[Op]
     requires { IsStrictlySortedBy op_cmp ops.now }
     ensures rise { IsStrictlySortedBy op_cmp result.now }
     ensures only { (op : Op) → Contains result.now op
@@ -69,7 +69,7 @@ fn of_number(ops: &[Op], number: u32) -> &[Op]
 /// The least name of an operation whose name has this number, which the one set has and the other, its owner's, has not; or none
 /// where there is no such operation. Two binary searches, and then one in the owner's set for each operation of that number, up
 /// to that name.
-pub fn least_stray(there: &OpSet, owner: &OpSet, number: u32) -> Option<Name>
+pub fn least_stray(there: &OpSet, owner: &OpSet, number: NodeNumber) -> Option<Name>
     ensures { FindsLeast (IsStrayOf (In there.now) (In owner.now) number) result }
 {
     let ops = of_number(there.as_slice(), number);

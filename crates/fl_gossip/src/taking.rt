@@ -11,7 +11,7 @@ ghost use Rattle.fl_gossip.specs.Taking.{ops_of, Offends, AreTaken, Refuses};
 ghost use Rattle.fl_gossip.specs.parts.Ahead.{IsFrom, NotBelow, BeginsWith, IsNewAmong};
 
 use crate::fault::GossipFault;
-use fl_labels::name::Name;
+use fl_labels::name::{Name, NodeNumber};
 use fl_ops::op::Op;
 use fl_opset::set::OpSet;
 use fl_wire::packet::Packet;
@@ -65,7 +65,7 @@ fn begin_with(ops: &[Op], name: Name) -> bool
 }
 
 // Whether an operation that a node may take is new. The members from its name on are enough to tell.
-fn is_new(members: &[Op], me: u32, op: &Op) -> Result<bool, GossipFault>
+fn is_new(members: &[Op], me: NodeNumber, op: &Op) -> Result<bool, GossipFault>
     requires rise { IsStrictlySortedBy op_cmp members.now }
     requires from { All (NotBelow op.now.name) members.now }
     ensures { MatchResult result
@@ -90,7 +90,12 @@ fn is_new(members: &[Op], me: u32, op: &Op) -> Result<bool, GossipFault>
 /// For the least name of an operation that may not be taken: `Impostor` where its node is `me` and the set has no operation of
 /// that name, and `Clash` where the set has another operation of that name. `Memory` where there was not enough for the answer.
 /// Goes through the set with the packet, by a search for each operation, in steps that double from where the one before ended.
-pub fn take(alloc: Global, saved: &OpSet, me: u32, packet: &Packet) -> Result<Vec<Op>, GossipFault>
+pub fn take(
+    alloc: Global,
+    saved: &OpSet,
+    me: NodeNumber,
+    packet: &Packet,
+) -> Result<Vec<Op>, GossipFault>
     ensures { MatchResult result (λ new. AreTaken me saved.now (ops_of packet.now) new.items)
         (Refuses me (In saved.now) (ops_of packet.now)) }
 {

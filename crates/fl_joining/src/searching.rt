@@ -6,7 +6,7 @@ ghost use Rattle.fl_gossip.specs.Meeting.{FindsLeast, OfSome};
 ghost use Rattle.fl_joining.specs.Against.{ClashesWith, StraysWith};
 
 use fl_gossip::meeting::{least_clash, least_stray, lesser};
-use fl_labels::name::Name;
+use fl_labels::name::{Name, NodeNumber};
 use fl_node::node::Node;
 use fl_opset::set::OpSet;
 use fl_store::keeper::Keeper;
@@ -14,7 +14,10 @@ use std::collections::BTreeMap;
 
 /// The least name under which an operation of the set and one of these nodes clash, or none. Costs a binary search for each
 /// operation of the smaller of the set and a node's own, for each node. Takes no memory.
-pub fn least_clash_with<K: Keeper>(all: &BTreeMap<u16, Node<K>>, saved: &OpSet) -> Option<Name>
+pub fn least_clash_with<K: Keeper>(
+    all: &BTreeMap<NodeNumber, Node<K>>,
+    saved: &OpSet,
+) -> Option<Name>
     ensures least { FindsLeast (OfSome (ClashesWith saved.now) all.now.entries) result }
     ensures ordered { IsOrdered nat_cmp all.now }
 {
@@ -26,7 +29,12 @@ pub fn least_clash_with<K: Keeper>(all: &BTreeMap<u16, Node<K>>, saved: &OpSet) 
 }
 
 // The least name of an operation of a newcomer that has the number of this node and is not saved there, or the other way round.
-fn stray_between<K: Keeper>(other: u16, node: &Node<K>, number: u16, saved: &OpSet) -> Option<Name>
+fn stray_between<K: Keeper>(
+    other: NodeNumber,
+    node: &Node<K>,
+    number: NodeNumber,
+    saved: &OpSet,
+) -> Option<Name>
     ensures { FindsLeast (StraysWith number saved.now (other, node.now)) result }
 {
     let theirs = node.saved();
@@ -39,8 +47,8 @@ fn stray_between<K: Keeper>(other: u16, node: &Node<K>, number: u16, saved: &OpS
 /// is not saved there; or the other way round. None where there is no such operation. Costs two binary searches in each set
 /// for each node, and one for each operation of the one that has the number of the other. Takes no memory.
 pub fn least_stray_with<K: Keeper>(
-    all: &BTreeMap<u16, Node<K>>,
-    number: u16,
+    all: &BTreeMap<NodeNumber, Node<K>>,
+    number: NodeNumber,
     saved: &OpSet,
 ) -> Option<Name>
     ensures least { FindsLeast (OfSome (StraysWith number saved.now) all.now.entries) result }

@@ -1,6 +1,7 @@
 //! Process identifiers.
 ghost use Rattle.std.specs.Prelude.{◌<◌, ◌^◌};
 
+use crate::name::NodeNumber;
 use std::fmt;
 
 /// What a process is called: its node, the node's boot in which it was born, and its number in that boot, all from 1 on.
@@ -8,7 +9,7 @@ use std::fmt;
 #[derive(Clone, Copy, Debug, PartialEq, Eq, PartialOrd, Ord, Hash)]
 pub struct Pid {
     /// From 1 to 4294967295.
-    pub node: u32,
+    pub node: NodeNumber,
     /// From 1 to 4294967295.
     pub boot: u32,
     /// From 1 to 4294967295.

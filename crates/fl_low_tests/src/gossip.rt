@@ -5,6 +5,7 @@ use crate::windows::named;
 use fl_gossip::fault::GossipFault;
 use fl_gossip::replying::reply;
 use fl_gossip::taking::take;
+use fl_labels::name::NodeNumber;
 use fl_labels::text::read_number;
 use fl_ops::op::Op;
 use fl_opset::set::OpSet;
@@ -29,7 +30,7 @@ fn push_taken(
     alloc: Global,
     out: &mut String,
     saved: &OpSet,
-    node: u16,
+    node: NodeNumber,
     packet: &Packet,
 ) -> Result<(), AllocError> {
     match take(alloc, saved, node, packet) {

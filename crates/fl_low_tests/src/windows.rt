@@ -4,7 +4,7 @@ ghost use Rattle.fl_labels.specs.SetBy.{In};
 ghost use Rattle.fl_opset.specs.Catching.{HaveNoClash};
 
 use crate::read_packets::push_packet;
-use fl_labels::name::Name;
+use fl_labels::name::{Name, NodeNumber};
 use fl_ops::op::{Body, Op, Policy};
 use fl_opset::intervals::Intervals;
 use fl_opset::laws::{law_caught_up, law_one_summary, law_windows};
@@ -12,7 +12,7 @@ use fl_opset::set::OpSet;
 use fl_wire::packet::Packet;
 use std::alloc::{AllocError, Global};
 
-fn tag(node: u16, seq: u32) -> Op
+fn tag(node: NodeNumber, seq: u32) -> Op
     requires node { 0 < node }
     requires seq { 0 < seq }
 {
@@ -22,7 +22,7 @@ fn tag(node: u16, seq: u32) -> Op
     }
 }
 
-fn group(node: u16, seq: u32) -> Op
+fn group(node: NodeNumber, seq: u32) -> Op
     requires node { 0 < node }
     requires seq { 0 < seq }
 {

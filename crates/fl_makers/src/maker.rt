@@ -3,6 +3,7 @@ ghost use Rattle.std.specs.Prelude.{◌<◌, ℕ, IfOk, IfErr};
 ghost use Rattle.fl_store.specs.Kept.{Kept};
 ghost use Rattle.fl_system.specs.declared.answer.Fault.{Fault};
 
+use fl_labels::name::NodeNumber;
 use fl_store::keeper::Keeper;
 use fl_system::answer::Fault;
 use std::alloc::Global;
@@ -22,7 +23,7 @@ pub trait MakesKeepers {
     ghost refuses: { Self → ℕ → Fault → Type 0 };
 
     /// A keeper for the node of this number, or why there is none. It is asked where a line opens a node, and not at a restart.
-    fn make(&mut self, alloc: Global, number: u16) -> Result<Self::K, Fault>
+    fn make(&mut self, alloc: Global, number: NodeNumber) -> Result<Self::K, Fault>
         requires { 0 < number }
         ensures made { IfOk result (λ keeper. Self.K.is_honest keeper
             → (k : Kept) → Self.K.may_hold keeper k → finds self.old number k) }

@@ -3,6 +3,7 @@ ghost use Rattle.std.specs.Prelude.{◌≡◌};
 ghost use Rattle.fl_makers.specs.Making.{nothing_kept};
 
 use crate::maker::MakesKeepers;
+use fl_labels::name::NodeNumber;
 use fl_store::mem::MemKeeper;
 use fl_system::answer::Fault;
 use std::alloc::Global;
@@ -19,7 +20,7 @@ impl MakesKeepers for MemMaker {
     ghost refuses = { λ _ _ _. ⊥ };
 
     /// Takes no memory.
-    fn make(&mut self, alloc: Global, number: u16) -> Result<MemKeeper, Fault> {
+    fn make(&mut self, alloc: Global, number: NodeNumber) -> Result<MemKeeper, Fault> {
         Ok(MemKeeper::new(alloc, number))
     }
 }

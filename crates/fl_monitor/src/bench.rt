@@ -18,6 +18,7 @@ use fl_bench::process::Process;
 use fl_bench::shared::SharedCaps;
 use fl_jobs::answer::{Outcome, Refusal, Reply};
 use fl_jobs::job::{Act, Job};
+use fl_labels::name::NodeNumber;
 use fl_labels::pid::Pid;
 use fl_ops::op::Op;
 use fl_ops::view::View;
@@ -27,7 +28,7 @@ use std::marker::Model;
 /// One of a node's benches: its processes, and the serial of the next.
 #[derive(Drop)]
 pub struct Bench {
-    node: u32,
+    node: NodeNumber,
     boot: u32,
     next: u64,
     stride: u32,
@@ -58,7 +59,7 @@ impl Model for Bench {
 impl Bench {
     /// A bench with no process, as one of `stride` benches at this boot of the node: its processes get the
     /// serials `index`, `index + stride` and so on, so that no two benches give the same. Takes no memory.
-    pub fn new(alloc: Global, node: u32, boot: u32, index: u32, stride: u32) -> Self
+    pub fn new(alloc: Global, node: NodeNumber, boot: u32, index: u32, stride: u32) -> Self
         requires node_known { 0 < node }
         requires boot_known { 0 < boot }
         requires index_from_one { 1 ≤ index }

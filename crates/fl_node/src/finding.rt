@@ -7,6 +7,7 @@ ghost use Rattle.fl_node.specs.parts.Finding.{Finds, Raises, shown_as};
 
 use fl_cache::cached::CachedIndex;
 use fl_jobs::answer::Refusal;
+use fl_labels::name::NodeNumber;
 use fl_ops::op::Op;
 use fl_opset::set::OpSet;
 use fl_store::keeper::{Keeper, KeeperFault};
@@ -26,7 +27,7 @@ fn shown(fault: KeeperFault) -> Fault
 }
 
 /// The saved operations, where the keeper is this node's.
-pub fn find<K: Keeper>(alloc: Global, keeper: &mut K, number: u16) -> Result<OpSet, Fault>
+pub fn find<K: Keeper>(alloc: Global, keeper: &mut K, number: NodeNumber) -> Result<OpSet, Fault>
     ensures number { K.number keeper.new ≡ K.number keeper.old }
     ensures own { IfOk result (λ saved. K.number keeper.old ≡ number) }
     ensures cause { let bad = K.has_bad_row keeper.old in

@@ -2,12 +2,13 @@
 ghost use Rattle.std.specs.Prelude.{◌≡◌, ◌<◌, length};
 
 use crate::node::Node;
+use fl_labels::name::NodeNumber;
 use fl_store::keeper::Keeper;
 use fl_system::state::State;
 
 impl<K: Keeper> Node<K> {
     /// The node's number, which is not 0.
-    pub fn number(&self) -> u16
+    pub fn number(&self) -> NodeNumber
         ensures number { result ≡ self.now.node.number }
         ensures positive { 0 < result }
     {

@@ -29,7 +29,7 @@ use fl_bench::shared::SharedCaps;
 use fl_cache::cached::CachedIndex;
 use fl_jobs::answer::{Outcome, Refusal};
 use fl_jobs::job::{Job, let_go};
-use fl_labels::name::Name;
+use fl_labels::name::{Name, NodeNumber};
 use fl_labels::pid::Pid;
 use fl_monitor::bench::Bench;
 use fl_ops::op::{Body, Op};
@@ -47,7 +47,7 @@ use std::mem::replace;
 /// its way, and its processes.
 pub struct Node<K: Keeper> {
     pub(crate) keeper: K,
-    pub(crate) number: u16,
+    pub(crate) number: NodeNumber,
     pub(crate) boot: u32,
     pub(crate) saved: OpSet,
     pub(crate) published: Vec<Op>,
@@ -111,7 +111,7 @@ impl<K: Keeper> Node<K> {
     ///
     /// A refused opening may have raised the boot. Loads what is saved, and copies it twice, into the list and into the index;
     /// there each put costs a search by order.
-    pub fn open(alloc: Global, mut keeper: K, number: u16) -> Result<Node<K>, (Fault, K)>
+    pub fn open(alloc: Global, mut keeper: K, number: NodeNumber) -> Result<Node<K>, (Fault, K)>
         requires { 0 < number }
         ensures number { IfOk result (λ node. node.node.number ≡ number) }
         ensures ok { IfOk result (λ node. K.is_honest node.keeper → K.is_honest keeper

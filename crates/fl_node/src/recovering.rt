@@ -13,6 +13,7 @@ use crate::finding::{find, listed, raise};
 use crate::keeping::add_batch;
 use fl_cache::cached::CachedIndex;
 use fl_jobs::answer::Refusal;
+use fl_labels::name::NodeNumber;
 use fl_ops::op::Op;
 use fl_opset::set::OpSet;
 use fl_store::keeper::Keeper;
@@ -62,7 +63,7 @@ fn is_own(
 pub fn recover<K: Keeper>(
     alloc: Global,
     keeper: &mut K,
-    number: u16,
+    number: NodeNumber,
     boot: u32,
     saved: &OpSet,
     doubt: Option<&Batch>,

@@ -3,6 +3,7 @@ ghost use Rattle.std.specs.Prelude.{◌<◌};
 
 use fl_jobs::answer::Reply;
 use fl_jobs::job::Job;
+use fl_labels::name::NodeNumber;
 use fl_labels::pid::Pid;
 use fl_node::node::Node;
 use fl_store::mem::MemKeeper;
@@ -28,7 +29,7 @@ pub fn given<T: Drop>(said: Result<T, Fault>) -> Result<T, Fail> {
 }
 
 /// A node over a keeper.
-pub fn opened(alloc: Global, keeper: MemKeeper, number: u16) -> Result<Node<MemKeeper>, Fail>
+pub fn opened(alloc: Global, keeper: MemKeeper, number: NodeNumber) -> Result<Node<MemKeeper>, Fail>
     requires { 0 < number }
 {
     match Node::open(alloc, keeper, number) {

@@ -8,6 +8,7 @@ ghost use Rattle.fl_nodes.specs.parts.Delivering.{packet_of};
 use crate::highest::raised;
 use crate::nodes::Nodes;
 use crate::sending::send_all;
+use fl_labels::name::NodeNumber;
 use fl_notes::bringing::{bring, receive};
 use fl_store::keeper::Keeper;
 use fl_system::reply::Reply;
@@ -29,7 +30,7 @@ impl<K: Keeper> Nodes<K> {
     /// there are, or why not: `NoSuch` where the node is not there.
     ///
     /// Refused with `Memory` too where there is no room for the packets; then none is sent. Costs what `Node::summary` does.
-    pub fn tell(&mut self, alloc: Global, number: u16) -> Reply
+    pub fn tell(&mut self, alloc: Global, number: NodeNumber) -> Reply
         ensures { Goes K.is_honest K.may_hold self.old self.new
             (λ w w'. Step w (event.Tell number) result w') }
     {
@@ -52,7 +53,7 @@ impl<K: Keeper> Nodes<K> {
     /// Refused with `Memory` too where there is no room for a copy of the message, for what would be noted, or for the packets; then
     /// nothing changes. Beside the node's own costs, a message is copied, with the labels of both its processes, and what its
     /// receiver owns where that has changed since it was noted last.
-    pub fn deliver(&mut self, alloc: Global, packet: u64, number: u16) -> Reply
+    pub fn deliver(&mut self, alloc: Global, packet: u64, number: NodeNumber) -> Reply
         ensures { Goes K.is_honest K.may_hold self.old self.new
             (λ w w'. Step w (event.Deliver packet number) result w') }
     {

@@ -21,7 +21,7 @@ use crate::highest::raised;
 use crate::nodes::Nodes;
 use fl_jobs::answer::Refusal;
 use fl_joining::searching::{least_clash_with, least_stray_with};
-use fl_labels::name::Name;
+use fl_labels::name::{Name, NodeNumber};
 use fl_node::node::Node;
 use fl_opset::set::OpSet;
 use fl_store::keeper::Keeper;
@@ -41,7 +41,7 @@ fn opened(outcome: Result<u32, Fault>) -> Reply
 
 impl<K: Keeper> Nodes<K> {
     // Whether a node of this number is there.
-    fn has(&self, number: u16) -> bool
+    fn has(&self, number: NodeNumber) -> bool
         ensures there { result ≡ is_some (map.get self.now.nodes number) }
         ensures desks { self.now.desks ≡ 1 }
     {
@@ -60,7 +60,7 @@ impl<K: Keeper> Nodes<K> {
 
     // The least name of an operation that comes with a newcomer of this number, which has saved these, and that the node of its
     // number has not saved; or of one of the newcomer's number that is saved, though not by the newcomer.
-    fn stray(&self, number: u16, saved: &OpSet) -> Option<Name>
+    fn stray(&self, number: NodeNumber, saved: &OpSet) -> Option<Name>
         ensures { (w : World) → AreNodes self.now w
             → FindsLeast (IsStrayWith w number saved.now) result }
     {
@@ -71,7 +71,7 @@ impl<K: Keeper> Nodes<K> {
     }
 
     // Takes a node in, under a number that is not there, or gives its keeper back for want of memory.
-    fn take_in(&mut self, number: u16, node: Node<K>) -> Result<(), (Fault, K)>
+    fn take_in(&mut self, number: NodeNumber, node: Node<K>) -> Result<(), (Fault, K)>
         requires { map.get self.old.nodes number ≡ None }
         ensures ok { OnOk result (self.new ≡ over_with self.old number node) }
         ensures fault { IfErr result (λ e. e.0 ≡ faults.Refused Memory) }
@@ -105,7 +105,7 @@ impl<K: Keeper> Nodes<K> {
     /// opening does. Where nothing is saved by the newcomer, and nothing by anyone with its number or a greater one, no other node is
     /// looked at; else for each node that is there a binary search for each operation of the smaller of its set and the new one's, two in
     /// each of them, and one for each operation of the one that has the number of the other.
-    pub fn join(&mut self, alloc: Global, number: u16, keeper: K) -> Result<u32, (Fault, K)>
+    pub fn join(&mut self, alloc: Global, number: NodeNumber, keeper: K) -> Result<u32, (Fault, K)>
         requires { 0 < number }
         ensures joins { IfOk result (λ boot. TakesIn K.is_honest K.may_hold self.old keeper self.new
             (DoesJoin number boot)) }
@@ -133,7 +133,7 @@ impl<K: Keeper> Nodes<K> {
     /// Opens a stopped node again over another keeper, as `Node::reopen_over` has it, and answers its boot, or why not: `NoSuch`
     /// where it is not there, and `Busy` where it runs. Gives too the keeper that no node has then: the one that the stopped node
     /// had, or else the one that was handed in.
-    pub fn reopen(&mut self, alloc: Global, number: u16, keeper: K) -> (Reply, K)
+    pub fn reopen(&mut self, alloc: Global, number: NodeNumber, keeper: K) -> (Reply, K)
         ensures reopens { GivesBack K.is_honest K.may_hold self.old keeper self.new result.1
             (λ w k w' k'. Reopening w number k result.0 w') }
         ensures given { result.1 ≡ spare (map.get self.old.nodes number) keeper }
@@ -152,7 +152,12 @@ impl<K: Keeper> Nodes<K> {
     ///
     /// What is made is to be trusted no further than the keeper before it: as each call of a keeper has it, where it is honest then,
     /// that was honest before.
-    pub fn reopen_with<F: FnOnce(&mut K)>(&mut self, alloc: Global, number: u16, make: F) -> Reply
+    pub fn reopen_with<F: FnOnce(&mut K)>(
+        &mut self,
+        alloc: Global,
+        number: NodeNumber,
+        make: F,
+    ) -> Reply
         requires callable { F.IsAlwaysCallable make }
         requires trusted { (n : NodeOver K) (made : K) → map.get self.old.nodes number ≡ Some n
             → (¬ IsRunning n.node.state) → FnOnceReturnsAtMut F.FnOnce make n.keeper tt made

@@ -13,6 +13,7 @@ ghost use Rattle.fl_nodes.specs.parts.Published.{published_reply};
 
 use crate::highest::raised;
 use fl_jobs::job::{Job, let_go};
+use fl_labels::name::NodeNumber;
 use fl_node::node::Node;
 use fl_notes::working::work;
 use fl_sink::sink::WriteFault;
@@ -59,11 +60,11 @@ fn lacks<K: Keeper>(node: &Node<K>, desk: u8, job: &Job) -> bool
 /// A contract of a call says which step of the world it is: where the keepers are honest, what the next openings may find
 /// comes by that step from what they might have found before.
 pub struct Nodes<K: Keeper> {
-    pub(crate) all: BTreeMap<u16, Node<K>>,
+    pub(crate) all: BTreeMap<NodeNumber, Node<K>>,
     pub(crate) sent: Vec<Sent>,
     pub(crate) audit: Vec<Admission>,
     // No operation that is saved at a node has the number of a node above this one.
-    pub(crate) highest: u16,
+    pub(crate) highest: NodeNumber,
 }
 
 impl<K: Keeper> Model for Nodes<K> {
@@ -110,7 +111,7 @@ impl<K: Keeper> Nodes<K> {
     }
 
     /// The node of this number, or none where it is not there.
-    pub fn node(&self, number: u16) -> Option<&Node<K>>
+    pub fn node(&self, number: NodeNumber) -> Option<&Node<K>>
         ensures { option_copied result ≡ map.get self.now.nodes number }
     {
         self.all.get(&number)
@@ -132,7 +133,7 @@ impl<K: Keeper> Nodes<K> {
 
     /// Saves what is to be saved at the node, as `Node::save` has it, and answers `Done`, or why not: `NoSuch` where the node is
     /// not there.
-    pub fn save(&mut self, number: u16) -> Reply
+    pub fn save(&mut self, number: NodeNumber) -> Reply
         ensures { Goes K.is_honest K.may_hold self.old self.new
             (λ w w'. Step w (event.Save number) result w') }
     {
@@ -148,7 +149,7 @@ impl<K: Keeper> Nodes<K> {
     }
 
     /// Gives up what is to be saved at the node, as `Node::cancel` has it, and answers `Done`, or why not. Takes no memory.
-    pub fn cancel(&mut self, number: u16) -> Reply
+    pub fn cancel(&mut self, number: NodeNumber) -> Reply
         ensures { Goes K.is_honest K.may_hold self.old self.new
             (λ w w'. Step w (event.Cancel number) result w') }
     {
@@ -165,7 +166,7 @@ impl<K: Keeper> Nodes<K> {
 
     /// Publishes what is due at the node, as `Node::publish` has it, and answers the name of an order, or how many operations
     /// were received, or why not.
-    pub fn publish(&mut self, alloc: Global, number: u16) -> Reply
+    pub fn publish(&mut self, alloc: Global, number: NodeNumber) -> Reply
         ensures { Goes K.is_honest K.may_hold self.old self.new
             (λ w w'. Step w (event.Publish number) result w') }
     {
@@ -182,7 +183,7 @@ impl<K: Keeper> Nodes<K> {
     }
 
     /// Restarts the node, as `Node::restart` has it, and answers its boot, or why not.
-    pub fn restart(&mut self, alloc: Global, number: u16, keeps: bool) -> Reply
+    pub fn restart(&mut self, alloc: Global, number: NodeNumber, keeps: bool) -> Reply
         ensures { Goes K.is_honest K.may_hold self.old self.new
             (λ w w'. Step w (event.Restart number keeps) result w') }
     {
@@ -202,7 +203,7 @@ impl<K: Keeper> Nodes<K> {
     ///
     /// Refused with `Memory` too where there is no room for what would be noted or sent. For a job of which something is noted the
     /// labels of the process are copied, and what it owns where that has changed since it was noted last.
-    pub fn job(&mut self, alloc: Global, number: u16, desk: u8, job: Job) -> Reply
+    pub fn job(&mut self, alloc: Global, number: NodeNumber, desk: u8, job: Job) -> Reply
         ensures { (upto : _) → IsWhole self.old number upto
             → Goes K.is_honest K.may_hold self.old self.new
             (λ w w'. Step w (event.Job number desk upto job) result w') }
@@ -223,7 +224,7 @@ impl<K: Keeper> Nodes<K> {
     /// Writes the text of the node's published operations, as `Node::text` has it, or nothing where it is not there.
     pub fn text<W: Write>(
         &self,
-        number: u16,
+        number: NodeNumber,
         output: &mut W,
     ) -> Option<Result<Result<(), WriteFault>, Fault>>
         ensures { TextAt (W.contents output.old) (W.contents output.new)

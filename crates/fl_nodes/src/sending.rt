@@ -4,6 +4,7 @@ ghost use Rattle.fl_system.specs.Gossip.{told_by};
 ghost use Rattle.fl_nodes.specs.parts.Delivering.{Sends};
 
 use fl_jobs::answer::Refusal;
+use fl_labels::name::NodeNumber;
 use fl_system::answer::Fault;
 use fl_system::reply::Reply;
 use fl_system::sent::Sent;
@@ -11,7 +12,7 @@ use fl_wire::packet::Packet;
 use std::alloc::{AllocError, Global};
 
 // The packets, as the node of this number sends them.
-fn packets_by(alloc: Global, number: u16, told: Vec<Packet>) -> Result<Vec<Sent>, AllocError>
+fn packets_by(alloc: Global, number: NodeNumber, told: Vec<Packet>) -> Result<Vec<Sent>, AllocError>
     ensures { IfOk result (λ made. made.items ≡ told_by number told.items) }
 {
     let mut made = Vec::new(alloc);
@@ -26,7 +27,12 @@ fn packets_by(alloc: Global, number: u16, told: Vec<Packet>) -> Result<Vec<Sent>
 }
 
 // Sends the packets as the node of this number, or none where there is no room for them.
-pub(crate) fn send_all(alloc: Global, number: u16, told: Vec<Packet>, sent: &mut Vec<Sent>) -> Reply
+pub(crate) fn send_all(
+    alloc: Global,
+    number: NodeNumber,
+    told: Vec<Packet>,
+    sent: &mut Vec<Sent>,
+) -> Reply
     ensures { Sends number told.items sent.old.items result sent.new.items }
 {
     let count = told.len() as u64;

@@ -16,6 +16,7 @@ use fl_bench::process::Process;
 use fl_bench::shared::SharedCaps;
 use fl_jobs::answer::Refusal;
 use fl_jobs::job::{Job, let_go};
+use fl_labels::name::NodeNumber;
 use fl_node::node::Node;
 use fl_store::keeper::Keeper;
 use fl_system::admission::{Admission, Party};
@@ -68,7 +69,7 @@ fn note(audit: &mut Vec<Admission>, draft: Draft, answer: &Answer)
 }
 
 // Sends a message that was answered, in the room that there is, and shows the answer.
-fn show(number: u16, sender: Option<Party>, sent: &mut Vec<Sent>, answer: Answer) -> Reply
+fn show(number: NodeNumber, sender: Option<Party>, sent: &mut Vec<Sent>, answer: Answer) -> Reply
     requires { (d : _) → answer ≡ answers.Out d → vec_len sent.old < vec_capacity sent.old }
     ensures { Shows number sender sent.old.items answer result sent.new.items }
 {
@@ -176,7 +177,7 @@ fn prepare<K: Keeper>(
 /// noted or sent. Nothing is sent or noted then.
 pub fn work<K: Keeper>(
     alloc: Global,
-    number: u16,
+    number: NodeNumber,
     node: &mut Node<K>,
     job: Job,
     audit: &mut Vec<Admission>,

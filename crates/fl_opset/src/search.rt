@@ -9,7 +9,7 @@ ghost use Rattle.fl_ops.specs.Logins.{FindsLogin};
 ghost use Rattle.fl_opset.specs.parts.LoginPlace.{login_place};
 
 use fl_labels::cap::Cap;
-use fl_labels::name::Name;
+use fl_labels::name::{Name, NodeNumber};
 use fl_ops::digest::Digest;
 use fl_ops::op::{Body, Op};
 
@@ -30,7 +30,7 @@ pub fn place_of(ops: &[Op], op: &Op) -> Result<usize, usize>
 }
 
 /// The greatest sequence number of a node, or 0 where it has none.
-pub fn last_seq(ops: &[Op], node: u32) -> u32
+pub fn last_seq(ops: &[Op], node: NodeNumber) -> u32
     requires { IsStrictlySortedBy op_cmp ops.now }
     ensures upper { All (λ op. op.name.node ≡ node → op.name.seq ≤ result) ops.now }
     ensures reached { 0 < result

@@ -18,7 +18,7 @@ use crate::spans::{add_name, add_names, remove_name, spans_of};
 use crate::text::write_lines;
 use crate::windows::windows_of;
 use fl_labels::cap::Cap;
-use fl_labels::name::Name;
+use fl_labels::name::{Name, NodeNumber};
 use fl_ops::digest::Digest;
 use fl_ops::op::Op;
 use fl_sink::sink::{Sink, WriteFault};
@@ -104,7 +104,7 @@ impl OpSet {
     }
 
     /// The greatest sequence number of the node's members, or 0 where it has none. A binary search.
-    pub fn last_of(&self, node: u32) -> u32
+    pub fn last_of(&self, node: NodeNumber) -> u32
         ensures upper { (op : Op) → In self.now op → op.name.node ≡ node → op.name.seq ≤ result }
         ensures reached { 0 < result
             → (op : Op) × In self.now op × (op.name.node ≡ node) × (op.name.seq ≡ result) }

@@ -5,6 +5,7 @@ ghost use Rattle.fl_script.specs.parts.Reads.{Reads};
 ghost use Rattle.fl_script.specs.Grammar.{HoldsList, IsListVerb, Spells};
 
 use crate::request::{Request, request_from_words};
+use fl_labels::name::NodeNumber;
 use fl_labels::text::read_number;
 use std::alloc::{AllocError, Global};
 
@@ -12,9 +13,15 @@ use std::alloc::{AllocError, Global};
 #[derive(Drop)]
 pub enum Line {
     /// Something is asked of the node.
-    Node { node: u32, request: Request },
+    Node {
+        node: NodeNumber,
+        request: Request,
+    },
     /// What both nodes have published is to be written together.
-    Union { first: u32, second: u32 },
+    Union {
+        first: NodeNumber,
+        second: NodeNumber,
+    },
     /// How much was admitted is to be written.
     Audit,
     /// The aliases that are set are to be written.

@@ -11,6 +11,7 @@ ghost use Rattle.fl_sql_store.specs.SqlKeeping.{IsAsCommitted};
 ghost use Rattle.fl_sql_store.specs.Breaking.{FailsToBoot, IsTold, RefusesToLoad};
 
 use crate::fault::fault_of;
+use fl_labels::name::NodeNumber;
 use fl_ops::op::Op;
 use fl_opset::set::OpSet;
 use fl_sql_tables::boot::{raise_boot, read_boot};
@@ -27,7 +28,7 @@ use std::alloc::Global;
 pub fn load_on<S: Alter>(
     alloc: Global,
     conn: &mut Connection<S>,
-    number: u16,
+    number: NodeNumber,
 ) -> Result<OpSet, KeeperFault>
     requires idle { conn.old.in_transaction ≡ false }
     requires serving { IsServing number (state S.Store conn.old) }
@@ -91,7 +92,7 @@ pub fn save_on<S: Alter>(
 ///
 /// Refused with `NamesSpent` exactly where the boot is 4,294,967,295 and is read; with `Memory` for want of memory, where the
 /// boot stays and the connection serves on; and with `Broken` for an error of another cause, or where it serves no more.
-pub fn boot_on<S: Alter>(conn: &mut Connection<S>, number: u16) -> Result<u32, KeeperFault>
+pub fn boot_on<S: Alter>(conn: &mut Connection<S>, number: NodeNumber) -> Result<u32, KeeperFault>
     requires idle { conn.old.in_transaction ≡ false }
     requires serving { IsServing number (state S.Store conn.old) }
     ensures clean { doubt (state S.Store conn.old).is_clean ≤ doubt

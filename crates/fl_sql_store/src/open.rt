@@ -9,6 +9,7 @@ ghost use Rattle.fl_sql_tables.specs.Founding.{Founds, IsOwn, IsOthers, IsSettle
 ghost use Rattle.fl_sql_store.specs.SqlKeeping.{held_in};
 ghost use Rattle.fl_sql_store.specs.Opening.{IsFailure, FailsToShowItself, OpensAs, RefusesToOpen};
 
+use fl_labels::name::NodeNumber;
 use fl_sql_tables::found::found;
 use fl_sql_tables::itself::{Itself, read_itself};
 use fl_sql_tables::ours::{is_nothing, is_ours};
@@ -29,7 +30,7 @@ fn refusal(error: Error) -> KeeperFault
 }
 
 // Makes the tables in a database that has none.
-fn found_on<S: Alter>(conn: &mut Connection<S>, number: u16) -> Result<(), KeeperFault>
+fn found_on<S: Alter>(conn: &mut Connection<S>, number: NodeNumber) -> Result<(), KeeperFault>
     requires idle { conn.old.in_transaction ≡ false }
     requires blank { (state S.Store conn.old).now.schema ≡ no_schema }
     requires live { IsLive (state S.Store conn.old) }
@@ -52,7 +53,7 @@ fn found_on<S: Alter>(conn: &mut Connection<S>, number: u16) -> Result<(), Keepe
 }
 
 // Reads whose a database is that has the tables.
-fn itself_on<S: Alter>(conn: &mut Connection<S>, number: u16) -> Result<(), KeeperFault>
+fn itself_on<S: Alter>(conn: &mut Connection<S>, number: NodeNumber) -> Result<(), KeeperFault>
     requires idle { conn.old.in_transaction ≡ false }
     requires ours { (state S.Store conn.old).now.schema ≡ keeper_schema }
     requires live { IsLive (state S.Store conn.old) }
@@ -77,7 +78,7 @@ fn itself_on<S: Alter>(conn: &mut Connection<S>, number: u16) -> Result<(), Keep
 }
 
 /// Whether the database can be this node's. One that has no tables gets them.
-pub fn check<S: Alter>(conn: &mut Connection<S>, number: u16) -> Result<(), KeeperFault>
+pub fn check<S: Alter>(conn: &mut Connection<S>, number: NodeNumber) -> Result<(), KeeperFault>
     ensures idle { OnOk result (conn.new.in_transaction ≡ false) }
     ensures ready { HasCleanDisk (state S.Store conn.new)
         → OnOk result (IsReady number (state S.Store conn.new)) }

@@ -10,6 +10,7 @@ ghost use Rattle.fl_sql_store.specs.Opening.{OpensAs, RefusesToOpen};
 
 use crate::calls::{boot_on, load_on, save_on};
 use crate::open::check;
+use fl_labels::name::NodeNumber;
 use fl_ops::op::Op;
 use fl_opset::set::OpSet;
 use fl_store::keeper::{Keeper, KeeperFault};
@@ -21,7 +22,7 @@ use std::marker::Model;
 pub struct SqlKeeper<S: Alter> {
     alloc: Global,
     conn: Connection<S>,
-    number: u16,
+    number: NodeNumber,
     failures: u64,
     is_broken: bool,
 }
@@ -62,7 +63,7 @@ impl<S: Alter> SqlKeeper<S> {
     ghost use Rattle.fl_sql_store.specs.SqlKeeping.{held_in};
 
     // A keeper over a database that is this node's.
-    fn over(alloc: Global, conn: Connection<S>, number: u16) -> SqlKeeper<S>
+    fn over(alloc: Global, conn: Connection<S>, number: NodeNumber) -> SqlKeeper<S>
         requires idle { conn.in_transaction ≡ false }
         requires serving { IsServing number (state S.Store conn) }
         ensures { result ≡ record { conn = conn; number = number; failures = 0; is_broken = false } }
@@ -86,7 +87,7 @@ impl<S: Alter> SqlKeeper<S> {
     pub fn open(
         alloc: Global,
         conn: Connection<S>,
-        number: u16,
+        number: NodeNumber,
     ) -> Result<SqlKeeper<S>, (KeeperFault, Connection<S>)>
         ensures number { IfOk result (λ k. (k.number ≡ number) × (k.failures ≡ 0)
             × (k.is_broken ≡ false)) }
@@ -143,7 +144,7 @@ impl<S: Alter> Keeper for SqlKeeper<S> {
 
     ghost numbered = { λ keeper k h. ap (λ (k : Kept). k.number) h.2 ∙ kept_number keeper.number h.0 };
 
-    fn number(&self) -> u16 {
+    fn number(&self) -> NodeNumber {
         self.number
     }
 

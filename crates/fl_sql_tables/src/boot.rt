@@ -6,11 +6,12 @@ ghost use Rattle.fl_sql_tables.specs.Stored.{IsUndone, self_row};
 ghost use Rattle.fl_sql_tables.specs.Serving.{IsServing, SetsBoot, Raises, RaisesTo};
 ghost use Rattle.fl_sql_tables.specs.Failing.{IsFault, FailsToRaise};
 
+use fl_labels::name::NodeNumber;
 use sqlite::{Alter, Connection, Error, Transaction, params};
 
 /// The boot of the node itself. Refused only where memory is, or the disk fails, or the limit on steps is met: the row is there, and its
 /// boot in its range.
-pub fn read_boot<S: Alter>(conn: &mut Connection<S>, number: u16) -> Result<u32, Error>
+pub fn read_boot<S: Alter>(conn: &mut Connection<S>, number: NodeNumber) -> Result<u32, Error>
     requires idle { conn.old.in_transaction ≡ false }
     requires serving { IsServing number (state S.Store conn.old) }
     ensures idle { conn.new.in_transaction ≡ false }
@@ -31,7 +32,11 @@ pub fn read_boot<S: Alter>(conn: &mut Connection<S>, number: u16) -> Result<u32,
 }
 
 // Sets the boot in a transaction.
-fn set_boot<S: Alter>(tx: &mut Transaction<'_, S>, number: u16, boot: u32) -> Result<(), Error>
+fn set_boot<S: Alter>(
+    tx: &mut Transaction<'_, S>,
+    number: NodeNumber,
+    boot: u32,
+) -> Result<(), Error>
     requires { IsServing number (state S.Store tx.old.conn.now) }
     ensures same_reference { tx.new.conn.ghost_name ≡ tx.old.conn.ghost_name }
     ensures ok { HasCleanDisk (state S.Store tx.new.conn.now) → IsTrue
@@ -52,7 +57,11 @@ fn set_boot<S: Alter>(tx: &mut Transaction<'_, S>, number: u16, boot: u32) -> Re
 }
 
 /// Sets the boot. Refused where memory is, or the disk fails, or the limit on steps is met, or where the table does not take it.
-pub fn raise_boot<S: Alter>(conn: &mut Connection<S>, number: u16, boot: u32) -> Result<(), Error>
+pub fn raise_boot<S: Alter>(
+    conn: &mut Connection<S>,
+    number: NodeNumber,
+    boot: u32,
+) -> Result<(), Error>
     requires idle { conn.old.in_transaction ≡ false }
     requires serving { IsServing number (state S.Store conn.old) }
     ensures idle { conn.new.in_transaction ≡ false }

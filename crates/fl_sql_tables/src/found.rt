@@ -8,6 +8,7 @@ ghost use Rattle.fl_sql_tables.specs.Stored.{IsUndone};
 ghost use Rattle.fl_sql_tables.specs.Founding.{MakesSelf, MakesOps, StartsSelf, MakesTables, Founds, FoundsTo};
 ghost use Rattle.fl_sql_tables.specs.Failing.{IsFault, FailsToStart, FailsToFound};
 
+use fl_labels::name::NodeNumber;
 use sqlite::{Alter, Connection, Error, Transaction, params};
 
 fn create_self<S: Alter>(tx: &mut Transaction<'_, S>) -> Result<(), Error>
@@ -55,7 +56,7 @@ fn create_ops<S: Alter>(tx: &mut Transaction<'_, S>) -> Result<(), Error>
     Ok(())
 }
 
-fn insert_self<S: Alter>(tx: &mut Transaction<'_, S>, number: u16) -> Result<(), Error>
+fn insert_self<S: Alter>(tx: &mut Transaction<'_, S>, number: NodeNumber) -> Result<(), Error>
     ensures same_reference { tx.new.conn.ghost_name ≡ tx.old.conn.ghost_name }
     ensures ok { HasCleanDisk (state S.Store tx.new.conn.now) → IsTrue
         (state S.Store tx.old.conn.now).in_transaction →
@@ -80,7 +81,7 @@ fn insert_self<S: Alter>(tx: &mut Transaction<'_, S>, number: u16) -> Result<(),
 }
 
 // Makes both tables and the row of the node in a transaction.
-fn make_tables<S: Alter>(tx: &mut Transaction<'_, S>, number: u16) -> Result<(), Error>
+fn make_tables<S: Alter>(tx: &mut Transaction<'_, S>, number: NodeNumber) -> Result<(), Error>
     requires { (state S.Store tx.old.conn.now).now.schema ≡ no_schema }
     ensures same_reference { tx.new.conn.ghost_name ≡ tx.old.conn.ghost_name }
     ensures ok { HasCleanDisk (state S.Store tx.new.conn.now) → IsTrue
@@ -103,7 +104,7 @@ fn make_tables<S: Alter>(tx: &mut Transaction<'_, S>, number: u16) -> Result<(),
 
 /// Makes both tables and the row of the node, in one transaction. Refused, with nothing made, where memory is, or the disk fails, or the
 /// limit on steps is met, or where the table does not take the row of the node.
-pub fn found<S: Alter>(conn: &mut Connection<S>, number: u16) -> Result<(), Error>
+pub fn found<S: Alter>(conn: &mut Connection<S>, number: NodeNumber) -> Result<(), Error>
     requires idle { conn.old.in_transaction ≡ false }
     requires blank { (state S.Store conn.old).now.schema ≡ no_schema }
     ensures clean { doubt (state S.Store conn.old).is_clean ≤ doubt

@@ -6,6 +6,7 @@ ghost use Rattle.fl_sql_tables.specs.Tables.{keeper_schema, select_whole_text};
 ghost use Rattle.fl_sql_tables.specs.Founding.{itself_of, IsItself};
 
 use crate::reading::number_at;
+use fl_labels::name::NodeNumber;
 use sqlite::{Alter, Connection, Error, Row};
 
 /// What the table of the node itself says.
@@ -19,7 +20,7 @@ pub enum Itself {
     Own,
 }
 
-fn itself_in(rows: &[Row], number: u16) -> Itself
+fn itself_in(rows: &[Row], number: NodeNumber) -> Itself
     ensures { result ≡ itself_of number rows.now }
 {
     let [row] = rows else {
@@ -41,7 +42,7 @@ fn itself_in(rows: &[Row], number: u16) -> Itself
 }
 
 /// What the database says of its node.
-pub fn read_itself<S: Alter>(conn: &mut Connection<S>, number: u16) -> Result<Itself, Error>
+pub fn read_itself<S: Alter>(conn: &mut Connection<S>, number: NodeNumber) -> Result<Itself, Error>
     requires idle { conn.old.in_transaction ≡ false }
     requires ours { (state S.Store conn.old).now.schema ≡ keeper_schema }
     requires live { IsLive (state S.Store conn.old) }

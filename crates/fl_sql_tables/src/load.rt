@@ -9,6 +9,7 @@ ghost use Rattle.fl_sql_tables.specs.Serving.{IsServing, StepsOn};
 ghost use Rattle.fl_sql_tables.specs.Failing.{RefusesToLoad};
 
 use crate::reading::read_op;
+use fl_labels::name::NodeNumber;
 use fl_ops::op::Op;
 use fl_opset::set::OpSet;
 use sqlite::{Alter, Connection, Error, ErrorCode, Rows};
@@ -72,7 +73,7 @@ fn next_op<S: Alter>(rows: &mut Rows<'_, S>) -> Result<Step, Error>
 pub fn load_ops<S: Alter>(
     alloc: Global,
     conn: &mut Connection<S>,
-    number: u16,
+    number: NodeNumber,
 ) -> Result<OpSet, LoadFault>
     requires idle { conn.old.in_transaction ≡ false }
     requires serving { IsServing number (state S.Store conn.old) }

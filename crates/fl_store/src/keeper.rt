@@ -2,6 +2,7 @@
 ghost use Rattle.std.specs.Prelude.{◌≡◌, ◌<◌, ◌≤◌, ◌↔◌, ℕ, Bool, IsTrue, IfOk, IfErr, OnOk};
 ghost use Rattle.fl_store.specs.Kept.{Kept};
 
+use fl_labels::name::NodeNumber;
 use fl_ops::op::Op;
 use fl_opset::set::OpSet;
 use std::alloc::Global;
@@ -48,7 +49,7 @@ pub trait Keeper {
     ghost is_honest: { Self → Type 0 };
 
     /// The node whose operations are kept.
-    fn number(&self) -> u32
+    fn number(&self) -> NodeNumber
         ensures { result ≡ number self.now };
 
     /// How many faults there were since the opening, those for want of memory left out.

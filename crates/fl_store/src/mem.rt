@@ -9,6 +9,7 @@ ghost use Rattle.fl_store.specs.MemKeeping.{MemKept, is_broken_at, failed_at, br
 
 use crate::health::Health;
 use crate::keeper::{Keeper, KeeperFault};
+use fl_labels::name::NodeNumber;
 use fl_ops::op::Op;
 use fl_opset::set::OpSet;
 use std::alloc::{AllocError, Global};
@@ -18,7 +19,7 @@ use std::marker::Model;
 #[derive(Debug, Drop)]
 pub struct MemKeeper {
     alloc: Global,
-    number: u32,
+    number: NodeNumber,
     boot: u32,
     saved: OpSet,
     health: Health,
@@ -87,7 +88,7 @@ fn serve(alloc: Global, health: Health, saved: &mut OpSet, ops: &[Op]) -> Result
 
 impl MemKeeper {
     /// Nothing is kept yet. Takes no memory.
-    pub fn new(alloc: Global, number: u32) -> MemKeeper
+    pub fn new(alloc: Global, number: NodeNumber) -> MemKeeper
         ensures { result ≡ record {
           kept = record { number = number; boot = 0; saved = set.empty };
           health = Health.Sound;
@@ -103,7 +104,12 @@ impl MemKeeper {
     }
 
     /// These operations are kept, whose names differ, of a node that was booted so many times. Refused for want of memory.
-    pub fn with(alloc: Global, number: u32, boot: u32, ops: &[Op]) -> Result<MemKeeper, AllocError>
+    pub fn with(
+        alloc: Global,
+        number: NodeNumber,
+        boot: u32,
+        ops: &[Op],
+    ) -> Result<MemKeeper, AllocError>
         requires { HasNamesOnce (set.of_list ops.now) }
         ensures { IfOk result (λ keeper. keeper ≡ record {
           kept = record { number = number; boot = boot; saved = set.of_list ops.now };
@@ -161,7 +167,7 @@ impl Keeper for MemKeeper {
 
     ghost numbered = { λ keeper k h. ap (λ (k : Kept). k.number) h };
 
-    fn number(&self) -> u32 {
+    fn number(&self) -> NodeNumber {
         self.number
     }
 

@@ -1,5 +1,6 @@
 //! Tests of keepers over databases in memory, damaged in some way.
 use crate::asking::{Asked, answer, check, fault_text};
+use fl_labels::name::NodeNumber;
 use fl_sql_store::sql_keeper::SqlKeeper;
 use sqlite::{Alter, Connection, MemStore};
 use std::alloc::{AllocGlobal, Global};
@@ -10,7 +11,7 @@ use std::test::Fail;
 pub fn check_on<S: Alter + Drop>(
     rt: &(impl Abort + AllocGlobal),
     conn: Connection<S>,
-    number: u16,
+    number: NodeNumber,
     lines: &[Asked],
 ) -> Result<Connection<S>, Fail> {
     match SqlKeeper::open(rt.alloc(), conn, number) {
@@ -27,7 +28,7 @@ pub fn check_on<S: Alter + Drop>(
 pub fn found_in<S: Alter + Drop>(
     alloc: Global,
     conn: Connection<S>,
-    number: u16,
+    number: NodeNumber,
 ) -> Result<Vec<u8>, Fail> {
     match SqlKeeper::open(alloc, conn, number) {
         Ok(keeper) => {

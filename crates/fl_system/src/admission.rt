@@ -5,7 +5,7 @@ use fl_jobs::job::Side;
 use fl_labels::cap::Cap;
 use fl_labels::cap_set::CapSet;
 use fl_labels::label::Label;
-use fl_labels::name::Name;
+use fl_labels::name::{Name, NodeNumber};
 use fl_labels::pid::Pid;
 use fl_ops::digest::Digest;
 use fl_rules::endpoint::Mode;
@@ -45,7 +45,7 @@ pub enum Admission {
     /// The process was told that it has the capability in effect.
     Yes(Party, Cap),
     /// Somebody was told at this node, in this boot, that the first capability reaches the second.
-    Reached(u16, u32, Cap, Cap),
+    Reached(NodeNumber, u32, Cap, Cap),
 }
 
 impl Drop for Admission {

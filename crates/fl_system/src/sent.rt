@@ -1,12 +1,13 @@
 //! Packets that were sent.
 
 use crate::admission::Party;
+use fl_labels::name::NodeNumber;
 use fl_wire::packet::Packet;
 
 /// A packet that was sent, which may be delivered to any node, any number of times, or never.
 pub struct Sent {
     /// The node that sent it.
-    pub from: u16,
+    pub from: NodeNumber,
     pub packet: Packet,
     /// Of a message, its sender as it was then.
     pub sender: Option<Party>,

@@ -5,6 +5,7 @@ ghost use Rattle.fl_makers.specs.Making.{nothing_kept};
 ghost use Rattle.fl_system.specs.declared.answer.Fault.TheVariants.{Refused};
 
 use fl_jobs::answer::Refusal;
+use fl_labels::name::NodeNumber;
 use fl_makers::maker::MakesKeepers;
 use fl_store::mem::MemKeeper;
 use fl_system::answer::Fault;
@@ -23,7 +24,7 @@ impl MakesKeepers for RefusingMaker<'_> {
 
     ghost refuses = { λ maker number fault. Contains maker.refusals.now (number, fault) };
 
-    fn make(&mut self, alloc: Global, number: u16) -> Result<MemKeeper, Fault> {
+    fn make(&mut self, alloc: Global, number: NodeNumber) -> Result<MemKeeper, Fault> {
         if let [(node, fault), rest @ ..] = self.refusals {
             if *node == number {
                 self.refusals = rest;
@@ -37,7 +38,7 @@ impl MakesKeepers for RefusingMaker<'_> {
 /// Makes keepers of one node, whichever it is asked for.
 #[derive(Clone, Copy)]
 pub struct OneNodeMaker {
-    pub node: u16,
+    pub node: NodeNumber,
 }
 
 impl MakesKeepers for OneNodeMaker {
@@ -47,7 +48,7 @@ impl MakesKeepers for OneNodeMaker {
 
     ghost refuses = { λ _ _ _. ⊥ };
 
-    fn make(&mut self, alloc: Global, number: u16) -> Result<MemKeeper, Fault> {
+    fn make(&mut self, alloc: Global, number: NodeNumber) -> Result<MemKeeper, Fault> {
         Ok(MemKeeper::new(alloc, self.node))
     }
 }
@@ -65,7 +66,7 @@ impl MakesKeepers for BreakingMaker {
 
     ghost refuses = { λ _ _ _. ⊥ };
 
-    fn make(&mut self, alloc: Global, number: u16) -> Result<MemKeeper, Fault> {
+    fn make(&mut self, alloc: Global, number: NodeNumber) -> Result<MemKeeper, Fault> {
         let mut keeper = MemKeeper::new(alloc, number);
         if number <= self.last {
             keeper.break_at(1, false);
@@ -87,7 +88,7 @@ impl MakesKeepers for BootedMaker {
 
     ghost refuses = { λ _ _ fault. fault ≡ Refused Memory };
 
-    fn make(&mut self, alloc: Global, number: u16) -> Result<MemKeeper, Fault> {
+    fn make(&mut self, alloc: Global, number: NodeNumber) -> Result<MemKeeper, Fault> {
         match MemKeeper::with(alloc, number, self.boot, &[]) {
             Ok(keeper) => Ok(keeper),
             Err(AllocError) => Err(Fault::Refused(Refusal::Memory)),

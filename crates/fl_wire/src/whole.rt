@@ -14,7 +14,7 @@ ghost use Rattle.fl_wire.specs.parts.Ops.{AddsBody, AddsNextOp, AreNumbers, last
 
 use crate::fault::ReadFault;
 use crate::fields::long_at;
-use fl_labels::name::Name;
+use fl_labels::name::{Name, NodeNumber};
 use fl_ops::digest::Digest;
 use fl_ops::fault::BadField;
 use fl_ops::fields::{byte_at, cap_at, name_at, node_at};
@@ -22,7 +22,7 @@ use fl_ops::format::Format;
 use fl_ops::op::{Body, Op, Policy};
 
 // Whether a name with these numbers is above that of the last operation, where there is one.
-fn rises_above(ops: &[Op], node: u32, seq: u32) -> bool
+fn rises_above(ops: &[Op], node: NodeNumber, seq: u32) -> bool
     ensures { let before = key_before name_key (last_name ops.now) in
         result ≡ is_lt (slice_cmp nat_cmp before (node ∷ seq ∷ [])) }
 {

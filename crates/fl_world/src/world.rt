@@ -25,6 +25,7 @@ ghost use Rattle.fl_world.specs.Lasting.{IsLastingWorld};
 use crate::laws::{law_headline, law_lasting};
 use fl_jobs::answer::Refusal;
 use fl_jobs::job::Job;
+use fl_labels::name::NodeNumber;
 use fl_node::node::Node;
 use fl_nodes::nodes::Nodes;
 use fl_sink::sink::WriteFault;
@@ -99,7 +100,7 @@ impl<K: Keeper> World<K> {
     }
 
     /// The node of this number, or none where it is not there.
-    pub fn node(&self, number: u16) -> Option<&Node<K>>
+    pub fn node(&self, number: NodeNumber) -> Option<&Node<K>>
         ensures { option_copied result ≡ map.get self.now.nodes number }
     {
         self.nodes.node(number)
@@ -122,7 +123,7 @@ impl<K: Keeper> World<K> {
     }
 
     /// A node of this number joins over its keeper, as `Nodes::join` has it, or the keeper is given back with why not.
-    pub fn join(&mut self, alloc: Global, number: u16, keeper: K) -> Result<u32, (Fault, K)>
+    pub fn join(&mut self, alloc: Global, number: NodeNumber, keeper: K) -> Result<u32, (Fault, K)>
         requires { 0 < number }
         ensures joins { IfOk result (λ boot. TakesIn K.is_honest K.may_hold self.old keeper self.new
             (λ w k w'. Joins w number k (replies.Booted boot) w')) }
@@ -142,7 +143,7 @@ impl<K: Keeper> World<K> {
     ///
     /// What is made is to be trusted no further than the keeper before it: as each call of a keeper has it, where it is honest then,
     /// that was honest before.
-    pub fn reopen<F: FnOnce(&mut K)>(&mut self, alloc: Global, number: u16, make: F) -> Reply
+    pub fn reopen<F: FnOnce(&mut K)>(&mut self, alloc: Global, number: NodeNumber, make: F) -> Reply
         requires callable { F.IsAlwaysCallable make }
         requires trusted { (n : NodeOver K) (made : K) → map.get self.old.nodes number ≡ Some n
             → (¬ IsRunning n.node.state) → FnOnceReturnsAtMut F.FnOnce make n.keeper tt made
@@ -159,7 +160,7 @@ impl<K: Keeper> World<K> {
     }
 
     /// Has the node do a job at its desk, under all that it published, as `Nodes::job` has it. What the job lets pass is noted.
-    pub fn job(&mut self, alloc: Global, number: u16, desk: u8, job: Job) -> Reply
+    pub fn job(&mut self, alloc: Global, number: NodeNumber, desk: u8, job: Job) -> Reply
         ensures { (upto : _) → IsWhole self.old number upto
             → Goes K.is_honest K.may_hold self.old self.new
             (λ w w'. Step w (event.Job number desk upto job) result w') }
@@ -168,7 +169,7 @@ impl<K: Keeper> World<K> {
     }
 
     /// Saves what is to be saved at the node, as `Nodes::save` has it.
-    pub fn save(&mut self, number: u16) -> Reply
+    pub fn save(&mut self, number: NodeNumber) -> Reply
         ensures { Goes K.is_honest K.may_hold self.old self.new
             (λ w w'. Step w (event.Save number) result w') }
     {
@@ -176,7 +177,7 @@ impl<K: Keeper> World<K> {
     }
 
     /// Gives up what is to be saved at the node, as `Nodes::cancel` has it.
-    pub fn cancel(&mut self, number: u16) -> Reply
+    pub fn cancel(&mut self, number: NodeNumber) -> Reply
         ensures { Goes K.is_honest K.may_hold self.old self.new
             (λ w w'. Step w (event.Cancel number) result w') }
     {
@@ -184,7 +185,7 @@ impl<K: Keeper> World<K> {
     }
 
     /// Publishes what is due at the node, as `Nodes::publish` has it.
-    pub fn publish(&mut self, alloc: Global, number: u16) -> Reply
+    pub fn publish(&mut self, alloc: Global, number: NodeNumber) -> Reply
         ensures { Goes K.is_honest K.may_hold self.old self.new
             (λ w w'. Step w (event.Publish number) result w') }
     {
@@ -192,7 +193,7 @@ impl<K: Keeper> World<K> {
     }
 
     /// Restarts the node, as `Nodes::restart` has it.
-    pub fn restart(&mut self, alloc: Global, number: u16, keeps: bool) -> Reply
+    pub fn restart(&mut self, alloc: Global, number: NodeNumber, keeps: bool) -> Reply
         ensures { Goes K.is_honest K.may_hold self.old self.new
             (λ w w'. Step w (event.Restart number keeps) result w') }
     {
@@ -200,7 +201,7 @@ impl<K: Keeper> World<K> {
     }
 
     /// Has the node send what it has saved, as `Nodes::tell` has it.
-    pub fn tell(&mut self, alloc: Global, number: u16) -> Reply
+    pub fn tell(&mut self, alloc: Global, number: NodeNumber) -> Reply
         ensures { Goes K.is_honest K.may_hold self.old self.new
             (λ w w'. Step w (event.Tell number) result w') }
     {
@@ -208,7 +209,7 @@ impl<K: Keeper> World<K> {
     }
 
     /// Has the packet of this number come to the node of this number, as `Nodes::deliver` has it; it may come again.
-    pub fn deliver(&mut self, alloc: Global, packet: u64, number: u16) -> Reply
+    pub fn deliver(&mut self, alloc: Global, packet: u64, number: NodeNumber) -> Reply
         ensures { Goes K.is_honest K.may_hold self.old self.new
             (λ w w'. Step w (event.Deliver packet number) result w') }
     {
@@ -216,7 +217,7 @@ impl<K: Keeper> World<K> {
     }
 
     // How long the list of the node of this number is, or 0 where it is not there.
-    fn whole(&self, number: u16) -> u64
+    fn whole(&self, number: NodeNumber) -> u64
         ensures { IsWhole self.now number result }
     {
         match self.node(number) {
@@ -280,7 +281,7 @@ impl<K: Keeper> World<K> {
     /// Writes the text of the node's published operations, as `Nodes::text` has it, or nothing where it is not there.
     pub fn text<W: Write>(
         &self,
-        number: u16,
+        number: NodeNumber,
         output: &mut W,
     ) -> Option<Result<Result<(), WriteFault>, Fault>>
         ensures { TextAt (W.contents output.old) (W.contents output.new)

@@ -1,6 +1,6 @@
 //! Tests of nodes of a world that tell each other.
 use crate::scene::{group_is_made, happens, joins, tag_is_begun, tag_is_made};
-use fl_labels::name::Name;
+use fl_labels::name::{Name, NodeNumber};
 use fl_store::mem::MemKeeper;
 use fl_system::event::Event;
 use fl_system::reply::Reply;
@@ -59,7 +59,7 @@ fn gossip_teaches_a_tag(rt: HostRuntime) -> Result<(), Fail> {
 fn asks(
     world: &mut World<MemKeeper>,
     alloc: Global,
-    node: u16,
+    node: NodeNumber,
     teller: u16,
     window: u64,
 ) -> Result<(), Fail> {
@@ -90,7 +90,7 @@ fn asks(
 fn takes(
     world: &mut World<MemKeeper>,
     alloc: Global,
-    node: u16,
+    node: NodeNumber,
     packet: u64,
     count: u64,
 ) -> Result<(), Fail> {

@@ -4,7 +4,7 @@ ghost use Rattle.fl_world.specs.Looking.{LooksFar};
 
 use fl_jobs::answer::Reply as Answer;
 use fl_jobs::job::{Act, Job, Order};
-use fl_labels::name::Name;
+use fl_labels::name::{Name, NodeNumber};
 use fl_labels::pid::Pid;
 use fl_ops::op::Policy;
 use fl_store::mem::MemKeeper;
@@ -18,7 +18,7 @@ use std::test::Fail;
 pub fn joins(
     world: &mut World<MemKeeper>,
     alloc: Global,
-    number: u16,
+    number: NodeNumber,
     keeper: MemKeeper,
 ) -> Result<(), Fail>
     requires { 0 < number }
