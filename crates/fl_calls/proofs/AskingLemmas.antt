@@ -20,7 +20,6 @@ use Rattle.fl_system.specs.Waiting.{IsRunning, NotRunning}
 use Rattle.fl_system.specs.World.{World, KeptNode}
 use Rattle.fl_system.specs.WorldSteps.{IsAt}
 use Rattle.fl_wire.specs.Faults.{IsBadOrMemoryAfter}
-use Rattle.fl_wire.specs.PacketBytes.{packet_bytes}
 use Rattle.fl_wire.specs.PacketGrammar.{packet_head, packet_fields}
 use Rattle.fl_wire.specs.declared.fault.ReadFault.{ReadFault}
 use Rattle.fl_wire.specs.declared.fault.ReadFault.TheVariants.{BadPacket, Memory}
@@ -33,7 +32,7 @@ use Rattle.fl_calls.specs.declared.response.Check.{Check}
 use Rattle.fl_calls.specs.declared.response.Response.{Response}
 use Rattle.fl_calls.specs.declared.response.Response.TheVariants as response
 use Rattle.fl_calls.specs.Answer.{text, checked, bad_packet, lent, registry_of, shown}
-use Rattle.fl_calls.specs.Calls.{counted, Tells, Unites, ChecksAt}
+use Rattle.fl_calls.specs.Calls.{counted, Spells, Tells, Unites, ChecksAt}
 use Rattle.fl_calls.specs.Completing.{starved}
 use Rattle.fl_calls.proofs.Going.{there}
 
@@ -154,7 +153,7 @@ module _ {K : Type 0} (is_honest : K → Type 0) (may_hold : K → Held) (over :
       (ChecksAt.no_room (subst (IsBadOrMemoryAfter (packet_head bytes) (packet_fields bytes)) is bad))
 
   pub checks_tells : (number : ℕ) (bytes : List ℕ) (n : NodeOver K) (packet : Packet) (count : ℕ) (check : Check)
-      → Some n ≡ map.get over.nodes number → packet_bytes packet ≡ bytes → Checks n.node packet (Ok count) → check ≡ counted packet count
+      → Some n ≡ map.get over.nodes number → Spells bytes packet → Checks n.node packet (Ok count) → check ≡ counted packet count
       → (w : World) (s : KeptNode) → MayBe may_hold over w → IsAt w number s → ChecksAt w number bytes (checked check) w
   checks_tells number bytes n packet count check at spelled checks e w s is _ =
       let stands = there is_honest may_hold over w number n (sym at) is in
@@ -162,7 +161,7 @@ module _ {K : Type 0} (is_honest : K → Type 0) (may_hold : K → Held) (over :
       (ChecksAt.tells stands.at spelled (subst (λ m. Checks m packet (Ok count)) (sym stands.same) checks))
 
   pub checks_refuses : (number : ℕ) (bytes : List ℕ) (n : NodeOver K) (packet : Packet) (fault : Fault) (r : Response)
-      → Some n ≡ map.get over.nodes number → packet_bytes packet ≡ bytes → Checks n.node packet (Err fault) → r ≡ response.Reply (Refused fault)
+      → Some n ≡ map.get over.nodes number → Spells bytes packet → Checks n.node packet (Err fault) → r ≡ response.Reply (Refused fault)
       → (w : World) (s : KeptNode) → MayBe may_hold over w → IsAt w number s → ChecksAt w number bytes (shown over r) w
   checks_refuses number bytes n packet fault r at spelled checks e w s is _ =
       let stands = there is_honest may_hold over w number n (sym at) is in

@@ -3,8 +3,10 @@ use Rattle.std.specs.Prelude.{◌≡◌, ◌<◌, ◌⊎◌, ℕ, Bool, true, fa
 use Rattle.std.specs.declared.option.Option.TheVariants.{None, Some}
 use Rattle.std.specs.declared.result.Result.TheVariants.{Ok, Err}
 use Rattle.fl_labels.specs.SetBy as set
+use Rattle.fl_ops.specs.declared.format.Format.{Format}
 use Rattle.fl_ops.specs.Grammar.{first_fault}
 use Rattle.fl_wire.specs.PacketBytes.{packet_bytes}
+use Rattle.fl_wire.specs.PacketFits.{HasPacket}
 use Rattle.fl_wire.specs.PacketGrammar.{packet_head, packet_fields}
 use Rattle.fl_wire.specs.declared.packet.Packet.{Packet}
 use Rattle.fl_wire.specs.declared.packet.Packet.TheVariants as packets
@@ -99,6 +101,12 @@ counted (packets.Have window) count = Lacks count
 counted (packets.Delta batch) count = New count
 counted (packets.Data d) count = Data
 
+-- these bytes spell the packet, in one of the formats
+pub record Spells (bytes : List ℕ) (packet : Packet) : Type 0 where
+  pub format : Format
+  pub has : HasPacket format packet
+  pub written : packet_bytes format packet ≡ bytes
+
 -- What a packet of these bytes would bring to the node of this number is told.
 pub data ChecksAt (w : World) (number : ℕ) (bytes : List ℕ) : Answer → World → Type 0 where
   no_packet : {place : ℕ} → first_fault (packet_fields bytes) ≡ Some place
@@ -106,10 +114,10 @@ pub data ChecksAt (w : World) (number : ℕ) (bytes : List ℕ) : Answer → Wor
   -- no memory is taken before the head is right
   no_room : first_fault (packet_head bytes) ≡ None → ChecksAt w number bytes (replied starved) w
   tells : {s : KeptNode} {packet : Packet} {count : ℕ} → IsAt w number s
-      → packet_bytes packet ≡ bytes → Checks s.node packet (Ok count)
+      → Spells bytes packet → Checks s.node packet (Ok count)
       → ChecksAt w number bytes (checked (counted packet count)) w
   refuses : {s : KeptNode} {packet : Packet} {fault : Fault} → IsAt w number s
-      → packet_bytes packet ≡ bytes → Checks s.node packet (Err fault)
+      → Spells bytes packet → Checks s.node packet (Err fault)
       → ChecksAt w number bytes (replied (Refused fault)) w
 
 -- the node is opened first, or both, the first one first

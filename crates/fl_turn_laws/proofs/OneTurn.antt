@@ -3,11 +3,13 @@ use Rattle.std.proofs.Common.{◌≡◌, ◌≢◌, ◌∙◌, inl, inr, ℕ, tr
 use Rattle.std.specs.List.{All, AllByRecursion}
 use Rattle.std.proofs.lemmas.List.Elements.{recursion_from_All}
 use Rattle.fl_bench.specs.laws.Puts.{none_some, same_found}
+use Rattle.fl_ops.specs.declared.format.Format.{Format}
 use Rattle.fl_ops.specs.Grammar.{first_fault}
 use Rattle.fl_store.specs.Kept.{Kept}
 use Rattle.fl_store.specs.Keeping.{Held}
 use Rattle.fl_jobs.specs.declared.answer.Refusal.TheVariants.{Memory}
 use Rattle.fl_wire.specs.PacketBytes.{packet_bytes}
+use Rattle.fl_wire.specs.PacketFits.{HasPacket}
 use Rattle.fl_wire.specs.PacketGrammar.{packet_fields, packet_fault}
 use Rattle.fl_wire.specs.declared.packet.Packet.{Packet}
 use Rattle.fl_wire.specs.declared.packet.Packet.TheVariants as packets
@@ -45,7 +47,7 @@ use Rattle.fl_calls.specs.Answer.{Answer as Said, replied, text, checked, bad_pa
 use Rattle.fl_calls.specs.Entering.{Openings, Enters, is_there, joins, is_refused, OnceOpen, shut, opened}
 use Rattle.fl_calls.specs.Completing.{begins, starved, Finishes, given_up, not_saved, saved, Completes, at_once, in_steps}
 use Rattle.fl_calls.specs.Calls as calls
-use Rattle.fl_calls.specs.Calls.{Says, said_of, counted, Delivers, BeginsToTake, Tells, Unites, ChecksAt}
+use Rattle.fl_calls.specs.Calls.{Says, said_of, counted, Spells, Delivers, BeginsToTake, Tells, Unites, ChecksAt}
 use Rattle.fl_calls.specs.Over.{NotOpened, none_made, not_joined, openings_of}
 use Rattle.fl_turns.specs.Answer.{Answer, said}
 use Rattle.fl_turns.specs.Naming.{made_by, renamed}
@@ -254,19 +256,22 @@ sure_checked fault sure e =
     let same : fault ≡ faults.Refused Memory = cc e in
     sure.ample.memory (ap Refused same)
 
-module _ (one_spelling : (a b : Packet) → packet_bytes a ≡ packet_bytes b → a ≡ b)
-    (whole : (packet : Packet) → packet_fault (packet_bytes packet) ≡ None) where
+module _ (one_spelling : (f g : Format) (a b : Packet) → HasPacket f a → HasPacket g b
+    → packet_bytes f a ≡ packet_bytes g b → (f ≡ g) × (a ≡ b))
+    (whole : (f : Format) (packet : Packet) → HasPacket f packet → packet_fault (packet_bytes f packet) ≡ None) where
   -- bytes of a packet have no fault
-  no_fault : (packet : Packet) (bytes : List ℕ) (place : ℕ) → packet_bytes packet ≡ bytes
+  no_fault : (packet : Packet) (bytes : List ℕ) (place : ℕ) → Spells bytes packet
       → first_fault (packet_fields bytes) ≡ Some place → ⊥
-  no_fault packet bytes place is fault = none_some (subst (λ x. packet_fault x ≡ None) is (whole packet)) fault
+  no_fault packet bytes place is fault =
+      none_some (subst (λ x. packet_fault x ≡ None) is.written (whole is.format packet is.has)) fault
 
   same_check : (w : World) (number : ℕ) (bytes : List ℕ) (s t : KeptNode) (packet other : Packet) (r r' : Result ℕ Fault)
-      → IsAt w number s → IsAt w number t → packet_bytes packet ≡ bytes → packet_bytes other ≡ bytes
+      → IsAt w number s → IsAt w number t → Spells bytes packet → Spells bytes other
       → Checks s.node packet r → Checks t.node other r' → r ≢ no_memory → r' ≢ no_memory → (packet ≡ other) × (r ≡ r')
   unfolding no_memory
   same_check w number bytes s t packet other r r' at at' is is' h k p q =
-      let same : other ≡ packet = one_spelling other packet (is' ∙ sym is) in
+      let same : other ≡ packet =
+      (one_spelling is'.format is.format other packet is'.has is.has (is'.written ∙ sym is.written)).1 in
       let here : Checks s.node packet r' =
       subst (λ (x : KeptNode). Checks x.node packet r') (same_found at' at) (subst (λ x. Checks t.node x r') same k) in
       (sym same, one_check s.node packet r r' h here p q)

@@ -4,7 +4,7 @@ ghost use Rattle.fl_labels.specs.SetBy.{In};
 ghost use Rattle.fl_opset.specs.Catching.{HaveNoClash};
 
 use fl_labels::cap::Cap;
-use fl_labels::name::Name;
+use fl_labels::name::{Name, NodeNumber};
 use fl_ops::op::{Body, Op, Policy};
 use fl_opset::set::OpSet;
 use std::alloc::{AllocError, Global};
@@ -25,7 +25,7 @@ fn put(ops: &mut OpSet, op: Op) -> Result<(), AllocError>
 }
 
 // A tag, a group, or a put, in turn.
-fn operation(node: u16, seq: u32) -> Op
+fn operation(node: NodeNumber, seq: u32) -> Op
     requires node { 0 < node }
     requires seq { 0 < seq }
 {
@@ -40,7 +40,12 @@ fn operation(node: u16, seq: u32) -> Op
 
 /// So many operations of the node, in 500 spans of one length; and where it is whole, those between
 /// them too.
-pub fn registry(alloc: Global, node: u16, count: u32, whole: bool) -> Result<OpSet, AllocError>
+pub fn registry(
+    alloc: Global,
+    node: NodeNumber,
+    count: u32,
+    whole: bool,
+) -> Result<OpSet, AllocError>
     requires node { 0 < node }
     requires few { count ≤ 1000000 }
     ensures { IfOk result (λ ops. HaveNoClash (In ops) (In ops)) }

@@ -1,5 +1,15 @@
+use Rattle.std.specs.Prelude.{◌≡◌, ℕ, List, slice_index}
+use Rattle.fl_wire.specs.PacketBytes.{packet_bytes}
+use Rattle.fl_wire.specs.PacketFits.{HasPacket}
+use Rattle.fl_wire.specs.PacketGrammar.{packet_format}
+use Rattle.fl_wire.specs.declared.packet.Packet.{Packet}
+use Rattle.fl_calls.specs.Calls.{Spells}
 use Rattle.fl_calls.proofs.AskingLemmas.{checks_bad, checks_starved, checks_tells, checks_refuses}
 use Rattle.fl_calls.proofs.asking.check.Goals as goal
+
+spelled : {bytes : List ℕ} {packet : Packet} → (let f = packet_format (slice_index bytes 0) in
+    HasPacket f packet × (packet_bytes f packet ≡ bytes)) → Spells bytes packet
+spelled it = record { format = _; has = it.0; written = it.1 }
 
 pub returns-in-Err-BadPacket : goal.returns-in-Err-BadPacket
 returns-in-Err-BadPacket g c =
@@ -14,9 +24,9 @@ returns-in-Err-Memory g c =
 pub returns-in-Ok-check : goal.returns-in-Ok-check
 returns-in-Ok-check g c =
     checks_tells g.K.Keeper.is_honest g.K.Keeper.may_hold c.args.world.now c.args.number c.args.bytes.now c.in-Some.node.now c.in-Ok.packet
-    c.in-Ok-check.count c.counted.result c.in-Some.ensures c.in-Ok.ensures c.in-Ok-check.ensures c.counted.ensures
+    c.in-Ok-check.count c.counted.result c.in-Some.ensures (spelled c.in-Ok.ensures) c.in-Ok-check.ensures c.counted.ensures
 
 pub returns : goal.returns
 returns g c =
     checks_refuses g.K.Keeper.is_honest g.K.Keeper.may_hold c.args.world.now c.args.number c.args.bytes.now c.in-Some.node.now c.in-Ok.packet
-    c.in-Err.fault c.refused.result c.in-Some.ensures c.in-Ok.ensures c.in-Err.ensures c.refused.ensures
+    c.in-Err.fault c.refused.result c.in-Some.ensures (spelled c.in-Ok.ensures) c.in-Err.ensures c.refused.ensures
