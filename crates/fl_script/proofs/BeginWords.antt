@@ -7,7 +7,7 @@ use Rattle.fl_jobs.specs.declared.job.Act.TheVariants.{Order as Orders}
 use Rattle.fl_jobs.specs.declared.job.Job.{Job}
 use Rattle.fl_jobs.specs.declared.job.Job.TheVariants.{By}
 use Rattle.fl_jobs.specs.declared.job.Order.{Order}
-use Rattle.fl_jobs.specs.declared.job.Order.TheVariants.{Tag, Group, Put, MakeLogin}
+use Rattle.fl_jobs.specs.declared.job.Order.TheVariants.{Tag, Group, Put, MakeLogin, OpenGroup}
 use Rattle.fl_aliases.specs.Words.{Word}
 use Rattle.fl_script.specs.Grammar.{Is, job_forms, SpellsJob, SpellsRequest}
 use Rattle.fl_script.specs.parts.Begins.{BeginsBy}
@@ -62,15 +62,16 @@ begin_arm verb words (Some (Begin p o)) other s = (refl, s)
 begin_arm verb words (Some r) other s = absurd s
 
 -- other words begin nothing
-pub begin_no : (verb : Word) (words : List Word) → verb ≢ codes "tag" → verb ≢ codes "group" → verb ≢ codes "put" → verb ≢ codes "make-login" → verb ≢ codes "deliver"
+pub begin_no : (verb : Word) (words : List Word) → verb ≢ codes "tag" → verb ≢ codes "group" → verb ≢ codes "put" → verb ≢ codes "make-login" → verb ≢ codes "open-group" → verb ≢ codes "deliver"
     → (r : Request) → SpellsRequest r (codes "begin" ∷ verb ∷ words) → ⊥
-begin_no verb words no_tag no_group no_put no_login no_deliver = none_begun (verb ∷ words) by_order (no_packet verb words no_deliver)
+begin_no verb words no_tag no_group no_put no_login no_open no_deliver = none_begun (verb ∷ words) by_order (no_packet verb words no_deliver)
   where
     by_order : (p : Pid) (o : Order) → SpellsJob (By p (Orders o)) (verb ∷ words) → ⊥
     by_order p (Tag policy) s = no_tag s.0
     by_order p Group s = no_group s.0
     by_order p (Put group cap) s = no_put s.0
     by_order p (MakeLogin cap secret) s = no_login s.0
+    by_order p (OpenGroup group) s = no_open s.0
 
 -- nor does no word
 pub begin_nothing : (r : Request) → SpellsRequest r (codes "begin" ∷ []) → ⊥
@@ -81,3 +82,4 @@ begin_nothing = none_begun [] by_order (λ k t. absurd t)
     by_order p Group s = absurd s
     by_order p (Put group cap) s = absurd s
     by_order p (MakeLogin cap secret) s = absurd s
+    by_order p (OpenGroup group) s = absurd s

@@ -2,7 +2,7 @@
 use Rattle.std.specs.Prelude.{◌≡◌, ◌⊎◌, ℕ, Bool, true, false, List, [], ◌∷◌, codes}
 use Rattle.fl_labels.specs.Text.{name_text, pid_text, cap_text, endpoint_text}
 use Rattle.fl_labels.specs.Words.{IsNumber}
-use Rattle.fl_jobs.specs.declared.job.Order.TheVariants.{Tag, Group, Put, MakeLogin}
+use Rattle.fl_jobs.specs.declared.job.Order.TheVariants.{Tag, Group, Put, MakeLogin, OpenGroup}
 use Rattle.fl_jobs.specs.declared.job.Act.TheVariants.{Order as Orders, Relabel, Ask, Spawn, Exit, Drop, Enter, Emit, Mail as Mailbox}
 use Rattle.fl_jobs.specs.declared.job.Mail.TheVariants.{Open, Tune, Close, Send, Take}
 use Rattle.fl_jobs.specs.declared.job.Job.{Job}
@@ -37,6 +37,7 @@ job_forms (By p (Orders (Tag policy))) = Is (codes "tag") ∷ Is (pid_text p) �
 job_forms (By p (Orders Group)) = Is (codes "group") ∷ Is (pid_text p) ∷ []
 job_forms (By p (Orders (Put group cap))) = Is (codes "put") ∷ Is (pid_text p) ∷ Is (name_text group) ∷ Is (cap_text cap) ∷ []
 job_forms (By p (Orders (MakeLogin cap secret))) = Is (codes "make-login") ∷ Is (pid_text p) ∷ Is (cap_text cap) ∷ IsSecretWord secret ∷ []
+job_forms (By p (Orders (OpenGroup group))) = Is (codes "open-group") ∷ Is (pid_text p) ∷ Is (name_text group) ∷ []
 job_forms (By p (Relabel side label)) = Is (codes "label") ∷ Is (pid_text p) ∷ Is (side_text side) ∷ IsLabelWord label ∷ []
 job_forms (By p (Ask cap)) = Is (codes "ask") ∷ Is (pid_text p) ∷ Is (cap_text cap) ∷ []
 job_forms (By p (Spawn caps)) = Is (codes "spawn") ∷ Is (pid_text p) ∷ IsCapsWord caps ∷ []

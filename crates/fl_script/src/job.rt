@@ -61,6 +61,15 @@ pub(crate) fn make_login_job(rest: &[&str]) -> Option<Job>
     Some(Job::By(pid, Act::Order(Order::MakeLogin(cap, secret))))
 }
 
+pub(crate) fn open_group_job(rest: &[&str]) -> Option<Job>
+    ensures { Finds result (λ j. SpellsJob j (codes "open-group" ∷ map (λ w. w.now) rest.now)) }
+{
+    let [pid, group] = rest else { return None };
+    let pid = read_pid(pid)?;
+    let group = read_name(group)?;
+    Some(Job::By(pid, Act::Order(Order::OpenGroup(group))))
+}
+
 fn label_job(alloc: Global, rest: &[&str]) -> Result<Option<Job>, AllocError>
     ensures { Reads result (λ j. SpellsJob j (codes "label" ∷ map (λ w. w.now) rest.now)) }
 {
@@ -276,6 +285,7 @@ pub fn job_from_words(alloc: Global, verb: &str, rest: &[&str]) -> Result<Option
         "close" => Ok(close_job(rest)),
         "enter" => Ok(enter_job(rest)),
         "make-login" => Ok(make_login_job(rest)),
+        "open-group" => Ok(open_group_job(rest)),
         "member" => Ok(member_job(rest)),
         _ => Ok(None),
     }

@@ -9,7 +9,7 @@ use fl_labels::name::NodeNumber;
 use fl_labels::text::read_number;
 use std::alloc::{AllocError, Global};
 
-/// A line that asks something of one node, of two, or of none. A line that was read names nodes from 1 to 65,535.
+/// A line that asks something of one node, of two, or of none. A line that was read names nodes from 1 to 4,294,967,295.
 #[derive(Drop)]
 pub enum Line {
     /// Something is asked of the node.

@@ -10,7 +10,7 @@ ghost use Rattle.fl_script.specs.parts.Begins.{BeginsBy};
 ghost use Rattle.fl_script.specs.parts.Reads.{Reads};
 ghost use Rattle.fl_script.specs.Grammar.{IsListVerb, SpellsJob, SpellsRequest};
 
-use crate::job::{group_job, job_from_words, make_login_job, put_job, tag_job};
+use crate::job::{group_job, job_from_words, make_login_job, open_group_job, put_job, tag_job};
 use crate::words::bytes_from_word;
 use fl_jobs::job::{Act, Job, Order};
 use fl_labels::pid::Pid;
@@ -181,6 +181,13 @@ fn begin_make_login_request(rest: &[&str]) -> Option<Request>
     begun(make_login_job(rest))
 }
 
+fn begin_open_group_request(rest: &[&str]) -> Option<Request>
+    ensures { let words = codes "open-group" ∷ map (λ w. w.now) rest.now in
+        Finds result (λ r. SpellsRequest r (codes "begin" ∷ words)) }
+{
+    begun(open_group_job(rest))
+}
+
 // What the verb of an order, or of a packet that comes, and the words after it begin.
 fn begun_by(verb: &str, rest: &[&str]) -> Option<Request>
     ensures { let words = verb.now ∷ map (λ w. w.now) rest.now in
@@ -191,6 +198,7 @@ fn begun_by(verb: &str, rest: &[&str]) -> Option<Request>
         "group" => begin_group_request(rest),
         "put" => begin_put_request(rest),
         "make-login" => begin_make_login_request(rest),
+        "open-group" => begin_open_group_request(rest),
         "deliver" => begin_deliver_request(rest),
         _ => None,
     }

@@ -15,7 +15,7 @@ use Rattle.fl_message.specs.declared.message.Message.{Message}
 use Rattle.fl_jobs.specs.declared.job.Side.{Side}
 use Rattle.fl_jobs.specs.declared.job.TooLong.{TooLong}
 use Rattle.fl_jobs.specs.declared.secret.Secret.{Secret}
-use Rattle.fl_jobs.specs.declared.job.Order.TheVariants.{Tag, Group, Put, MakeLogin}
+use Rattle.fl_jobs.specs.declared.job.Order.TheVariants.{Tag, Group, Put, MakeLogin, OpenGroup}
 use Rattle.fl_jobs.specs.declared.job.Act.TheVariants.{Order as Orders, Relabel, Ask, Spawn, Exit, Drop, Enter, Emit, Mail as Mailbox}
 use Rattle.fl_jobs.specs.declared.job.Mail.TheVariants.{Open, Tune, Close, Send, Take}
 use Rattle.fl_jobs.specs.declared.job.GivenLabels.{GivenLabels}
@@ -29,6 +29,7 @@ pub data Kind : Job → Type 0 where
   group : (p : Pid) → Kind (By p (Orders Group))
   put : (p : Pid) (group : Name) (cap : Cap) → Kind (By p (Orders (Put group cap)))
   make_login : (p : Pid) (cap : Cap) (secret : Secret) → Kind (By p (Orders (MakeLogin cap secret)))
+  open_group : (p : Pid) (group : Name) → Kind (By p (Orders (OpenGroup group)))
   relabel : (p : Pid) (side : Side) (label : Result (SetBy name_cmp) TooLong) → Kind (By p (Relabel side label))
   ask : (p : Pid) (cap : Cap) → Kind (By p (Ask cap))
   spawn : (p : Pid) (caps : SetBy cap_cmp) → Kind (By p (Spawn caps))
@@ -50,6 +51,7 @@ kind_of (By p (Orders (Tag x))) = tag p x
 kind_of (By p (Orders Group)) = group p
 kind_of (By p (Orders (Put into c))) = put p into c
 kind_of (By p (Orders (MakeLogin c secret))) = make_login p c secret
+kind_of (By p (Orders (OpenGroup opened))) = open_group p opened
 kind_of (By p (Relabel x l)) = relabel p x l
 kind_of (By p (Ask c)) = ask p c
 kind_of (By p (Spawn caps)) = spawn p caps

@@ -40,7 +40,7 @@ use Rattle.fl_script.specs.declared.line.Line.TheVariants.{Node as OfNode, Union
 use Rattle.fl_script.specs.declared.request.Request.{Request}
 use Rattle.fl_script.specs.declared.request.Request.TheVariants.{Job as OfJob, Begin, Deliver, BeginDeliver, Tell, Save, Publish, Cancel, Restart, Text, Check}
 use Rattle.fl_script.specs.laws.JobKinds.{Kind, kind_of}
-use Rattle.fl_script.specs.laws.JobKinds.Kind.{proc, tag, group, put, make_login, relabel, ask, spawn, exit, drop, enter, emit, opens, tune, close, send, take, member, arrive}
+use Rattle.fl_script.specs.laws.JobKinds.Kind.{proc, tag, group, put, make_login, open_group, relabel, ask, spawn, exit, drop, enter, emit, opens, tune, close, send, take, member, arrive}
 
 -- the word `as` is not of this form
 abbrev pub Lacks : (Word → Type 0) → Type 0
@@ -139,6 +139,7 @@ of_job (tag p x) = (verb (codes "tag") refl, (pid p, (policy x, tt)))
 of_job (group p) = (verb (codes "group") refl, (pid p, tt))
 of_job (put p into c) = (verb (codes "put") refl, (pid p, (name into, (cap c, tt))))
 of_job (make_login p c x) = (verb (codes "make-login") refl, (pid p, (cap c, (secret x, tt))))
+of_job (open_group p opened) = (verb (codes "open-group") refl, (pid p, (name opened, tt)))
 of_job (relabel p x l) = (verb (codes "label") refl, (pid p, (side x, (label l, tt))))
 of_job (ask p c) = (verb (codes "ask") refl, (pid p, (cap c, tt)))
 of_job (spawn p set) = (verb (codes "spawn") refl, (pid p, (caps set, tt)))

@@ -15,7 +15,7 @@ use Rattle.fl_script.specs.declared.request.Request.{Request}
 use Rattle.fl_script.specs.declared.request.Request.TheVariants.{Job as OfJob, Begin, Deliver, BeginDeliver, Tell, Save, Publish, Cancel, Restart, Text, Check}
 use Rattle.fl_script.specs.laws.Agreement.{Agree, agree, turned}
 use Rattle.fl_script.specs.laws.JobKinds.{Kind, kind_of}
-use Rattle.fl_script.specs.laws.JobKinds.Kind.{proc, tag, group, put, make_login, relabel, ask, spawn, exit, drop, enter, emit, opens, tune, close, send, take, member, arrive}
+use Rattle.fl_script.specs.laws.JobKinds.Kind.{proc, tag, group, put, make_login, open_group, relabel, ask, spawn, exit, drop, enter, emit, opens, tune, close, send, take, member, arrive}
 use Rattle.fl_script.specs.laws.OneWord.{same_node, same_name, same_pid, same_cap, same_policy, same_side, same_label, same_caps, same_secret, same_bytes, same_endpoint, same_mode, same_packet, same_message, same_given, no_node}
 
 -- one job of each kind, and none of two kinds, for their verbs differ
@@ -25,6 +25,7 @@ one_of (tag p x) (tag q y) g = let e = same_pid p q g.1.0 in let f = same_policy
 one_of (group p) (group q) g = let e = same_pid p q g.1.0 in cc
 one_of (put p x c) (put q y d) g = let e = same_pid p q g.1.0 in let f = same_name x y g.1.1.0 in let h = same_cap c d g.1.1.1.0 in cc
 one_of (make_login p c x) (make_login q d y) g = let e = same_pid p q g.1.0 in let f = same_cap c d g.1.1.0 in let h = same_secret x y g.1.1.1.0 in cc
+one_of (open_group p x) (open_group q y) g = let e = same_pid p q g.1.0 in let f = same_name x y g.1.1.0 in cc
 one_of (relabel p x l) (relabel q y m) g = let e = same_pid p q g.1.0 in let f = same_side x y g.1.1.0 in let h = same_label l m g.1.1.1.0 in cc
 one_of (ask p c) (ask q d) g = let e = same_pid p q g.1.0 in let f = same_cap c d g.1.1.0 in cc
 one_of (spawn p c) (spawn q d) g = let e = same_pid p q g.1.0 in let f = same_caps c d g.1.1.0 in cc
@@ -49,7 +50,7 @@ one_of k l g = absurd (search (rules, g.0.left, g.0.right))
 -- the word is the verb of a job
 abbrev pub is_job_verb : Word → Bool
 is_job_verb word = list_any (λ text. pointwise nat_eq text word)
-    (codes "proc" ∷ codes "tag" ∷ codes "group" ∷ codes "put" ∷ codes "make-login" ∷ codes "label" ∷ codes "ask" ∷ codes "spawn" ∷ codes "exit"
+    (codes "proc" ∷ codes "tag" ∷ codes "group" ∷ codes "put" ∷ codes "make-login" ∷ codes "open-group" ∷ codes "label" ∷ codes "ask" ∷ codes "spawn" ∷ codes "exit"
     ∷ codes "drop" ∷ codes "enter" ∷ codes "emit" ∷ codes "open" ∷ codes "tune" ∷ codes "close" ∷ codes "send" ∷ codes "take" ∷ codes "member" ∷ [])
 
 -- what is not spells none
