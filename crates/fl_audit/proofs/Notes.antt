@@ -21,7 +21,7 @@ use Rattle.fl_jobs.specs.declared.job.Job.TheVariants.{By}
 use Rattle.fl_jobs.specs.declared.job.Mail as mails
 use Rattle.fl_jobs.specs.declared.job.Mail.TheVariants.{Open, Tune, Close, Send, Take}
 use Rattle.fl_jobs.specs.declared.job.Order as orders
-use Rattle.fl_jobs.specs.declared.job.Order.TheVariants.{Tag, Group, Put, MakeLogin}
+use Rattle.fl_jobs.specs.declared.job.Order.TheVariants.{Tag, Group, Put, MakeLogin, OpenGroup}
 use Rattle.fl_jobs.specs.declared.answer.Reply.TheVariants as replies
 use Rattle.fl_bench.specs.declared.process.Process.{Process}
 use Rattle.fl_system.specs.Audit.{party, order_entries, endpoint_entries, tuned_entries}
@@ -61,6 +61,7 @@ order_some p (Tag policy) h = absurd (false≢true h)
 order_some p Group h = absurd (false≢true h)
 order_some p (Put group c) h = always _
 order_some p (MakeLogin c secret) h = always _
+order_some p (OpenGroup group) h = always _
 
 endpoint_some : (p : Party) (mode : Mode) (labels : Option Labels) → is_some labels ≡ true
     → SomeNoted (λ a. endpoint_entries p mode labels)

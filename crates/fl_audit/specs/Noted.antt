@@ -18,7 +18,7 @@ use Rattle.fl_jobs.specs.declared.job.Job.TheVariants.{Proc, By, Member, Arrive}
 use Rattle.fl_jobs.specs.declared.job.Mail as mails
 use Rattle.fl_jobs.specs.declared.job.Mail.TheVariants.{Open, Tune, Close, Send, Take}
 use Rattle.fl_jobs.specs.declared.job.Order as orders
-use Rattle.fl_jobs.specs.declared.job.Order.TheVariants.{Tag, Group, Put, MakeLogin}
+use Rattle.fl_jobs.specs.declared.job.Order.TheVariants.{Tag, Group, Put, MakeLogin, OpenGroup}
 use Rattle.fl_bench.specs.Process.{owned_by}
 use Rattle.fl_bench.specs.declared.process.Process.{Process}
 
@@ -27,6 +27,7 @@ order_noted (Tag policy) = false
 order_noted Group = false
 order_noted (Put group c) = true
 order_noted (MakeLogin c secret) = true
+order_noted (OpenGroup group) = true
 
 abbrev pub tuned_noted : Option OpenEndpoint → GivenLabels → Bool
 tuned_noted None given = false

@@ -148,6 +148,10 @@ fn draft_order(
             let caps = set_of(alloc, &[cap])?;
             draft_grant(alloc, pid, process, owned, caps)
         }
+        Order::OpenGroup(group) => {
+            let caps = set_of(alloc, &[Cap::Use(group), Cap::Grow(group)])?;
+            draft_grant(alloc, pid, process, owned, caps)
+        }
     }
 }
 

@@ -24,7 +24,7 @@ use Rattle.fl_mailbox.specs.declared.endpoints.OpenEndpoint.{OpenEndpoint}
 use Rattle.fl_jobs.specs.Given.{labels_of}
 use Rattle.fl_jobs.specs.declared.job.GivenLabels.{GivenLabels}
 use Rattle.fl_jobs.specs.declared.job.Side.{Side}
-use Rattle.fl_jobs.specs.declared.job.Order.TheVariants.{Put, MakeLogin}
+use Rattle.fl_jobs.specs.declared.job.Order.TheVariants.{Put, MakeLogin, OpenGroup}
 use Rattle.fl_jobs.specs.declared.job.Act.{Act}
 use Rattle.fl_jobs.specs.declared.job.Act.TheVariants.{Order, Relabel, Ask, Spawn, Enter, Emit, Mail}
 use Rattle.fl_jobs.specs.declared.job.Mail.TheVariants.{Open, Tune, Send}
@@ -34,7 +34,7 @@ use Rattle.fl_jobs.specs.declared.answer.Refusal.TheVariants.{NoEndpoint, NotWri
 use Rattle.fl_jobs.specs.declared.answer.Reply.TheVariants.{Yes, Entered}
 use Rattle.fl_jobs.specs.declared.answer.Outcome.{Outcome}
 use Rattle.fl_bench.specs.Bench.{BenchState}
-use Rattle.fl_bench.specs.Process.{effective, side_of, PutTakes}
+use Rattle.fl_bench.specs.Process.{effective, side_of, PutTakes, OpenTakes}
 use Rattle.fl_bench.specs.Secrets.{digest_of}
 use Rattle.fl_bench.specs.Checks.{refuse_if, with, ◌then◌}
 use Rattle.fl_bench.specs.Guards.{grant_check}
@@ -108,6 +108,10 @@ module _ {V U : Op → Type 0} (more : Within V U) (p : Process) where
     pub login_admitted : (c : Cap) (secret : Secret) → Does V b (By pid (Order (MakeLogin c secret))) (Ok x) after
         → effective U p c
     login_admitted c secret d = seen c ((done p lives d).checked c refl)
+
+    pub opening_admitted : (group : Name) → Does V b (By pid (Order (OpenGroup group))) (Ok x) after
+        → Within (OpenTakes group) (effective U p)
+    opening_admitted group d = within_more seen (done p lives d).checked
 
     pub message_admitted : (from to : Endpoint) (receiver : Pid) (message : Message)
         → Does V b (By pid (Mail (Send from receiver to message))) (Ok x) after

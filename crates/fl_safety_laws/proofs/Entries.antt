@@ -12,7 +12,7 @@ use Rattle.fl_labels.specs.Found.{Within}
 use Rattle.fl_labels.specs.SetBy as set
 use Rattle.fl_labels.specs.SetBy.{SetBy, In}
 use Rattle.fl_labels.specs.declared.cap.Cap.{Cap}
-use Rattle.fl_labels.specs.declared.cap.Cap.TheVariants.{Grow}
+use Rattle.fl_labels.specs.declared.cap.Cap.TheVariants.{Use, Grow}
 use Rattle.fl_labels.specs.declared.endpoint.Endpoint.{Endpoint}
 use Rattle.fl_labels.specs.declared.name.Name.{Name}
 use Rattle.fl_labels.specs.declared.pid.Pid.{Pid}
@@ -31,7 +31,7 @@ use Rattle.fl_jobs.specs.declared.job.Job.TheVariants.{Proc, By, Member, Arrive}
 use Rattle.fl_jobs.specs.declared.job.Mail.TheVariants.{Open, Tune, Close, Send, Take}
 use Rattle.fl_jobs.specs.declared.job.GivenLabels.{GivenLabels}
 use Rattle.fl_jobs.specs.declared.job.Order as orders
-use Rattle.fl_jobs.specs.declared.job.Order.TheVariants.{Tag, Group, Put, MakeLogin}
+use Rattle.fl_jobs.specs.declared.job.Order.TheVariants.{Tag, Group, Put, MakeLogin, OpenGroup}
 use Rattle.fl_jobs.specs.declared.secret.Secret.{Secret}
 use Rattle.fl_jobs.specs.declared.answer.Outcome.{Outcome}
 use Rattle.fl_jobs.specs.declared.answer.Reply as jobs
@@ -39,7 +39,7 @@ use Rattle.fl_jobs.specs.declared.answer.Reply.TheVariants as replies
 use Rattle.fl_bench.specs.Bench.{BenchState}
 use Rattle.fl_bench.specs.Guards.{sent_from}
 use Rattle.fl_bench.specs.Jobs.{Does}
-use Rattle.fl_bench.specs.Process.{effective, PutTakes}
+use Rattle.fl_bench.specs.Process.{effective, OneOf}
 use Rattle.fl_bench.specs.Secrets.{digest_of}
 use Rattle.fl_bench.specs.declared.process.Process.{Process}
 use Rattle.fl_bench.specs.laws.Orders.{sending_at}
@@ -57,7 +57,8 @@ use Rattle.fl_system.specs.declared.admission.Party.{Party}
 use Rattle.fl_system.specs.declared.answer.Answer.{Answer}
 use Rattle.fl_system.specs.declared.answer.Answer.TheVariants as answers
 use Rattle.fl_safety_laws.proofs.Admitted.{change_admitted, open_admitted, tune_admitted, emission_admitted}
-use Rattle.fl_safety_laws.proofs.Admitted.{birth_admitted, put_admitted, login_admitted, message_admitted}
+use Rattle.fl_safety_laws.proofs.Admitted.{birth_admitted, put_admitted, login_admitted}
+use Rattle.fl_safety_laws.proofs.Admitted.{opening_admitted, message_admitted}
 use Rattle.fl_safety_laws.proofs.Admitted.{entry_admitted, yes_admitted, reached_admitted}
 use Rattle.fl_safety_laws.proofs.Nodes.{NodeGuarded, seen_saved}
 
@@ -79,12 +80,8 @@ none_there x h = absurd (false≢true (sym (set.contains-empty cap_cmp x) ∙ h)
 one_cap : (c x : Cap) → In (set.insert (set.empty {R = cap_cmp}) c) x → x ≡ c
 one_cap c x h = elim (inserted set.empty c x h) [ inl e ↦ e | inr m ↦ none_there x m ]
 
-put_caps : (group : Name) (c x : Cap) → In (set.insert (set.insert (set.empty {R = cap_cmp}) c) (Grow group)) x
-    → PutTakes group c x
-put_caps group c x h = elim (inserted (set.insert set.empty c) (Grow group) x h) [
-  | inl e ↦ inl e
-  | inr m ↦ inr (one_cap c x m)
-]
+two_caps : (a b x : Cap) → In (set.insert (set.insert (set.empty {R = cap_cmp}) b) a) x → OneOf a b x
+two_caps a b x h = elim (inserted (set.insert set.empty b) a x h) [ inl e ↦ inl e | inr m ↦ inr (one_cap b x m) ]
 
 -- ---- lists of entries
 
@@ -120,9 +117,11 @@ module _ {V U : Op → Type 0} (more : Within V U) {b after : BenchState} {x : O
         → EntriesSafe U (order_entries (party pid p) order)
     order_safe (Tag policy) d = no_entry U
     order_safe Group d = no_entry U
-    order_safe (Put group c) d = one_entry U _ (λ y m. put_admitted more p lives group c d y (put_caps group c y m))
+    order_safe (Put group c) d = one_entry U _ (λ y m. put_admitted more p lives group c d y (two_caps (Grow group) c y m))
     order_safe (MakeLogin c secret) d =
         one_entry U _ (λ y m. subst (effective U p) (sym (one_cap c y m)) (login_admitted more p lives c secret d))
+    order_safe (OpenGroup group) d =
+        one_entry U _ (λ y m. opening_admitted more p lives group d y (two_caps (Use group) (Grow group) y m))
 
     opened_safe : (mode : Mode) (given : GivenLabels) → Does V b (By pid (Mail (Open mode given))) (Ok x) after
         → EntriesSafe U (endpoint_entries (party pid p) mode (labels_of given))

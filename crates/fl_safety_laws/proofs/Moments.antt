@@ -25,7 +25,7 @@ use Rattle.fl_jobs.specs.declared.job.Job.{Job}
 use Rattle.fl_jobs.specs.declared.job.Job.TheVariants.{Proc, By, Member, Arrive}
 use Rattle.fl_jobs.specs.declared.job.Mail.TheVariants.{Open, Tune, Close, Send, Take}
 use Rattle.fl_jobs.specs.declared.job.Order as orders
-use Rattle.fl_jobs.specs.declared.job.Order.TheVariants.{Tag, Group, Put, MakeLogin}
+use Rattle.fl_jobs.specs.declared.job.Order.TheVariants.{Tag, Group, Put, MakeLogin, OpenGroup}
 use Rattle.fl_jobs.specs.declared.secret.Secret.{Secret}
 use Rattle.fl_jobs.specs.declared.answer.Outcome.{Outcome}
 use Rattle.fl_jobs.specs.declared.answer.Reply.TheVariants as replies
@@ -88,6 +88,7 @@ module _ (w : World) (number : ℕ) (s : KeptNode) (at : IsAt w number s) where
     order_now Group = none Now
     order_now (Put group c) = one Now _ stands
     order_now (MakeLogin c secret) = one Now _ stands
+    order_now (OpenGroup group) = one Now _ stands
 
     endpoint_now : (mode : Mode) (o : Option Labels) → EachEntry Now (endpoint_entries (party pid p) mode o)
     endpoint_now mode None = none Now

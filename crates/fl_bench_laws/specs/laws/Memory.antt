@@ -20,7 +20,7 @@ use Rattle.fl_jobs.specs.declared.job.Job.TheVariants.{Proc, By, Member, Arrive}
 use Rattle.fl_jobs.specs.declared.job.Mail as mailbox
 use Rattle.fl_jobs.specs.declared.job.Mail.TheVariants.{Open, Tune, Close, Send, Take}
 use Rattle.fl_jobs.specs.declared.job.Order as orders
-use Rattle.fl_jobs.specs.declared.job.Order.TheVariants.{Tag, Group, Put, MakeLogin}
+use Rattle.fl_jobs.specs.declared.job.Order.TheVariants.{Tag, Group, Put, MakeLogin, OpenGroup}
 use Rattle.fl_jobs.specs.declared.secret.Secret.{Secret}
 use Rattle.fl_jobs.specs.declared.answer.Refusal.{Refusal}
 use Rattle.fl_jobs.specs.declared.answer.Refusal.TheVariants.{NoProcess, Busy, NamesSpent}
@@ -99,6 +99,7 @@ never_order E (Tag policy) = never_said
 never_order E Group = never_said
 never_order E (Put group c) = never_cap _ E
 never_order E (MakeLogin c secret) = never_cap _ E
+never_order E (OpenGroup group) = never_cap _ E
 
 never_enter : (V : Op → Type 0) (login : Name) (secret : Secret)
     → NeverWants (enter_check V login secret)

@@ -18,7 +18,7 @@ use Rattle.fl_rules.specs.declared.labels.Labels.{Labels}
 use Rattle.fl_mailbox.specs.Endpoints.{Table}
 use Rattle.fl_jobs.specs.declared.secret.Secret.{Secret}
 use Rattle.fl_jobs.specs.declared.job.Order as orders
-use Rattle.fl_jobs.specs.declared.job.Order.TheVariants.{Tag, Group, Put, MakeLogin}
+use Rattle.fl_jobs.specs.declared.job.Order.TheVariants.{Tag, Group, Put, MakeLogin, OpenGroup}
 use Rattle.fl_jobs.specs.declared.job.Act.{Act}
 use Rattle.fl_jobs.specs.declared.job.Act.TheVariants.{Order, Relabel, Ask, Spawn, Exit, Drop, Enter, Emit, Mail}
 use Rattle.fl_jobs.specs.declared.job.Job.{Job}
@@ -48,6 +48,7 @@ one_order_check E (Tag policy) = one_said
 one_order_check E Group = one_said
 one_order_check E (Put group c) = one_demand cap_total cap_exact _ _ MissingCap
 one_order_check E (MakeLogin c secret) = one_demand cap_total cap_exact _ _ MissingCap
+one_order_check E (OpenGroup group) = one_demand cap_total cap_exact _ _ MissingCap
 
 -- an entry, since a name has one first login
 module _ (V : Op → Type 0) (login : Name) (secret : Secret) where

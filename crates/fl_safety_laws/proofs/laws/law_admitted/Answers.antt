@@ -2,7 +2,8 @@ use Rattle.fl_ops.specs.laws.Reaching.{eff_more}
 use Rattle.fl_rules.specs.laws.Endpoints.{endpoint_more}
 use Rattle.fl_bench_laws.specs.laws.Arrivals.{arrival_safe}
 use Rattle.fl_safety_laws.proofs.Admitted.{change_admitted, open_admitted, tune_admitted, emission_admitted}
-use Rattle.fl_safety_laws.proofs.Admitted.{birth_admitted, put_admitted, login_admitted, message_admitted}
+use Rattle.fl_safety_laws.proofs.Admitted.{birth_admitted, put_admitted, login_admitted}
+use Rattle.fl_safety_laws.proofs.Admitted.{opening_admitted, message_admitted}
 use Rattle.fl_safety_laws.proofs.Admitted.{entry_admitted, yes_admitted, reached_admitted}
 use Rattle.fl_safety_laws.proofs.laws.law_admitted.Goals as goal
 
@@ -28,6 +29,9 @@ returns-clause-put c = λ view ops b after pid p x group cap more lives d. put_a
 
 pub returns-clause-login : goal.returns-clause-login
 returns-clause-login c = λ view ops b after pid p x cap secret more lives d. login_admitted more p lives cap secret d
+
+pub returns-clause-opening : goal.returns-clause-opening
+returns-clause-opening c = λ view ops b after pid p x group more lives d. opening_admitted more p lives group d
 
 pub returns-clause-sent : goal.returns-clause-sent
 returns-clause-sent c = λ view ops b after pid p x from to receiver message more lives d.
