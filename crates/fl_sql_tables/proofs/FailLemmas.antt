@@ -36,7 +36,8 @@ use Rattle.sqlite.specs.Does.{Does}
 use Rattle.std.specs.Prelude.{◌&&◌, is_some, IsErrAnd}
 use Rattle.sqlite.specs.Effect.{is_query}
 use Rattle.sqlite.specs.State.{mode_of, is_pragma, QueriesRow, ExecutesIn, ExecutesInside, EndsScope, Escapes, IsMisplaced, shows_rows, RunsCommand, text_of}
-use Rattle.fl_sql_tables.specs.Stored.{self_row, AddsOps, PutsIn, IsOurs, ops_in, shown_op}
+use Rattle.fl_ops.specs.declared.format.Format.{Format}
+use Rattle.fl_sql_tables.specs.Stored.{HasSelf, AddsOps, PutsIn, IsOurs, ops_in, shown_op}
 use Rattle.std.proofs.Common.{take, drop, drop-cons, get_or, suc, ◌++◌, map}
 use Rattle.std.specs.List.Sorted.{IsPermutation}
 use Rattle.std.proofs.lemmas.List.Sorted.{IsPermutation-refl}
@@ -168,18 +169,18 @@ fault_within a b c d e first last limit (inr (inr h)) = inr (inr (h.0, subst IsS
 
 -- ---- the row of the node itself
 
-pub row_fault : (old new : State) (number boot : ℕ) → old.now.schema ≡ keeper_schema → IsTrue old.is_open → old.now.trees 0 ≡ self_row number boot ∷ []
+pub row_fault : (old new : State) (number boot : ℕ) → old.now.schema ≡ keeper_schema → IsTrue old.is_open → HasSelf number boot (old.now.trees 0)
     → (e : Error) → QueriesRow select_self_text [] old new (Err e) → IsFault old new e
 unfolding QueriesRow
 row_fault old new number boot has is_open one e (inl h) = query_fault select_self_text old new has is_open plain_5 whole_self unlisted_5 read_self e h
-row_fault old new number boot has is_open one e (inr h) = absurd (let wrong = selects_self old new number boot [] has one h.1 in cc)
+row_fault old new number boot has is_open one e (inr h) = absurd (let wrong = selects_self old new one.0 number boot [] has one.1 h.1 in cc)
 
 -- a boot in its range is read, if there is memory
-pub get_fault : (old new : State) (r : Result ℕ Error) (row : Row) (number boot : ℕ) → boot < 4294967296 → row ≡ shown_self number boot
+pub get_fault : (old new : State) (r : Result ℕ Error) (row : Row) (f : Format) (number boot : ℕ) → boot < 4294967296 → row ≡ shown_self f number boot
     → IfErr r (λ e. e ≢ SqliteFailure code.OutOfMemory → 1 < length row → ¬ ((n : ℕ) × (column row 1 ≡ Int (pos n)) × (n < 4294967296)))
     → IfErr r (IsReadError 1 (column row 1)) → IfErr r (IsFault old new)
-get_fault old new (Ok x) row number boot low is kind named = tt
-get_fault old new (Err e) row number boot low is kind named =
+get_fault old new (Ok x) row f number boot low is kind named = tt
+get_fault old new (Err e) row f number boot low is kind named =
     let other = λ (differs : e ≢ SqliteFailure code.OutOfMemory). kind differs (rw is (omega arith)) (boot, ap (λ r. column r 1) is, low) in
     elim named [
       | inl it ↦ absurd (other (λ h. let wrong : InvalidColumnIndex 1 ≡ SqliteFailure code.OutOfMemory = sym it ∙ h in cc))

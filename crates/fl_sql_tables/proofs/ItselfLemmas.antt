@@ -1,8 +1,11 @@
 -- The one row of the node itself.
-use Rattle.std.proofs.Common.{if◌then◌else◌, ◌==◌, ◌<◌, ◌≢◌, ◌≡◌, ℕ, pos, List, [], ◌∷◌, map, Bool, true, false, ◌+◌, ◌≤◌, length, Option, Some, None, refl, sym, ap, subst, ◌∙◌, arith}
+use Rattle.fl_ops.specs.declared.format.Format.{Format}
+use Rattle.fl_ops.specs.declared.format.Format.TheVariants.{One, Two}
+use Rattle.fl_ops.specs.Format.{format_byte}
+use Rattle.std.proofs.Common.{inl, inr, if◌then◌else◌, ◌==◌, ◌<◌, ◌≢◌, ◌≡◌, ℕ, pos, List, [], ◌∷◌, map, Bool, true, false, ◌+◌, ◌≤◌, length, Option, Some, None, refl, sym, ap, subst, ◌∙◌, arith}
 use Rattle.std.specs.List.Sorted.{IsPermutation}
 use Rattle.std.proofs.lemmas.List.Sorted.{length_permutation}
-use Rattle.std.proofs.lemmas.Bool.{and_parts, eqb-true, eq-eqb, lt-ltb, ltb-true}
+use Rattle.std.proofs.lemmas.Bool.{and_parts, or_cases, eqb-true, eq-eqb, lt-ltb, ltb-true}
 use Rattle.sqlite.specs.declared.types.Value.{Value}
 use Rattle.sqlite.specs.declared.types.Value.TheVariants.{Null, Int, Real, Text, Blob}
 use Rattle.sqlite.specs.Order.{Row, column}
@@ -17,7 +20,7 @@ use Rattle.sqlite.proofs.Callers.{one_permutation}
 use Rattle.std.specs.List.{AllByRecursion}
 use Rattle.fl_sql_tables.specs.Tables.{keeper_schema, self_table, select_whole_text}
 use Rattle.fl_sql_tables.specs.Stored.{self_row}
-use Rattle.fl_sql_tables.specs.Founding.{shown_whole, itself_of, is_number, is_boot, IsOwn, IsOthers, IsItself}
+use Rattle.fl_sql_tables.specs.Founding.{shown_whole, itself_of, is_number, is_format, is_boot, IsOwn, IsOthers, IsItself}
 use Rattle.fl_sql_tables.specs.declared.itself.Itself.{Itself}
 use Rattle.fl_sql_tables.specs.declared.itself.Itself.TheVariants.{Bad, Other, Own}
 use Rattle.fl_sql_tables.specs.Spelling.{whole_in}
@@ -37,16 +40,20 @@ no_longer key at [] (v ∷ vs) h = absurd cc
 no_longer key at (c ∷ cs) [] h = omega arith
 no_longer key at (c ∷ cs) (v ∷ vs) h = let more = no_longer key (at + 1) cs vs (and_parts _ _ h).1 in omega arith
 
-row_is : (node boot : ℕ) (r : Row) → passes Datatype keeper_schema (λ _. []) self_table r ≡ true → shown_whole r ≡ Int (pos 1) ∷ Int (pos node) ∷ Int (pos boot) ∷ Int (pos 1) ∷ [] → r ≡ self_row node boot
-row_is node boot [] typed is = absurd cc
-row_is node boot (x ∷ []) typed is = absurd cc
-row_is node boot (x ∷ a ∷ []) typed is = absurd cc
-row_is node boot (x ∷ a ∷ b ∷ []) typed is = absurd cc
-row_is node boot (x ∷ a ∷ b ∷ c ∷ []) typed is = absurd cc
-row_is node boot (x ∷ a ∷ b ∷ c ∷ d ∷ []) typed is =
+-- what is shown of the row of a format
+abbrev shown_self : Format → ℕ → ℕ → Row
+shown_self f node boot = Int (pos 1) ∷ Int (pos node) ∷ Int (pos boot) ∷ Int (pos (format_byte f)) ∷ []
+
+row_is : (f : Format) (node boot : ℕ) (r : Row) → passes Datatype keeper_schema (λ _. []) self_table r ≡ true → shown_whole r ≡ shown_self f node boot → r ≡ self_row f node boot
+row_is f node boot [] typed is = absurd cc
+row_is f node boot (x ∷ []) typed is = absurd cc
+row_is f node boot (x ∷ a ∷ []) typed is = absurd cc
+row_is f node boot (x ∷ a ∷ b ∷ []) typed is = absurd cc
+row_is f node boot (x ∷ a ∷ b ∷ c ∷ []) typed is = absurd cc
+row_is f node boot (x ∷ a ∷ b ∷ c ∷ d ∷ []) typed is =
     let null : a ≡ Null = null_is a (and_parts _ _ (and_parts _ _ typed).0).0 in
     cc
-row_is node boot (x ∷ a ∷ b ∷ c ∷ d ∷ e ∷ more) typed is =
+row_is f node boot (x ∷ a ∷ b ∷ c ∷ d ∷ e ∷ more) typed is =
     let columns : are_typed (Some 0) 0 self_table.columns (a ∷ b ∷ c ∷ d ∷ e ∷ more) ≡ true =
     (and_parts (are_typed (Some 0) 0 self_table.columns (a ∷ b ∷ c ∷ d ∷ e ∷ more)) true typed).0 in
     let short : length (a ∷ b ∷ c ∷ d ∷ e ∷ more) ≤ 4 = no_longer (Some 0) 0 self_table.columns (a ∷ b ∷ c ∷ d ∷ e ∷ more) columns in
@@ -68,7 +75,14 @@ boot_is : (v : Value) (x : Option ℕ) → whole_in v ≡ x → is_boot x ≡ tr
 boot_is v None p h = absurd (cc)
 boot_is v (Some n) p h = (n, ltb-true n 4294967296 h, whole_is v n p)
 
-shows_own : (number : ℕ) (r : Row) → itself_of number (shown_whole r ∷ []) ≡ Own → (boot : ℕ) × (boot < 4294967296) × (shown_whole r ≡ Int (pos 1) ∷ Int (pos number) ∷ Int (pos boot) ∷ Int (pos 1) ∷ [])
+format_is : (v : Value) → is_format (whole_in v) ≡ true → (f : Format) × (v ≡ Int (pos (format_byte f)))
+format_is v h = elim (or_cases _ _ h) [
+  | inl one ↦ (One, number_is 1 v _ refl one)
+  | inr two ↦ (Two, number_is 2 v _ refl two)
+]
+
+shows_own : (number : ℕ) (r : Row) → itself_of number (shown_whole r ∷ []) ≡ Own
+    → (f : Format) × (boot : ℕ) × (boot < 4294967296) × (shown_whole r ≡ shown_self f number boot)
 shows_own number r h =
     let tests = if_own number (column r 2) _ h in
     let parts = and_parts _ _ tests.1 in
@@ -76,14 +90,15 @@ shows_own number r h =
     let node = number_is number (column r 2) _ refl tests.0 in
     let boot = boot_is (column r 3) _ refl parts.0 in
     let id = number_is 1 (column r 0) _ refl more.0 in
-    let format = number_is 1 (column r 4) _ refl more.1 in
-    (boot.0, boot.1, λ i. id i ∷ node i ∷ boot.2 i ∷ format i ∷ [])
+    let format = format_is (column r 4) more.1 in
+    (format.0, boot.0, boot.1, λ i. id i ∷ node i ∷ boot.2 i ∷ format.1 i ∷ [])
 
 own_number : (number : ℕ) → (number == number) ≡ true
 own_number number = eq-eqb number number refl
 
-row_says : (number boot : ℕ) → boot < 4294967296 → itself_of number (shown_whole (self_row number boot) ∷ []) ≡ Own
-row_says number boot low = rw (own_number number, lt-ltb boot 4294967296 low) refl
+row_says : (f : Format) (number boot : ℕ) → boot < 4294967296 → itself_of number (shown_whole (self_row f number boot) ∷ []) ≡ Own
+row_says One number boot low = rw (own_number number, lt-ltb boot 4294967296 low) refl
+row_says Two number boot low = rw (own_number number, lt-ltb boot 4294967296 low) refl
 
 other_is : (number : ℕ) (rows : List Row) → itself_of number (map shown_whole rows) ≡ Other → (row : Row) × (rows ≡ row ∷ []) × (column row 2 ≢ Int (pos number))
 other_is number [] h = absurd (cc)
@@ -99,7 +114,7 @@ own_is : (number : ℕ) (db : Trees) (rows : List Row) → AllByRecursion (λ ro
 own_is number db [] typed h = absurd (cc)
 own_is number db (r ∷ []) typed h =
     let shown = shows_own number r h in
-    (shown.0, shown.1, ap (λ r. r ∷ []) (row_is number shown.0 r typed.0 shown.2))
+    (shown.1, shown.2, (shown.0, ap (λ r. r ∷ []) (row_is shown.0 number shown.1 r typed.0 shown.3)))
 own_is number db (r ∷ s ∷ more) typed h = absurd (cc)
 
 if_bad : (a b : Bool) → (if a then (if b then Own else Bad) else Other) ≡ Bad → a ≡ true
@@ -108,7 +123,8 @@ if_bad false b h = absurd (cc)
 
 not_own : (number : ℕ) (rows : List Row) → itself_of number (map shown_whole rows) ≡ Bad → ¬ IsOwn number rows
 not_own number rows bad own =
-    absurd (let wrong : Bad ≡ Own = sym bad ∙ ap (λ l. itself_of number (map shown_whole l)) own.2 ∙ row_says number own.0 own.1 in cc)
+    let (f, is) = own.2 in
+    absurd (let wrong : Bad ≡ Own = sym bad ∙ ap (λ l. itself_of number (map shown_whole l)) is ∙ row_says f number own.0 own.1 in cc)
 
 not_others : (number : ℕ) (rows : List Row) → itself_of number (map shown_whole rows) ≡ Bad → ¬ IsOthers number rows
 not_others number rows bad other =

@@ -8,6 +8,7 @@ use Rattle.sqlite.specs.Order.{Row}
 use Rattle.sqlite_value.specs.Order.{value_cmp}
 use Rattle.sqlite.specs.Tree.{put_row, rowid}
 use Rattle.sqlite.specs.Edit.{is_taken}
+use Rattle.fl_ops.specs.declared.format.Format.TheVariants.{Two}
 use Rattle.fl_ops.specs.declared.op.Op.{Op}
 use Rattle.fl_labels.specs.SetBy.{insert, of_list, contains, contains-of_list, contains-insert, same_set}
 use Rattle.fl_ops.specs.OpOrder.{op_cmp}
@@ -90,22 +91,25 @@ adds_one op old new it = record {
 
 pub puts_one : (old new : State) (op : Op) (count : ℕ) → IsOurs old → ExecutesInside 0 insert_op_text (row_of op) old new (Ok count) → PutsIn (op ∷ []) old new
 puts_one old new op count ours h =
-    record { added = adds_one op old.now new.now (inserts_op old new op.name.node op.name.seq (op_bytes op) count (ours h.1.was_open) h.0); shown = h.1 }
+    record { added = adds_one op old.now new.now (inserts_op old new op.name.node op.name.seq (op_bytes Two op) count (ours h.1.was_open) h.0); shown = h.1 }
 
 pub any_mapped : {X Y : Type 0} (p : Y → Bool) (f : X → Y) (xs : List X) → list_any p (map f xs) ≡ list_any (λ x. p (f x)) xs
 any_mapped p f [] = refl
 any_mapped p f (x ∷ xs) = ap (λ b. p (f x) || b) (any_mapped p f xs)
 
-pub any_row_of : (q : Op) (ops : List Op) → list_any (λ op. spells q (op_of (row_of op))) ops ≡ list_any (eq_by_cmp op_cmp q) ops
-any_row_of q [] = refl
-any_row_of q (op ∷ ops) = (λ i. spells q (op_of-row_of op i) || any_row_of q ops i)
+-- the rows spell these operations, each its own
+abbrev pub AreRows : List Row → List Op → Type 0
+AreRows rows ops = map op_of rows ≡ map Some ops
+
+-- so what is told of the operations is told of the rows
+pub any_read : (p : Option Op → Bool) (rows : List Row) (ops : List Op) → AreRows rows ops → list_any (λ r. p (op_of r)) rows ≡ list_any (λ op. p (Some op)) ops
+any_read p rows ops h = sym (any_mapped p op_of rows) ∙ ap (list_any p) h ∙ any_mapped p Some ops
 
 -- the rows that are shown for operations are those of the table, in some order
-pub loaded : (rows : List Row) (ops : List Op) → IsPermutation (map shown_op rows) (map row_of ops) → of_list {R = op_cmp} ops ≡ ops_in rows
-loaded rows ops h = same_set op_total op_exact _ _ (λ q.
+pub loaded : (table rows : List Row) (ops : List Op) → AreRows rows ops → IsPermutation (map shown_op table) rows → of_list {R = op_cmp} ops ≡ ops_in table
+loaded table rows ops are h = same_set op_total op_exact _ _ (λ q.
     contains-of_list op_total ops q
-    ∙ sym (any_row_of q ops)
-    ∙ sym (any_mapped (λ r. spells q (op_of r)) row_of ops)
+    ∙ sym (any_read (spells q) rows ops are)
     ∙ sym (list_any-IsPermutation (λ r. spells q (op_of r)) _ _ h)
-    ∙ any_mapped (λ r. spells q (op_of r)) shown_op rows
-    ∙ sym (contains_op rows q))
+    ∙ any_mapped (λ r. spells q (op_of r)) shown_op table
+    ∙ sym (contains_op table q))

@@ -18,6 +18,7 @@ use Rattle.sqlite.specs.Listing.{understood}
 use Rattle.sqlite.specs.State.{State, mode_of, Executes}
 use Rattle.sqlite.proofs.Callers.{statement_of, runs_as, one_step}
 use Rattle.fl_sql_tables.specs.Tables.{keeper_schema, self_table, insert_self_text}
+use Rattle.fl_ops.specs.declared.format.Format.TheVariants.{Two}
 use Rattle.fl_sql_tables.specs.Stored.{self_row}
 use Rattle.fl_sql_tables.proofs.Texts.{insert_self_is, plain_2, self_terms}
 use Rattle.fl_sql_tables.proofs.Inserts.{went, same_value, cast_int, cast_null}
@@ -26,11 +27,11 @@ abbrev self_edit : Trees → List Row → Edit
 self_edit db given = edit_of db self_table [] Chosen 0 given
 
 after_insert : (keys : Keys) (old new : Database) (next : Trees) (given : List Row) (node : ℕ)
-    → given ≡ (Int (pos 1) ∷ Null ∷ Int (pos node) ∷ Int (pos 0) ∷ Int (pos 1) ∷ []) ∷ [] → old.trees 0 ≡ []
+    → given ≡ (Int (pos 1) ∷ Null ∷ Int (pos node) ∷ Int (pos 0) ∷ Int (pos 2) ∷ []) ∷ [] → old.trees 0 ≡ []
     → new ≡ record { schema = keeper_schema; trees = next } → Applies keeper_schema keys old.trees (self_edit old.trees given) next
-    → (new.schema ≡ keeper_schema) × (new.trees 0 ≡ self_row node 0 ∷ []) × (new.trees 1 ≡ old.trees 1) × (new.trees catalog_tree ≡ old.trees catalog_tree)
+    → (new.schema ≡ keeper_schema) × (new.trees 0 ≡ self_row Two node 0 ∷ []) × (new.trees 1 ≡ old.trees 1) × (new.trees catalog_tree ≡ old.trees catalog_tree)
 after_insert keys old new next given node is none now a =
-    let rows : next 0 ≡ self_row node 0 ∷ [] = a.rows ∙ rw (is, none, cast_int node, cast_int 1, cast_int 0, cast_null) in (
+    let rows : next 0 ≡ self_row Two node 0 ∷ [] = a.rows ∙ rw (is, none, cast_int node, cast_int 1, cast_int 0, cast_int 2, cast_null) in (
       ap (λ (d : Database). d.schema) now,
       ap (λ (d : Database). d.trees 0) now ∙ rows,
       ap (λ (d : Database). d.trees 1) now ∙ a.others 1 (omega arith) (omega arith, tt),
@@ -38,7 +39,7 @@ after_insert keys old new next given node is none now a =
     )
 
 pub inserts_self : (old new : State) (node : ℕ) (count : ℕ) → old.now.schema ≡ keeper_schema → old.now.trees 0 ≡ [] → Executes insert_self_text (Int (pos node) ∷ []) old new (Ok count)
-    → (new.now.schema ≡ keeper_schema) × (new.now.trees 0 ≡ self_row node 0 ∷ []) × (new.now.trees 1 ≡ old.now.trees 1) × (new.now.trees catalog_tree ≡ old.now.trees catalog_tree)
+    → (new.now.schema ≡ keeper_schema) × (new.now.trees 0 ≡ self_row Two node 0 ∷ []) × (new.now.trees 1 ≡ old.now.trees 1) × (new.now.trees catalog_tree ≡ old.now.trees catalog_tree)
 inserts_self old new node count has none h =
     let params = Int (pos node) ∷ [] in
     let db = old.now.trees in

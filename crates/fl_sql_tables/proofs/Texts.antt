@@ -30,7 +30,7 @@ abbrev pub op_terms : List Term
 op_terms = lit Null ∷ col 0 0 ∷ col 0 1 ∷ col 0 2 ∷ []
 
 abbrev pub self_terms : List Term
-self_terms = lit (Int (pos 1)) ∷ lit Null ∷ col 0 0 ∷ lit (Int (pos 0)) ∷ lit (Int (pos 1)) ∷ []
+self_terms = lit (Int (pos 1)) ∷ lit Null ∷ col 0 0 ∷ lit (Int (pos 0)) ∷ lit (Int (pos 2)) ∷ []
 
 pub insert_self_is : command_of (understood keeper_schema insert_self_text) ≡ Insert 0 (Values self_terms 5)
 unfolding understood everything

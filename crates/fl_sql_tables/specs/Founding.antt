@@ -1,5 +1,5 @@
 -- How a keeper's database is made, and how one is opened.
-use Rattle.std.specs.Prelude.{◌≡◌, ◌≢◌, ◌<◌, ℕ, pos, Bool, true, false, ◌&&◌, ◌==◌, nat_lt, if◌then◌else◌, Option, Some, None, List, [], ◌∷◌, IsTrue}
+use Rattle.std.specs.Prelude.{◌≡◌, ◌≢◌, ◌<◌, ℕ, pos, Bool, true, false, ◌&&◌, ◌||◌, ◌==◌, nat_lt, if◌then◌else◌, Option, Some, None, List, [], ◌∷◌, IsTrue}
 use Rattle.sqlite.specs.declared.types.Value.TheVariants.{Int}
 use Rattle.sqlite.specs.Order.{Row, column}
 use Rattle.fl_sql_tables.specs.declared.itself.Itself.{Itself}
@@ -9,7 +9,9 @@ use Rattle.sqlite_trees.specs.Objects.{catalog_tree}
 use Rattle.sqlite.specs.Effect.{Database}
 use Rattle.sqlite.specs.State.{State, Shows}
 use Rattle.fl_sql_tables.specs.Tables.{keeper_schema, self_schema}
-use Rattle.fl_sql_tables.specs.Stored.{self_row, IsListed}
+use Rattle.fl_ops.specs.declared.format.Format.TheVariants.{One, Two}
+use Rattle.fl_ops.specs.Format.{format_byte}
+use Rattle.fl_sql_tables.specs.Stored.{self_row, HasSelf, IsListed}
 use Rattle.fl_sql_tables.specs.Spelling.{whole_in}
 
 pub record MakesSelf (old new : State) : Type 0 where
@@ -26,7 +28,7 @@ pub record MakesOps (old new : State) : Type 0 where
 
 pub record StartsSelf (number : ℕ) (old new : State) : Type 0 where
   pub schema : new.now.schema ≡ keeper_schema
-  pub itself : new.now.trees 0 ≡ self_row number 0 ∷ []
+  pub itself : new.now.trees 0 ≡ self_row Two number 0 ∷ []
   pub ops : new.now.trees 1 ≡ old.now.trees 1
   pub catalog : new.now.trees catalog_tree ≡ old.now.trees catalog_tree
   pub shown : Shows old new new.now old.committed true
@@ -34,7 +36,7 @@ pub record StartsSelf (number : ℕ) (old new : State) : Type 0 where
 -- both tables, with the row of the node and no operation
 pub record IsFounded (number : ℕ) (db : Database) : Type 0 where
   pub schema : db.schema ≡ keeper_schema
-  pub itself : db.trees 0 ≡ self_row number 0 ∷ []
+  pub itself : db.trees 0 ≡ self_row Two number 0 ∷ []
   pub none : db.trees 1 ≡ []
   pub listed : IsListed db.trees
 
@@ -58,15 +60,19 @@ abbrev pub is_number : ℕ → Option ℕ → Bool
 is_number n None = false
 is_number n (Some m) = m == n
 
+-- the number of either format
+abbrev pub is_format : Option ℕ → Bool
+is_format n = is_number (format_byte One) n || is_number (format_byte Two) n
+
 abbrev pub is_boot : Option ℕ → Bool
 is_boot None = false
 is_boot (Some n) = nat_lt n 4294967296
 
--- whose row it is: this node's, with a boot in its range, in this format, or another's
+-- whose row it is: this node's, with a boot in its range and of either format, or another's
 abbrev pub owner_of : ℕ → Row → Itself
 owner_of number (id ∷ node ∷ boot ∷ format ∷ []) =
     if is_number number (whole_in node)
-    then (if is_boot (whole_in boot) && (is_number 1 (whole_in id) && is_number 1 (whole_in format)) then Own else Bad)
+    then (if is_boot (whole_in boot) && (is_number 1 (whole_in id) && is_format (whole_in format)) then Own else Bad)
     else Other
 owner_of number _ = Bad
 
@@ -77,7 +83,7 @@ itself_of number _ = Bad
 
 -- the table has one row, of this node
 abbrev pub IsOwn : ℕ → List Row → Type 0
-IsOwn number rows = (boot : ℕ) × (boot < 4294967296) × (rows ≡ self_row number boot ∷ [])
+IsOwn number rows = (boot : ℕ) × (boot < 4294967296) × HasSelf number boot rows
 
 -- one row, of another node
 abbrev pub IsOthers : ℕ → List Row → Type 0

@@ -1,5 +1,6 @@
 pub mod OwnCheck
 pub mod Tables
+pub mod Spells
 pub mod Spelling
 pub mod Stored
 pub mod Serving

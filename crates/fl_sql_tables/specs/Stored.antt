@@ -12,7 +12,9 @@ use Rattle.std.specs.List.{filter_map, list_any}
 use Rattle.std.specs.List.Sorted.{IsPermutation}
 use Rattle.fl_labels.specs.SetBy as set
 use Rattle.fl_labels.specs.SetBy.{SetBy}
+use Rattle.fl_ops.specs.declared.format.Format.{Format}
 use Rattle.fl_ops.specs.declared.op.Op.{Op}
+use Rattle.fl_ops.specs.Format.{format_byte}
 use Rattle.fl_ops.specs.OpOrder.{op_cmp}
 use Rattle.fl_store.specs.Kept.{Kept, HasNamesOnce, with_ops}
 use Rattle.sqlite.specs.State.{State, Shows}
@@ -36,9 +38,13 @@ pub record InsertsOp (row : Row) (old new : Database) : Type 0 where
 abbrev pub shown_op : Row → Row
 shown_op r = column r 1 ∷ column r 2 ∷ column r 3 ∷ []
 
--- the row of the node itself, as it is stored
-abbrev pub self_row : ℕ → ℕ → Row
-self_row node boot = Int (pos 1) ∷ Null ∷ Int (pos node) ∷ Int (pos boot) ∷ Int (pos 1) ∷ []
+-- the row of the node itself in a database of a format, as it is stored
+abbrev pub self_row : Format → ℕ → ℕ → Row
+self_row f node boot = Int (pos 1) ∷ Null ∷ Int (pos node) ∷ Int (pos boot) ∷ Int (pos (format_byte f)) ∷ []
+
+-- the one row of the node itself, in either format
+abbrev pub HasSelf : ℕ → ℕ → List Row → Type 0
+HasSelf number boot rows = (f : Format) × (rows ≡ self_row f number boot ∷ [])
 
 -- the operation that a stored row spells
 abbrev pub op_in : Row → Option Op

@@ -74,7 +74,7 @@ abbrev pub keeper_schema : Schema
 keeper_schema = record { tables = self_table ∷ ops_table ∷ []; indexes = ops_key ∷ []; views = [] }
 
 abbrev pub insert_self_text : List ℕ
-insert_self_text = codes "INSERT INTO self (id, node, boot, format) VALUES (1, ?1, 0, 1)"
+insert_self_text = codes "INSERT INTO self (id, node, boot, format) VALUES (1, ?1, 0, 2)"
 
 abbrev pub insert_op_text : List ℕ
 insert_op_text = codes "INSERT INTO ops (node, seq, bytes) VALUES (?1, ?2, ?3)"

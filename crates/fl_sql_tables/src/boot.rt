@@ -2,7 +2,7 @@
 ghost use Rattle.std.specs.Prelude.{◌≡◌, ◌⊎◌, [], ◌∷◌, true, false, IsTrue, IfOk, OnOk, OnErr, IfErr, Err};
 ghost use Rattle.sqlite.specs.Held.{state};
 ghost use Rattle.sqlite.specs.State.{HasCleanDisk, IsUnchanged, KeepsCommit, Survives};
-ghost use Rattle.fl_sql_tables.specs.Stored.{IsUndone, self_row};
+ghost use Rattle.fl_sql_tables.specs.Stored.{IsUndone, HasSelf};
 ghost use Rattle.fl_sql_tables.specs.Serving.{IsServing, SetsBoot, Raises, RaisesTo};
 ghost use Rattle.fl_sql_tables.specs.Failing.{IsFault, FailsToRaise};
 
@@ -16,7 +16,7 @@ pub fn read_boot<S: Alter>(conn: &mut Connection<S>, number: NodeNumber) -> Resu
     requires serving { IsServing number (state S.Store conn.old) }
     ensures idle { conn.new.in_transaction ≡ false }
     ensures ok { HasCleanDisk (state S.Store conn.new) → IfOk result (λ boot.
-        (state S.Store conn.old).now.trees 0 ≡ self_row number boot ∷ []) }
+        HasSelf number boot ((state S.Store conn.old).now.trees 0)) }
     ensures same { HasCleanDisk (state S.Store conn.new) → OnOk result (IsUnchanged
         (state S.Store conn.old) (state S.Store conn.new)) }
     ensures err { HasCleanDisk (state S.Store conn.new) → OnErr result (IsUndone

@@ -74,8 +74,8 @@ fn insert_self<S: Alter>(tx: &mut Transaction<'_, S>, number: NodeNumber) -> Res
         (state S.Store tx.new.conn.now) (λ _. ⊥) }
 {
     tx.execute(
-        "INSERT INTO self (id, node, boot, format) VALUES (1, ?1, 0, 1)",
-        params![number as u32],
+        "INSERT INTO self (id, node, boot, format) VALUES (1, ?1, 0, 2)",
+        params![number],
     )?;
     Ok(())
 }

@@ -12,7 +12,7 @@ use sqlite::{Alter, Connection, Error, Row};
 /// What the table of the node itself says.
 #[derive(Clone, Copy)]
 pub enum Itself {
-    /// It has no row, or one of another format.
+    /// It has no row, or one that is neither of the first format nor of the second.
     Bad,
     /// It is another node's.
     Other,
@@ -35,10 +35,13 @@ fn itself_in(rows: &[Row], number: NodeNumber) -> Itself
     let Some(boot) = number_at(row, 2) else {
         return Itself::Bad;
     };
-    if boot > u64::from(u32::MAX) || number_at(row, 0) != Some(1) || number_at(row, 3) != Some(1) {
+    if boot > u64::from(u32::MAX) || number_at(row, 0) != Some(1) {
         return Itself::Bad;
     }
-    Itself::Own
+    match number_at(row, 3) {
+        Some(1 | 2) => Itself::Own,
+        _ => Itself::Bad,
+    }
 }
 
 /// What the database says of its node.

@@ -30,7 +30,7 @@ fn put_op<S: Alter>(alloc: Global, tx: &mut Transaction<'_, S>, op: &Op) -> Resu
     let bytes = encode(alloc, op)?;
     tx.execute(
         "INSERT INTO ops (node, seq, bytes) VALUES (?1, ?2, ?3)",
-        params![u32::from(op.name.node), op.name.seq, bytes.as_slice()],
+        params![op.name.node, op.name.seq, bytes.as_slice()],
     )?;
     Ok(())
 }

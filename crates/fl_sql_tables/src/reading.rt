@@ -4,7 +4,6 @@ ghost use Rattle.std.specs.Option.{option_copied};
 ghost use Rattle.sqlite.specs.Order.{column};
 ghost use Rattle.fl_sql_tables.specs.Spelling.{whole_in, blob_in, spelled_by, op_of};
 
-use fl_ops::laws::law_one_spelling;
 use fl_ops::op::Op;
 use fl_ops::reading::decode;
 use sqlite::Row;
@@ -36,7 +35,6 @@ fn bytes_at<'a>(row: &'a Row, at: usize) -> Option<&'a [u8]>
 fn spelled(node: u64, seq: u64, bytes: &[u8]) -> Option<Op>
     ensures { result ≡ spelled_by (Some node) (Some seq) (Some bytes.now) }
 {
-    law_one_spelling();
     let Ok((op, size)) = decode(bytes) else {
         return None;
     };

@@ -11,8 +11,8 @@ returns-in-Ok-clause-ok g c clean =
     let old = state g.S.Store c.args.conn.now in
     let new = state g.S.Store c.query_row.new.self in
     let ready = c.requires.serving (clean_before old new _ c.query_row.ensures.survives clean) in
-    let row = reads_self old new c.args.number ready.boot c.in-Ok.row ready.schema ready.itself (c.in-Ok.ensures.row clean) in
-    boot_read c.get.result c.in-Ok.row _ c.args.number ready.boot row ready.itself c.get.ensures.ok
+    let row = reads_self old new ready.itself.0 c.args.number ready.boot c.in-Ok.row ready.schema ready.itself.1 (c.in-Ok.ensures.row clean) in
+    boot_read c.get.result c.in-Ok.row _ ready.itself.0 c.args.number ready.boot row ready.itself.1 c.get.ensures.ok
 
 pub returns-in-Ok-clause-same : goal.returns-in-Ok-clause-same
 returns-in-Ok-clause-same g c clean =
@@ -48,8 +48,8 @@ returns-in-Ok-clause-fails g c clean =
     let old = state g.S.Store c.args.conn.now in
     let new = state g.S.Store c.query_row.new.self in
     let ready = c.requires.serving (clean_before old new _ c.query_row.ensures.survives clean) in
-    let row = reads_self old new c.args.number ready.boot c.in-Ok.row ready.schema ready.itself (c.in-Ok.ensures.row clean) in
-    get_fault old new c.get.result c.in-Ok.row c.args.number ready.boot ready.in_range row c.get.ensures.kind c.get.ensures.named
+    let row = reads_self old new ready.itself.0 c.args.number ready.boot c.in-Ok.row ready.schema ready.itself.1 (c.in-Ok.ensures.row clean) in
+    get_fault old new c.get.result c.in-Ok.row ready.itself.0 c.args.number ready.boot ready.in_range row c.get.ensures.kind c.get.ensures.named
 
 pub returns-in-Err-clause-fails : goal.returns-in-Err-clause-fails
 returns-in-Err-clause-fails g c clean =
