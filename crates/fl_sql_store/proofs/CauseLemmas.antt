@@ -13,7 +13,7 @@ use Rattle.sqlite.specs.Effect.{Database}
 use Rattle.fl_store.specs.declared.keeper.KeeperFault.{KeeperFault}
 use Rattle.fl_store.specs.declared.keeper.KeeperFault.TheVariants.{Memory, Broken}
 use Rattle.fl_sql_tables.specs.Tables.{keeper_schema, raise_boot_text}
-use Rattle.fl_sql_tables.specs.Stored.{self_row}
+use Rattle.fl_sql_tables.specs.Stored.{HasSelf}
 use Rattle.fl_sql_tables.specs.Failing.{IsFault, IsRefused, FailsToRaise, FailsToLoad}
 use Rattle.fl_sql_store.proofs.KeepLemmas.{one_boot}
 use Rattle.fl_sql_store.specs.Breaking.{IsToldAs, IsTold, FailsToBoot, RefusesToLoad}
@@ -36,12 +36,12 @@ raise_after a b c boot e same counts limit (inr h) =
     inr (subst (IsBootRefused b boot a.now) limit (subst (λ d. IsBootRefused b boot d b.step_limit) same h))
 
 -- the boot that was read is not raised
-pub boot_fault : (number : ℕ) (old read left : State) (boot : ℕ) (e : Error) → boot < 4294967295 → old.now.trees 0 ≡ self_row number boot ∷ [] → IsUnchanged old read → Survives old read (λ _. ⊥)
+pub boot_fault : (number : ℕ) (old read left : State) (boot : ℕ) (e : Error) → boot < 4294967295 → HasSelf number boot (old.now.trees 0) → IsUnchanged old read → Survives old read (λ _. ⊥)
     → FailsToRaise (boot + 1) read left e → FailsToBoot number old left e
 boot_fault number old read left boot e below one same survives fails = inr (boot, below, one, raise_after old read left (boot + 1) e same.0.now_is survives.counts survives.limit fails)
 
 -- a boot below the last is not the last
-pub not_last : (number boot : ℕ) (rows : List Row) → boot < 4294967295 → rows ≡ self_row number boot ∷ [] → rows ≡ self_row number 4294967295 ∷ [] → ⊥
+pub not_last : (number boot : ℕ) (rows : List Row) → boot < 4294967295 → HasSelf number boot rows → HasSelf number 4294967295 rows → ⊥
 not_last number boot rows below is last =
     let same : boot ≡ 4294967295 = one_boot number boot 4294967295 rows is last in
     omega (arith, below, same)

@@ -20,7 +20,8 @@ use Rattle.fl_sql_tables.specs.Tables.{select_whole_text}
 use Rattle.fl_sql_tables.specs.Failing.{FailsToFound}
 use Rattle.fl_sql_store.specs.Opening.{IsFailure, RefusesToOpen}
 use Rattle.fl_store.specs.Kept.{Kept}
-use Rattle.fl_sql_tables.specs.Stored.{IsListed, if_listed, nothing_kept, kept_by, kept_in, ops_in, boot_in, self_row}
+use Rattle.fl_ops.specs.declared.format.Format.TheVariants.{Two}
+use Rattle.fl_sql_tables.specs.Stored.{IsListed, if_listed, nothing_kept, kept_by, kept_in, ops_in, boot_in, HasSelf}
 use Rattle.fl_store.specs.Keeping.{Stays}
 use Rattle.fl_sql_tables.specs.Serving.{IsReady}
 use Rattle.fl_sql_store.specs.SqlKeeping.{held_in}
@@ -69,7 +70,7 @@ module _ (number : ℕ) (old : State) (blank : old.now.schema ≡ no_schema) (li
     | inr made ↦ (after, nothing_held made.0 after (it.2 ∙ ap (kept_in number) made.3 ∙ kept_founded number made.1 made.2), refl)
   ]
 
-pub ready_found : (number boot : ℕ) (old new : State) → boot < 4294967296 → old.now.schema ≡ keeper_schema → IsLive old → IsSettled old → IsUnchanged old new → old.now.trees 0 ≡ self_row number boot ∷ [] → IsReady number new
+pub ready_found : (number boot : ℕ) (old new : State) → boot < 4294967296 → old.now.schema ≡ keeper_schema → IsLive old → IsSettled old → IsUnchanged old new → HasSelf number boot (old.now.trees 0) → IsReady number new
 ready_found number boot old new low ours live settled h one = record {
   is_open = h.0.is_open;
   schema = ap (λ d. d.schema) h.0.now_is ∙ ours;
@@ -77,7 +78,7 @@ ready_found number boot old new low ours live settled h one = record {
   listed = subst (λ (d : Database). IsListed d.trees) (sym h.0.now_is) (listed_if_sound old.now (live h.0.was_open).0 ours);
   boot = boot;
   in_range = low;
-  itself = ap (λ d. d.trees 0) h.0.now_is ∙ one;
+  itself = (one.0, ap (λ d. d.trees 0) h.0.now_is ∙ one.1);
 }
 
 -- a new database is ready
@@ -89,7 +90,7 @@ ready_founded number old new h = record {
   listed = h.founded.listed;
   boot = 0;
   in_range = omega arith;
-  itself = h.founded.itself;
+  itself = (Two, h.founded.itself);
 }
 
 -- the row of the node was not shown

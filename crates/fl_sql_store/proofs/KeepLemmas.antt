@@ -11,7 +11,7 @@ use Rattle.sqlite.specs.State.{State, HasCleanDisk, IsUnchanged, Survives}
 use Rattle.fl_ops.specs.declared.op.Op.{Op}
 use Rattle.fl_store.specs.declared.keeper.KeeperFault.{KeeperFault}
 use Rattle.fl_store.specs.declared.keeper.KeeperFault.TheVariants.{Memory, Broken, WrongNode, BadRow, NamesSpent}
-use Rattle.fl_sql_tables.specs.Stored.{AddsOps, Saves, AddsTo, ops_in, boot_in, kept_in, self_row, IsOurs, IsListed, if_listed, nothing_kept, kept_by}
+use Rattle.fl_sql_tables.specs.Stored.{AddsOps, Saves, AddsTo, ops_in, boot_in, kept_in, HasSelf, IsOurs, IsListed, if_listed, nothing_kept, kept_by}
 use Rattle.sqlite_trees.specs.Objects.{catalog_tree}
 use Rattle.sqlite.specs.Effect.{Database}
 use Rattle.fl_store.specs.Kept.{Kept, with_ops, with_batch, raised}
@@ -37,7 +37,7 @@ ready_unchanged number old new r h = record {
   listed = listed_by old.now.trees new.now.trees r.listed (ap (λ d. d.trees catalog_tree) h.0.now_is);
   boot = r.boot;
   in_range = r.in_range;
-  itself = ap (λ d. d.trees 0) h.0.now_is ∙ r.itself;
+  itself = (r.itself.0, ap (λ d. d.trees 0) h.0.now_is ∙ r.itself.1);
 }
 
 pub ready_as_committed : (number : ℕ) (old new : State) → IsReady number old → IsAsCommitted old new → IsReady number new
@@ -50,7 +50,7 @@ ready_as_committed number old new r h =
       listed = listed_by old.now.trees new.now.trees r.listed (ap (λ d. d.trees catalog_tree) now);
       boot = r.boot;
       in_range = r.in_range;
-      itself = ap (λ d. d.trees 0) now ∙ r.itself;
+      itself = (r.itself.0, ap (λ d. d.trees 0) now ∙ r.itself.1);
     }
 
 pub ready_saved : (number : ℕ) (ops : List Op) (old new : State) → IsReady number old → Saves ops old new → IsReady number new
@@ -61,7 +61,7 @@ ready_saved number ops old new r h = record {
   listed = listed_by old.now.trees new.now.trees r.listed h.added.catalog;
   boot = r.boot;
   in_range = r.in_range;
-  itself = h.added.itself ∙ r.itself;
+  itself = (r.itself.0, h.added.itself ∙ r.itself.1);
 }
 
 pub ready_raised : (number boot : ℕ) (old new : State) → boot < 4294967296 → IsReady number old → Raises number boot old new → IsReady number new
@@ -72,7 +72,7 @@ ready_raised number boot old new low r h = record {
   listed = listed_by old.now.trees new.now.trees r.listed h.raised.catalog;
   boot = boot;
   in_range = low;
-  itself = h.raised.itself;
+  itself = (h.raised.format, h.raised.itself);
 }
 
 -- ---- what an opening may find
@@ -109,19 +109,19 @@ module _ (number : ℕ) (old new : State) (ready : IsReady number old) (only : (
     | inr adds ↦ (was, was_held, inr (it.2 ∙ ap (kept_in number) adds.2 ∙ added_is ops adds.0 adds.1))
   ]
 
-  raised_is : (was_boot : ℕ) (db : _) → old.now.trees 0 ≡ self_row number was_boot ∷ [] → HasBoot number (was_boot + 1) old.now db → kept_in number db.trees ≡ raised was
+  raised_is : (was_boot : ℕ) (db : _) → HasSelf number was_boot (old.now.trees 0) → HasBoot number (was_boot + 1) old.now db → kept_in number db.trees ≡ raised was
   raised_is was_boot db one h =
-      let before : boot_in (old.committed.trees 0) ≡ was_boot = ap (λ d. boot_in (d.trees 0)) (sym ready.settled) ∙ ap boot_in one in
+      let before : boot_in (old.committed.trees 0) ≡ was_boot = ap (λ d. boot_in (d.trees 0)) (sym ready.settled) ∙ ap boot_in one.1 in
       kept_listed number db.trees (listed_by old.now.trees db.trees ready.listed h.catalog)
       ∙ ap (λ b. record { number = number; boot = boot_in b; saved = ops_in (db.trees 1) }) h.itself
       ∙ ap (λ l. record { number = number; boot = was_boot + 1; saved = ops_in l }) (h.ops ∙ ap (λ d. d.trees 1) ready.settled)
       ∙ ap (λ n. record { number = number; boot = n + 1; saved = ops_in (old.committed.trees 1) }) (sym before)
       ∙ ap raised (sym was_is)
 
-  boot_was : (was_boot : ℕ) → old.now.trees 0 ≡ self_row number was_boot ∷ [] → was.boot ≡ was_boot
-  boot_was was_boot one = ap (λ (k : Kept). k.boot) was_is ∙ ap (λ d. boot_in (d.trees 0)) (sym ready.settled) ∙ ap boot_in one
+  boot_was : (was_boot : ℕ) → HasSelf number was_boot (old.now.trees 0) → was.boot ≡ was_boot
+  boot_was was_boot one = ap (λ (k : Kept). k.boot) was_is ∙ ap (λ d. boot_in (d.trees 0)) (sym ready.settled) ∙ ap boot_in one.1
 
-  pub held_raised : (n : ℕ) → (was_boot : ℕ) × (n ≡ was_boot + 1) × (old.now.trees 0 ≡ self_row number was_boot ∷ []) × Raises number n old new
+  pub held_raised : (n : ℕ) → (was_boot : ℕ) × (n ≡ was_boot + 1) × HasSelf number was_boot (old.now.trees 0) × Raises number n old new
       → Follows (λ s t. (t ≡ raised s) × (n ≡ s.boot + 1)) (held_in number old) (held_in number new)
   held_raised n ok after it =
       let h = subst (λ b. Raises number b old new) ok.1 ok.3 in (
@@ -133,14 +133,14 @@ module _ (number : ℕ) (old new : State) (ready : IsReady number old) (only : (
         ),
       )
 
-  pub held_or_raised : HasCleanDisk new → ((was_boot : ℕ) → old.now.trees 0 ≡ self_row number was_boot ∷ [] → Survives old new (RaisesTo number (was_boot + 1) old.now))
+  pub held_or_raised : HasCleanDisk new → ((was_boot : ℕ) → HasSelf number was_boot (old.now.trees 0) → Survives old new (RaisesTo number (was_boot + 1) old.now))
       → Follows (λ s t. (t ≡ s) ⊎ (t ≡ raised s)) (held_in number old) (held_in number new)
   held_or_raised clean s after it = elim ((s ready.boot ready.itself).crash clean it.0 it.1) [
     | inl before ↦ (kept_in number it.0, (it.0, before, refl), inl it.2)
     | inr raises ↦ (was, was_held, inr (it.2 ∙ ap (kept_in number) raises.2 ∙ raised_is ready.boot raises.0 ready.itself raises.1))
   ]
 
-  pub held_spent : IsUnchanged old new × (old.now.trees 0 ≡ self_row number (4294967295) ∷ []) → Follows (λ s t. (t ≡ s) × (s.boot ≡ 4294967295)) (held_in number old) (held_in number new)
+  pub held_spent : IsUnchanged old new × HasSelf number 4294967295 (old.now.trees 0) → Follows (λ s t. (t ≡ s) × (s.boot ≡ 4294967295)) (held_in number old) (held_in number new)
   held_spent h after it = (was, was_held, (it.2 ∙ ap (kept_in number) (only it.0 h.0.0.is_open it.1 ∙ ap (λ d. d.trees) h.0.0.committed_is), boot_was _ h.1))
 
   pub after_load_ok : (ops : SetBy op_cmp) → IsUnchanged old new → ops ≡ ops_in (old.now.trees 1)
@@ -174,11 +174,11 @@ with_none saved = same_set op_total op_exact _ _ (λ q. contains-union op_total 
     or_none false = refl
 
 -- the row of the node itself has one boot
-pub one_boot : (number a b : ℕ) (rows : List Row) → rows ≡ self_row number a ∷ [] → rows ≡ self_row number b ∷ [] → a ≡ b
-one_boot number a b rows p q = ap boot_in (sym p ∙ q)
+pub one_boot : (number a b : ℕ) (rows : List Row) → HasSelf number a rows → HasSelf number b rows → a ≡ b
+one_boot number a b rows p q = ap boot_in (sym p.1 ∙ q.1)
 
 -- the boot is read and then raised, and the next call commits nothing
-pub survives_raising : (number before boot : ℕ) (a b c d : State) → a.now.trees 0 ≡ self_row number before ∷ [] → Survives a b (λ _. ⊥) → (HasCleanDisk b → a.now.trees 0 ≡ self_row number boot ∷ [])
+pub survives_raising : (number before boot : ℕ) (a b c d : State) → HasSelf number before (a.now.trees 0) → Survives a b (λ _. ⊥) → (HasCleanDisk b → HasSelf number boot (a.now.trees 0))
     → (HasCleanDisk b → b.now ≡ a.now) → Survives b c (RaisesTo number (boot + 1) b.now) → Survives c d (λ _. ⊥) → Survives a d (RaisesTo number (before + 1) a.now)
 survives_raising number before boot a b c d one first told same second third =
     let raises = RaisesTo number (before + 1) a.now in

@@ -9,7 +9,7 @@ use Rattle.sqlite.specs.Held.{Held, state}
 use Rattle.sqlite.specs.Store.{Ghosts}
 use Rattle.fl_store.specs.declared.keeper.KeeperFault.{KeeperFault}
 use Rattle.fl_store.specs.declared.keeper.KeeperFault.TheVariants.{Memory, Broken, WrongNode, BadRow, NamesSpent}
-use Rattle.fl_sql_tables.specs.Stored.{self_row, HasBadRow}
+use Rattle.fl_sql_tables.specs.Stored.{HasSelf, HasBadRow}
 use Rattle.fl_sql_tables.specs.Failing.{IsFault, FailsToRaise, FailsToLoad}
 use Rattle.fl_sql_store.specs.Opening.{IsFailure}
 
@@ -43,7 +43,7 @@ pub record IsTold {S : Type 0} (g : Ghosts S) (Fails : State → Error → Type 
 -- why the boot was not raised: a fault, or below the last boot the table of the node itself does not take the next one
 abbrev pub FailsToBoot : ℕ → State → State → Error → Type 0
 FailsToBoot number old new e =
-    IsFault old new e ⊎ ((was : ℕ) × (was < 4294967295) × (old.now.trees 0 ≡ self_row number was ∷ []) × FailsToRaise (was + 1) old new e)
+    IsFault old new e ⊎ ((was : ℕ) × (was < 4294967295) × HasSelf number was (old.now.trees 0) × FailsToRaise (was + 1) old new e)
 
 -- why the operations were not loaded: a row is bad; there was not enough memory for them; or the database failed
 abbrev pub RefusesToLoad : {S : Type 0} → Ghosts S → Held S → Held S → KeeperFault → Type 0

@@ -4,7 +4,7 @@ ghost use Rattle.sqlite.specs.Held.{state};
 ghost use Rattle.sqlite.specs.State.{HasCleanDisk, IsUnchanged, Survives};
 ghost use Rattle.sqlite.specs.View.{doubt};
 ghost use Rattle.fl_store.specs.Kept.{HasNamesOnce};
-ghost use Rattle.fl_sql_tables.specs.Stored.{HasBadRow, IsOurs, Saves, AddsTo, ops_in, self_row};
+ghost use Rattle.fl_sql_tables.specs.Stored.{HasBadRow, IsOurs, Saves, AddsTo, ops_in, HasSelf};
 ghost use Rattle.fl_sql_tables.specs.Serving.{IsServing, Raises, RaisesTo};
 ghost use Rattle.fl_sql_tables.specs.Failing.{IsFault, FailsToSave};
 ghost use Rattle.fl_sql_store.specs.SqlKeeping.{IsAsCommitted};
@@ -100,23 +100,23 @@ pub fn boot_on<S: Alter>(conn: &mut Connection<S>, number: NodeNumber) -> Result
     ensures idle { conn.new.in_transaction ≡ false }
     ensures positive { IfOk result (λ boot. 0 < boot) }
     ensures ok { HasCleanDisk (state S.Store conn.new) → IfOk result (λ boot. (was : ℕ)
-        × (boot ≡ was + 1) × ((state S.Store conn.old).now.trees 0 ≡ self_row number was ∷ [])
+        × (boot ≡ was + 1) × HasSelf number was ((state S.Store conn.old).now.trees 0)
         × Raises number boot (state S.Store conn.old) (state S.Store conn.new)) }
     ensures spent { HasCleanDisk (state S.Store conn.new) → result ≡ Err KeeperFault.NamesSpent
         → IsUnchanged (state S.Store conn.old) (state S.Store conn.new)
-        × ((state S.Store conn.old).now.trees 0 ≡ self_row number (2 ^ 32 - 1) ∷ []) }
+        × HasSelf number (2 ^ 32 - 1) ((state S.Store conn.old).now.trees 0) }
     ensures memory { HasCleanDisk (state S.Store conn.new) → result ≡ Err KeeperFault.Memory
         → IsAsCommitted (state S.Store conn.old) (state S.Store conn.new) }
     ensures either { IfErr result (λ e. (e ≡ KeeperFault.Memory)
         ⊎ ((e ≡ KeeperFault.Broken) ⊎ (e ≡ KeeperFault.NamesSpent))) }
     ensures last { HasCleanDisk (state S.Store conn.new)
-        → (state S.Store conn.old).now.trees 0 ≡ self_row number (2 ^ 32 - 1) ∷ []
+        → HasSelf number (2 ^ 32 - 1) ((state S.Store conn.old).now.trees 0)
         → IsErrAnd result (λ e. (e ≡ KeeperFault.NamesSpent) ⊎ IsTold S.Store
         (IsFault (state S.Store conn.old)) conn.new e) }
     ensures fails { HasCleanDisk (state S.Store conn.new) → IfErr result (λ e.
         e ≢ KeeperFault.NamesSpent → IsTold S.Store
         (FailsToBoot number (state S.Store conn.old)) conn.new e) }
-    ensures survives { (was : ℕ) → (state S.Store conn.old).now.trees 0 ≡ self_row number was ∷ []
+    ensures survives { (was : ℕ) → HasSelf number was ((state S.Store conn.old).now.trees 0)
         → Survives (state S.Store conn.old) (state S.Store conn.new) (RaisesTo number (was + 1)
         (state S.Store conn.old).now) }
 {
