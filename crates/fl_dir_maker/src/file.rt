@@ -15,7 +15,7 @@ fn written(alloc: Global, dir: &str, number: NodeNumber) -> Result<String, Alloc
 /// The path of the file in which a node is kept, and no other node.
 pub fn file_of(alloc: Global, dir: &str, number: NodeNumber) -> Result<String, AllocError>
     ensures file { IfOk result (λ path. string_bytes path ≡ node_file dir.now number) }
-    ensures own { IfOk result (λ path. (other : ℕ) → other < 2 ^ 16
+    ensures own { IfOk result (λ path. (other : ℕ) → other < 2 ^ 32
         → string_bytes path ≡ node_file dir.now other → other ≡ number) }
 {
     let path = written(alloc, dir, number)?;
