@@ -10,45 +10,39 @@ use Rattle.std.proofs.lemmas.List.Elements.{Contains-get_or, Contains-append_cas
 use Rattle.fl_labels.specs.Cap.{cap_cmp, is_use}
 use Rattle.fl_labels.specs.CapOrder.{cap_total, cap_exact}
 use Rattle.fl_labels.specs.Caps.{Caps}
-use Rattle.fl_labels.specs.Found.{Tells}
+use Rattle.fl_labels.specs.Found.{Within, Tells}
 use Rattle.fl_labels.specs.SetBy as set
-use Rattle.fl_labels.specs.SetBy.{SetBy, In, IsMissing, members, contains-empty, contains-insert, contains-union, contains-of_list, contains-members, same_set}
+use Rattle.fl_labels.specs.SetBy.{SetBy, In, IsMissing, members, contains-empty, contains-insert, contains-union, contains-of_list, same_set}
 use Rattle.fl_labels.specs.declared.name.Name.{Name}
 use Rattle.fl_labels.specs.declared.cap.Cap.{Cap}
 use Rattle.fl_labels.specs.declared.cap.Cap.TheVariants.{Plus, Minus, Use, Grow}
 use Rattle.fl_labels.specs.Uses.{AreUsesOf}
 use Rattle.fl_labels.specs.laws.Rising.{insert_member}
 use Rattle.fl_ops.specs.declared.op.Op.{Op}
-use Rattle.fl_ops.specs.declared.op.Body.{Body}
-use Rattle.fl_ops.specs.declared.op.Body.TheVariants.{MakeTag, MakeGroup, Put, MakeLogin, Open}
+use Rattle.fl_ops.specs.declared.op.Policy.TheVariants.{Export, Integrity}
 use Rattle.fl_ops.specs.OpOrder.{op_cmp}
 use Rattle.fl_ops.specs.OpLaws.{op_total, op_exact}
-use Rattle.fl_ops.specs.Registry.{Registry, Chain, here, into, Reach, From, open_op, IsOpened, IsGlobal, WithGlobal, InEffect}
-use Rattle.fl_ops.specs.laws.Reaching.{from_chain, chain_from, owned_eff, global_eff}
+use Rattle.fl_ops.specs.Registry.{Registry, Chain, Reach, From, tag_op, open_op, IsOpened, IsGlobal, WithGlobal, InEffect}
+use Rattle.fl_ops.specs.laws.Reaching.{from_chain, chain_from, owned_eff, global_more}
 use Rattle.fl_closure.specs.declared.rows.Rows.{Rows}
-use Rattle.fl_closure.specs.declared.rows.Owner.{Owner}
 use Rattle.fl_closure.specs.declared.rows.Owner.TheVariants.{Everybody}
-use Rattle.fl_closure.specs.declared.closed.Entry.{Entry}
-use Rattle.fl_closure.specs.parts.Rows.{Holds, IsSameRows}
-use Rattle.fl_closure.specs.parts.Closed.{OpensUse, IsGiven, AreClosed, Leads, With, ClosesWith, IsTag}
-use Rattle.fl_closure.specs.parts.Noted.{Gains, Loses}
+use Rattle.fl_closure.specs.declared.closure.Closure.{Closure}
+use Rattle.fl_closure.specs.declared.closure.News.{News}
+use Rattle.fl_closure.specs.parts.Rows.{Holds}
+use Rattle.fl_closure.specs.parts.Closed.{Alone, IsGiven, AreClosed, Leads, With}
+use Rattle.fl_closure.specs.parts.Opened.{Has}
+use Rattle.fl_closure.specs.parts.Closure.{IsClosure, FollowsWith, GainsAll, LosesAll}
 use Rattle.fl_closure.proofs.Members.{none, one, first, in_all, any_has, has_any, in_has, has_in}
-use Rattle.fl_closure.proofs.Noting.{taken_back}
-use Rattle.fl_closure.proofs.Growing.{same_gifts, leads_chain, chain_leads}
+use Rattle.fl_closure.proofs.Following.{same_closure, undone}
+use Rattle.fl_closure.proofs.Growing.{leads_chain, chain_leads}
 use Rattle.fl_closure.proofs.Leading.{told, told_yes}
 
--- the same operations
-same_ops : {U V : Registry} {rows : Rows} → ((op : Op) → U op ↔ V op) → AreClosed U rows → AreClosed V rows
-same_ops same closed = same_gifts (λ op. (same op).0) (λ h x p. (p.0, (same p.0).1 p.1, p.2)) closed
-
-pub closed_nothing : (ops : SetBy op_cmp) (rows : Rows) → ops ≡ set.empty
-    → ((owner : Owner) (c : Cap) → ¬ Holds rows owner c) → AreClosed (In ops) rows
-closed_nothing ops rows e nothing = record {
-  way = λ group c. (
-    λ h. absurd (nothing group c h),
-    λ w. absurd (false≢true (sym (ap (λ (s : SetBy op_cmp). set.contains s w.1.0) e ∙ contains-empty op_cmp w.1.0) ∙ w.1.1)),
-  );
-}
+pub closure_of_none : (ops : SetBy op_cmp) (closure : Closure) → ops ≡ set.empty → IsClosure (λ (op : Op). ⊥) closure
+    → IsClosure (In ops) closure
+closure_of_none ops closure e is = same_closure (λ op. (λ never. absurd never, λ m. no_member op m)) is
+  where
+    no_member : (op : Op) → In ops op → ⊥
+    no_member op m = false≢true (sym (ap (λ (s : SetBy op_cmp). set.contains s op) e ∙ contains-empty op_cmp op) ∙ m)
 
 or_first : {a : Bool} (b : Bool) → a ≡ true → (a || b) ≡ true
 or_first b h = ap (λ x. x || b) h
@@ -59,9 +53,10 @@ or_later false h = h
 
 -- ---- one operation more
 
-pub closed_insert : (s after : SetBy op_cmp) (op : Op) (old new : Rows) → AreClosed (In s) old
-    → ClosesWith old (op ∷ []) new → after ≡ set.insert s op → AreClosed (In after) new
-closed_insert s after op old new closed closes e = subst (λ t. AreClosed (In t) new) (sym e) (same_ops same (closes s closed))
+pub closure_insert : (s after : SetBy op_cmp) (op : Op) (old new : Closure) → IsClosure (In s) old
+    → FollowsWith old (op ∷ []) new → after ≡ set.insert s op → IsClosure (In after) new
+closure_insert s after op old new closure follows e =
+    subst (λ t. IsClosure (In t) new) (sym e) (same_closure same (follows s closure))
   where
     is : (o : Op) → set.contains (set.insert s op) o ≡ (eq_by_cmp op_cmp o op || set.contains s o)
     is o = contains-insert op_total s op o
@@ -79,10 +74,10 @@ closed_insert s after op old new closed closes e = subst (λ t. AreClosed (In t)
 
 -- ---- many operations more
 
-pub closed_union : (s after more : SetBy op_cmp) (ops : List Op) (old new : Rows) → ops ≡ members more
-    → AreClosed (In s) old → ClosesWith old ops new → after ≡ set.union s more → AreClosed (In after) new
-closed_union s after more ops old new listed closed closes e =
-    subst (λ t. AreClosed (In t) new) (sym e) (same_ops same (closes s closed))
+pub closure_union : (s after more : SetBy op_cmp) (ops : List Op) (old new : Closure) → ops ≡ members more
+    → IsClosure (In s) old → FollowsWith old ops new → after ≡ set.union s more → IsClosure (In after) new
+closure_union s after more ops old new listed closure follows e =
+    subst (λ t. IsClosure (In t) new) (sym e) (same_closure same (follows s closure))
   where
     is : (o : Op) → set.contains (set.union s more) o ≡ (set.contains s o || set.contains more o)
     is o = contains-union op_total s more o
@@ -98,15 +93,11 @@ closed_union s after more ops old new listed closed closes e =
     same : (o : Op) → With s ops o ↔ In (set.union s more) o
     same o = (to o, λ h. from o (or_cases _ _ (sym (is o) ∙ h)))
 
--- rows to which was added, and then taken back what was noted
-pub closed_undone : (s last : SetBy op_cmp) (old mid new : Rows) (news list : List Entry) → last ≡ s → AreClosed (In s) old
-    → Gains old news mid → list ≡ news → Loses mid list new → AreClosed (In last) new
-closed_undone s last old mid new news list e closed gains is loses = subst (λ t. AreClosed (In t) new) (sym e) (record {
-  way = λ group c. (λ h. (closed.way group c).0 ((same.holds group c).0 h), λ w. (same.holds group c).1 ((closed.way group c).1 w));
-})
-  where
-    same : IsSameRows old new
-    same = taken_back old mid new news gains (subst (λ l. Loses mid l new) is loses)
+-- what was added, and then taken out as it was noted
+pub closure_undone : (s last : SetBy op_cmp) (old mid new : Closure) (news : News) → last ≡ s → IsClosure (In s) old
+    → GainsAll old news mid → LosesAll mid news new → IsClosure (In last) new
+closure_undone s last old mid new news e closure gains loses =
+    subst (λ t. IsClosure (In t) new) (sym e) (undone (In s) old mid new news closure gains loses)
 
 -- ---- what is new
 
@@ -183,38 +174,24 @@ leading_used owned uses rows are_uses (Grow group) c there other (inr h) = absur
 
 -- ---- what everybody has
 
-tag_global : (U : Registry) (c : Cap) → IsTag U c → IsGlobal U c
-tag_global U (Plus tag) g = g
-tag_global U (Minus tag) g = g
-tag_global U (Use group) g = absurd g
-tag_global U (Grow group) g = absurd g
-
--- c is the use of an opened group, as the registry says it, and as it is given
-opened_given : (U : Registry) (group : Name) → IsOpened U group → IsGiven U Everybody (Use group)
-opened_given U group h = (open_op h.0 group, h.1, refl)
+-- what is given to everybody is what the registry says of it
+alone_within : (U : Registry) (op : Op) → U op → Within (Alone op) U
+alone_within U op u other e = subst U (sym e) u
 
 given_global : (U : Registry) (c : Cap) → IsGiven U Everybody c → IsGlobal U c
-given_global U c (op, u, opens) = go op.body refl opens
-  where
-    go : (body : Body) → op.body ≡ body → OpensUse body c → IsGlobal U c
-    go (Open group) is e =
-        subst (IsGlobal U) (sym e) (op.name, subst (λ b. U (record { name = op.name; body = b })) is u)
-    go (MakeTag policy) is e = absurd e
-    go MakeGroup is e = absurd e
-    go (Put g d) is e = absurd e
-    go (MakeLogin d digest) is e = absurd e
+given_global U c (op, u, alone) = global_more (alone_within U op u) c alone
 
--- what everybody has leads to everybody's row, and to tags alone
-tag_leads : {U : Registry} {a c : Cap} → Chain U a c → IsTag U a → IsTag U c
-tag_leads here g = g
-tag_leads (into u p rest) g = absurd g
+global_given : (U : Registry) (c : Cap) → IsGlobal U c → IsGiven U Everybody c
+global_given U (Plus tag) g = (tag_op tag Export, g, refl)
+global_given U (Minus tag) g = (tag_op tag Integrity, g, refl)
+global_given U (Use group) g = (open_op g.0 group, g.1, (g.0, refl))
+global_given U (Grow group) g = absurd g
 
-global_leads : (U : Registry) (rows : Rows) → AreClosed U rows → (a c : Cap) → IsGlobal U a → Chain U a c
-    → IsTag U c ⊎ Holds rows Everybody c
-global_leads U rows closed (Plus tag) c g way = inl (tag_leads way g)
-global_leads U rows closed (Minus tag) c g way = inl (tag_leads way g)
-global_leads U rows closed (Use group) c g way = inr ((closed.way Everybody c).1 (Use group, opened_given U group g, way))
-global_leads U rows closed (Grow group) c g way = absurd g
+pub told_opened : (inside s : SetBy op_cmp) (closure : Closure) → inside ≡ s → IsClosure (In inside) closure → (c : Cap) (group : Name)
+    → c ≡ Use group → (b : Bool) → Tells b (Has closure.opened group) → Tells b (IsGlobal (In s) c)
+told_opened inside s closure view is c group of_it b t =
+    subst (λ x. Tells b (IsGlobal (In s) x)) (sym of_it)
+    (subst (λ o. Tells b (IsOpened (In o) group)) view (told b (is.opened group).0 (is.opened group).1 t))
 
 row_reached : (U : Registry) (rows : Rows) → AreClosed U rows → (owned : Caps) (c : Cap) → Holds rows Everybody c → InEffect U owned c
 row_reached U rows closed owned c h =
@@ -225,9 +202,6 @@ module _ (s : SetBy op_cmp) (owned : SetBy cap_cmp) (c : Cap) where
   pub told_owned : In owned c → Tells true (InEffect (In s) (In owned) c)
   told_owned h = told_yes (owned_eff c h)
 
-  pub told_tag : IsTag (In s) c → Tells true (InEffect (In s) (In owned) c)
-  told_tag g = told_yes (global_eff c (tag_global (In s) c g))
-
   pub told_row : (inside : SetBy op_cmp) (rows : Rows) → inside ≡ s → AreClosed (In inside) rows → Holds rows Everybody c
       → Tells true (InEffect (In s) (In owned) c)
   told_row inside rows view as_kept h =
@@ -236,9 +210,9 @@ module _ (s : SetBy op_cmp) (owned : SetBy cap_cmp) (c : Cap) where
   -- what is neither owned nor everybody's
   pub told_led : (inside : SetBy op_cmp) (rows : Rows) (uses : List Cap) (b : Bool) → inside ≡ s
       → AreClosed (In inside) rows → AreUsesOf owned uses
-      → set.contains owned c ≡ false → ¬ IsTag (In s) c → ¬ Holds rows Everybody c
+      → set.contains owned c ≡ false → ¬ Holds rows Everybody c
       → Tells b ((root : Cap) × Contains uses root × Leads rows root c) → Tells b (InEffect (In s) (In owned) c)
-  told_led inside rows uses b view as_kept are_uses lacking no_tag no_row t = told b to (λ h. from h.0 h.1 h.2) t
+  told_led inside rows uses b view as_kept are_uses lacking no_row t = told b to (λ h. from h.0 h.1 h.2) t
     where
       closed : AreClosed (In s) rows
       closed = subst (λ o. AreClosed (In o) rows) view as_kept
@@ -246,12 +220,8 @@ module _ (s : SetBy op_cmp) (owned : SetBy cap_cmp) (c : Cap) where
       to : (root : Cap) × Contains uses root × Leads rows root c → InEffect (In s) (In owned) c
       to h = (h.0, inl (used_owned owned uses are_uses h.0 h.1), leads_chain closed h.0 c h.2)
 
-      nobodys : IsTag (In s) c ⊎ Holds rows Everybody c → ⊥
-      nobodys (inl tag) = no_tag tag
-      nobodys (inr row) = no_row row
-
       from : (a : Cap) → WithGlobal (In s) (In owned) a → Chain (In s) a c → (root : Cap) × Contains uses root × Leads rows root c
       from a (inl there) way =
           let led = chain_leads closed way in
           (a, leading_used owned uses rows are_uses a c there (λ e. false≢true (sym lacking ∙ subst (In owned) (sym e) there)) led, led)
-      from a (inr g) way = absurd (nobodys (global_leads (In s) rows closed a c g way))
+      from a (inr g) way = absurd (no_row ((closed.way Everybody c).1 (a, global_given (In s) a g, way)))

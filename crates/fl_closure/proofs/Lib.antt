@@ -6,6 +6,8 @@ mod Noting
 mod Growing
 mod Adding
 mod Closing
+mod Opening
+mod Following
 mod Indexing
 mod Looks
 mod Mirroring

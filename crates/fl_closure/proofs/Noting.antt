@@ -10,11 +10,8 @@ use Rattle.fl_closure.specs.declared.rows.Rows.{Rows}
 use Rattle.fl_closure.specs.declared.rows.Owner.{Owner}
 use Rattle.fl_closure.specs.declared.closed.Entry.{Entry}
 use Rattle.fl_closure.specs.parts.Rows.{has, Holds, IsPair, Adds, Takes, IsSameRows}
-use Rattle.fl_closure.specs.parts.Noted.{Into, Gains, Loses}
+use Rattle.fl_closure.specs.parts.Noted.{entry, Into, Gains, Loses}
 use Rattle.fl_closure.proofs.Members.{none}
-
-abbrev pub entry : Owner → Cap → Entry
-entry group c = record { owner = group; cap = c }
 
 alike : (group : Owner) (c : Cap) (other : Owner) (d : Cap) → IsPair group c other d → entry group c ≡ entry other d
 alike group c other d e = λ i. entry (e.0 i) (e.1 i)

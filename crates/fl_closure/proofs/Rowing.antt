@@ -23,20 +23,20 @@ both : (a b : Bool) → (a && b) ≡ true → (a ≡ true) × (b ≡ true)
 both true b h = (refl, h)
 both false b h = absurd (false≢true h)
 
-gain : (t b : Bool) → cond t true b ≡ true → (b ≡ true) ⊎ (t ≡ true)
+pub gain : (t b : Bool) → cond t true b ≡ true → (b ≡ true) ⊎ (t ≡ true)
 gain true b h = inr refl
 gain false b h = inl h
 
-gained : (t b : Bool) → (b ≡ true) ⊎ (t ≡ true) → cond t true b ≡ true
+pub gained : (t b : Bool) → (b ≡ true) ⊎ (t ≡ true) → cond t true b ≡ true
 gained true b h = refl
 gained false b (inl h) = h
 gained false b (inr h) = absurd (false≢true h)
 
-lose : (t b : Bool) → cond t false b ≡ true → (b ≡ true) × ¬ (t ≡ true)
+pub lose : (t b : Bool) → cond t false b ≡ true → (b ≡ true) × ¬ (t ≡ true)
 lose true b h = absurd (false≢true h)
 lose false b h = (h, false≢true)
 
-lost : (t b : Bool) → (b ≡ true) × ¬ (t ≡ true) → cond t false b ≡ true
+pub lost : (t b : Bool) → (b ≡ true) × ¬ (t ≡ true) → cond t false b ≡ true
 lost true b h = absurd (h.1 refl)
 lost false b h = h.0
 

@@ -2,3 +2,5 @@
 pub mod Rows
 pub mod Closed
 pub mod Noted
+pub mod Opened
+pub mod Closure

@@ -1,5 +1,5 @@
 //! What each group reaches and what everybody does, and who reaches the use of a group.
-ghost use Rattle.std.specs.Prelude.{◌≡◌, ◌↔◌, ◌∷◌, IfOk, OnOk, OnErr, [], not};
+ghost use Rattle.std.specs.Prelude.{◌≡◌, ◌↔◌, ◌∷◌, Some, IfOk, OnOk, OnErr, [], not};
 ghost use Rattle.std.specs.List.{Contains};
 ghost use Rattle.fl_labels.specs.Found.{Tells};
 ghost use Rattle.fl_labels.specs.declared.name.Name.{Name};
@@ -8,13 +8,13 @@ ghost use Rattle.fl_closure.specs.declared.rows.Owner.TheVariants.{Everybody, Gr
 ghost use Rattle.fl_labels.specs.declared.cap.Cap.{Cap};
 ghost use Rattle.fl_labels.specs.declared.cap.Cap.TheVariants.{Use};
 ghost use Rattle.fl_closure.specs.parts.Rows.{has, Holds, Adds, Takes, IsSameRows};
-ghost use Rattle.fl_closure.specs.parts.Closed.{Behind, Leads, IsAbove, AreTransitive, AddsAll, AddsToEach, AddsAbove, IsFirstOf, Renews, ClosesWith};
-ghost use Rattle.fl_closure.specs.parts.Noted.{Gains, Loses, Notes};
+ghost use Rattle.fl_closure.specs.parts.Closed.{Gives, Behind, Leads, IsAbove, AreTransitive, AddsAll, AddsToEach, AddsAbove, IsFirstOf, Renews, ClosesWith};
+ghost use Rattle.fl_closure.specs.parts.Noted.{entry, Gains, Loses, Notes};
 
 use crate::rows::{Owner, Rows};
 use fl_labels::cap::Cap;
 use fl_labels::name::Name;
-use fl_ops::op::{Body, Op};
+use fl_ops::op::{Body, Op, Policy};
 use std::alloc::{AllocError, Global};
 use std::collections::BTreeSet;
 use std::marker::Model;
@@ -26,7 +26,8 @@ pub struct Entry {
     pub cap: Cap,
 }
 
-/// For each group what it reaches, and the groups that reach the use of it; and what everybody reaches.
+/// For each group what it reaches, and the groups that reach the use of it; and what everybody
+/// reaches.
 #[derive(Debug, Drop)]
 pub struct ClosedRows {
     reached: Rows,
@@ -49,6 +50,20 @@ impl Model for ClosedRows {
     ghost invariant = { λ a. AreMirrored a.reached a.users };
 }
 
+// What the operation gives, and to whom.
+fn gift(op: &Op) -> Option<Entry>
+    ensures { (owner : Owner) (c : Cap) → Gives op.now owner c ↔ (result ≡ Some (entry owner c)) }
+{
+    let (owner, cap) = match op.body {
+        Body::MakeTag(Policy::Export) => (Owner::Everybody, Cap::Plus(op.name)),
+        Body::MakeTag(Policy::Integrity) => (Owner::Everybody, Cap::Minus(op.name)),
+        Body::Put(group, cap) => (Owner::Group(group), cap),
+        Body::Open(group) => (Owner::Everybody, Cap::Use(group)),
+        Body::MakeTag(Policy::Read) | Body::MakeGroup | Body::MakeLogin(_, _) => return None,
+    };
+    Some(Entry { owner, cap })
+}
+
 impl ClosedRows {
     /// No group reaches anything. Takes no memory.
     pub fn new(alloc: Global) -> Self
@@ -68,8 +83,8 @@ impl ClosedRows {
         self.reached.has(Owner::Everybody, cap)
     }
 
-    /// Whether the one capability leads to the other: it is the same one, or the use of a group that reaches it. Two searches by
-    /// order.
+    /// Whether the one capability leads to the other: it is the same one, or the use of a group
+    /// that reaches it. Two searches by order.
     pub fn leads(&self, root: Cap, cap: Cap) -> bool
         ensures { Tells result (Leads self.now root cap) }
     {
@@ -82,8 +97,8 @@ impl ClosedRows {
         }
     }
 
-    /// Whether one of these leads to the capability. As `leads`, for each of these that is the use of a group, and a glance at
-    /// each other one.
+    /// Whether one of these leads to the capability. As `leads`, for each of these that is the use
+    /// of a group, and a glance at each other one.
     pub fn one_leads(&self, roots: &[Cap], cap: Cap) -> bool
         ensures { Tells result ((root : Cap) × Contains roots.now root × Leads self.now root cap) }
     {
@@ -95,7 +110,8 @@ impl ClosedRows {
         false
     }
 
-    // Adds a capability to the owner's row, and answers whether it is new there. An error leaves the rows.
+    // Adds a capability to the owner's row, and answers whether it is new there. An error leaves
+    // the rows.
     fn add(&mut self, owner: Owner, cap: Cap) -> Result<bool, AllocError>
         ensures ok { OnOk result (Adds self.old owner cap self.new) }
         ensures new { IfOk result (λ new. new ≡ not (has self.old owner cap)) }
@@ -180,7 +196,8 @@ impl ClosedRows {
         Ok(())
     }
 
-    // The same of a capability and of what is behind it, where a row that has it has all of these: it is looked at alone then.
+    // The same of a capability and of what is behind it, where a row that has it has all of these:
+    // it is looked at alone then.
     fn note_from(
         &mut self,
         owner: Owner,
@@ -219,7 +236,8 @@ impl ClosedRows {
         Ok(())
     }
 
-    // The same to the row of the group, and of each that reaches the use of it: everybody too, where everybody does.
+    // The same to the row of the group, and of each that reaches the use of it: everybody too,
+    // where everybody does.
     fn note_above(
         &mut self,
         group: Name,
@@ -228,7 +246,8 @@ impl ClosedRows {
         news: &mut Vec<Entry>,
     ) -> Result<(), AllocError>
         requires { IsFirstOf self.old first behind.now.keys }
-        ensures ok { OnOk result (AddsAbove self.old (Group group) (first ∷ behind.now.keys) self.new) }
+        ensures ok { OnOk result
+            (AddsAbove self.old (Group group) (first ∷ behind.now.keys) self.new) }
         ensures news { Notes news.old.items self.old news.new.items self.new }
     {
         let uses = self.above(group)?;
@@ -255,7 +274,8 @@ impl ClosedRows {
         }
     }
 
-    /// Gives what the operations put and open, and notes what that adds to the rows: after an error too, so that it can be taken out again.
+    /// Gives what the operations give, and notes what that adds to the rows: after an error too, so
+    /// that it can be taken out again. Fails only where there is not enough memory.
     pub fn give_all(&mut self, ops: &[Op], news: &mut Vec<Entry>) -> Result<(), AllocError>
         requires transitive { AreTransitive self.old }
         requires none { news.old.items ≡ [] }
@@ -263,10 +283,8 @@ impl ClosedRows {
         ensures news { Gains self.old news.new.items self.new }
     {
         for op in ops {
-            match op.body {
-                Body::Put(group, cap) => self.give(Owner::Group(group), cap, news)?,
-                Body::Open(group) => self.give(Owner::Everybody, Cap::Use(group), news)?,
-                _ => (),
+            if let Some(entry) = gift(op) {
+                self.give(entry.owner, entry.cap, news)?;
             }
         }
         Ok(())

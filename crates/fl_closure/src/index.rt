@@ -8,10 +8,9 @@ ghost use Rattle.fl_ops.specs.declared.op.Op.{Op};
 ghost use Rattle.fl_ops.specs.OpOrder.{op_cmp};
 ghost use Rattle.fl_ops.specs.Logins.{FindsLogin};
 ghost use Rattle.fl_ops.specs.Registry as spec;
-ghost use Rattle.fl_ops.specs.Registry.{Reach, From, InEffect};
-ghost use Rattle.fl_closure.specs.parts.Closed.{IsTag};
+ghost use Rattle.fl_ops.specs.Registry.{Reach, From, IsGlobal, InEffect};
 
-use crate::closed::ClosedRows;
+use crate::closure::{Closure, News};
 use fl_labels::cap::Cap;
 use fl_labels::cap_set::CapSet;
 use fl_labels::name::Name;
@@ -21,14 +20,16 @@ use fl_opset::set::OpSet;
 use std::alloc::{AllocError, Global};
 use std::marker::Model;
 
-/// A set of operations, with all that each group reaches through them, so that a question is a look into a row or two.
+/// A set of operations, with all that each group and everybody reaches through them, so that a
+/// question is a look into a row or two.
 ///
-/// Each pair of a group and a capability that it reaches takes some 30 bytes, and as much again where that is the use of a
-/// group: ten thousand groups in a chain would have fifty million pairs.
+/// Each pair of a group and a capability that it reaches takes some 30 bytes, and as much again
+/// where that is the use of a group: ten thousand groups in a chain would have fifty million pairs.
+/// Each capability that everybody reaches takes some 30 bytes too, and each opened group some 20.
 #[derive(Debug)]
 pub struct Index {
     ops: OpSet,
-    rows: ClosedRows,
+    closure: Closure,
     alloc: Global,
 }
 
@@ -36,7 +37,7 @@ impl Drop for Index {
     fn drop(self) {
         let Index {
             ops: _,
-            rows: _,
+            closure: _,
             alloc: _,
         } = self;
     }
@@ -47,7 +48,7 @@ impl Model for Index {
     ghost use Rattle.fl_labels.specs.SetBy.{In};
     ghost use Rattle.fl_ops.specs.OpOrder.{op_cmp};
     ghost use Rattle.fl_ops.specs.OpLaws.{coded_op};
-    ghost use Rattle.fl_closure.specs.parts.Closed.{AreClosed};
+    ghost use Rattle.fl_closure.specs.parts.Closure.{IsClosure};
 
     ghost Value = { set.SetBy op_cmp };
 
@@ -55,7 +56,7 @@ impl Model for Index {
 
     ghost view = { λ a. a.ops };
 
-    ghost invariant = { λ a. AreClosed (In a.ops) a.rows };
+    ghost invariant = { λ a. IsClosure (In a.ops) a.closure };
 }
 
 // The operation that makes a tag.
@@ -70,7 +71,8 @@ fn tag_op(name: Name, policy: Policy) -> Op
 
 // Whether one of these operations is no member.
 fn lacks_one_of(ops: &OpSet, others: &[Op]) -> bool
-    ensures { Tells result ((op : Op) × Contains others.now op × (set.contains ops.now op ≡ false)) }
+    ensures { Tells result
+        ((op : Op) × Contains others.now op × (set.contains ops.now op ≡ false)) }
 {
     for op in others {
         if !ops.contains(op) {
@@ -87,7 +89,7 @@ impl Index {
     {
         Index {
             ops: OpSet::new(alloc),
-            rows: ClosedRows::new(alloc),
+            closure: Closure::new(alloc),
             alloc,
         }
     }
@@ -99,19 +101,24 @@ impl Index {
         &self.ops
     }
 
-    /// The least login of this name, as its capability and the digest of its secret, or none. A binary search; takes no memory.
+    /// The least login of this name, as its capability and the digest of its secret, or none. A
+    /// binary search; takes no memory.
     pub fn login(&self, name: Name) -> Option<(Cap, Digest)>
         ensures { FindsLogin (In self.now) name result }
     {
         self.ops.first_login(name)
     }
 
-    /// Adds an operation; one that is there already changes nothing. Fails only of a new one for which there is not enough memory,
-    /// and then leaves the index.
+    /// Adds an operation; one that is there already changes nothing. Fails only of a new one for
+    /// which there is not enough memory, and then leaves the index.
     ///
-    /// A search by order, and the operations above it move. A put also renews the rows of its group and of each group that reaches
-    /// the use of that: a look into each such row, and for each row without the capability a walk along it and what the capability
-    /// leads to, with two searches for each that is new there. A put of what its group reaches already looks into the one row.
+    /// A search by order, and the operations above it move. A put also renews the rows of its
+    /// group, of each group that reaches the use of that, and of everybody where everybody does: a
+    /// look into each such row, and for each row without the capability a walk along it and what
+    /// the capability leads to, with two searches for each that is new there. A put of what its
+    /// group reaches already looks into the one row. An operation that makes an export tag or an
+    /// integrity tag so renews everybody's row alone, and so does one that opens a group, which is
+    /// also looked for among the opened ones.
     pub fn absorb(&mut self, op: &Op) -> Result<(), AllocError>
         ensures ok { OnOk result (self.new ≡ set.insert self.old op.now) }
         ensures err { OnErr result (self.new ≡ self.old) }
@@ -120,22 +127,24 @@ impl Index {
         if self.ops.contains(op) {
             return Ok(());
         }
-        let mut news = Vec::new(self.alloc);
-        if let Err(error) = self.rows.give_all(&[*op], &mut news) {
-            self.rows.take_all(&news);
+        let mut news = News::new(self.alloc);
+        if let Err(error) = self.closure.give_all(&[*op], &mut news) {
+            self.closure.take_all(&news);
             return Err(error);
         }
         if let Err(error) = self.ops.add(*op) {
-            self.rows.take_all(&news);
+            self.closure.take_all(&news);
             return Err(error);
         }
         Ok(())
     }
 
-    /// Adds operations, all or none. Fails only where one of them is new and there is not enough memory, and then leaves the index.
+    /// Adds operations, all or none. Fails only where one of them is new and there is not enough
+    /// memory, and then leaves the index.
     ///
-    /// A binary search for each up to the first that is new; then as `OpSet::merge` for the operations, and for each put as `absorb`
-    /// for the rows. Until it ends, what is new in the rows is also in a list, so that it can be taken out again without memory.
+    /// A binary search for each up to the first that is new; then as `OpSet::merge` for the
+    /// operations, and for each as `absorb` for the rows. Until it ends, what is new in the rows is
+    /// also in a list, so that it can be taken out again without memory.
     pub fn absorb_all(&mut self, alloc: Global, ops: &OpSet) -> Result<(), AllocError>
         ensures ok { OnOk result (self.new ≡ set.union self.old ops.now) }
         ensures err { OnErr result (self.new ≡ self.old) }
@@ -144,47 +153,51 @@ impl Index {
         if !lacks_one_of(&self.ops, ops.as_slice()) {
             return Ok(());
         }
-        let mut news = Vec::new(alloc);
-        if let Err(error) = self.rows.give_all(ops.as_slice(), &mut news) {
-            self.rows.take_all(&news);
+        let mut news = News::new(alloc);
+        if let Err(error) = self.closure.give_all(ops.as_slice(), &mut news) {
+            self.closure.take_all(&news);
             return Err(error);
         }
         if let Err(error) = self.ops.merge(ops) {
-            self.rows.take_all(&news);
+            self.closure.take_all(&news);
             return Err(error);
         }
         Ok(())
     }
 
-    /// Whether the owner of the one capability reaches the other: it is the same one, or was put into a group of which the owner
-    /// reaches the use. Two searches by order; takes no memory.
+    /// Whether the owner of the one capability reaches the other: it is the same one, or was put
+    /// into a group of which the owner reaches the use. Two searches by order; takes no memory.
     pub fn reaches(&self, root: Cap, cap: Cap) -> bool
         ensures { Tells result (Reach (In self.now) (From root) cap) }
     {
-        self.rows.leads(root, cap)
+        self.closure.rows.leads(root, cap)
     }
 
-    // Whether everybody has the capability of a tag: to add an export tag, or to remove an integrity tag.
-    fn has_tag(&self, cap: Cap) -> bool
-        ensures { Tells result (IsTag (In self.now) cap) }
+    /// Whether everybody has the capability: to add an export tag, to remove an integrity tag, or
+    /// to use an opened group. What these lead to is in effect for everybody, but not told here. A
+    /// search by order; takes no memory.
+    pub fn global(&self, cap: Cap) -> bool
+        ensures { Tells result (IsGlobal (In self.now) cap) }
     {
         match cap {
             Cap::Plus(tag) => self.ops.contains(&tag_op(tag, Policy::Export)),
             Cap::Minus(tag) => self.ops.contains(&tag_op(tag, Policy::Integrity)),
-            Cap::Use(_) | Cap::Grow(_) => false,
+            Cap::Use(group) => self.closure.opened.has(group),
+            Cap::Grow(_) => false,
         }
     }
 
-    /// Whether the owner of these capabilities has this one in effect: reaches it, or everybody has it. Takes no memory.
+    /// Whether the owner of these capabilities has this one in effect: reaches it from what it
+    /// owns, or from what everybody has. Takes no memory.
     ///
-    /// A binary search in what is owned, one in the operations, and one in what the groups reach that are opened, however many
-    /// these are. Where it is neither owned nor everybody's, then two searches by order for each use of a group that is owned.
+    /// A binary search in what is owned, and a search by order in what everybody reaches. Where it
+    /// is in neither, then two searches by order for each use of a group that is owned.
     pub fn effective(&self, owned: &CapSet, cap: Cap) -> bool
         ensures { Tells result (InEffect (In self.now) (In owned.now) cap) }
     {
-        if owned.contains(cap) || self.has_tag(cap) || self.rows.is_everybodys(cap) {
+        if owned.contains(cap) || self.closure.rows.is_everybodys(cap) {
             return true;
         }
-        self.rows.one_leads(owned.uses(), cap)
+        self.closure.rows.one_leads(owned.uses(), cap)
     }
 }

@@ -2,6 +2,8 @@
 #![tactic(auto)]
 
 mod closed;
+mod closure;
 pub mod index;
+mod opened;
 mod rows;
 mod view;

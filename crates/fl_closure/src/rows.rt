@@ -17,7 +17,7 @@ use std::collections::{BTreeMap, BTreeSet};
 pub enum Owner {
     /// Who may use the group.
     Group(Name),
-    /// Who may use any group that is opened, so everybody.
+    /// Everybody, so also who owns nothing.
     Everybody,
 }
 
@@ -61,7 +61,8 @@ impl Rows {
         }
     }
 
-    // Adds a capability to the row of the group, and answers whether it is new there. An error leaves the rows.
+    // Adds a capability to the row of the group, and answers whether it is new there. An error
+    // leaves the rows.
     fn add_to_group(&mut self, name: Name, cap: Cap) -> Result<bool, AllocError>
         ensures ok { OnOk result (Adds self.old (Group name) cap self.new) }
         ensures new { IfOk result (λ new. new ≡ not (has self.old (Group name) cap)) }
@@ -77,8 +78,8 @@ impl Rows {
         Ok(new)
     }
 
-    /// Adds a capability to the owner's row, and answers whether it is new there. Two searches by order, and one for everybody.
-    /// An error leaves the rows.
+    /// Adds a capability to the owner's row, and answers whether it is new there. Two searches by
+    /// order, and one for everybody. An error leaves the rows.
     pub fn add(&mut self, owner: Owner, cap: Cap) -> Result<bool, AllocError>
         ensures ok { OnOk result (Adds self.old owner cap self.new) }
         ensures new { IfOk result (λ new. new ≡ not (has self.old owner cap)) }
@@ -93,7 +94,8 @@ impl Rows {
         }
     }
 
-    /// Takes a capability out of the owner's row. Two searches by order, and one for everybody; takes no memory.
+    /// Takes a capability out of the owner's row. Two searches by order, and one for everybody;
+    /// takes no memory.
     pub fn take(&mut self, owner: Owner, cap: Cap)
         ensures { Takes self.old owner cap self.new }
     {
@@ -109,7 +111,8 @@ impl Rows {
         }
     }
 
-    /// The row of the group again. A search by order, and a copy of the row. Fails only where there is not enough memory.
+    /// The row of the group again. A search by order, and a copy of the row. Fails only where there
+    /// is not enough memory.
     pub fn row(&self, name: Name) -> Result<BTreeSet<Cap>, AllocError>
         ensures { IfOk result (λ row. row.keys ≡ row_caps self.now name) }
     {
@@ -122,7 +125,8 @@ impl Rows {
     // Those of these capabilities that the row of the group lacks.
     fn lacking_of_group(&self, name: Name, caps: &BTreeSet<Cap>) -> Result<Vec<Cap>, AllocError>
         ensures { IfOk result (λ lacking. (c : Cap) →
-            Contains lacking.items c ↔ (Contains caps.now.keys c × ¬ Holds self.now (Group name) c)) }
+            Contains lacking.items c ↔
+            (Contains caps.now.keys c × ¬ Holds self.now (Group name) c)) }
     {
         match self.groups.get(&name) {
             Some(row) => caps.difference(row).copied().collect(self.alloc),
@@ -140,8 +144,8 @@ impl Rows {
             .collect(self.alloc)
     }
 
-    /// Those of these capabilities that the owner's row lacks. One walk along both, or where these are far fewer a search by order
-    /// for each. Fails only where there is not enough memory.
+    /// Those of these capabilities that the owner's row lacks. One walk along both, or where these
+    /// are far fewer a search by order for each. Fails only where there is not enough memory.
     pub fn lacking(&self, owner: Owner, caps: &BTreeSet<Cap>) -> Result<Vec<Cap>, AllocError>
         ensures { IfOk result (λ lacking. (c : Cap) →
             Contains lacking.items c ↔ (Contains caps.now.keys c × ¬ Holds self.now owner c)) }
@@ -152,11 +156,12 @@ impl Rows {
         }
     }
 
-    /// Adds the row of the group to a list, at the end and in order. A search by order, and a copy of the row. Fails only where
-    /// there is not enough memory, and then leaves the list.
+    /// Adds the row of the group to a list, at the end and in order. A search by order, and a copy
+    /// of the row. Fails only where there is not enough memory, and then leaves the list.
     pub fn push_row(&self, name: Name, caps: &mut Vec<Cap>) -> Result<(), AllocError>
         ensures has { OnOk result ((c : Cap) →
-            Contains caps.new.items c ↔ (Contains caps.old.items c ⊎ Holds self.now (Group name) c)) }
+            Contains caps.new.items c ↔
+            (Contains caps.old.items c ⊎ Holds self.now (Group name) c)) }
         ensures end { OnOk result (caps.new.items ≡ caps.old.items ++ row_caps self.now name) }
         ensures err { OnErr result (caps.new.items ≡ caps.old.items) }
     {

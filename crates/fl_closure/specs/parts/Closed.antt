@@ -8,38 +8,25 @@ use Rattle.fl_labels.specs.declared.cap.Cap.{Cap}
 use Rattle.fl_labels.specs.declared.cap.Cap.TheVariants.{Plus, Minus, Use, Grow}
 use Rattle.fl_ops.specs.declared.op.Op.{Op}
 use Rattle.fl_ops.specs.OpOrder.{op_cmp}
-use Rattle.fl_ops.specs.declared.op.Policy.TheVariants.{Export, Integrity}
-use Rattle.fl_ops.specs.declared.op.Body.{Body}
-use Rattle.fl_ops.specs.declared.op.Body.TheVariants.{MakeTag, MakeGroup, Put, MakeLogin, Open}
-use Rattle.fl_ops.specs.Registry.{Registry, Puts, Chain, tag_op}
+use Rattle.fl_ops.specs.Registry.{Registry, Puts, Chain, IsGlobal}
 use Rattle.fl_closure.specs.declared.rows.Rows.{Rows}
 use Rattle.fl_closure.specs.declared.rows.Owner.{Owner}
 use Rattle.fl_closure.specs.declared.rows.Owner.TheVariants.{Everybody, Group}
 use Rattle.fl_closure.specs.parts.Rows.{Holds}
 
--- c is the use of the group that the operation opens
-abbrev pub OpensUse : Body → Caps
-OpensUse (MakeTag policy) c = ⊥
-OpensUse MakeGroup c = ⊥
-OpensUse (Put into what) c = ⊥
-OpensUse (MakeLogin cap digest) c = ⊥
-OpensUse (Open group) c = c ≡ Use group
+-- the registry of one operation
+abbrev pub Alone : Op → Registry
+Alone op = λ other. other ≡ op
 
--- the operation gives c to who may use the group, or to everybody
-abbrev pub Gives : Body → Owner → Caps
-Gives body (Group group) c = Puts body group c
-Gives body Everybody c = OpensUse body c
-
--- everybody may add an export tag, or remove an integrity tag
-abbrev pub IsTag : Registry → Caps
-IsTag U (Plus tag) = U (tag_op tag Export)
-IsTag U (Minus tag) = U (tag_op tag Integrity)
-IsTag U (Use group) = ⊥
-IsTag U (Grow group) = ⊥
+-- what one operation gives: to who may use a group what it puts there, and to everybody what is
+-- everybody's by this operation alone
+abbrev pub Gives : Op → Owner → Caps
+Gives op (Group group) c = Puts op.body group c
+Gives op Everybody c = IsGlobal (Alone op) c
 
 -- some operation does
 abbrev pub IsGiven : Registry → Owner → Caps
-IsGiven U owner c = (op : Op) × U op × Gives op.body owner c
+IsGiven U owner c = (op : Op) × U op × Gives op owner c
 
 -- a chain leads to c from what is given to the owner
 abbrev pub Way : Registry → Owner → Caps
@@ -51,7 +38,8 @@ pub record AreClosed (U : Registry) (rows : Rows) : Type 0 where
 
 -- the users of a group are the groups that reach its use
 pub record AreMirrored (reached users : Rows) : Type 0 where
-  pub used : (user group : Name) → Holds users (Group group) (Use user) ↔ Holds reached (Group user) (Use group)
+  pub used : (user group : Name)
+      → Holds users (Group group) (Use user) ↔ Holds reached (Group user) (Use group)
 
 -- what the group that the capability uses reaches
 abbrev pub Behind : Rows → Cap → Caps
@@ -75,7 +63,8 @@ IsAbove rows owner user = (user ≡ owner) ⊎ IsUser rows owner user
 
 -- who reaches the use of a group reaches what that reaches
 pub record AreTransitive (rows : Rows) : Type 0 where
-  pub on : (user : Owner) (group : Name) (c : Cap) → Holds rows user (Use group) → Holds rows (Group group) c → Holds rows user c
+  pub on : (user : Owner) (group : Name) (c : Cap)
+      → Holds rows user (Use group) → Holds rows (Group group) c → Holds rows user c
 
 -- one row has these capabilities, and all else is as it was
 pub record AddsAll (old : Rows) (owner : Owner) (caps : List Cap) (new : Rows) : Type 0 where
@@ -99,7 +88,8 @@ pub record AddsAbove (old : Rows) (owner : Owner) (caps : List Cap) (new : Rows)
 
 -- a row with the first of these has all of them
 pub record IsFirstOf (rows : Rows) (first : Cap) (caps : List Cap) : Type 0 where
-  pub all : (owner : Owner) (c : Cap) → Holds rows owner first → Contains caps c → Holds rows owner c
+  pub all : (owner : Owner) (c : Cap)
+      → Holds rows owner first → Contains caps c → Holds rows owner c
 
 -- after b is given to the owner, those above it reach what b leads to
 pub record Renews (old : Rows) (owner : Owner) (b : Cap) (new : Rows) : Type 0 where

@@ -7,17 +7,22 @@ use Rattle.fl_closure.specs.declared.rows.Owner.{Owner}
 use Rattle.fl_closure.specs.declared.closed.Entry.{Entry}
 use Rattle.fl_closure.specs.parts.Rows.{Holds}
 
+abbrev pub entry : Owner → Cap → Entry
+entry owner c = record { owner = owner; cap = c }
+
 abbrev pub Into : List Entry → Owner → Cap → Type 0
-Into entries owner c = Contains entries (record { owner = owner; cap = c })
+Into entries owner c = Contains entries (entry owner c)
 
 -- the rows have what they had and these entries, which they had not
 pub record Gains (old : Rows) (news : List Entry) (new : Rows) : Type 0 where
-  pub holds : (owner : Owner) (c : Cap) → Holds new owner c ↔ (Holds old owner c ⊎ Into news owner c)
+  pub holds : (owner : Owner) (c : Cap)
+      → Holds new owner c ↔ (Holds old owner c ⊎ Into news owner c)
   pub fresh : (owner : Owner) (c : Cap) → Into news owner c → ¬ Holds old owner c
 
 -- the rows have what they had, but none of these entries
 pub record Loses (old : Rows) (entries : List Entry) (new : Rows) : Type 0 where
-  pub holds : (owner : Owner) (c : Cap) → Holds new owner c ↔ (Holds old owner c × ¬ Into entries owner c)
+  pub holds : (owner : Owner) (c : Cap)
+      → Holds new owner c ↔ (Holds old owner c × ¬ Into entries owner c)
 
 -- what was gained before and is noted is noted with what was gained since
 abbrev pub Notes : List Entry → Rows → List Entry → Rows → Type 0

@@ -41,11 +41,13 @@ IsPair owner c other d = (owner ≡ other) × (c ≡ d)
 
 -- one row has this capability, and all else is as it was
 pub record Adds (old : Rows) (owner : Owner) (c : Cap) (new : Rows) : Type 0 where
-  pub holds : (other : Owner) (d : Cap) → Holds new other d ↔ (Holds old other d ⊎ IsPair owner c other d)
+  pub holds : (other : Owner) (d : Cap)
+      → Holds new other d ↔ (Holds old other d ⊎ IsPair owner c other d)
 
 -- one row has this capability no more, and all else is as it was
 pub record Takes (old : Rows) (owner : Owner) (c : Cap) (new : Rows) : Type 0 where
-  pub holds : (other : Owner) (d : Cap) → Holds new other d ↔ (Holds old other d × ¬ IsPair owner c other d)
+  pub holds : (other : Owner) (d : Cap)
+      → Holds new other d ↔ (Holds old other d × ¬ IsPair owner c other d)
 
 -- each row is as it was
 pub record IsSameRows (old new : Rows) : Type 0 where

@@ -1,7 +1,7 @@
 use Rattle.std.proofs.Common.{subst, sym, ap, ◌∙◌, ◌++◌, ◌∷◌, []}
-use Rattle.fl_closure.specs.parts.Noted.{Gains}
+use Rattle.fl_closure.specs.parts.Noted.{entry, Gains}
 use Rattle.fl_closure.proofs.Members.{fresh}
-use Rattle.fl_closure.proofs.Noting.{gains_one, entry}
+use Rattle.fl_closure.proofs.Noting.{gains_one}
 use Rattle.fl_closure.proofs.closed.ClosedRows.note.Goals as goal
 
 pub returns-in_ok-push-clause-news : goal.returns-in_ok-push-clause-news

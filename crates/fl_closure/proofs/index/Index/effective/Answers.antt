@@ -1,16 +1,15 @@
 use Rattle.std.proofs.Common.{sym, ◌∙◌}
-use Rattle.fl_closure.proofs.Indexing.{told_owned, told_tag, told_row, told_led}
-use Rattle.fl_closure.proofs.index.Index.effective.Goals.{then-contains-via-then-contains, then-contains-via-else-contains+then-has_tag, then-contains-via-else-contains+else-has_tag+then-is_everybodys}
+use Rattle.fl_closure.proofs.Indexing.{told_owned, told_row, told_led}
+use Rattle.fl_closure.proofs.index.Index.effective.Goals.{then-contains-via-then-contains, then-contains-via-else-contains+then-is_everybodys}
 use Rattle.fl_closure.proofs.index.Index.effective.Goals as goal
 
 pub returns-then-contains : goal.returns-then-contains
 returns-then-contains c = elim c.then-contains.branch [
   | then-contains-via-then-contains w ↦ told_owned c.args.self.now _ c.args.cap (sym c.contains.ensures ∙ w.if-contains.true)
-  | then-contains-via-else-contains+then-has_tag w ↦ told_tag c.args.self.now c.args.owned.now c.args.cap (w.has_tag.ensures.holds w.if-has_tag.true)
-  | then-contains-via-else-contains+else-has_tag+then-is_everybodys w ↦
-      told_row c.args.self.now c.args.owned.now c.args.cap _ _ c.self.view_is c.self.invariant (w.is_everybodys.ensures.holds w.if-is_everybodys.true)
+  | then-contains-via-else-contains+then-is_everybodys w ↦
+      told_row c.args.self.now c.args.owned.now c.args.cap _ _ c.self.view_is c.self.invariant.closed (w.is_everybodys.ensures.holds w.if-is_everybodys.true)
 ]
 
 pub returns : goal.returns
 returns c =
-    told_led c.args.self.now c.args.owned.now c.args.cap _ _ _ _ c.self.view_is c.self.invariant c.uses.ensures (sym c.contains.ensures ∙ c.if-contains.false) (c.has_tag.ensures.fails c.if-has_tag.false) (c.is_everybodys.ensures.fails c.if-is_everybodys.false) c.one_leads.ensures
+    told_led c.args.self.now c.args.owned.now c.args.cap _ _ _ _ c.self.view_is c.self.invariant.closed c.uses.ensures (sym c.contains.ensures ∙ c.if-contains.false) (c.is_everybodys.ensures.fails c.if-is_everybodys.false) c.one_leads.ensures
