@@ -14,7 +14,7 @@ use std::alloc::{AllocError, Global};
 /// Makes keepers in memory, but none where the first of these is of the node: then that is why, and the next is the first.
 #[derive(Drop)]
 pub struct RefusingMaker<'a> {
-    pub refusals: &'a [(u16, Fault)],
+    pub refusals: &'a [(NodeNumber, Fault)],
 }
 
 impl MakesKeepers for RefusingMaker<'_> {
@@ -56,7 +56,7 @@ impl MakesKeepers for OneNodeMaker {
 /// Makes keepers in memory. Those of the nodes up to this number break at their first save.
 #[derive(Clone, Copy)]
 pub struct BreakingMaker {
-    pub last: u16,
+    pub last: NodeNumber,
 }
 
 impl MakesKeepers for BreakingMaker {

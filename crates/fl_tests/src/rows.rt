@@ -60,7 +60,7 @@ message p1.1.1 {} none\nok\ndropped F2 e1\nrefused F19 16\n",
 /// What a packet brings is saved by one line, and published by another.
 pub const RECEIVED_BATCH_IN_STEPS: Row<'static> = Row {
     script: b"1 proc\n1 tag p1.1.1 export\n1 label p1.1.1 S {1.1}\n2 tell\n1 deliver 1\n2 begin deliver 2\n\
-2 check f10301010100010000000101\n2 save\n2 check f10301010100010000000101\n2 text\n2 publish\n2 text\n",
+2 check f10301010100010000000101\n2 save\n2 check f203010201000000010000000101\n2 text\n2 publish\n2 text\n",
     output: b"p1.1.1\nok 1.1\nok\nsent 1\nsent 2\nbegun 1\nnew 1\nok\nnew 0\ntook 1\n1.1 tag export\n",
     status: 0,
 };

@@ -46,7 +46,7 @@ pub const KEEPER_BREAKS_AT_FIRST_SAVE: Row<'static> = Row {
 pub const STOPPED_NODES: Row<'static> = Row {
     script: b"1 proc as $a\n1 open $a r {} {}\n2 proc as $b\n2 open $b w {} {}\n2 send $b e1 $a e1 {} 00\n2 tell\n\
 1 tag $a export as $t\naliases\n1 begin group $a\n1 save\n1 publish\n1 cancel\n1 tell\n1 text\n1 check f1\n\
-1 check f10301010100010000000101\n1 deliver 1\n1 deliver 2\n1 take $a\n1 member +1.1 +1.1\nunion 1 2\nunion 2 1\n\
+1 check f203010201000000010000000101\n1 deliver 1\n1 deliver 2\n1 take $a\n1 member +1.1 +1.1\nunion 1 2\nunion 2 1\n\
 1 restart kept\n1 proc\n2 begin group $b\n2 save\n2 cancel\n3 proc\n3 begin group p3.1.1\n3 restart kept\n3 proc\n\
 5 proc\n5 group p5.1.1\n5 deliver 2\n4 deliver 3\n4 text\n1 deliver 3\n5 text\naudit\n",
     output: b"p1.1.1\nok e1\np2.1.1\nok e1\nsent 1\nsent 2\nrefused F15\n$a p1.1.1\n$b p2.1.1\nrefused F21\n\
