@@ -60,7 +60,7 @@ fn asks(
     world: &mut World<MemKeeper>,
     alloc: Global,
     node: NodeNumber,
-    teller: u16,
+    teller: NodeNumber,
     window: u64,
 ) -> Result<(), Fail> {
     happens(
@@ -143,9 +143,10 @@ fn gap_is_filled(rt: HostRuntime) -> Result<(), Fail> {
     let alloc = rt.alloc();
     let mut world = World::new(alloc);
     gap(&mut world, alloc)?;
-    let window = "f102000100000001ffffffffffff00020001000000010000000100010000000300000003";
+    let window =
+        "f2020000000100000001ffffffffffffffff0002000000010000000100000001000000010000000300000003";
     assert!(rt; is_packet(&world, alloc, 6, window)?);
-    assert!(rt; is_packet(&world, alloc, 7, "f103010102000100000002")?);
+    assert!(rt; is_packet(&world, alloc, 7, "f2030102020000000100000002")?);
     let mut text = Vec::new(alloc);
     assert!(rt; world.text(2, &mut text).is_some());
     assert_eq!(rt;
