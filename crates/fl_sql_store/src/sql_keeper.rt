@@ -109,7 +109,7 @@ impl<S: Alter> SqlKeeper<S> {
     }
 }
 
-impl<S: Alter + Drop> SqlKeeper<S> {
+impl<S: Alter> SqlKeeper<S> {
     /// The connection, as the last call left it. No transaction is under way.
     pub fn into_connection(self) -> Connection<S>
         ensures same { result ≡ self.conn }
