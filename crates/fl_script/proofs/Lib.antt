@@ -4,9 +4,9 @@ pub mod SecretWord
 pub mod UnionWords
 pub mod MessageWords
 pub mod WordAt
-pub mod SpawnWords
-pub mod SendWords
 pub mod ReplacedWords
 pub mod Saying
 pub mod Quiet
-pub mod BeginWords
+pub mod SpawnWords
+pub mod SendWords
+pub mod Found

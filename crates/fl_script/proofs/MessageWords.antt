@@ -9,10 +9,6 @@ use Rattle.fl_script.specs.Words.{IsCapsWord, IsBytesWord, AreMessageWords}
 use Rattle.fl_script.specs.laws.OneWord.{same_caps, same_bytes}
 
 module _ (first second : Word) where
-  -- a word that lists no capabilities is of no message
-  pub no_caps : ((caps : SetBy cap_cmp) → IsCapsWord caps first → ⊥) → (message : Message) → AreMessageWords message first second → ⊥
-  no_caps none message are = none message.caps are.caps
-
   -- what a message was made of, or too much for one
   pub of_words : (caps : SetBy cap_cmp) (bytes : List ℕ) → IsCapsWord caps first → IsBytesWord bytes second
       → (made : Option Message) → MatchOption made ((64 < len caps) ⊎ (1024 < length bytes)) (λ message. (message.caps ≡ caps) × (message.payload ≡ bytes))

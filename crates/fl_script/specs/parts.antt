@@ -1,5 +1,5 @@
 -- Relations that join functions, and that no public clause needs.
 pub mod Meaning
 pub mod Reads
-pub mod Begins
+pub mod Acts
 pub mod Cut

@@ -45,7 +45,8 @@ fn push_piece<'a>(words: &mut ArrayVec<&'a str, MOST_LINE_WORDS>, piece: &'a str
     true
 }
 
-/// The words of a line, or none where there are more than [`MOST_LINE_WORDS`]. Looks at each byte once, and takes no memory.
+/// The words of a line, or none where there are more than [`MOST_LINE_WORDS`]. Looks at each byte
+/// once, and takes no memory.
 pub fn cut_words(line: &str) -> Option<ArrayVec<&str, MOST_LINE_WORDS>>
     ensures { let cut = words_of line.now in
         MatchOption result (8 < length cut) (λ words. map (λ w. w.now) words.items ≡ cut) }

@@ -1,10 +1,14 @@
 //! Jobs by the words that spell them.
-ghost use Rattle.std.specs.Prelude.{◌≡◌, ◌∷◌, OnErr, map, codes};
+ghost use Rattle.std.specs.Prelude.{◌≡◌, ◌≢◌, ◌∷◌, map, codes};
 ghost use Rattle.fl_labels.specs.Found.{Finds};
-ghost use Rattle.fl_script.specs.parts.Reads.{Reads};
 ghost use Rattle.fl_labels.specs.Text.{endpoint_text, pid_text};
+ghost use Rattle.fl_labels.specs.declared.pid.Pid.{Pid};
+ghost use Rattle.fl_jobs.specs.declared.job.Act.TheVariants.{Order as Orders};
 ghost use Rattle.fl_script.specs.Grammar.{IsListVerb, SpellsJob};
+ghost use Rattle.fl_script.specs.parts.Acts.{SpellsAct};
+ghost use Rattle.fl_script.specs.parts.Reads.{Reads, StarvesIf};
 
+use crate::unread::Unread;
 use crate::words::{
     bytes_from_word, caps_from_word, label_from_word, labels_from_words, message_from_words,
     mode_from_word, policy_from_word, secret_from_word, side_from_word,
@@ -13,195 +17,174 @@ use fl_jobs::job::{Act, Job, Mail, Order};
 use fl_labels::endpoint::Endpoint;
 use fl_labels::pid::Pid;
 use fl_labels::text::{read_cap, read_endpoint, read_name, read_pid};
-use std::alloc::{AllocError, Global};
+use std::alloc::Global;
 
-fn proc_job(rest: &[&str]) -> Option<Job>
-    ensures { Finds result (λ j. SpellsJob j (codes "proc" ∷ map (λ w. w.now) rest.now)) }
+fn tag_order(rest: &[&str]) -> Option<Order>
+    ensures { (p : Pid) → Finds result (λ o.
+        SpellsAct p (Orders o) (codes "tag") (map (λ w. w.now) rest.now)) }
+{
+    let [policy] = rest else { return None };
+    let policy = policy_from_word(policy)?;
+    Some(Order::Tag(policy))
+}
+
+fn group_order(rest: &[&str]) -> Option<Order>
+    ensures { (p : Pid) → Finds result (λ o.
+        SpellsAct p (Orders o) (codes "group") (map (λ w. w.now) rest.now)) }
 {
     let [] = rest else { return None };
-    Some(Job::Proc)
+    Some(Order::Group)
 }
 
-pub(crate) fn tag_job(rest: &[&str]) -> Option<Job>
-    ensures { Finds result (λ j. SpellsJob j (codes "tag" ∷ map (λ w. w.now) rest.now)) }
+fn put_order(rest: &[&str]) -> Option<Order>
+    ensures { (p : Pid) → Finds result (λ o.
+        SpellsAct p (Orders o) (codes "put") (map (λ w. w.now) rest.now)) }
 {
-    let [pid, policy] = rest else { return None };
-    let pid = read_pid(pid)?;
-    let policy = policy_from_word(policy)?;
-    Some(Job::By(pid, Act::Order(Order::Tag(policy))))
-}
-
-pub(crate) fn group_job(rest: &[&str]) -> Option<Job>
-    ensures { Finds result (λ j. SpellsJob j (codes "group" ∷ map (λ w. w.now) rest.now)) }
-{
-    let [pid] = rest else { return None };
-    let pid = read_pid(pid)?;
-    Some(Job::By(pid, Act::Order(Order::Group)))
-}
-
-pub(crate) fn put_job(rest: &[&str]) -> Option<Job>
-    ensures { Finds result (λ j. SpellsJob j (codes "put" ∷ map (λ w. w.now) rest.now)) }
-{
-    let [pid, group, cap] = rest else { return None };
-    let pid = read_pid(pid)?;
+    let [group, cap] = rest else { return None };
     let group = read_name(group)?;
     let cap = read_cap(cap)?;
-    Some(Job::By(pid, Act::Order(Order::Put(group, cap))))
+    Some(Order::Put(group, cap))
 }
 
-pub(crate) fn make_login_job(rest: &[&str]) -> Option<Job>
-    ensures { Finds result (λ j. SpellsJob j (codes "make-login" ∷ map (λ w. w.now) rest.now)) }
+fn make_login_order(rest: &[&str]) -> Option<Order>
+    ensures { (p : Pid) → Finds result (λ o.
+        SpellsAct p (Orders o) (codes "make-login") (map (λ w. w.now) rest.now)) }
 {
-    let [pid, cap, secret] = rest else {
-        return None
-    };
-    let pid = read_pid(pid)?;
+    let [cap, secret] = rest else { return None };
     let cap = read_cap(cap)?;
     let secret = secret_from_word(secret)?;
-    Some(Job::By(pid, Act::Order(Order::MakeLogin(cap, secret))))
+    Some(Order::MakeLogin(cap, secret))
 }
 
-pub(crate) fn open_group_job(rest: &[&str]) -> Option<Job>
-    ensures { Finds result (λ j. SpellsJob j (codes "open-group" ∷ map (λ w. w.now) rest.now)) }
+fn open_group_order(rest: &[&str]) -> Option<Order>
+    ensures { (p : Pid) → Finds result (λ o.
+        SpellsAct p (Orders o) (codes "open-group") (map (λ w. w.now) rest.now)) }
 {
-    let [pid, group] = rest else { return None };
-    let pid = read_pid(pid)?;
+    let [group] = rest else { return None };
     let group = read_name(group)?;
-    Some(Job::By(pid, Act::Order(Order::OpenGroup(group))))
+    Some(Order::OpenGroup(group))
 }
 
-fn label_job(alloc: Global, rest: &[&str]) -> Result<Option<Job>, AllocError>
-    ensures { Reads result (λ j. SpellsJob j (codes "label" ∷ map (λ w. w.now) rest.now)) }
+/// The order that a verb and the words after the process spell, or none where they spell no order.
+pub fn order_from_words(verb: &str, rest: &[&str]) -> Option<Order>
+    ensures { (p : Pid) → Finds result (λ o.
+        SpellsAct p (Orders o) verb.now (map (λ w. w.now) rest.now)) }
 {
-    let [pid, side, label] = rest else {
-        return Ok(None);
-    };
-    let Some(pid) = read_pid(pid) else {
-        return Ok(None)
-    };
-    let Some(side) = side_from_word(side) else {
-        return Ok(None);
-    };
-    let Some(label) = label_from_word(alloc, label)? else {
-        return Ok(None);
-    };
-    Ok(Some(Job::By(pid, Act::Relabel(side, label))))
+    match verb {
+        "tag" => tag_order(rest),
+        "group" => group_order(rest),
+        "put" => put_order(rest),
+        "make-login" => make_login_order(rest),
+        "open-group" => open_group_order(rest),
+        _ => None,
+    }
 }
 
-fn ask_job(rest: &[&str]) -> Option<Job>
-    ensures { Finds result (λ j. SpellsJob j (codes "ask" ∷ map (λ w. w.now) rest.now)) }
+fn label_act(alloc: Global, rest: &[&str]) -> Result<Act, Unread>
+    ensures { (p : Pid) → Reads result (λ a.
+        SpellsAct p a (codes "label") (map (λ w. w.now) rest.now)) }
 {
-    let [pid, cap] = rest else { return None };
-    let pid = read_pid(pid)?;
+    let [side, label] = rest else {
+        return Err(Unread::Bad);
+    };
+    let side = side_from_word(side).ok_or(Unread::Bad)?;
+    let label = label_from_word(alloc, label)?;
+    Ok(Act::Relabel(side, label))
+}
+
+fn ask_act(rest: &[&str]) -> Option<Act>
+    ensures { (p : Pid) → Finds result (λ a.
+        SpellsAct p a (codes "ask") (map (λ w. w.now) rest.now)) }
+{
+    let [cap] = rest else { return None };
     let cap = read_cap(cap)?;
-    Some(Job::By(pid, Act::Ask(cap)))
+    Some(Act::Ask(cap))
 }
 
-fn spawn_job(alloc: Global, rest: &[&str]) -> Result<Option<Job>, AllocError>
-    ensures { Reads result (λ j. SpellsJob j (codes "spawn" ∷ map (λ w. w.now) rest.now)) }
+fn spawn_act(alloc: Global, rest: &[&str]) -> Result<Act, Unread>
+    ensures { (p : Pid) → Reads result (λ a.
+        SpellsAct p a (codes "spawn") (map (λ w. w.now) rest.now)) }
 {
-    let [pid, caps] = rest else {
-        return Ok(None);
+    let [caps] = rest else {
+        return Err(Unread::Bad);
     };
-    let Some(pid) = read_pid(pid) else {
-        return Ok(None);
-    };
-    let Some(caps) = caps_from_word(alloc, caps)? else {
-        return Ok(None);
-    };
-    Ok(Some(Job::By(pid, Act::Spawn(caps))))
+    let caps = caps_from_word(alloc, caps)?;
+    Ok(Act::Spawn(caps))
 }
 
-fn exit_job(rest: &[&str]) -> Option<Job>
-    ensures { Finds result (λ j. SpellsJob j (codes "exit" ∷ map (λ w. w.now) rest.now)) }
+fn exit_act(rest: &[&str]) -> Option<Act>
+    ensures { (p : Pid) → Finds result (λ a.
+        SpellsAct p a (codes "exit") (map (λ w. w.now) rest.now)) }
 {
-    let [pid] = rest else { return None };
-    let pid = read_pid(pid)?;
-    Some(Job::By(pid, Act::Exit))
+    let [] = rest else { return None };
+    Some(Act::Exit)
 }
 
-fn drop_job(rest: &[&str]) -> Option<Job>
-    ensures { Finds result (λ j. SpellsJob j (codes "drop" ∷ map (λ w. w.now) rest.now)) }
+fn drop_act(rest: &[&str]) -> Option<Act>
+    ensures { (p : Pid) → Finds result (λ a.
+        SpellsAct p a (codes "drop") (map (λ w. w.now) rest.now)) }
 {
-    let [pid, cap] = rest else { return None };
-    let pid = read_pid(pid)?;
+    let [cap] = rest else { return None };
     let cap = read_cap(cap)?;
-    Some(Job::By(pid, Act::Drop(cap)))
+    Some(Act::Drop(cap))
 }
 
-fn enter_job(rest: &[&str]) -> Option<Job>
-    ensures { Finds result (λ j. SpellsJob j (codes "enter" ∷ map (λ w. w.now) rest.now)) }
+fn enter_act(rest: &[&str]) -> Option<Act>
+    ensures { (p : Pid) → Finds result (λ a.
+        SpellsAct p a (codes "enter") (map (λ w. w.now) rest.now)) }
 {
-    let [pid, login, secret] = rest else {
-        return None
-    };
-    let pid = read_pid(pid)?;
+    let [login, secret] = rest else { return None };
     let login = read_name(login)?;
     let secret = secret_from_word(secret)?;
-    Some(Job::By(pid, Act::Enter(login, secret)))
+    Some(Act::Enter(login, secret))
 }
 
-fn emit_job(alloc: Global, rest: &[&str]) -> Result<Option<Job>, AllocError>
-    ensures { Reads result (λ j. SpellsJob j (codes "emit" ∷ map (λ w. w.now) rest.now)) }
+fn emit_act(alloc: Global, rest: &[&str]) -> Result<Act, Unread>
+    ensures { (p : Pid) → Reads result (λ a.
+        SpellsAct p a (codes "emit") (map (λ w. w.now) rest.now)) }
 {
-    let [pid, bytes] = rest else {
-        return Ok(None);
+    let [bytes] = rest else {
+        return Err(Unread::Bad);
     };
-    let Some(pid) = read_pid(pid) else {
-        return Ok(None);
-    };
-    let Some(bytes) = bytes_from_word(alloc, bytes)? else {
-        return Ok(None);
-    };
-    Ok(Some(Job::By(pid, Act::Emit(bytes))))
+    let bytes = bytes_from_word(alloc, bytes)?;
+    Ok(Act::Emit(bytes))
 }
 
-fn open_job(alloc: Global, rest: &[&str]) -> Result<Option<Job>, AllocError>
-    ensures { Reads result (λ j. SpellsJob j (codes "open" ∷ map (λ w. w.now) rest.now)) }
+fn open_act(alloc: Global, rest: &[&str]) -> Result<Act, Unread>
+    ensures { (p : Pid) → Reads result (λ a.
+        SpellsAct p a (codes "open") (map (λ w. w.now) rest.now)) }
 {
-    let [pid, mode, secrecy, integrity] = rest else {
-        return Ok(None);
+    let [mode, secrecy, integrity] = rest else {
+        return Err(Unread::Bad);
     };
-    let Some(pid) = read_pid(pid) else {
-        return Ok(None);
-    };
-    let Some(mode) = mode_from_word(mode) else {
-        return Ok(None);
-    };
-    let Some(given) = labels_from_words(alloc, secrecy, integrity)? else {
-        return Ok(None);
-    };
-    Ok(Some(Job::By(pid, Act::Mail(Mail::Open(mode, given)))))
+    let mode = mode_from_word(mode).ok_or(Unread::Bad)?;
+    let given = labels_from_words(alloc, secrecy, integrity)?;
+    Ok(Act::Mail(Mail::Open(mode, given)))
 }
 
-fn tune_job(alloc: Global, rest: &[&str]) -> Result<Option<Job>, AllocError>
-    ensures { Reads result (λ j. SpellsJob j (codes "tune" ∷ map (λ w. w.now) rest.now)) }
+fn tune_act(alloc: Global, rest: &[&str]) -> Result<Act, Unread>
+    ensures { (p : Pid) → Reads result (λ a.
+        SpellsAct p a (codes "tune") (map (λ w. w.now) rest.now)) }
 {
-    let [pid, endpoint, secrecy, integrity] = rest else {
-        return Ok(None);
+    let [endpoint, secrecy, integrity] = rest else {
+        return Err(Unread::Bad);
     };
-    let Some(pid) = read_pid(pid) else {
-        return Ok(None);
-    };
-    let Some(endpoint) = read_endpoint(endpoint) else {
-        return Ok(None);
-    };
-    let Some(given) = labels_from_words(alloc, secrecy, integrity)? else {
-        return Ok(None);
-    };
-    Ok(Some(Job::By(pid, Act::Mail(Mail::Tune(endpoint, given)))))
+    let endpoint = read_endpoint(endpoint).ok_or(Unread::Bad)?;
+    let given = labels_from_words(alloc, secrecy, integrity)?;
+    Ok(Act::Mail(Mail::Tune(endpoint, given)))
 }
 
-fn close_job(rest: &[&str]) -> Option<Job>
-    ensures { Finds result (λ j. SpellsJob j (codes "close" ∷ map (λ w. w.now) rest.now)) }
+fn close_act(rest: &[&str]) -> Option<Act>
+    ensures { (p : Pid) → Finds result (λ a.
+        SpellsAct p a (codes "close") (map (λ w. w.now) rest.now)) }
 {
-    let [pid, endpoint] = rest else { return None };
-    let pid = read_pid(pid)?;
+    let [endpoint] = rest else { return None };
     let endpoint = read_endpoint(endpoint)?;
-    Some(Job::By(pid, Act::Mail(Mail::Close(endpoint))))
+    Some(Act::Mail(Mail::Close(endpoint)))
 }
 
-// The endpoint from which a message goes, the process that it goes to, and the endpoint of that one.
+// The endpoint from which a message goes, the process that it goes to, and the endpoint of that
+// one.
 #[derive(Clone, Copy)]
 struct Ends {
     from: Endpoint,
@@ -220,36 +203,64 @@ fn ends_from_words(from: &str, receiver: &str, to: &str) -> Option<Ends>
     Some(Ends { from, receiver, to })
 }
 
-fn send_job(alloc: Global, rest: &[&str]) -> Result<Option<Job>, AllocError>
-    ensures { Reads result (λ j. SpellsJob j (codes "send" ∷ map (λ w. w.now) rest.now)) }
+fn send_act(alloc: Global, rest: &[&str]) -> Result<Act, Unread>
+    ensures { (p : Pid) → Reads result (λ a.
+        SpellsAct p a (codes "send") (map (λ w. w.now) rest.now)) }
 {
-    let [pid, from, receiver, to, caps, bytes] = rest else {
-        return Ok(None);
-    };
-    let Some(pid) = read_pid(pid) else {
-        return Ok(None);
+    let [from, receiver, to, caps, bytes] = rest else {
+        return Err(Unread::Bad);
     };
     let Some(ends) = ends_from_words(from, receiver, to) else {
-        return Ok(None);
+        return Err(Unread::Bad);
     };
-    let Some(message) = message_from_words(alloc, caps, bytes)? else {
-        return Ok(None);
-    };
-    let send = Mail::Send {
+    let message = message_from_words(alloc, caps, bytes)?;
+    Ok(Act::Mail(Mail::Send {
         from: ends.from,
         receiver: ends.receiver,
         to: ends.to,
         message,
-    };
-    Ok(Some(Job::By(pid, Act::Mail(send))))
+    }))
 }
 
-fn take_job(rest: &[&str]) -> Option<Job>
-    ensures { Finds result (λ j. SpellsJob j (codes "take" ∷ map (λ w. w.now) rest.now)) }
+fn take_act(rest: &[&str]) -> Option<Act>
+    ensures { (p : Pid) → Finds result (λ a.
+        SpellsAct p a (codes "take") (map (λ w. w.now) rest.now)) }
 {
-    let [pid] = rest else { return None };
-    let pid = read_pid(pid)?;
-    Some(Job::By(pid, Act::Mail(Mail::Take)))
+    let [] = rest else { return None };
+    Some(Act::Mail(Mail::Take))
+}
+
+// What a verb and the words after the process say that it does.
+fn act_from_words(alloc: Global, verb: &str, rest: &[&str]) -> Result<Act, Unread>
+    ensures ok { (p : Pid) → Reads result (λ a.
+        SpellsAct p a verb.now (map (λ w. w.now) rest.now)) }
+    ensures memory { StarvesIf result (IsListVerb verb.now) }
+{
+    match verb {
+        "ask" => ask_act(rest).ok_or(Unread::Bad),
+        "label" => label_act(alloc, rest),
+        "send" => send_act(alloc, rest),
+        "take" => take_act(rest).ok_or(Unread::Bad),
+        "emit" => emit_act(alloc, rest),
+        "spawn" => spawn_act(alloc, rest),
+        "exit" => exit_act(rest).ok_or(Unread::Bad),
+        "drop" => drop_act(rest).ok_or(Unread::Bad),
+        "open" => open_act(alloc, rest),
+        "tune" => tune_act(alloc, rest),
+        "close" => close_act(rest).ok_or(Unread::Bad),
+        "enter" => enter_act(rest).ok_or(Unread::Bad),
+        _ => match order_from_words(verb, rest) {
+            Some(order) => Ok(Act::Order(order)),
+            None => Err(Unread::Bad),
+        },
+    }
+}
+
+fn proc_job(rest: &[&str]) -> Option<Job>
+    ensures { Finds result (λ j. SpellsJob j (codes "proc" ∷ map (λ w. w.now) rest.now)) }
+{
+    let [] = rest else { return None };
+    Some(Job::Proc)
 }
 
 fn member_job(rest: &[&str]) -> Option<Job>
@@ -261,32 +272,30 @@ fn member_job(rest: &[&str]) -> Option<Job>
     Some(Job::Member(root, cap))
 }
 
-/// The job that a verb and the words after it spell, or none where they spell no job.
-/// Takes memory for a list alone: of tags, of capabilities or of bytes.
-pub fn job_from_words(alloc: Global, verb: &str, rest: &[&str]) -> Result<Option<Job>, AllocError>
+// The job of a process, which stands behind the verb.
+fn act_job(alloc: Global, verb: &str, rest: &[&str]) -> Result<Job, Unread>
+    requires alone { verb.now ≢ codes "proc" }
+    requires no_member { verb.now ≢ codes "member" }
     ensures ok { Reads result (λ j. SpellsJob j (verb.now ∷ map (λ w. w.now) rest.now)) }
-    ensures err { OnErr result (IsListVerb verb.now) }
+    ensures memory { StarvesIf result (IsListVerb verb.now) }
+{
+    let [pid, words @ ..] = rest else {
+        return Err(Unread::Bad);
+    };
+    let pid = read_pid(pid).ok_or(Unread::Bad)?;
+    let act = act_from_words(alloc, verb, words)?;
+    Ok(Job::By(pid, act))
+}
+
+/// The job that a verb and the words after it spell. `Bad` where they spell no job.
+/// Takes memory for a list alone: of tags, of capabilities or of bytes.
+pub fn job_from_words(alloc: Global, verb: &str, rest: &[&str]) -> Result<Job, Unread>
+    ensures ok { Reads result (λ j. SpellsJob j (verb.now ∷ map (λ w. w.now) rest.now)) }
+    ensures memory { StarvesIf result (IsListVerb verb.now) }
 {
     match verb {
-        "ask" => Ok(ask_job(rest)),
-        "label" => label_job(alloc, rest),
-        "send" => send_job(alloc, rest),
-        "take" => Ok(take_job(rest)),
-        "emit" => emit_job(alloc, rest),
-        "proc" => Ok(proc_job(rest)),
-        "tag" => Ok(tag_job(rest)),
-        "group" => Ok(group_job(rest)),
-        "put" => Ok(put_job(rest)),
-        "spawn" => spawn_job(alloc, rest),
-        "exit" => Ok(exit_job(rest)),
-        "drop" => Ok(drop_job(rest)),
-        "open" => open_job(alloc, rest),
-        "tune" => tune_job(alloc, rest),
-        "close" => Ok(close_job(rest)),
-        "enter" => Ok(enter_job(rest)),
-        "make-login" => Ok(make_login_job(rest)),
-        "open-group" => Ok(open_group_job(rest)),
-        "member" => Ok(member_job(rest)),
-        _ => Ok(None),
+        "proc" => proc_job(rest).ok_or(Unread::Bad),
+        "member" => member_job(rest).ok_or(Unread::Bad),
+        _ => act_job(alloc, verb, rest),
     }
 }

@@ -9,4 +9,5 @@ mod meaning;
 pub mod reading;
 mod replaced;
 pub mod request;
+mod unread;
 mod words;

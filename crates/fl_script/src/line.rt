@@ -1,15 +1,17 @@
 //! Lines of the script.
-ghost use Rattle.std.specs.Prelude.{◌≡◌, ◌≢◌, ◌∷◌, OnErr, map, codes};
+ghost use Rattle.std.specs.Prelude.{◌≡◌, ◌≢◌, ◌∷◌, map, codes};
 ghost use Rattle.fl_labels.specs.Found.{Finds};
-ghost use Rattle.fl_script.specs.parts.Reads.{Reads};
+ghost use Rattle.fl_script.specs.parts.Reads.{Reads, StarvesIf};
 ghost use Rattle.fl_script.specs.Grammar.{HoldsList, IsListVerb, Spells};
 
 use crate::request::{Request, request_from_words};
+use crate::unread::Unread;
 use fl_labels::name::NodeNumber;
 use fl_labels::text::read_number;
-use std::alloc::{AllocError, Global};
+use std::alloc::Global;
 
-/// A line that asks something of one node, of two, or of none. A line that was read names nodes from 1 to 4,294,967,295.
+/// A line that asks something of one node, of two, or of none. A line that was read names nodes
+/// from 1 to 4,294,967,295.
 #[derive(Drop)]
 pub enum Line {
     /// Something is asked of the node.
@@ -37,32 +39,28 @@ fn union_line(rest: &[&str]) -> Option<Line>
     Some(Line::Union { first, second })
 }
 
-// The line that a node's number, a verb and the words after it spell, or none where they spell no line.
-fn node_line(alloc: Global, n: &str, verb: &str, rest: &[&str]) -> Result<Option<Line>, AllocError>
+// The line that a node's number, a verb and the words after it spell.
+fn node_line(alloc: Global, n: &str, verb: &str, rest: &[&str]) -> Result<Line, Unread>
     requires { n.now ≢ codes "union" }
     ensures ok { Reads result (λ l. Spells l (n.now ∷ verb.now ∷ map (λ w. w.now) rest.now)) }
-    ensures err { OnErr result (IsListVerb verb.now) }
+    ensures memory { StarvesIf result (IsListVerb verb.now) }
 {
-    let Some(node) = read_number(n) else {
-        return Ok(None);
-    };
-    match request_from_words(alloc, verb, rest)? {
-        Some(request) => Ok(Some(Line::Node { node, request })),
-        None => Ok(None),
-    }
+    let node = read_number(n).ok_or(Unread::Bad)?;
+    let request = request_from_words(alloc, verb, rest)?;
+    Ok(Line::Node { node, request })
 }
 
-/// The line that the words spell, or none where they spell no line. Takes memory for a list alone: of tags,
-/// of capabilities or of bytes.
-pub(crate) fn line_from_words(alloc: Global, words: &[&str]) -> Result<Option<Line>, AllocError>
+/// The line that the words spell. `Bad` where they spell no line. Takes memory for a list alone: of
+/// tags, of capabilities or of bytes.
+pub(crate) fn line_from_words(alloc: Global, words: &[&str]) -> Result<Line, Unread>
     ensures ok { Reads result (λ l. Spells l (map (λ w. w.now) words.now)) }
-    ensures err { OnErr result (HoldsList (map (λ w. w.now) words.now)) }
+    ensures memory { StarvesIf result (HoldsList (map (λ w. w.now) words.now)) }
 {
     match words {
-        ["aliases"] => Ok(Some(Line::Aliases)),
-        ["audit"] => Ok(Some(Line::Audit)),
-        ["union", rest @ ..] => Ok(union_line(rest)),
+        ["aliases"] => Ok(Line::Aliases),
+        ["audit"] => Ok(Line::Audit),
+        ["union", rest @ ..] => union_line(rest).ok_or(Unread::Bad),
         [n, verb, rest @ ..] => node_line(alloc, n, verb, rest),
-        _ => Ok(None),
+        _ => Err(Unread::Bad),
     }
 }

@@ -1,20 +1,20 @@
 //! What the words of a line say.
-ghost use Rattle.std.specs.Prelude.{◌≡◌, List, IfOk, OnErr, MatchOption, Option, ℕ, map};
+ghost use Rattle.std.specs.Prelude.{◌≡◌, List, MatchOption, ℕ, map};
 ghost use Rattle.std.specs.List.{All};
-ghost use Rattle.fl_script.specs.parts.Reads.{Reads};
+ghost use Rattle.fl_script.specs.parts.Reads.{Reads, StarvesIf};
 ghost use Rattle.fl_aliases.specs.Words.{Word};
 ghost use Rattle.fl_script.specs.parts.Meaning.{IsWord, EndsInAlias, CanBeNamed, WantsMemory};
 ghost use Rattle.fl_script.specs.Reading.{act_makes, makes, SpellsReplaced, WordsSay};
-ghost use Rattle.fl_script.specs.declared.line.Line.{Line};
 
 use crate::cut::cut_words;
 use crate::line::{Line, line_from_words};
 use crate::replaced::{has_dollars, replaced_text};
 use crate::request::Request;
+use crate::unread::Unread;
 use fl_aliases::alias::Alias;
 use fl_aliases::table::Aliases;
 use fl_jobs::job::{Act, Job, Mail};
-use std::alloc::{AllocError, Global};
+use std::alloc::Global;
 
 // A line, and the alias that is to stand for what it makes, if one is.
 #[derive(Drop)]
@@ -74,69 +74,60 @@ fn split_alias<'a, 'b>(words: &'a [&'b str]) -> Option<Named<'a, 'b>>
     Some(Named { front, alias })
 }
 
-// The line that the words spell with each alias in them replaced, or none. Takes memory for the replaced words, where an
-// alias is in one, and for what a line of such words takes.
-fn replaced_line(
-    alloc: Global,
-    aliases: &Aliases,
-    words: &[&str],
-) -> Result<Option<Line>, AllocError>
+// The line that the words spell with each alias in them replaced. Takes memory for the replaced
+// words, where an alias is in one, and for what a line of such words takes.
+fn replaced_line(alloc: Global, aliases: &Aliases, words: &[&str]) -> Result<Line, Unread>
     requires { All IsWord (map (λ w. w.now) words.now) }
-    ensures ok { Reads result (λ line. SpellsReplaced aliases.now line (map (λ w. w.now) words.now)) }
-    ensures err { OnErr result (WantsMemory (map (λ w. w.now) words.now)) }
+    ensures ok { Reads result (λ line.
+        SpellsReplaced aliases.now line (map (λ w. w.now) words.now)) }
+    ensures memory { StarvesIf result (WantsMemory (map (λ w. w.now) words.now)) }
 {
     if !has_dollars(words) {
         return line_from_words(alloc, words);
     }
     let Some(text) = replaced_text(alloc, aliases, words)? else {
-        return Ok(None);
+        return Err(Unread::Bad);
     };
     let Some(replaced) = cut_words(&text) else {
-        return Ok(None);
+        return Err(Unread::Bad);
     };
     line_from_words(alloc, replaced.as_slice())
 }
 
-// The line that the words before `as $x` spell, or none where they spell no line that makes something, or no more aliases can
-// be set.
-fn named_line(alloc: Global, aliases: &Aliases, front: &[&str]) -> Result<Option<Line>, AllocError>
+// The line that the words before `as $x` spell. `Bad` where they spell no line that makes
+// something, or no more aliases can be set.
+fn named_line(alloc: Global, aliases: &Aliases, front: &[&str]) -> Result<Line, Unread>
     requires { All IsWord (map (λ w. w.now) front.now) }
     ensures { Reads result (λ line. CanBeNamed aliases.now line (map (λ w. w.now) front.now)) }
 {
     if aliases.is_full() {
-        return Ok(None);
+        return Err(Unread::Bad);
     }
-    let Some(line) = replaced_line(alloc, aliases, front)? else {
-        return Ok(None);
-    };
+    let line = replaced_line(alloc, aliases, front)?;
     if !makes(&line) {
-        return Ok(None);
+        return Err(Unread::Bad);
     }
-    Ok(Some(line))
+    Ok(line)
 }
 
-/// What the words say where these aliases are set, or none where they say nothing.
+/// What the words say where these aliases are set. `Bad` where they say nothing.
 pub(crate) fn meaning_of(
     alloc: Global,
     aliases: &Aliases,
     words: &[&str],
-) -> Result<Option<Meaning>, AllocError>
+) -> Result<Meaning, Unread>
     requires { All IsWord (map (λ w. w.now) words.now) }
-    ensures ok { let said = map (λ w. w.now) words.now in
-        IfOk result (λ r. MatchOption r
-        ((line : Line) (alias : Option (List ℕ)) → WordsSay aliases.now line alias said → ⊥)
-        (λ meaning. WordsSay aliases.now meaning.line meaning.alias said)) }
-    ensures err { OnErr result (WantsMemory (map (λ w. w.now) words.now)) }
+    ensures ok { Reads result (λ meaning.
+        WordsSay aliases.now meaning.line meaning.alias (map (λ w. w.now) words.now)) }
+    ensures memory { StarvesIf result (WantsMemory (map (λ w. w.now) words.now)) }
 {
     let Some(named) = split_alias(words) else {
-        return match replaced_line(alloc, aliases, words)? {
-            Some(line) => Ok(Some(Meaning { line, alias: None })),
-            None => Ok(None),
-        };
+        let line = replaced_line(alloc, aliases, words)?;
+        return Ok(Meaning { line, alias: None });
     };
-    let alias = Some(named.alias);
-    match named_line(alloc, aliases, named.front)? {
-        Some(line) => Ok(Some(Meaning { line, alias })),
-        None => Ok(None),
-    }
+    let line = named_line(alloc, aliases, named.front)?;
+    Ok(Meaning {
+        line,
+        alias: Some(named.alias),
+    })
 }

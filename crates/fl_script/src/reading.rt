@@ -1,10 +1,13 @@
 //! What the bytes of a line say.
 ghost use Rattle.std.specs.Prelude.{◌≡◌, ◌↔◌, IsTrue, IfOk, OnErr};
+ghost use Rattle.fl_script.specs.parts.Meaning.{TextSays, TextWantsMemory};
+ghost use Rattle.fl_script.specs.parts.Reads.{Reads, StarvesIf};
 ghost use Rattle.fl_script.specs.Reading.{first_mark, IsQuiet, IsReading, ReadingTakesMemory};
 
 use crate::cut::cut_words;
 use crate::line::{Line, line_from_words};
-use crate::meaning::meaning_of;
+use crate::meaning::{Meaning, meaning_of};
+use crate::unread::Unread;
 use fl_aliases::alias::Alias;
 use fl_aliases::expand::has_dollar;
 use fl_aliases::table::Aliases;
@@ -41,14 +44,40 @@ fn is_quiet(bytes: &[u8]) -> bool
     }
 }
 
+// What the bytes of a line that asks for an answer say.
+fn meaning_of_bytes(alloc: Global, aliases: &Aliases, bytes: &[u8]) -> Result<Meaning, Unread>
+    ensures ok { Reads result (λ meaning.
+        TextSays aliases.now bytes.now meaning.line meaning.alias) }
+    ensures memory { StarvesIf result (TextWantsMemory bytes.now) }
+{
+    if bytes.len() > MOST_LINE_BYTES {
+        return Err(Unread::Bad);
+    }
+    let Ok(text) = str::from_utf8(bytes) else {
+        return Err(Unread::Bad);
+    };
+    let Some(cut) = cut_words(text) else {
+        return Err(Unread::Bad);
+    };
+    let words = cut.as_slice();
+    // Most lines have no alias, and one look at all their bytes is cheaper than one at each word.
+    if has_dollar(text) {
+        return meaning_of(alloc, aliases, words);
+    }
+    let line = line_from_words(alloc, words)?;
+    Ok(Meaning { line, alias: None })
+}
+
 /// What the bytes of a line, which have no line feed, say where these aliases are set.
 ///
-/// `Quiet` comes first, whatever else the bytes are. `Bad` is a line of more than [`MOST_LINE_BYTES`], one that is no UTF-8, and one
-/// whose words, with the aliases in them replaced, are those of no form. A line that makes something may end in `as $x`, with an
-/// alias that is not replaced, where fewer than 1,024 are set; else such a line is `Bad`.
+/// `Quiet` comes first, whatever else the bytes are. `Bad` is a line of more than
+/// [`MOST_LINE_BYTES`], one that is no UTF-8, and one whose words, with the aliases in them
+/// replaced, are those of no form. A line that makes something may end in `as $x`, with an alias
+/// that is not replaced, where fewer than 1,024 are set; else such a line is `Bad`.
 ///
-/// Looks at each byte a few times at most, and takes no memory but that of the replaced words, where an alias is in one, and of
-/// the lists of a `label`, `spawn`, `emit`, `open`, `tune`, `send` or `check` line; where this is refused, the line is not read.
+/// Looks at each byte a few times at most, and takes no memory but that of the replaced words,
+/// where an alias is in one, and of the lists of a `label`, `spawn`, `emit`, `open`, `tune`, `send`
+/// or `check` line; where this is refused, the line is not read.
 pub fn read_line(alloc: Global, aliases: &Aliases, bytes: &[u8]) -> Result<Reading, AllocError>
     ensures ok { IfOk result (λ reading. IsReading aliases.now bytes.now reading) }
     ensures err { OnErr result (ReadingTakesMemory bytes.now) }
@@ -56,28 +85,9 @@ pub fn read_line(alloc: Global, aliases: &Aliases, bytes: &[u8]) -> Result<Readi
     if is_quiet(bytes) {
         return Ok(Reading::Quiet);
     }
-    if bytes.len() > MOST_LINE_BYTES {
-        return Ok(Reading::Bad);
+    match meaning_of_bytes(alloc, aliases, bytes) {
+        Ok(Meaning { line, alias }) => Ok(Reading::Means { line, alias }),
+        Err(Unread::Bad) => Ok(Reading::Bad),
+        Err(Unread::Memory) => Err(AllocError),
     }
-    let Ok(text) = str::from_utf8(bytes) else {
-        return Ok(Reading::Bad);
-    };
-    let Some(cut) = cut_words(text) else {
-        return Ok(Reading::Bad);
-    };
-    let words = cut.as_slice();
-    // Most lines have no alias, and one look at all their bytes is cheaper than one at each word.
-    if !has_dollar(text) {
-        return match line_from_words(alloc, words)? {
-            Some(line) => Ok(Reading::Means { line, alias: None }),
-            None => Ok(Reading::Bad),
-        };
-    }
-    let Some(meaning) = meaning_of(alloc, aliases, words)? else {
-        return Ok(Reading::Bad);
-    };
-    Ok(Reading::Means {
-        line: meaning.line,
-        alias: meaning.alias,
-    })
 }

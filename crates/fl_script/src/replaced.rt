@@ -24,10 +24,12 @@ pub(crate) fn has_dollars(words: &[&str]) -> bool
     false
 }
 
-// Writes a space and the replaced word behind what the buffer holds, and answers whether this could be done.
+// Writes a space and the replaced word behind what the buffer holds, and answers whether this could
+// be done.
 fn push_replaced(aliases: &Aliases, word: &str, buffer: &mut String) -> Result<bool, AllocError>
     ensures { IfOk result (λ done. MatchBool done
-        (ExpandsBehind aliases.now (32 ∷ word.now) (string_bytes buffer.old) (string_bytes buffer.new))
+        (ExpandsBehind aliases.now (32 ∷ word.now) (string_bytes buffer.old)
+        (string_bytes buffer.new))
         ((out : List ℕ) → Expands aliases.now word.now out → ⊥)) }
 {
     buffer.push(' ')?;
@@ -35,8 +37,8 @@ fn push_replaced(aliases: &Aliases, word: &str, buffer: &mut String) -> Result<b
     Ok(done)
 }
 
-/// The words with each alias in them replaced, a space before each, or none where this cannot be done.
-/// Takes memory for the text.
+/// The words with each alias in them replaced, a space before each, or none where this cannot be
+/// done. Takes memory for the text.
 pub(crate) fn replaced_text(
     alloc: Global,
     aliases: &Aliases,

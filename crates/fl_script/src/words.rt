@@ -5,6 +5,7 @@ ghost use Rattle.fl_script.specs.parts.Reads.{Reads};
 ghost use Rattle.fl_ops.specs.PolicyText.{policy_text};
 ghost use Rattle.fl_script.specs.Words.{AreGivenWords, AreMessageWords, IsBytesWord, IsCapsWord, IsLabelWord, IsSecretWord, mode_text, side_text};
 
+use crate::unread::Unread;
 use fl_jobs::job::{GivenLabels, Side, TooLong};
 use fl_jobs::secret::Secret;
 use fl_labels::cap_set::CapSet;
@@ -15,7 +16,7 @@ use fl_message::payload::Payload;
 use fl_ops::op::Policy;
 use fl_rules::endpoint::Mode;
 use hex::{FromHex, FromHexError};
-use std::alloc::{AllocError, Global};
+use std::alloc::Global;
 
 /// The policy that a word names, in lower case.
 pub fn policy_from_word(word: &str) -> Option<Policy>
@@ -52,54 +53,49 @@ pub fn mode_from_word(word: &str) -> Option<Mode>
     }
 }
 
-/// The label that a word lists, `TooLong` where it lists more tags than a label holds, or none where it lists no tags.
-pub fn label_from_word(
-    alloc: Global,
-    word: &str,
-) -> Result<Option<Result<Label, TooLong>>, AllocError>
+/// The label that a word lists, `TooLong` where it lists more tags than a label holds. `Bad` where
+/// it lists no tags.
+pub fn label_from_word(alloc: Global, word: &str) -> Result<Result<Label, TooLong>, Unread>
     ensures { Reads result (λ label. IsLabelWord label word.now) }
 {
     match Label::from_text(alloc, word) {
-        Ok(label) => Ok(Some(Ok(label))),
-        Err(SetError::TooLong) => Ok(Some(Err(TooLong))),
-        Err(SetError::BadText) => Ok(None),
-        Err(SetError::Memory) => Err(AllocError),
+        Ok(label) => Ok(Ok(label)),
+        Err(SetError::TooLong) => Ok(Err(TooLong)),
+        Err(SetError::BadText) => Err(Unread::Bad),
+        Err(SetError::Memory) => Err(Unread::Memory),
     }
 }
 
-/// The labels that two words list, that of secrecy first, each `TooLong` where it has more tags than a label holds, or none
-/// where a word lists no tags. An error says that there was not enough memory for them.
+/// The labels that two words list, that of secrecy first, each `TooLong` where it has more tags
+/// than a label holds. `Bad` where a word lists no tags.
 pub fn labels_from_words(
     alloc: Global,
     secrecy: &str,
     integrity: &str,
-) -> Result<Option<GivenLabels>, AllocError>
+) -> Result<GivenLabels, Unread>
     ensures { Reads result (λ given. AreGivenWords given secrecy.now integrity.now) }
 {
-    let Some(secrecy) = label_from_word(alloc, secrecy)? else {
-        return Ok(None);
-    };
-    let Some(integrity) = label_from_word(alloc, integrity)? else {
-        return Ok(None);
-    };
-    Ok(Some(GivenLabels { secrecy, integrity }))
+    let secrecy = label_from_word(alloc, secrecy)?;
+    let integrity = label_from_word(alloc, integrity)?;
+    Ok(GivenLabels { secrecy, integrity })
 }
 
-/// The capabilities that a word lists in braces, in any order, or none where it is no such list. An error says that there
-/// was not enough memory for them. Linear in a list that rises, and else with a sort.
-pub fn caps_from_word(alloc: Global, word: &str) -> Result<Option<CapSet>, AllocError>
+/// The capabilities that a word lists in braces, in any order. `Bad` where it is no such list.
+/// Linear in a list that rises, and else with a sort.
+pub fn caps_from_word(alloc: Global, word: &str) -> Result<CapSet, Unread>
     ensures { Reads result (λ caps. IsCapsWord caps word.now) }
 {
     match CapSet::from_text(alloc, word) {
-        Ok(caps) => Ok(Some(caps)),
-        Err(SetError::BadText) => Ok(None),
+        Ok(caps) => Ok(caps),
+        Err(SetError::BadText) => Err(Unread::Bad),
         // never, since there may be any number of capabilities
-        Err(SetError::TooLong) => Ok(None),
-        Err(SetError::Memory) => Err(AllocError),
+        Err(SetError::TooLong) => Err(Unread::Bad),
+        Err(SetError::Memory) => Err(Unread::Memory),
     }
 }
 
-/// The secret whose 64 hexadecimal digits the word is, in either case, or none of another word. Takes no memory.
+/// The secret whose 64 hexadecimal digits the word is, in either case, or none of another word.
+/// Takes no memory.
 pub fn secret_from_word(word: &str) -> Option<Secret>
     ensures { Finds result (λ secret. IsSecretWord secret word.now) }
 {
@@ -109,36 +105,28 @@ pub fn secret_from_word(word: &str) -> Option<Secret>
     Some(Secret { bytes })
 }
 
-/// The bytes that a word spells: no bytes of `none`, and else those of its hexadecimal digits, two of each byte, in either
-/// case. None of a word that is neither. An error says that there was not enough memory for them. Linear.
-pub fn bytes_from_word(alloc: Global, word: &str) -> Result<Option<Payload>, AllocError>
+/// The bytes that a word spells: no bytes of `none`, and else those of its hexadecimal digits, two
+/// of each byte, in either case. `Bad` where the word is neither. Linear.
+pub fn bytes_from_word(alloc: Global, word: &str) -> Result<Payload, Unread>
     ensures { Reads result (λ bytes. IsBytesWord bytes word.now) }
 {
     if word == "none" {
-        return Ok(Some(Payload::from_vec(Vec::new(alloc))));
+        return Ok(Payload::from_vec(Vec::new(alloc)));
     }
     match hex::decode(alloc, word) {
-        Ok(bytes) if bytes.is_empty() => Ok(None),
-        Ok(bytes) => Ok(Some(Payload::from_vec(bytes))),
-        Err(FromHexError::OutOfMemory) => Err(AllocError),
-        Err(_) => Ok(None),
+        Ok(bytes) if bytes.is_empty() => Err(Unread::Bad),
+        Ok(bytes) => Ok(Payload::from_vec(bytes)),
+        Err(FromHexError::OutOfMemory) => Err(Unread::Memory),
+        Err(_) => Err(Unread::Bad),
     }
 }
 
-/// The message whose capabilities one word lists and whose bytes another spells. None where a word is no such one, where there
-/// are more than 64 capabilities, or more than 1,024 bytes. An error says that there was not enough memory for them.
-pub fn message_from_words(
-    alloc: Global,
-    caps: &str,
-    bytes: &str,
-) -> Result<Option<Message>, AllocError>
+/// The message whose capabilities one word lists and whose bytes another spells. `Bad` where a word
+/// is no such one, where there are more than 64 capabilities, or more than 1,024 bytes.
+pub fn message_from_words(alloc: Global, caps: &str, bytes: &str) -> Result<Message, Unread>
     ensures { Reads result (λ message. AreMessageWords message caps.now bytes.now) }
 {
-    let Some(caps) = caps_from_word(alloc, caps)? else {
-        return Ok(None);
-    };
-    let Some(payload) = bytes_from_word(alloc, bytes)? else {
-        return Ok(None);
-    };
-    Ok(Message::new(caps, payload))
+    let caps = caps_from_word(alloc, caps)?;
+    let payload = bytes_from_word(alloc, bytes)?;
+    Message::new(caps, payload).ok_or(Unread::Bad)
 }

@@ -5,4 +5,4 @@ pub returns-in-Err-TooLong : goal.returns-in-Err-TooLong
 returns-in-Err-TooLong c = let many = c.from_text.ensures.too_long (cc) in record { tags = many.0; listed = many.1; long = many.2 }
 
 pub returns-in-Err-BadText : goal.returns-in-Err-BadText
-returns-in-Err-BadText c = no_label c.args.word.now (c.from_text.ensures.bad_text (cc))
+returns-in-Err-BadText c = λ bad. no_label c.args.word.now (c.from_text.ensures.bad_text (cc))

@@ -1,8 +1,14 @@
-use Rattle.fl_script.proofs.MessageWords.{no_caps, of_words}
+use Rattle.fl_message.specs.declared.message.Message.{Message}
+use Rattle.fl_script.specs.Words.{AreMessageWords}
+use Rattle.fl_script.proofs.Found.{passed, reads}
+use Rattle.fl_script.proofs.MessageWords.{of_words}
 use Rattle.fl_script.proofs.words.message_from_words.Goals as goal
 
-pub returns-in_default : goal.returns-in_default
-returns-in_default c = no_caps c.args.caps.now c.args.bytes.now (rw c.in_default.is at c.in_ok-caps.ensures)
+pub returns-in_err-caps : goal.returns-in_err-caps
+returns-in_err-caps c = passed _ c.from_residual.ensures.1 c.in_err-caps.ensures (λ none message are. none message.caps are.caps)
+
+pub returns-in_err-payload : goal.returns-in_err-payload
+returns-in_err-payload c = passed _ c.from_residual-in_err-payload.ensures.1 c.in_err-payload.ensures (λ none message are. none message.payload are.bytes)
 
 pub returns : goal.returns
-returns c = of_words c.args.caps.now c.args.bytes.now c.in-Some.caps c.in-Some-2.payload (rw c.in-Some.is at c.in_ok-caps.ensures) (rw c.in-Some-2.is at c.in_ok-payload.ensures) c.new.result c.new.ensures
+returns c = rw c.ok_or.ensures.value (reads {T = Message} (λ m. AreMessageWords m c.args.caps.now c.args.bytes.now) c.new.result (of_words c.args.caps.now c.args.bytes.now c.in_ok-caps.caps c.in_ok-payload.payload c.in_ok-caps.ensures c.in_ok-payload.ensures c.new.result c.new.ensures))

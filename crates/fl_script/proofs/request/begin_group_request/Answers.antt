@@ -1,6 +1,0 @@
-use Rattle.std.proofs.Common.{◌∷◌, map, codes, rules}
-use Rattle.fl_script.proofs.BeginWords.{begin_arm}
-use Rattle.fl_script.proofs.request.begin_group_request.Goals as goal
-
-pub returns : goal.returns
-returns c = begin_arm (codes "group") (map (λ w. w.now) c.args.rest.now) c.begun.result (λ e. absurd (search (rules, e))) (c.begun.ensures (codes "group" ∷ map (λ w. w.now) c.args.rest.now) c.group_job.ensures)

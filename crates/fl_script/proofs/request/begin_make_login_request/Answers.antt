@@ -1,6 +1,0 @@
-use Rattle.std.proofs.Common.{◌∷◌, map, codes, rules}
-use Rattle.fl_script.proofs.BeginWords.{begin_arm}
-use Rattle.fl_script.proofs.request.begin_make_login_request.Goals as goal
-
-pub returns : goal.returns
-returns c = begin_arm (codes "make-login") (map (λ w. w.now) c.args.rest.now) c.begun.result (λ e. absurd (search (rules, e))) (c.begun.ensures (codes "make-login" ∷ map (λ w. w.now) c.args.rest.now) c.make_login_job.ensures)

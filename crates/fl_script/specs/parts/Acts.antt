@@ -1,0 +1,12 @@
+-- The words of an act.
+use Rattle.std.specs.Prelude.{List, ◌∷◌}
+use Rattle.fl_labels.specs.Text.{pid_text}
+use Rattle.fl_labels.specs.declared.pid.Pid.{Pid}
+use Rattle.fl_jobs.specs.declared.job.Act.{Act}
+use Rattle.fl_jobs.specs.declared.job.Job.TheVariants.{By}
+use Rattle.fl_aliases.specs.Words.{Word}
+use Rattle.fl_script.specs.Grammar.{SpellsJob}
+
+-- the verb, and the words behind the process, spell what the process does
+abbrev pub SpellsAct : Pid → Act → Word → List Word → Type 0
+SpellsAct p act verb words = SpellsJob (By p act) (verb ∷ pid_text p ∷ words)
