@@ -126,7 +126,8 @@ fn add_tags(index: &mut Index) -> Result<(), AllocError> {
     Ok(())
 }
 
-// What is in effect for the owner of these: what they reach, and the two capabilities that everybody has.
+// What is in effect for the owner of these: what they reach, and the two capabilities that
+// everybody has.
 fn in_effect(alloc: Global, pairs: &[bool], owned: &[u16]) -> Result<CapSet, AllocError> {
     let mut caps = Vec::new(alloc);
     for to in 0..CAPS {

@@ -102,7 +102,8 @@ fn cycle_of_groups(rt: HostRuntime) -> Result<(), Fail> {
     Ok(())
 }
 
-// A hundred groups, 1.1 and on, each with the use of the next, and a capability in the one behind them.
+// A hundred groups, 1.1 and on, each with the use of the next, and a capability in the one behind
+// them.
 fn chain(alloc: Global) -> Result<Index, AllocError> {
     let mut index = Index::new(alloc);
     for number in 0..100u16 {

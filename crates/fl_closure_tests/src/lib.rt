@@ -10,4 +10,8 @@ mod index;
 #[cfg(test)]
 mod made;
 #[cfg(test)]
+mod opened;
+#[cfg(test)]
+mod plain;
+#[cfg(test)]
 mod steps;

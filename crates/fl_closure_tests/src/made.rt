@@ -11,7 +11,8 @@ pub fn name(number: u16) -> Name {
     }
 }
 
-/// The operation, called 2.1 for 0 and on, that puts a capability into a group, which is called 1.1 for 0 and on.
+/// The operation, called 2.1 for 0 and on, that puts a capability into a group, which is called 1.1
+/// for 0 and on.
 pub fn put(number: u16, group: u16, cap: Cap) -> Op {
     Op {
         name: Name {

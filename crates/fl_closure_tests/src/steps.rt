@@ -1,44 +1,9 @@
 //! Tests of the index beside a plain search, after each put into a small random graph.
-use crate::made::{draw, name, put};
+use crate::made::{draw, put};
+use crate::plain::{CAPS, GROUPS, cap_of, search};
 use fl_closure::index::Index;
-use fl_labels::cap::Cap;
 use std::alloc::{AllocError, Global};
 use std::test::Fail;
-
-const GROUPS: u16 = 10;
-
-const CAPS: u16 = 16;
-
-// The uses of the groups come first, and then capabilities that lead no further.
-fn cap_of(number: u16) -> Cap {
-    if number < GROUPS {
-        Cap::Use(name(number))
-    } else {
-        Cap::Plus(name(number))
-    }
-}
-
-// Meets what is put into a group that was met.
-fn meet(met: &mut Vec<u16>, puts: &[(u16, u16)], group: u16) -> Result<(), AllocError> {
-    for (into, cap) in puts {
-        if *into == group && !met.contains(cap) {
-            met.push(*cap)?;
-        }
-    }
-    Ok(())
-}
-
-// What is reached from the root, in the order in which it is met.
-fn search(alloc: Global, puts: &[(u16, u16)], root: u16) -> Result<Vec<u16>, AllocError> {
-    let mut met = vec![in alloc; root; 1]?;
-    for done in 0..CAPS as usize {
-        let Some(group) = met.get(done).copied() else {
-            return Ok(met);
-        };
-        meet(&mut met, puts, group)?;
-    }
-    Ok(met)
-}
 
 // Whether the index answers as the search for each capability.
 fn row_alike(index: &Index, met: &[u16], root: u16) -> bool {
@@ -52,7 +17,7 @@ fn row_alike(index: &Index, met: &[u16], root: u16) -> bool {
 fn rows_alike(alloc: Global, index: &Index, puts: &[(u16, u16)]) -> Result<bool, AllocError> {
     let mut alike = true;
     for root in 0..CAPS {
-        let met = search(alloc, puts, root)?;
+        let met = search(alloc, puts, &[root])?;
         alike = alike && row_alike(index, &met, root);
     }
     Ok(alike)
