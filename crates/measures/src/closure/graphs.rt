@@ -25,6 +25,17 @@ fn put(number: u16, group: u16, cap: Cap) -> Op {
     }
 }
 
+// The operation, called 3.1 for 0 and on, that opens a group.
+fn open(number: u16, group: u16) -> Op {
+    Op {
+        name: Name {
+            node: 3,
+            seq: number as u32 + 1,
+        },
+        body: Body::Open(name(group)),
+    }
+}
+
 // The use of the group after this one.
 fn next_use(number: u16) -> Cap {
     Cap::Use(name(number.saturating_add(1)))
@@ -48,8 +59,8 @@ pub fn chain_from_last(alloc: Global, size: u16) -> Result<Index, AllocError> {
     Ok(index)
 }
 
-// One of the numbers below a bound, by a linear congruential generator.
-fn draw(state: &mut u64, bound: u16) -> u16 {
+/// One of the numbers below a bound, by a linear congruential generator.
+pub fn draw(state: &mut u64, bound: u16) -> u16 {
     *state = state
         .wrapping_mul(6364136223846793005)
         .wrapping_add(1442695040888963407);
@@ -88,6 +99,18 @@ pub fn shared(alloc: Global, size: u16) -> Result<Index, AllocError> {
     for number in 0..100 {
         let later = size.saturating_add(number);
         index.absorb(&put(later, 0, Cap::Plus(name(number))))?;
+    }
+    Ok(index)
+}
+
+/// So many groups with a capability each, of which the first so many are opened.
+pub fn opened(alloc: Global, groups: u16, opened: u16) -> Result<Index, AllocError> {
+    let mut index = Index::new(alloc);
+    for number in 0..groups {
+        index.absorb(&put(number, number, Cap::Plus(name(number))))?;
+    }
+    for number in 0..opened {
+        index.absorb(&open(number, number))?;
     }
     Ok(index)
 }

@@ -1,5 +1,7 @@
 //! The steps of closure.
-use crate::closure::graphs::{chain_from_first, chain_from_last, dense, name, shared, wide};
+use crate::closure::graphs::{
+    chain_from_first, chain_from_last, dense, draw, name, opened, shared, wide,
+};
 use fl_closure::index::Index;
 use fl_labels::cap::Cap;
 use fl_labels::cap_set::CapSet;
@@ -25,13 +27,20 @@ pub enum Step {
     /// The chain, and a hundred thousand times what is in effect for the owner of 50 tags, of which
     /// it owns nine of ten.
     Owned,
+    /// 10,000 groups, none of them opened, and a million times what is in effect for the owner of a
+    /// tag and of the use of a group.
+    NoneOpened,
+    /// The same, with 100 of them opened.
+    SomeOpened,
+    /// The same, with each of them opened.
+    AllOpened,
     /// Groups that use one another at random, by two hundred puts a group. Last, since what it
     /// frees lies about.
     Puts,
 }
 
 /// All steps, in order.
-pub const STEPS: [Step; 9] = [
+pub const STEPS: [Step; 12] = [
     Step::Dense,
     Step::ChainFromFirst,
     Step::ChainFromLast,
@@ -40,8 +49,14 @@ pub const STEPS: [Step; 9] = [
     Step::Reaches,
     Step::Effective,
     Step::Owned,
+    Step::NoneOpened,
+    Step::SomeOpened,
+    Step::AllOpened,
     Step::Puts,
 ];
+
+// How many groups there are of which some are opened.
+const GROUPS: u16 = 10_000;
 
 // How many of the first groups the owner of the first one reaches.
 fn count_reached(index: &Index, size: u16) -> u32 {
@@ -124,6 +139,22 @@ fn owned_often(index: &Index, owned: &CapSet) -> u32 {
     yes
 }
 
+// How many of a million tags, drawn of twice as many as there are groups, may be added by the owner
+// of a tag and of the use of a group that is not opened.
+fn ask_often(alloc: Global, index: &Index) -> Result<u32, AllocError> {
+    let mut owned = CapSet::new(alloc);
+    owned.insert(Cap::Plus(name(5)))?;
+    owned.insert(Cap::Use(name(GROUPS)))?;
+    let mut yes: u32 = 0;
+    let mut state = 1;
+    for _ in 0..1_000_000 {
+        if index.effective(&owned, Cap::Plus(name(draw(&mut state, 2 * GROUPS)))) {
+            yes = yes.saturating_add(1);
+        }
+    }
+    Ok(yes)
+}
+
 impl Step {
     /// Its name.
     pub fn name(self) -> &'static str {
@@ -137,6 +168,9 @@ impl Step {
             Step::Reaches => "questions of what is reached",
             Step::Effective => "questions of what is in effect",
             Step::Owned => "questions of the owner of 50 tags",
+            Step::NoneOpened => "questions where no group is opened",
+            Step::SomeOpened => "questions where 100 groups are opened",
+            Step::AllOpened => "questions where 10,000 groups are opened",
         }
     }
 
@@ -161,6 +195,9 @@ impl Step {
                 let owned = first_tags(alloc)?;
                 Ok(owned_often(&index, &owned))
             }
+            Step::NoneOpened => ask_often(alloc, &opened(alloc, GROUPS, 0)?),
+            Step::SomeOpened => ask_often(alloc, &opened(alloc, GROUPS, 100)?),
+            Step::AllOpened => ask_often(alloc, &opened(alloc, GROUPS, GROUPS)?),
         }
     }
 }
