@@ -7,12 +7,8 @@ use fl_labels::name::Name;
 use fl_ops::op::{Body, Op};
 use fl_opset::set::OpSet;
 use fl_store::keeper::{Keeper, KeeperFault};
-use std::alloc::{AllocGlobal, Global};
-use std::process::Abort;
-use std::test::Fail;
-
-/// A line, and what it is answered.
-pub type Asked = (&'static str, &'static str);
+use std::alloc::Global;
+use std::io::{self, Write};
 
 /// The group 1.1.
 pub const FIRST: Op = Op {
@@ -32,89 +28,115 @@ pub const THIRD: Op = Op {
     body: Body::MakeGroup,
 };
 
-/// Each of the lines has its answer at the keeper. A line is
+/// What a keeper answers, but for what is loaded.
+#[derive(Clone, Copy)]
+pub enum Said {
+    Loaded,
+    Done,
+    Count(u64),
+    Boot(u32),
+    Refused(KeeperFault),
+}
+
+/// Asks the keeper each of the lines. Its answers are put behind what was said before, as lines. A
+/// line is
 ///
-/// - `number`, `failures`, `boot`, `load`: that call; what is loaded is written as a registry's text.
+/// - `number`, `failures`, `boot`, `load`: that call; what is loaded is written as a registry's
+///   text.
 /// - `save none`, `save 1.1`, `save 1.2 1.3`: a batch of these groups is saved.
-pub fn check<K: Keeper>(
-    rt: &(impl Abort + AllocGlobal),
+pub fn ask<K: Keeper>(
+    alloc: Global,
     keeper: &mut K,
-    lines: &[Asked],
-) -> Result<(), Fail> {
-    let alloc = rt.alloc();
-    for (line, wanted) in lines {
-        let said = answer(alloc, keeper, line)?;
-        assert_eq!(rt; said.as_slice(), wanted.as_bytes(), "{line}");
+    lines: &[&str],
+    said: &mut Vec<u8>,
+) -> io::Result<()> {
+    for line in lines {
+        let answer = answer(alloc, keeper, line, said)?;
+        tell(answer, said)?;
     }
     Ok(())
 }
 
-/// What the keeper answers a line.
-pub fn answer<K: Keeper>(alloc: Global, keeper: &mut K, line: &str) -> Result<Vec<u8>, Fail> {
+// What the keeper answers a line. What it loads is told.
+fn answer<K: Keeper>(
+    alloc: Global,
+    keeper: &mut K,
+    line: &str,
+    said: &mut Vec<u8>,
+) -> io::Result<Said> {
     match line {
-        "number" => count_text(alloc, u64::from(keeper.number())),
-        "failures" => count_text(alloc, keeper.failures()),
-        "boot" => boot_text(alloc, keeper.boot()),
-        "load" => loaded_text(alloc, keeper.load(alloc)),
-        "save none" => done_text(alloc, save_none(keeper)),
-        "save 1.1" => done_text(alloc, save_one(alloc, keeper, FIRST)),
-        "save 1.2 1.3" => done_text(alloc, save_two(alloc, keeper, SECOND, THIRD)),
-        _ => Err(Fail::from("no such line")),
+        "number" => Ok(Said::Count(u64::from(keeper.number()))),
+        "failures" => Ok(Said::Count(keeper.failures())),
+        "boot" => Ok(booted(keeper)),
+        "load" => loaded(alloc, keeper, said),
+        "save none" => Ok(done(save_none(keeper))),
+        "save 1.1" => Ok(done(save_one(alloc, keeper, FIRST))),
+        "save 1.2 1.3" => Ok(done(save_two(alloc, keeper, SECOND, THIRD))),
+        _ => Err(io::Error::other("no such line")),
     }
 }
 
-/// The word of a refusal.
-pub fn fault_text(alloc: Global, fault: KeeperFault) -> Result<Vec<u8>, Fail> {
-    let word = match fault {
+fn booted<K: Keeper>(keeper: &mut K) -> Said {
+    match keeper.boot() {
+        Ok(boot) => Said::Boot(boot),
+        Err(fault) => Said::Refused(fault),
+    }
+}
+
+fn loaded<K: Keeper>(alloc: Global, keeper: &mut K, said: &mut Vec<u8>) -> io::Result<Said> {
+    match keeper.load(alloc) {
+        Ok(saved) => match saved.text(said) {
+            Ok(()) => Ok(Said::Loaded),
+            Err(_) => Err(io::Error::other("the text is not written")),
+        },
+        Err(fault) => Ok(Said::Refused(fault)),
+    }
+}
+
+fn done(outcome: Result<(), KeeperFault>) -> Said {
+    match outcome {
+        Ok(()) => Said::Done,
+        Err(fault) => Said::Refused(fault),
+    }
+}
+
+/// Tells an answer as a line.
+pub fn tell(answer: Said, said: &mut Vec<u8>) -> io::Result<()> {
+    match answer {
+        Said::Loaded => Ok(()),
+        Said::Done => tell_word(said, "ok"),
+        Said::Count(count) => tell_count(said, "", count),
+        Said::Boot(boot) => tell_count(said, "boot ", u64::from(boot)),
+        Said::Refused(fault) => tell_word(said, word_of(fault)),
+    }
+}
+
+fn tell_word(said: &mut Vec<u8>, word: &str) -> io::Result<()> {
+    said.extend_from_slice(word.as_bytes())?;
+    said.push(b'\n')?;
+    Ok(())
+}
+
+fn tell_count(said: &mut Vec<u8>, word: &str, count: u64) -> io::Result<()> {
+    writeln!(said, "{word}{count}")
+}
+
+fn word_of(fault: KeeperFault) -> &'static str {
+    match fault {
         KeeperFault::Memory => "memory",
         KeeperFault::Broken => "broken",
         KeeperFault::WrongNode => "wrong node",
         KeeperFault::BadRow => "bad row",
         KeeperFault::NamesSpent => "names spent",
-    };
-    words(alloc, word)
-}
-
-fn words(alloc: Global, text: &str) -> Result<Vec<u8>, Fail> {
-    Ok(format!(in alloc; "{text}")?.into_bytes())
-}
-
-fn count_text(alloc: Global, count: u64) -> Result<Vec<u8>, Fail> {
-    Ok(format!(in alloc; "{count}")?.into_bytes())
-}
-
-fn boot_text(alloc: Global, said: Result<u32, KeeperFault>) -> Result<Vec<u8>, Fail> {
-    match said {
-        Ok(boot) => Ok(format!(in alloc; "boot {boot}\n")?.into_bytes()),
-        Err(fault) => fault_text(alloc, fault),
     }
 }
 
-fn loaded_text(alloc: Global, said: Result<OpSet, KeeperFault>) -> Result<Vec<u8>, Fail> {
-    match said {
-        Ok(saved) => {
-            let mut output = Vec::new(alloc);
-            saved.text(&mut output)?;
-            Ok(output)
-        }
-        Err(fault) => fault_text(alloc, fault),
-    }
-}
-
-fn done_text(alloc: Global, said: Result<(), KeeperFault>) -> Result<Vec<u8>, Fail> {
-    match said {
-        Ok(()) => words(alloc, "ok"),
-        Err(fault) => fault_text(alloc, fault),
-    }
-}
-
-/// Saves the empty batch.
-pub fn save_none<K: Keeper>(keeper: &mut K) -> Result<(), KeeperFault> {
+fn save_none<K: Keeper>(keeper: &mut K) -> Result<(), KeeperFault> {
     keeper.save(&[])
 }
 
-/// Saves an operation, where what is loaded has none of its name; else it answers that a row is bad.
-pub fn save_one<K: Keeper>(alloc: Global, keeper: &mut K, op: Op) -> Result<(), KeeperFault> {
+// Saves an operation, where what is loaded has none of its name; else it answers that a row is bad.
+fn save_one<K: Keeper>(alloc: Global, keeper: &mut K, op: Op) -> Result<(), KeeperFault> {
     let saved = match keeper.load(alloc) {
         Ok(saved) => saved,
         Err(fault) => return Err(fault),
@@ -125,8 +147,8 @@ pub fn save_one<K: Keeper>(alloc: Global, keeper: &mut K, op: Op) -> Result<(), 
     keeper.save(&[op])
 }
 
-/// The same of two operations, whose names differ.
-pub fn save_two<K: Keeper>(
+// The same of two operations, whose names differ.
+fn save_two<K: Keeper>(
     alloc: Global,
     keeper: &mut K,
     first: Op,

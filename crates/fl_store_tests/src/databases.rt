@@ -1,129 +1,191 @@
-//! Tests of keepers over databases in memory, damaged in some way.
-use crate::asking::{Asked, answer, check, fault_text};
+//! Tests of keepers over databases that are damaged in some way.
+use crate::asking::{Said, ask, tell};
 use fl_labels::name::NodeNumber;
 use fl_sql_store::sql_keeper::SqlKeeper;
-use sqlite::{Alter, Connection, MemStore};
+use sqlite::{Alter, Connection};
 use std::alloc::{AllocGlobal, Global};
-use std::process::Abort;
+use std::io;
 use std::test::Fail;
 
-/// A keeper of this node over the database gives these answers, and the database back.
-pub fn check_on<S: Alter + Drop>(
-    rt: &(impl Abort + AllocGlobal),
-    conn: Connection<S>,
-    number: NodeNumber,
-    lines: &[Asked],
-) -> Result<Connection<S>, Fail> {
-    match SqlKeeper::open(rt.alloc(), conn, number) {
-        Ok(keeper) => {
-            let mut keeper = keeper;
-            check(rt, &mut keeper, lines)?;
-            Ok(keeper.into_connection())
-        }
-        Err((_fault, _conn)) => Err(Fail::from("not opened")),
-    }
-}
+/// What becomes of a database: this text of SQL is run, and then a keeper of this node is opened
+/// and asked these lines. None is opened where there are no lines.
+pub type Visit = (&'static str, NodeNumber, &'static [&'static str]);
 
-/// What a keeper of this node over the database loads, or why it is not opened.
-pub fn found_in<S: Alter + Drop>(
+/// A visit to a database, which is handed back. What the keeper answers, or why it is not opened,
+/// is put behind what was said.
+///
+/// A connection is never let go here, only handed on: so no proof says how its parts are let go.
+pub fn asked<S: Alter>(
     alloc: Global,
     conn: Connection<S>,
-    number: NodeNumber,
-) -> Result<Vec<u8>, Fail> {
+    visit: Visit,
+    said: &mut Vec<u8>,
+) -> (Connection<S>, io::Result<()>) {
+    let (text, number, lines) = visit;
+    let mut conn = conn;
+    if conn.execute_batch(text).is_err() {
+        return (conn, Err(io::Error::other("the text is refused")));
+    }
+    if lines.is_empty() {
+        return (conn, Ok(()));
+    }
     match SqlKeeper::open(alloc, conn, number) {
         Ok(keeper) => {
             let mut keeper = keeper;
-            let mut text = Vec::from_slice(alloc, b"opened: ")?;
-            text.extend_from_slice(&answer(alloc, &mut keeper, "load")?)?;
-            Ok(text)
+            let outcome = ask(alloc, &mut keeper, lines, said);
+            (keeper.into_connection(), outcome)
         }
-        Err((fault, _conn)) => fault_text(alloc, fault),
+        Err((fault, conn)) => (conn, tell(Said::Refused(fault), said)),
     }
 }
 
-// A database of node 1 with one operation.
-fn founded(rt: &(impl Abort + AllocGlobal)) -> Result<Connection<MemStore>, Fail> {
-    let conn = Connection::open_in_memory(rt.alloc())?;
-    check_on(rt, conn, 1, &[("boot", "boot 1\n"), ("save 1.1", "ok")])
-}
+/// The database of node 1 with one operation.
+const FOUNDED: Visit = ("", 1, &["boot", "save 1.1"]);
 
-/// What is done to a database of node 1, and what a keeper of a node then finds in it.
-type Damage = (&'static str, u16, &'static str);
+/// What is done to the database, by which node it is then visited, and what that finds.
+type Damage = (&'static str, NodeNumber, &'static str);
 
-const DAMAGES: [Damage; 18] = [
-    ("", 1, "opened: 1.1 group\n"),
-    ("", 2, "wrong node"),
-    ("UPDATE self SET node = 2", 1, "wrong node"),
-    ("UPDATE self SET format = 2", 1, "bad row"),
-    ("UPDATE self SET boot = 4294967296", 1, "bad row"),
-    ("UPDATE self SET boot = -1", 1, "bad row"),
-    ("DELETE FROM self", 1, "bad row"),
-    ("DROP TABLE self", 1, "bad row"),
-    ("DROP TABLE ops", 1, "bad row"),
-    ("CREATE TABLE other (id INTEGER)", 1, "bad row"),
+const DAMAGES: [Damage; 24] = [
+    ("", 1, "1.1 group\n"),
+    ("", 2, "wrong node\n"),
+    ("", 65_537, "wrong node\n"),
+    ("UPDATE self SET node = 2", 1, "wrong node\n"),
+    ("UPDATE self SET node = 65537", 1, "wrong node\n"),
+    ("UPDATE self SET format = 3", 1, "bad row\n"),
+    ("UPDATE self SET format = 0", 1, "bad row\n"),
+    ("UPDATE self SET boot = 4294967296", 1, "bad row\n"),
+    ("UPDATE self SET boot = -1", 1, "bad row\n"),
+    ("DELETE FROM self", 1, "bad row\n"),
+    ("DROP TABLE self", 1, "bad row\n"),
+    ("DROP TABLE ops", 1, "bad row\n"),
+    ("CREATE TABLE other (id INTEGER)", 1, "bad row\n"),
     (
-        "DROP TABLE ops; CREATE TABLE ops (node INTEGER NOT NULL, seq INTEGER NOT NULL, bytes BLOB NOT NULL) STRICT",
+        "DROP TABLE ops; \
+CREATE TABLE ops (node INTEGER NOT NULL, seq INTEGER NOT NULL, bytes BLOB NOT NULL) STRICT",
         1,
-        "bad row",
+        "bad row\n",
     ),
-    ("DROP TABLE ops; DROP TABLE self", 2, "opened: "),
-    ("BEGIN", 1, "broken"),
-    ("DELETE FROM ops", 1, "opened: "),
-    ("UPDATE ops SET seq = 2", 1, "opened: bad row"),
+    ("DROP TABLE ops; DROP TABLE self", 2, ""),
+    ("BEGIN", 1, "broken\n"),
+    ("DELETE FROM ops", 1, ""),
+    ("UPDATE ops SET seq = 2", 1, "bad row\n"),
     (
-        "UPDATE ops SET bytes = x'01020001000000'",
+        "UPDATE ops SET bytes = x'0102000100000001'",
         1,
-        "opened: bad row",
+        "1.1 group\n",
     ),
     (
-        "UPDATE ops SET bytes = x'010200010000000100'",
+        "UPDATE ops SET node = 65537, bytes = x'0102000100000001'",
         1,
-        "opened: bad row",
+        "bad row\n",
     ),
     (
-        "INSERT INTO ops (node, seq, bytes) VALUES (1, 2, x'0102000100000001')",
+        "UPDATE ops SET bytes = x'03020000000100000001'",
         1,
-        "opened: bad row",
+        "bad row\n",
+    ),
+    (
+        "UPDATE ops SET bytes = x'020200000001000000'",
+        1,
+        "bad row\n",
+    ),
+    (
+        "UPDATE ops SET bytes = x'0202000000010000000100'",
+        1,
+        "bad row\n",
+    ),
+    (
+        "INSERT INTO ops (node, seq, bytes) VALUES (1, 2, x'02020000000100000001')",
+        1,
+        "bad row\n",
     ),
 ];
+
+// What is said of visits, one after the other, to a database in memory.
+fn said_of(alloc: Global, visits: &[Visit]) -> Result<Vec<u8>, Fail> {
+    let mut said = Vec::new(alloc);
+    let mut conn = Connection::open_in_memory(alloc)?;
+    for visit in visits {
+        let (left, outcome) = asked(alloc, conn, *visit, &mut said);
+        conn = left;
+        outcome?;
+    }
+    Ok(said)
+}
 
 #[test]
 fn damaged_databases(rt: HostRuntime) -> Result<(), Fail> {
     for (damage, number, wanted) in DAMAGES {
-        let mut conn = founded(&rt)?;
-        conn.execute_batch(damage)?;
-        let found = found_in(rt.alloc(), conn, number)?;
-        assert_eq!(rt; found.as_slice(), wanted.as_bytes(), "{damage}");
+        let said = said_of(rt.alloc(), &[FOUNDED, (damage, number, &["load"])])?;
+        let found = said.strip_prefix(b"boot 1\nok\n").unwrap_or_default();
+        assert_eq!(rt; found, wanted.as_bytes(), "{damage}");
     }
     Ok(())
 }
 
+/// The database of the first format that node 1 left, booted once, with a tag, a group and a put.
+pub const FIRST_FORMAT: &str = "\
+CREATE TABLE self (id INTEGER PRIMARY KEY CHECK (id = 1), node INTEGER NOT NULL, \
+boot INTEGER NOT NULL, format INTEGER NOT NULL) STRICT; \
+CREATE TABLE ops (node INTEGER NOT NULL, seq INTEGER NOT NULL, bytes BLOB NOT NULL, \
+PRIMARY KEY (node, seq)) STRICT; \
+INSERT INTO self (id, node, boot, format) VALUES (1, 1, 1, 1); \
+INSERT INTO ops (node, seq, bytes) VALUES (1, 1, x'010100010000000101'), \
+(1, 2, x'0102000100000002'), (1, 3, x'010300010000000300010000000201000100000001')";
+
+/// Visits, one after the other, and what is said.
+type History = (&'static [Visit], &'static str);
+
+const HISTORIES: [History; 3] = [
+    (
+        &[
+            FOUNDED,
+            (
+                "",
+                1,
+                &[
+                    "number",
+                    "save none",
+                    "boot",
+                    "save 1.2 1.3",
+                    "load",
+                    "failures",
+                ],
+            ),
+            (
+                "UPDATE self SET boot = 4294967295",
+                1,
+                &["boot", "failures", "save none"],
+            ),
+        ],
+        "boot 1\nok\n\
+1\nok\nboot 2\nok\n1.1 group\n1.2 group\n1.3 group\n0\n\
+names spent\n0\nok\n",
+    ),
+    (
+        &[
+            (FIRST_FORMAT, 2, &["load"]),
+            ("", 1, &["load", "boot"]),
+            ("", 1, &["load", "boot"]),
+        ],
+        "wrong node\n\
+1.1 tag export\n1.2 group\n1.3 put 1.2 +1.1\nboot 2\n\
+1.1 tag export\n1.2 group\n1.3 put 1.2 +1.1\nboot 3\n",
+    ),
+    (
+        &[
+            (FIRST_FORMAT, 1, &[]),
+            ("DELETE FROM ops", 1, &["save 1.1", "save 1.2 1.3", "load"]),
+        ],
+        "ok\nok\n1.1 group\n1.2 group\n1.3 group\n",
+    ),
+];
+
 #[test]
 fn keeps_in_a_database(rt: HostRuntime) -> Result<(), Fail> {
-    let conn = check_on(
-        &rt,
-        founded(&rt)?,
-        1,
-        &[
-            ("number", "1"),
-            ("save none", "ok"),
-            ("boot", "boot 2\n"),
-            ("save 1.2 1.3", "ok"),
-            ("load", "1.1 group\n1.2 group\n1.3 group\n"),
-            ("failures", "0"),
-        ],
-    )?;
-    let mut conn = conn;
-    conn.execute_batch("UPDATE self SET boot = 4294967295")?;
-    check_on(
-        &rt,
-        conn,
-        1,
-        &[
-            ("boot", "names spent"),
-            ("failures", "0"),
-            ("save none", "ok"),
-        ],
-    )?;
+    for (visits, wanted) in HISTORIES {
+        let said = said_of(rt.alloc(), visits)?;
+        assert_eq!(rt; said.as_slice(), wanted.as_bytes());
+    }
     Ok(())
 }

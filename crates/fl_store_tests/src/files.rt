@@ -1,6 +1,6 @@
 //! A test of a keeper over a file.
-use crate::databases::{check_on, found_in};
-use sqlite::{Connection, Error};
+use crate::databases::{Visit, asked};
+use sqlite::Connection;
 use std::fs;
 use std::test::Fail;
 
@@ -8,43 +8,40 @@ const FOLDER: &str = "fl_store_tests_files";
 
 const FILE: &str = "fl_store_tests_files/node1.db";
 
-// How many rows the tables have as they are said to be, told by a connection of its own.
-fn rows_told(rt: &HostRuntime) -> Result<i64, Error> {
-    let mut conn = Connection::open(rt, FILE)?;
-    let count = told(&mut conn);
+// A visit to the file, by a connection of its own.
+fn visited(rt: &HostRuntime, visit: Visit, said: &mut Vec<u8>) -> Result<(), Fail> {
+    let conn = Connection::open(rt, FILE)?;
+    let (conn, outcome) = asked(rt.alloc(), conn, visit, said);
     conn.close()?;
-    count
+    outcome?;
+    Ok(())
 }
 
-fn told<S: sqlite::Alter>(conn: &mut Connection<S>) -> Result<i64, Error> {
-    conn.query_row(
-        "SELECT count(*) FROM self, ops WHERE self.node = 1 AND boot = 1 AND format = 1 AND ops.node = 1 AND bytes = x'0102000100000001'",
+/// The boot is changed where the tables have the rows that they are said to have, and no others.
+const VISITS: [Visit; 5] = [
+    ("", 1, &["boot", "save 1.1"]),
+    (
+        "UPDATE self SET boot = 7 WHERE node = 1 AND boot = 1 AND format = 2 \
+AND 1 = (SELECT count(*) FROM ops) \
+AND 1 = (SELECT count(*) FROM ops WHERE node = 1 AND bytes = x'02020000000100000001')",
+        1,
         &[],
-    )?
-    .get(0)
-}
+    ),
+    ("", 2, &["load"]),
+    ("", 1, &["load", "boot"]),
+    ("", 1, &["boot"]),
+];
 
 #[test]
 fn read_back_from_a_file(rt: HostRuntime) -> Result<(), Fail> {
     let _ = fs::remove_dir_all(&rt, FOLDER);
     fs::create_dir(&rt, FOLDER)?;
-    let first = check_on(
-        &rt,
-        Connection::open(&rt, FILE)?,
-        1,
-        &[("boot", "boot 1\n"), ("save 1.1", "ok")],
-    )?;
-    first.close()?;
-    assert_eq!(rt; rows_told(&rt)?, 1);
-    let other = found_in(rt.alloc(), Connection::open(&rt, FILE)?, 2)?;
-    assert_eq!(rt; other.as_slice(), b"wrong node".as_slice());
-    let second = check_on(
-        &rt,
-        Connection::open(&rt, FILE)?,
-        1,
-        &[("load", "1.1 group\n"), ("boot", "boot 2\n")],
-    )?;
-    second.close()?;
+    let mut said = Vec::new(rt.alloc());
+    for visit in VISITS {
+        visited(&rt, visit, &mut said)?;
+    }
     fs::remove_dir_all(&rt, FOLDER)?;
+    let wanted = "boot 1\nok\nwrong node\n1.1 group\nboot 8\nboot 9\n";
+    assert_eq!(rt; said.as_slice(), wanted.as_bytes());
     Ok(())
 }

@@ -1,33 +1,37 @@
 //! Tests of keepers in memory.
 ghost use Rattle.std.specs.Prelude.{◌<◌};
 
-use crate::asking::{Asked, FIRST, check};
+use crate::asking::{FIRST, ask};
 use fl_ops::op::Op;
 use fl_store::mem::MemKeeper;
-use std::alloc::{AllocError, AllocGlobal, Global};
-use std::process::Abort;
+use std::alloc::{AllocError, Global};
+use std::io;
 use std::test::Fail;
-
-const ALL: &str = "1.1 group\n1.2 group\n1.3 group\n";
 
 #[test]
 fn keeps_in_memory(rt: HostRuntime) -> Result<(), Fail> {
-    check(
-        &rt,
+    let mut said = Vec::new(rt.alloc());
+    let lines = [
+        "number",
+        "load",
+        "boot",
+        "save none",
+        "load",
+        "save 1.1",
+        "save 1.2 1.3",
+        "boot",
+        "load",
+        "failures",
+    ];
+    ask(
+        rt.alloc(),
         &mut MemKeeper::new(rt.alloc(), 7),
-        &[
-            ("number", "7"),
-            ("load", ""),
-            ("boot", "boot 1\n"),
-            ("save none", "ok"),
-            ("load", ""),
-            ("save 1.1", "ok"),
-            ("save 1.2 1.3", "ok"),
-            ("boot", "boot 2\n"),
-            ("load", ALL),
-            ("failures", "0"),
-        ],
-    )
+        &lines,
+        &mut said,
+    )?;
+    let wanted = "7\nboot 1\nok\nok\nok\nboot 2\n1.1 group\n1.2 group\n1.3 group\n0\n";
+    assert_eq!(rt; said.as_slice(), wanted.as_bytes());
+    Ok(())
 }
 
 // A keeper of node 1 with one operation, before its last boot.
@@ -37,61 +41,83 @@ fn keeper_with(alloc: Global, op: Op) -> Result<MemKeeper, AllocError> {
 
 #[test]
 fn last_boot_is_spent(rt: HostRuntime) -> Result<(), Fail> {
-    check(
-        &rt,
+    let mut said = Vec::new(rt.alloc());
+    let lines = ["boot", "boot", "failures", "load", "save 1.2 1.3"];
+    ask(
+        rt.alloc(),
         &mut keeper_with(rt.alloc(), FIRST)?,
-        &[
-            ("boot", "boot 4294967295\n"),
-            ("boot", "names spent"),
-            ("failures", "0"),
-            ("load", "1.1 group\n"),
-            ("save 1.2 1.3", "ok"),
-        ],
-    )
+        &lines,
+        &mut said,
+    )?;
+    let wanted = "boot 4294967295\nnames spent\n0\n1.1 group\nok\n";
+    assert_eq!(rt; said.as_slice(), wanted.as_bytes());
+    Ok(())
 }
 
-// A keeper of node 1 that breaks at its save of this number. The lines are asked of it, and then, of it mended, the others.
-fn check_break(
-    rt: &(impl Abort + AllocGlobal),
+/// A keeper of node 1 that breaks.
+struct Break {
+    /// At its save of this number, from 1 on.
     save: u64,
+    /// Whether it keeps what it then saves.
     keeps: bool,
-    lines: &[Asked],
-    mended: &[Asked],
-) -> Result<(), Fail>
-    requires { 0 < save }
-{
-    let mut keeper = MemKeeper::new(rt.alloc(), 1);
-    keeper.break_at(save, keeps);
-    check(rt, &mut keeper, lines)?;
-    check(rt, &mut keeper.mend(), mended)
+    /// What it is asked.
+    lines: &'static [&'static str],
+    /// What it is asked then, mended.
+    mended: &'static [&'static str],
+    /// What it answers.
+    wanted: &'static str,
 }
 
-const BREAKS: [Asked; 8] = [
-    ("boot", "boot 1\n"),
-    ("save 1.1", "ok"),
-    ("failures", "0"),
-    ("save 1.2 1.3", "broken"),
-    ("failures", "1"),
-    ("boot", "broken"),
-    ("load", "broken"),
-    ("save none", "broken"),
+const BROKEN: [&str; 8] = [
+    "boot",
+    "save 1.1",
+    "failures",
+    "save 1.2 1.3",
+    "failures",
+    "boot",
+    "load",
+    "save none",
 ];
+
+const BREAKS: [Break; 3] = [
+    Break {
+        save: 2,
+        keeps: false,
+        lines: &BROKEN,
+        mended: &["failures", "load", "boot", "save 1.2 1.3"],
+        wanted: "boot 1\nok\n0\nbroken\n1\nbroken\nbroken\nbroken\n0\n1.1 group\nboot 2\nok\n",
+    },
+    Break {
+        save: 2,
+        keeps: true,
+        lines: &BROKEN,
+        mended: &["load", "boot", "save none"],
+        wanted: "boot 1\nok\n0\nbroken\n1\nbroken\nbroken\nbroken\n\
+1.1 group\n1.2 group\n1.3 group\nboot 2\nok\n",
+    },
+    // An empty batch counts.
+    Break {
+        save: 1,
+        keeps: true,
+        lines: &["save none", "failures"],
+        mended: &["load", "save 1.1"],
+        wanted: "broken\n1\nok\n",
+    },
+];
+
+fn break_one(alloc: Global, broken: &Break, said: &mut Vec<u8>) -> io::Result<()> {
+    let mut keeper = MemKeeper::new(alloc, 1);
+    keeper.break_at(broken.save.max(1), broken.keeps);
+    ask(alloc, &mut keeper, broken.lines, said)?;
+    ask(alloc, &mut keeper.mend(), broken.mended, said)
+}
 
 #[test]
 fn breaks_and_is_mended(rt: HostRuntime) -> Result<(), Fail> {
-    let without = [
-        ("failures", "0"),
-        ("load", "1.1 group\n"),
-        ("boot", "boot 2\n"),
-        ("save 1.2 1.3", "ok"),
-    ];
-    let with = [("load", ALL), ("boot", "boot 2\n"), ("save none", "ok")];
-    check_break(&rt, 2, false, &BREAKS, &without)?;
-    check_break(&rt, 2, true, &BREAKS, &with)
-}
-
-#[test]
-fn empty_batch_counts(rt: HostRuntime) -> Result<(), Fail> {
-    let lines = [("save none", "broken"), ("failures", "1")];
-    check_break(&rt, 1, true, &lines, &[("load", ""), ("save 1.1", "ok")])
+    for broken in &BREAKS {
+        let mut said = Vec::new(rt.alloc());
+        break_one(rt.alloc(), broken, &mut said)?;
+        assert_eq!(rt; said.as_slice(), broken.wanted.as_bytes());
+    }
+    Ok(())
 }

@@ -1,123 +1,161 @@
 //! Tests of a keeper whose files stop at some call.
-ghost use Rattle.std.specs.Prelude.{◌<◌};
+ghost use Rattle.std.specs.Prelude.{IsTrue};
 
-use crate::asking::{FIRST, SECOND, THIRD, answer, save_one, save_two};
-use fl_sql_store::sql_keeper::SqlKeeper;
-use fl_store::keeper::Keeper;
+use crate::databases::{Visit, asked};
 use sqlite::{Connection, FileStore, Files, Options};
 use sqlite_disk::{Crash, Disk, Fuse, Memory};
 use std::alloc::{AllocGlobal, Global};
+use std::io;
 use std::process::Abort;
 use std::test::Fail;
 
-type Stopping = Fuse<Memory>;
+/// What is said in a run whose files stop, and what the next opening may then find: nothing of the
+/// step that failed, or all of it.
+type Stop = (&'static str, [&'static str; 2]);
 
-/// What the next opening finds after so many steps: none, opened, booted, saved, saved again.
-const FOUND: [&str; 6] = [
-    "boot 1\n",
-    "boot 1\n",
-    "boot 2\n",
-    "boot 2\n1.1 group\n",
-    "boot 2\n1.1 group\n1.2 group\n1.3 group\n",
-    "boot 2\n1.1 group\n1.2 group\n1.3 group\n",
-];
-
-// How many steps of a run an open keeper does, up to the first that is refused. Its opening is one.
-fn steps_of<K: Keeper>(alloc: Global, keeper: &mut K) -> usize
-    ensures { result < 5 }
-{
-    if keeper.boot().is_err() {
-        return 1;
-    }
-    if save_one(alloc, keeper, FIRST).is_err() {
-        return 2;
-    }
-    if save_two(alloc, keeper, SECOND, THIRD).is_err() {
-        return 3;
-    }
-    4
+/// A run over files that stop.
+struct Run {
+    /// What comes before, while the files do not stop.
+    before: &'static [Visit],
+    /// What is done until they stop.
+    visit: Visit,
+    /// What finds out what is left, after the machine went down and came back.
+    after: Visit,
+    stops: &'static [Stop],
 }
 
-// Opens the files, unless a sync of them has failed.
-fn connect(
+/// A database is made, booted, and saved in twice.
+const KEEPING: Run = Run {
+    before: &[],
+    visit: ("", 1, &["boot", "save 1.1", "save 1.2 1.3"]),
+    after: ("", 1, &["boot", "load"]),
+    stops: &[
+        ("", ["boot 1\n"; 2]),
+        ("broken\n", ["boot 1\n"; 2]),
+        ("broken\nbroken\nbroken\n", ["boot 1\n", "boot 2\n"]),
+        (
+            "boot 1\nbroken\nbroken\n",
+            ["boot 2\n", "boot 2\n1.1 group\n"],
+        ),
+        (
+            "boot 1\nok\nbroken\n",
+            [
+                "boot 2\n1.1 group\n",
+                "boot 2\n1.1 group\n1.2 group\n1.3 group\n",
+            ],
+        ),
+        (
+            "boot 1\nok\nok\n",
+            ["boot 2\n1.1 group\n1.2 group\n1.3 group\n"; 2],
+        ),
+    ],
+};
+
+// The files of a connection, whose log is copied into the database where they allow it.
+fn closed<D: Disk + Drop>(conn: Connection<FileStore<D>>) -> Files<D> {
+    match conn.close_files() {
+        Ok(files) => files,
+        Err((_error, store)) => store.close(),
+    }
+}
+
+// A visit to the database of these files, which are handed back. Nothing is said where they cannot
+// be opened.
+fn visited<D: Disk + Drop>(
     alloc: Global,
-    files: Files<Stopping>,
-) -> Result<Connection<FileStore<Stopping>>, Files<Stopping>> {
+    files: Files<D>,
+    visit: Visit,
+    said: &mut Vec<u8>,
+) -> (Files<D>, io::Result<()>) {
     if !files.may_be_used() {
-        return Err(files);
+        return (files, Ok(()));
     }
     match Connection::open_files(alloc, files, Options::new(1)) {
-        Ok(conn) => Ok(conn),
-        Err((_error, left)) => Err(left.into_files()),
+        Ok(conn) => {
+            let (conn, outcome) = asked(alloc, conn, visit, said);
+            (closed(conn), outcome)
+        }
+        Err((_error, left)) => (left.into_files(), Ok(())),
     }
 }
 
-// How many steps are done before the files stop, and the files.
-fn run(alloc: Global, files: Files<Stopping>) -> (usize, Files<Stopping>)
-    ensures { result.0 < 5 }
-{
-    let conn = match connect(alloc, files) {
-        Ok(conn) => conn,
-        Err(files) => return (0, files),
-    };
-    match SqlKeeper::open(alloc, conn, 1) {
-        Ok(keeper) => {
-            let mut keeper = keeper;
-            let steps = steps_of(alloc, &mut keeper);
-            (steps, keeper.into_connection().into_store().close())
-        }
-        Err((_fault, conn)) => (0, conn.into_store().close()),
+// The files, each of which stops after so many calls.
+fn fused(files: Files<Memory>, log_calls: u64, db_calls: u64) -> Files<Fuse<Memory>> {
+    let Files { log, db } = files;
+    Files {
+        log: Fuse::new(log, log_calls),
+        db: Fuse::new(db, db_calls),
     }
 }
 
 // The machine goes down and comes back.
-fn crashed(files: Files<Stopping>) -> Files<Stopping> {
+fn crashed<D: Crash>(files: Files<D>) -> Files<D> {
     let Files { mut log, mut db } = files;
     log.crash();
     db.crash();
     Files { log, db }
 }
 
-// The boot that the next opening gives, and what it loads.
-fn found(alloc: Global, files: Files<Stopping>) -> Result<Vec<u8>, Fail> {
-    let conn = connect(alloc, files)
-        .ok()
-        .ok_or("the files are not opened again")?;
-    let mut keeper = SqlKeeper::open(alloc, conn, 1)
-        .ok()
-        .ok_or("the keeper is not opened again")?;
-    let mut text = answer(alloc, &mut keeper, "boot")?;
-    text.extend_from_slice(&answer(alloc, &mut keeper, "load")?)?;
-    Ok(text)
+// The run over these files. What it says, and what is then found, is put behind what was said.
+fn stopped<D: Crash + Drop>(
+    alloc: Global,
+    files: Files<D>,
+    run: &Run,
+    said: &mut Vec<u8>,
+    found: &mut Vec<u8>,
+) -> io::Result<()> {
+    let (files, outcome) = visited(alloc, files, run.visit, said);
+    let (_files, looked) = visited(alloc, crashed(files), run.after, found);
+    outcome?;
+    looked
 }
 
-fn fresh(alloc: Global, log_calls: u64, db_calls: u64) -> Files<Stopping> {
-    Files {
-        log: Fuse::new(Memory::new(alloc), log_calls),
-        db: Fuse::new(Memory::new(alloc), db_calls),
+// Which of the stops this is, where it may be found so.
+fn place_of(run: &Run, said: &[u8], found: &[u8]) -> Option<usize> {
+    for (place, (wanted, left)) in run.stops.iter().enumerate() {
+        if said == wanted.as_bytes() {
+            let is_left = found == left[0].as_bytes() || found == left[1].as_bytes();
+            return is_left.then_some(place);
+        }
     }
+    None
 }
 
-// Whether it is what so many steps leave, or one step more.
-fn is_expected(text: &[u8], steps: usize) -> bool
-    requires { steps < 5 }
-{
-    text == FOUND[steps].as_bytes() || text == FOUND[steps + 1].as_bytes()
+// The files as the run begins. What is said before is put behind what was said.
+fn started(alloc: Global, run: &Run, said: &mut Vec<u8>) -> io::Result<Files<Memory>> {
+    let mut files = Files {
+        log: Memory::new(alloc),
+        db: Memory::new(alloc),
+    };
+    for visit in run.before {
+        let (left, outcome) = visited(alloc, files, *visit, said);
+        files = left;
+        outcome?;
+    }
+    Ok(files)
 }
 
-// Stops one of the files at each of its calls in turn. It is found as the steps that were done left it, or one step further.
-fn stops(rt: &(impl Abort + AllocGlobal), of_log: bool) -> Result<u64, Fail> {
-    let alloc = rt.alloc();
-    'calls: for calls in 0..10_000u64 {
-        let files = if of_log {
-            fresh(alloc, calls, u64::MAX)
-        } else {
-            fresh(alloc, u64::MAX, calls)
-        };
-        let (steps, left) = run(alloc, files);
-        let text = found(alloc, crashed(left))?;
-        assert!(rt; is_expected(text.as_slice(), steps), "{calls}");
-        if steps == 4 {
+// Which stop it is that one of the files stops after so many calls.
+fn stop_at(alloc: Global, run: &Run, of_log: bool, calls: u64) -> io::Result<Option<usize>> {
+    let mut said = Vec::new(alloc);
+    let mut found = Vec::new(alloc);
+    let files = started(alloc, run, &mut said)?;
+    let files = if of_log {
+        fused(files, calls, u64::MAX)
+    } else {
+        fused(files, u64::MAX, calls)
+    };
+    stopped(alloc, files, run, &mut said, &mut found)?;
+    Ok(place_of(run, said.as_slice(), found.as_slice()))
+}
+
+// Stops one of the files at each of its calls in turn, up to the run that comes to its end. Gives
+// at how many it stops there.
+fn stops(rt: &(impl Abort + AllocGlobal), run: &Run, of_log: bool) -> Result<u64, Fail> {
+    for calls in 0..10_000u64 {
+        let place = stop_at(rt.alloc(), run, of_log, calls)?;
+        assert!(rt; place.is_some(), "{calls}");
+        if place == run.stops.len().checked_sub(1) {
             return Ok(calls);
         }
     }
@@ -126,12 +164,12 @@ fn stops(rt: &(impl Abort + AllocGlobal), of_log: bool) -> Result<u64, Fail> {
 
 #[test]
 fn stopped_at_each_call_of_the_log(rt: HostRuntime) -> Result<(), Fail> {
-    assert!(rt; stops(&rt, true)? > 20);
+    assert!(rt; stops(&rt, &KEEPING, true)? > 20);
     Ok(())
 }
 
 #[test]
 fn stopped_at_each_call_of_the_database(rt: HostRuntime) -> Result<(), Fail> {
-    assert!(rt; stops(&rt, false)? > 3);
+    assert!(rt; stops(&rt, &KEEPING, false)? > 3);
     Ok(())
 }
