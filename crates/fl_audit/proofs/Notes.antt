@@ -1,10 +1,18 @@
 -- What would be noted may be noted.
-use Rattle.std.proofs.Common.{◌≡◌, ◌∙◌, refl, sym, subst, arith, ℕ, zero, List, [], ◌∷◌, true, is_some}
+use Rattle.std.proofs.Common.{◌≡◌, ◌∙◌, refl, sym, ap, subst, arith, ℕ, zero, List, [], ◌∷◌, length}
+use Rattle.std.proofs.Common.{Bool, true, false, is_some}
 use Rattle.std.proofs.Common.{Option, Some, None, Result, Ok, Err, OnErr}
+use Rattle.std.specs.Prelude.{cond, not, IfOk, ◌==◌}
+use Rattle.std.specs.declared.alloc.AllocError.{AllocError}
 use Rattle.std.proofs.lemmas.Bool.{false≢true}
 use Rattle.std.proofs.lemmas.Result.{on_err_weaker}
 use Rattle.std.specs.FinMap as map
 use Rattle.std.specs.List.{Contains}
+use Rattle.fl_labels.specs.Cap.{cap_cmp}
+use Rattle.fl_labels.specs.CapOrder.{cap_total, cap_exact}
+use Rattle.fl_labels.specs.SetBy as set
+use Rattle.fl_labels.specs.SetBy.{SetBy}
+use Rattle.fl_labels.specs.declared.cap.Cap.{Cap}
 use Rattle.fl_labels.specs.declared.cap.Cap.TheVariants.{Use}
 use Rattle.fl_labels.specs.declared.pid.Pid.{Pid}
 use Rattle.fl_rules.specs.declared.endpoint.Mode.{Mode}
@@ -21,8 +29,8 @@ use Rattle.fl_jobs.specs.declared.job.Job.TheVariants.{By}
 use Rattle.fl_jobs.specs.declared.job.Mail as mails
 use Rattle.fl_jobs.specs.declared.job.Mail.TheVariants.{Open, Tune, Close, Send, Take}
 use Rattle.fl_jobs.specs.declared.job.Order as orders
-use Rattle.fl_jobs.specs.declared.job.Order.TheVariants.{Tag, Group, Put, MakeLogin, OpenGroup}
 use Rattle.fl_jobs.specs.declared.answer.Reply.TheVariants as replies
+use Rattle.fl_bench.specs.Process.{order_takes, takes_nothing}
 use Rattle.fl_bench.specs.declared.process.Process.{Process}
 use Rattle.fl_system.specs.Audit.{party, order_entries, endpoint_entries, tuned_entries}
 use Rattle.fl_system.specs.Audit.{mail_entries, act_entries, entries_by}
@@ -30,11 +38,14 @@ use Rattle.fl_system.specs.Processes.{process_of}
 use Rattle.fl_system.specs.State.{NodeState}
 use Rattle.fl_system.specs.WorldJobs.{MayBeNoted}
 use Rattle.fl_system.specs.declared.admission.Admission.{Admission}
+use Rattle.fl_system.specs.declared.admission.Admission.TheVariants.{Grant}
 use Rattle.fl_system.specs.declared.admission.Party.{Party}
 use Rattle.fl_system.specs.declared.answer.Answer.{Answer}
 use Rattle.fl_system.specs.declared.answer.Answer.TheVariants as answers
-use Rattle.fl_audit.specs.Drafts.{IsAskedAt}
-use Rattle.fl_audit.specs.Noted.{order_noted, tuned_noted, mail_noted, act_noted}
+use Rattle.fl_audit.specs.Drafts.{drafted, IsAskedAt}
+use Rattle.fl_audit.specs.declared.draft.Draft.{Draft}
+use Rattle.fl_audit.specs.declared.draft.Draft.TheVariants.{Always}
+use Rattle.fl_audit.specs.Noted.{tuned_noted, mail_noted, act_noted}
 
 pub on_err : {T E P : Type 0} (r : Result T E) → P → OnErr r P
 on_err (Ok x) h = tt
@@ -55,13 +66,17 @@ first e = (zero, omega arith, refl)
 always : (e : Admission) → SomeNoted (λ a. e ∷ [])
 always e = record { answer = done; entry = e; noted = first e }
 
-order_some : (p : Party) (order : orders.Order) → order_noted order ≡ true
+-- one entry, where something is taken
+abbrev if_taken : Bool → Admission → List Admission
+if_taken none_taken e = cond none_taken [] (e ∷ [])
+
+order_some : (p : Party) (order : orders.Order) → not (takes_nothing order) ≡ true
     → SomeNoted (λ a. order_entries p order)
-order_some p (Tag policy) h = absurd (false≢true h)
-order_some p Group h = absurd (false≢true h)
-order_some p (Put group c) h = always _
-order_some p (MakeLogin c secret) h = always _
-order_some p (OpenGroup group) h = always _
+order_some p order h = by_taken (takes_nothing order) (Grant p (order_takes order)) h
+  where
+    by_taken : (none_taken : Bool) (e : Admission) → not none_taken ≡ true → SomeNoted (λ a. if_taken none_taken e)
+    by_taken true e h = absurd (false≢true h)
+    by_taken false e h = always e
 
 endpoint_some : (p : Party) (mode : Mode) (labels : Option Labels) → is_some labels ≡ true
     → SomeNoted (λ a. endpoint_entries p mode labels)
@@ -112,3 +127,27 @@ module _ (number boot : ℕ) (asker : Option Process) (job : Job) (pid : Pid) (p
   pub may_be_asked : {T E : Type 0} (r : Result T E) → OnErr r (act_noted p act ≡ true)
       → OnErr r ((n : NodeState) → IsAskedAt number boot asker job n → MayBeNoted n job)
   may_be_asked r h = on_err_weaker r noted_may h
+
+-- ---- what is drafted of an order
+
+module _ (order : orders.Order) (caps : List Cap) (listed : caps ≡ set.members (order_takes order)) where
+  -- whether nothing is taken
+  pub taken_told : (none_taken : Bool) → none_taken ≡ (length caps == 0) → (told : Bool) → none_taken ≡ told
+      → takes_nothing order ≡ told
+  taken_told none_taken is told e = ap (λ s. length s == 0) (sym listed) ∙ sym is ∙ e
+
+  -- the set of these is what is taken
+  set_taken : (made : SetBy cap_cmp) → made ≡ set.of_list caps → made ≡ order_takes order
+  set_taken made is = is ∙ ap set.of_list listed ∙ set.of_list-members cap_total cap_exact (order_takes order)
+
+  pub grant_drafted : (p : Party) (made : SetBy cap_cmp) → made ≡ set.of_list caps → takes_nothing order ≡ false
+      → (r : Result Draft AllocError) → IfOk r (λ draft. draft ≡ Always (Grant p made))
+      → IfOk r (λ draft. (a : Answer) → drafted draft a ≡ order_entries p order)
+  grant_drafted p made is some (Err e) h = tt
+  grant_drafted p made is some (Ok draft) h = λ a.
+      ap (λ d. drafted d a) h
+      ∙ ap (λ s. Grant p s ∷ []) (set_taken made is)
+      ∙ ap (λ b. if_taken b (Grant p (order_takes order))) (sym some)
+
+pub nothing_drafted : (order : orders.Order) (p : Party) → takes_nothing order ≡ true → [] ≡ order_entries p order
+nothing_drafted order p e = ap (λ b. if_taken b (Grant p (order_takes order))) (sym e)

@@ -1,5 +1,5 @@
 -- Which jobs are noted, where their answer is the right one, with what who asks for them owns.
-use Rattle.std.specs.Prelude.{◌≡◌, Bool, true, false, is_some, IsSome}
+use Rattle.std.specs.Prelude.{◌≡◌, Bool, true, false, not, is_some, IsSome}
 use Rattle.std.specs.FinMap as map
 use Rattle.std.specs.declared.option.Option.{Option}
 use Rattle.std.specs.declared.option.Option.TheVariants.{None, Some}
@@ -17,17 +17,8 @@ use Rattle.fl_jobs.specs.declared.job.Job.{Job}
 use Rattle.fl_jobs.specs.declared.job.Job.TheVariants.{Proc, By, Member, Arrive}
 use Rattle.fl_jobs.specs.declared.job.Mail as mails
 use Rattle.fl_jobs.specs.declared.job.Mail.TheVariants.{Open, Tune, Close, Send, Take}
-use Rattle.fl_jobs.specs.declared.job.Order as orders
-use Rattle.fl_jobs.specs.declared.job.Order.TheVariants.{Tag, Group, Put, MakeLogin, OpenGroup}
-use Rattle.fl_bench.specs.Process.{owned_by}
+use Rattle.fl_bench.specs.Process.{owned_by, takes_nothing}
 use Rattle.fl_bench.specs.declared.process.Process.{Process}
-
-abbrev pub order_noted : orders.Order → Bool
-order_noted (Tag policy) = false
-order_noted Group = false
-order_noted (Put group c) = true
-order_noted (MakeLogin c secret) = true
-order_noted (OpenGroup group) = true
 
 abbrev pub tuned_noted : Option OpenEndpoint → GivenLabels → Bool
 tuned_noted None given = false
@@ -42,7 +33,7 @@ mail_noted ch Take = false
 
 -- of an act of this process
 abbrev pub act_noted : Process → Act → Bool
-act_noted p (Order order) = order_noted order
+act_noted p (Order order) = not (takes_nothing order)
 act_noted p (Relabel side (Ok label)) = true
 act_noted p (Relabel side (Err long)) = false
 act_noted p (Ask c) = true

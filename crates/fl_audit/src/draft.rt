@@ -1,8 +1,8 @@
 //! What would be noted of a job, made before the job is done.
 ghost use Rattle.std.specs.Option.{option_copied};
-ghost use Rattle.std.specs.Prelude.{◌≡◌, ℕ, true, is_some, IfOk, OnErr};
+ghost use Rattle.std.specs.Prelude.{◌≡◌, ℕ, true, false, is_some, IfOk, OnErr};
 ghost use Rattle.fl_jobs.specs.Given.{labels_of};
-ghost use Rattle.fl_bench.specs.Process.{owns};
+ghost use Rattle.fl_bench.specs.Process.{owns, takes_nothing};
 ghost use Rattle.fl_bench.specs.Secrets.{digest_of};
 ghost use Rattle.fl_system.specs.Audit.{party, entries};
 ghost use Rattle.fl_system.specs.Audit.{order_entries, endpoint_entries, mail_entries, act_entries};
@@ -10,17 +10,17 @@ ghost use Rattle.fl_system.specs.State.{NodeState};
 ghost use Rattle.fl_system.specs.WorldJobs.{MayBeNoted};
 ghost use Rattle.fl_system.specs.declared.answer.Answer.{Answer};
 ghost use Rattle.fl_audit.specs.Drafts.{drafted, listed, IsAskedAt};
-ghost use Rattle.fl_audit.specs.Noted.{order_noted, mail_noted, act_noted};
+ghost use Rattle.fl_audit.specs.Noted.{mail_noted, act_noted};
 ghost use Rattle.fl_audit.specs.Noted.{asker_noted, IsNotedWith};
 
 use crate::caps::{given, set_of};
 use crate::party::party;
 use fl_bench::process::Process;
 use fl_bench::shared::SharedCaps;
+use fl_bench::taken::Taken;
 use fl_jobs::answer::Reply;
 use fl_jobs::job::{Act, GivenLabels, Job, Mail, Order};
 use fl_jobs::secret::Secret;
-use fl_labels::cap::Cap;
 use fl_labels::cap_set::CapSet;
 use fl_labels::name::{Name, NodeNumber};
 use fl_labels::pid::Pid;
@@ -81,7 +81,7 @@ fn notes_act(process: &Process, act: &Act) -> bool
     ensures { result ≡ act_noted process.now act.now }
 {
     match act {
-        Act::Order(Order::Tag(_)) | Act::Order(Order::Group) => false,
+        Act::Order(order) => !Taken::by(*order).as_slice().is_empty(),
         Act::Relabel(_, Err(_)) | Act::Exit | Act::Drop(_) => false,
         Act::Mail(mail) => notes_mail(process, mail),
         _ => true,
@@ -136,23 +136,14 @@ fn draft_order(
     requires { owned ≡ owns process.now }
     ensures ok { IfOk result (λ draft. (a : Answer) →
         drafted draft a ≡ order_entries (party pid process.now) order) }
-    ensures err { OnErr result (order_noted order ≡ true) }
+    ensures err { OnErr result (takes_nothing order ≡ false) }
 {
-    match order {
-        Order::Tag(_) | Order::Group => Ok(Draft::Nothing),
-        Order::Put(group, cap) => {
-            let caps = set_of(alloc, &[Cap::Grow(group), cap])?;
-            draft_grant(alloc, pid, process, owned, caps)
-        }
-        Order::MakeLogin(cap, _) => {
-            let caps = set_of(alloc, &[cap])?;
-            draft_grant(alloc, pid, process, owned, caps)
-        }
-        Order::OpenGroup(group) => {
-            let caps = set_of(alloc, &[Cap::Use(group), Cap::Grow(group)])?;
-            draft_grant(alloc, pid, process, owned, caps)
-        }
+    let taken = Taken::by(order);
+    if taken.as_slice().is_empty() {
+        return Ok(Draft::Nothing);
     }
+    let caps = set_of(alloc, taken.as_slice())?;
+    draft_grant(alloc, pid, process, owned, caps)
 }
 
 // What is noted of an endpoint of this mode that gets these labels.

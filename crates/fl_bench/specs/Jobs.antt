@@ -15,7 +15,6 @@ use Rattle.fl_ops.specs.declared.digest.Digest.{Digest}
 use Rattle.fl_ops.specs.Registry.{Registry, Reach, From, InEffect}
 use Rattle.fl_ops.specs.Logins.{IsFirstLogin, HasNoLogin}
 use Rattle.fl_jobs.specs.declared.job.Order as orders
-use Rattle.fl_jobs.specs.declared.job.Order.TheVariants.{Tag, Group, Put, MakeLogin, OpenGroup}
 use Rattle.fl_jobs.specs.declared.job.Act.{Act}
 use Rattle.fl_jobs.specs.declared.job.Act.TheVariants.{Order, Relabel, Ask, Spawn, Exit, Drop, Enter, Emit, Mail}
 use Rattle.fl_jobs.specs.declared.job.Job.{Job}
@@ -35,7 +34,7 @@ use Rattle.fl_bench.specs.Secrets.{digest_of}
 use Rattle.fl_bench.specs.Guards.{grant_check, endpoints_check}
 use Rattle.fl_bench.specs.Mailbox.{mail_checks, arrival_checks, MailDoes, MailNeedsRoom}
 use Rattle.fl_bench.specs.Process.{newborn, owns, is_busy, ordering, owning, child_of, effective}
-use Rattle.fl_bench.specs.Process.{side_of, with_side, body_of, receiving, PutTakes, OpenTakes}
+use Rattle.fl_bench.specs.Process.{side_of, with_side, body_of, order_takes, receiving}
 use Rattle.fl_bench.specs.Bench.{BenchState, has_at, gone, IsNext, born}
 use Rattle.fl_bench.specs.declared.process.Process.{Process}
 
@@ -43,11 +42,7 @@ use Rattle.fl_bench.specs.declared.process.Process.{Process}
 
 -- of an order of who has E in effect
 abbrev pub order_checks : Caps → orders.Order → Check
-order_checks E (Tag policy) = no_check
-order_checks E Group = no_check
-order_checks E (Put group c) = demand cap_cmp (PutTakes group c) E MissingCap
-order_checks E (MakeLogin c secret) = demand cap_cmp (From c) E MissingCap
-order_checks E (OpenGroup group) = demand cap_cmp (OpenTakes group) E MissingCap
+order_checks E order = grant_check E (order_takes order)
 
 -- of the change of one label into another, by who has E in effect
 abbrev pub change_check : Caps → SetBy name_cmp → SetBy name_cmp → Check

@@ -3,6 +3,7 @@ pub mod Secrets
 pub mod Guards
 pub mod Mailbox
 pub mod Process
+pub mod Taken
 pub mod Bench
 pub mod Jobs
 pub mod Gifts

@@ -1,12 +1,11 @@
 -- Processes, and what their jobs name of them.
-use Rattle.std.specs.Prelude.{◌≡◌, ◌⊎◌, Bool, true, false}
+use Rattle.std.specs.Prelude.{Bool, true, false, [], ◌∷◌, ◌==◌, length}
 use Rattle.std.specs.declared.option.Option.{Option}
 use Rattle.std.specs.declared.option.Option.TheVariants.{None, Some}
 use Rattle.fl_labels.specs.Cap.{cap_cmp}
 use Rattle.fl_labels.specs.Name.{name_cmp}
 use Rattle.fl_labels.specs.SetBy as set
 use Rattle.fl_labels.specs.SetBy.{In}
-use Rattle.fl_labels.specs.declared.name.Name.{Name}
 use Rattle.fl_labels.specs.declared.cap.Cap.{Cap}
 use Rattle.fl_labels.specs.declared.cap.Cap.TheVariants.{Use, Grow}
 use Rattle.fl_ops.specs.declared.op.Body.{Body}
@@ -87,13 +86,14 @@ body_of (Put group c) = bodies.Put group c
 body_of (MakeLogin c secret) = bodies.MakeLogin c (digest_of secret)
 body_of (OpenGroup group) = bodies.Open group
 
-abbrev pub OneOf : Cap → Cap → Cap → Type 0
-OneOf a b c = (c ≡ a) ⊎ (c ≡ b)
+-- what an order takes of who gives it: a put, to grow the group, and what is put; a new login, what
+-- it gives; an opening, to use the group and to grow it
+abbrev pub order_takes : Order → set.SetBy cap_cmp
+order_takes (Tag policy) = set.empty
+order_takes Group = set.empty
+order_takes (Put group c) = set.of_list (Grow group ∷ c ∷ [])
+order_takes (MakeLogin c secret) = set.of_list (c ∷ [])
+order_takes (OpenGroup group) = set.of_list (Use group ∷ Grow group ∷ [])
 
--- what a put takes: to grow the group, and the capability itself
-abbrev pub PutTakes : Name → Cap → Cap → Type 0
-PutTakes group c = OneOf (Grow group) c
-
--- what an opening takes: to use the group, and to grow it
-abbrev pub OpenTakes : Name → Cap → Type 0
-OpenTakes group = OneOf (Use group) (Grow group)
+abbrev pub takes_nothing : Order → Bool
+takes_nothing order = length (set.members (order_takes order)) == 0

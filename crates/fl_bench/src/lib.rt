@@ -4,3 +4,4 @@
 pub mod owned;
 pub mod process;
 pub mod shared;
+pub mod taken;

@@ -3,12 +3,9 @@ use Rattle.std.proofs.Common.{◌≡◌, inl, inr, Bool, true, false, cond, refl
 use Rattle.std.specs.Result.{IsErr, IsErrAnd}
 use Rattle.std.specs.Prelude.{List, ℕ, IfOk}
 use Rattle.std.specs.declared.alloc.AllocError.{AllocError}
-use Rattle.std.specs.Cmp.{tied_itself}
-use Rattle.std.specs.Ordering.{is_gt}
 use Rattle.std.specs.FinMap as map
 use Rattle.fl_labels.specs.Name.{name_cmp}
 use Rattle.fl_labels.specs.Cap.{cap_cmp}
-use Rattle.fl_labels.specs.CapOrder.{cap_total}
 use Rattle.fl_labels.specs.Caps.{Caps}
 use Rattle.fl_labels.specs.PidOrder.{pid_total, pid_exact}
 use Rattle.fl_labels.specs.SetBy.{SetBy, In}
@@ -17,26 +14,24 @@ use Rattle.fl_labels.specs.declared.name.Name.{Name}
 use Rattle.fl_labels.specs.declared.cap.Cap.{Cap}
 use Rattle.fl_labels.specs.declared.pid.Pid.{Pid}
 use Rattle.fl_ops.specs.declared.op.Body.{Body}
-use Rattle.fl_ops.specs.declared.op.Policy.{Policy}
-use Rattle.fl_ops.specs.Registry.{Registry, InEffect, From}
+use Rattle.fl_ops.specs.Registry.{Registry, InEffect}
 use Rattle.fl_jobs.specs.declared.job.Act.{Act}
 use Rattle.fl_jobs.specs.declared.job.Act.TheVariants.{Order, Relabel, Ask, Spawn, Exit, Drop, Enter, Emit, Mail}
 use Rattle.fl_jobs.specs.declared.job.Job.TheVariants.{By}
 use Rattle.fl_jobs.specs.declared.job.Mail as mailbox
 use Rattle.fl_jobs.specs.declared.secret.Secret.{Secret}
 use Rattle.fl_jobs.specs.declared.job.Order as orders
-use Rattle.fl_jobs.specs.declared.job.Order.TheVariants.{Tag, Group, Put, MakeLogin, OpenGroup}
 use Rattle.fl_jobs.specs.declared.job.Side.{Side}
 use Rattle.fl_jobs.specs.declared.job.TooLong.{TooLong}
 use Rattle.fl_jobs.specs.declared.answer.Refusal.{Refusal}
-use Rattle.fl_jobs.specs.declared.answer.Refusal.TheVariants.{NoProcess, MissingCap, LabelTooLong, NamesSpent, Memory, Busy}
+use Rattle.fl_jobs.specs.declared.answer.Refusal.TheVariants.{NoProcess, LabelTooLong, NamesSpent, Memory, Busy}
 use Rattle.fl_jobs.specs.declared.answer.Reply.{Reply}
 use Rattle.fl_jobs.specs.declared.answer.Reply.TheVariants.{Done, Yes, NotYet, Emitted}
 use Rattle.fl_jobs.specs.declared.answer.Outcome.{Outcome}
 use Rattle.fl_rules.specs.declared.labels.Labels.{Labels}
 use Rattle.fl_mailbox.specs.declared.mailbox.Mailbox.{Mailbox}
-use Rattle.fl_bench.specs.Process.{is_under_way, ordering, child_of, with_side, body_of, OneOf, PutTakes, OpenTakes}
-use Rattle.fl_bench.specs.Checks.{demand, with, ◌then◌}
+use Rattle.fl_bench.specs.Process.{is_under_way, ordering, child_of, with_side, body_of}
+use Rattle.fl_bench.specs.Checks.{with, ◌then◌}
 use Rattle.fl_bench.specs.Guards.{grant_check}
 use Rattle.fl_bench.specs.Bench.{BenchState, has_at, gone}
 use Rattle.fl_bench.specs.Jobs.{Answers, order_checks, emission_check, checks_of, act_checks, bench_checks, checks, Performs, NeedsRoom, serials_left, Does}
@@ -44,7 +39,7 @@ use Rattle.fl_bench.specs.declared.process.Holding.{Holding}
 use Rattle.fl_bench.specs.declared.process.Holding.TheVariants.{Idle, Ordering}
 use Rattle.fl_bench.specs.declared.process.Process.{Process}
 use Rattle.fl_mailbox.specs.laws.Tables.{put_same}
-use Rattle.fl_monitor.specs.parts.Acts.{Acts, Births, Spawns, born_with, Required, Relabels, Drops, Enters, Mails, answered}
+use Rattle.fl_monitor.specs.parts.Acts.{Acts, Births, Spawns, born_with, Relabels, Drops, Enters, Mails, answered}
 use Rattle.fl_monitor.specs.parts.Checked.{Checked}
 use Rattle.fl_monitor.specs.declared.sequel.Sequel.{Sequel}
 use Rattle.fl_monitor.specs.declared.sequel.Sequel.TheVariants.{Answer, Birth, End}
@@ -73,76 +68,6 @@ module _ (E : Caps) (l : Labels) (caps : SetBy cap_cmp) {r : Result (Unit {0}) R
   pub spawns_one : (u : Unit {0}) → r ≡ Ok u → (child : Result Process AllocError) → IfOk child (λ p. p ≡ born_with l caps) → Spawns E l caps (Ok (Birth child))
   spawns_one u e (Ok p) is = subst (λ p. Spawns E l caps (Ok (Birth (Ok p)))) (sym is) (Spawns.passed (has_passed checked u e))
   spawns_one u e (Err none) is = Spawns.no_room (has_passed checked u e)
-
--- ---- orders
-
-module _ (E : Caps) where
-  module _ (a b : Cap) (in_order : is_gt (cap_cmp a b) ≡ false) where
-    -- the lesser is missing
-    fails_as : {r : Result (Unit {0}) Refusal} (f : Refusal) → r ≡ Err f → Required E a r → Checked (demand cap_cmp (OneOf a b) E MissingCap) (Err f)
-    fails_as f e (Required.there h) = absurd (cc)
-    fails_as f e (Required.missing out) = subst (λ r. Checked (demand cap_cmp (OneOf a b) E MissingCap) r) e (Checked.failed (
-      a,
-      refl,
-      record {
-        member = inl refl;
-        lacking = out;
-        least = λ c t n. elim t [
-          | inl x ↦ ap (λ y. is_gt (cap_cmp a y)) x ∙ ap is_gt (tied_itself cap_total a)
-          | inr x ↦ ap (λ y. is_gt (cap_cmp a y)) x ∙ in_order
-        ];
-      },
-    ))
-
-    pub lesser_fails : {r : Result (Unit {0}) Refusal} (f : Refusal) → r ≡ Err f → Required E a r → (q : Result (Unit {0}) Refusal) → IsErr q × IsErrAnd q (λ g. g ≡ f) → Checked (demand cap_cmp (OneOf a b) E MissingCap) q
-    lesser_fails f e h q s = subst (λ r. Checked (demand cap_cmp (OneOf a b) E MissingCap) r) (sym (passed_on q f s)) (fails_as f e h)
-
-    -- the lesser is in effect
-    pub greater_tells : {r q : Result (Unit {0}) Refusal} (u : Unit {0}) → r ≡ Ok u → Required E a r → Required E b q → Checked (demand cap_cmp (OneOf a b) E MissingCap) q
-    greater_tells u e (Required.there h) (Required.there k) = Checked.passed (λ c t. elim t [ inl x ↦ subst E (sym x) h | inr x ↦ subst E (sym x) k ])
-    greater_tells u e (Required.there h) (Required.missing out) = Checked.failed (
-      b,
-      refl,
-      record {
-        member = inr refl;
-        lacking = out;
-        least = λ c t n. elim t [
-          | inl x ↦ absurd (n (subst E (sym x) h))
-          | inr x ↦ ap (λ y. is_gt (cap_cmp b y)) x ∙ ap is_gt (tied_itself cap_total b)
-        ];
-      },
-    )
-    greater_tells u e (Required.missing out) k = absurd (cc)
-
-  -- an order that is not checked
-  pub tag_checked : (order : orders.Order) (policy : Policy) → order ≡ Tag policy → Checked (order_checks E order) (Ok tt)
-  tag_checked order policy e = subst (λ o. Checked (order_checks E o) (Ok tt)) (sym e) (Checked.passed refl)
-
-  pub group_checked : (order : orders.Order) → order ≡ Group → Checked (order_checks E order) (Ok tt)
-  group_checked order e = subst (λ o. Checked (order_checks E o) (Ok tt)) (sym e) (Checked.passed refl)
-
-  pub put_checked : (order : orders.Order) (group : Name) (c : Cap) → order ≡ Put group c → {r : Result (Unit {0}) Refusal} → Checked (demand cap_cmp (PutTakes group c) E MissingCap) r → Checked (order_checks E order) r
-  put_checked order group c e {r} h = subst (λ o. Checked (order_checks E o) r) (sym e) h
-
-  -- one capability is demanded
-  alone : (c : Cap) {r : Result (Unit {0}) Refusal} → Required E c r → Checked (demand cap_cmp (From c) E MissingCap) r
-  alone c (Required.there h) = Checked.passed (λ d is. subst E (sym is) h)
-  alone c (Required.missing out) = Checked.failed (c, refl, record { member = refl; lacking = out; least = λ d is n. ap (λ y. is_gt (cap_cmp c y)) is ∙ ap is_gt (tied_itself cap_total c) })
-
-  pub open_checked : (order : orders.Order) (group : Name) → order ≡ OpenGroup group → {r : Result (Unit {0}) Refusal} → Checked (demand cap_cmp (OpenTakes group) E MissingCap) r → Checked (order_checks E order) r
-  open_checked order group e {r} h = subst (λ o. Checked (order_checks E o) r) (sym e) h
-
-  pub login_checked : (order : orders.Order) (c : Cap) (secret : Secret) → order ≡ MakeLogin c secret → {r : Result (Unit {0}) Refusal} → Required E c r → Checked (order_checks E order) r
-  login_checked order c secret e {r} h = subst (λ o. Checked (order_checks E o) r) (sym e) (alone c h)
-
-  other : (a b c : Cap) → OneOf a b c → OneOf b a c
-  other a b c (inl x) = inr x
-  other a b c (inr x) = inl x
-
-  -- the two that a put takes, the other first
-  pub turned : (a b : Cap) {r : Result (Unit {0}) Refusal} → Checked (demand cap_cmp (OneOf a b) E MissingCap) r → Checked (demand cap_cmp (OneOf b a) E MissingCap) r
-  turned a b (Checked.passed h) = Checked.passed (λ c t. h c (other b a c t))
-  turned a b (Checked.failed h) = Checked.failed (h.0, h.1, record { member = other a b _ h.2.member; lacking = h.2.lacking; least = λ d t n. h.2.least d (other b a d t) n })
 
 -- ---- acts
 

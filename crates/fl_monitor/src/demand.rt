@@ -7,7 +7,9 @@ ghost use Rattle.fl_monitor.specs.parts.Checked.{CheckedBy};
 
 use crate::grant::first_unheld;
 use crate::holder::Holder;
+use fl_bench::taken::Taken;
 use fl_jobs::answer::Refusal;
+use fl_jobs::job::Order;
 use fl_labels::cap_set::CapSet;
 use fl_labels::endpoint::Endpoint;
 use fl_labels::label::Label;
@@ -27,6 +29,8 @@ pub enum Demand<'a, 'b> {
     Change(&'a Label, &'b Label),
     /// Bytes that go out under this label: to add and to remove each of its tags.
     Emission(&'a Label),
+    /// An order: each capability that it takes.
+    Order(Order),
     /// Capabilities that are handed on: each of them.
     Grant(&'a CapSet),
     /// An endpoint beside a process of these labels: to add and to remove each tag that crosses between them.
@@ -48,6 +52,10 @@ fn first_refusal<V: View>(view: &mut V, owned: &CapSet, demand: Demand<'_, '_>) 
     Some(match demand {
         Demand::Change(from, to) => Refusal::MissingCap(safe_change(&mut holder, from, to)?),
         Demand::Emission(secrecy) => Refusal::Secrecy(safe_emit(&mut holder, secrecy)?),
+        Demand::Order(order) => {
+            let taken = Taken::by(order);
+            Refusal::MissingCap(first_unheld(&mut holder, taken.as_slice())?)
+        }
         Demand::Grant(caps) => Refusal::MissingCap(first_unheld(&mut holder, caps.as_slice())?),
         Demand::Endpoint(process, number, end) => {
             let tag = safe_endpoint(&mut holder, end.mode, process, end.labels)?;

@@ -1,18 +1,11 @@
 -- What is noted of a job at a node, and what it sends, is safe under each registry that has all that the node
 -- published.
-use Rattle.std.proofs.Common.{◌≡◌, ◌⊎◌, ◌∙◌, inl, inr, refl, sym, ap, subst, arith, ℕ, zero, suc, List, [], ◌∷◌, length}
+use Rattle.std.proofs.Common.{◌≡◌, ◌∙◌, refl, sym, ap, subst, arith, Bool, true, false, cond, ℕ, zero, suc, List, [], ◌∷◌, length}
 use Rattle.std.proofs.Common.{Option, Some, None, Ok, Err}
-use Rattle.std.specs.Cmp.{Equal-is}
 use Rattle.std.specs.FinMap as map
 use Rattle.std.specs.List.{Contains}
-use Rattle.std.proofs.lemmas.Bool.{false≢true, or_cases}
-use Rattle.fl_labels.specs.Cap.{cap_cmp}
-use Rattle.fl_labels.specs.CapOrder.{cap_total, cap_exact}
 use Rattle.fl_labels.specs.Found.{Within}
-use Rattle.fl_labels.specs.SetBy as set
-use Rattle.fl_labels.specs.SetBy.{SetBy, In}
 use Rattle.fl_labels.specs.declared.cap.Cap.{Cap}
-use Rattle.fl_labels.specs.declared.cap.Cap.TheVariants.{Use, Grow}
 use Rattle.fl_labels.specs.declared.endpoint.Endpoint.{Endpoint}
 use Rattle.fl_labels.specs.declared.name.Name.{Name}
 use Rattle.fl_labels.specs.declared.pid.Pid.{Pid}
@@ -31,7 +24,6 @@ use Rattle.fl_jobs.specs.declared.job.Job.TheVariants.{Proc, By, Member, Arrive}
 use Rattle.fl_jobs.specs.declared.job.Mail.TheVariants.{Open, Tune, Close, Send, Take}
 use Rattle.fl_jobs.specs.declared.job.GivenLabels.{GivenLabels}
 use Rattle.fl_jobs.specs.declared.job.Order as orders
-use Rattle.fl_jobs.specs.declared.job.Order.TheVariants.{Tag, Group, Put, MakeLogin, OpenGroup}
 use Rattle.fl_jobs.specs.declared.secret.Secret.{Secret}
 use Rattle.fl_jobs.specs.declared.answer.Outcome.{Outcome}
 use Rattle.fl_jobs.specs.declared.answer.Reply as jobs
@@ -39,7 +31,7 @@ use Rattle.fl_jobs.specs.declared.answer.Reply.TheVariants as replies
 use Rattle.fl_bench.specs.Bench.{BenchState}
 use Rattle.fl_bench.specs.Guards.{sent_from}
 use Rattle.fl_bench.specs.Jobs.{Does}
-use Rattle.fl_bench.specs.Process.{effective, OneOf}
+use Rattle.fl_bench.specs.Process.{effective, order_takes, takes_nothing}
 use Rattle.fl_bench.specs.Secrets.{digest_of}
 use Rattle.fl_bench.specs.declared.process.Process.{Process}
 use Rattle.fl_bench.specs.laws.Orders.{sending_at}
@@ -53,35 +45,18 @@ use Rattle.fl_system.specs.Numbered.{item_at}
 use Rattle.fl_system.specs.Processes.{process_at, process_of}
 use Rattle.fl_system.specs.State.{NodeState, first_ops}
 use Rattle.fl_system.specs.declared.admission.Admission.{Admission}
+use Rattle.fl_system.specs.declared.admission.Admission.TheVariants.{Grant}
 use Rattle.fl_system.specs.declared.admission.Party.{Party}
 use Rattle.fl_system.specs.declared.answer.Answer.{Answer}
 use Rattle.fl_system.specs.declared.answer.Answer.TheVariants as answers
 use Rattle.fl_safety_laws.proofs.Admitted.{change_admitted, open_admitted, tune_admitted, emission_admitted}
-use Rattle.fl_safety_laws.proofs.Admitted.{birth_admitted, put_admitted, login_admitted}
-use Rattle.fl_safety_laws.proofs.Admitted.{opening_admitted, message_admitted}
+use Rattle.fl_safety_laws.proofs.Admitted.{birth_admitted, order_admitted, message_admitted}
 use Rattle.fl_safety_laws.proofs.Admitted.{entry_admitted, yes_admitted, reached_admitted}
 use Rattle.fl_safety_laws.proofs.Nodes.{NodeGuarded, seen_saved}
 
 -- each entry is safe
 abbrev pub EntriesSafe : (Op → Type 0) → List Admission → Type 0
 EntriesSafe U es = (a : Admission) → Contains es a → SafeUnder U a
-
--- ---- capabilities that are handed on
-
-inserted : (s : SetBy cap_cmp) (k x : Cap) → In (set.insert s k) x → (x ≡ k) ⊎ In s x
-inserted s k x h = elim (or_cases _ _ (sym (set.contains-insert cap_total s k x) ∙ h)) [
-  | inl e ↦ inl (cap_exact x k ((Equal-is (cap_cmp x k)).0 e))
-  | inr e ↦ inr e
-]
-
-none_there : {P : Type 0} (x : Cap) → In (set.empty {R = cap_cmp}) x → P
-none_there x h = absurd (false≢true (sym (set.contains-empty cap_cmp x) ∙ h))
-
-one_cap : (c x : Cap) → In (set.insert (set.empty {R = cap_cmp}) c) x → x ≡ c
-one_cap c x h = elim (inserted set.empty c x h) [ inl e ↦ e | inr m ↦ none_there x m ]
-
-two_caps : (a b x : Cap) → In (set.insert (set.insert (set.empty {R = cap_cmp}) b) a) x → OneOf a b x
-two_caps a b x h = elim (inserted (set.insert set.empty b) a x h) [ inl e ↦ inl e | inr m ↦ inr (one_cap b x m) ]
 
 -- ---- lists of entries
 
@@ -92,6 +67,11 @@ module _ (U : Op → Type 0) where
   pub one_entry : (e : Admission) → SafeUnder U e → EntriesSafe U (e ∷ [])
   one_entry e safe a (zero, inside, at) = subst (SafeUnder U) at safe
   one_entry e safe a (suc k, inside, at) = absurd (omega (arith, inside))
+
+  unless_none : (is_none : Bool) (e : Admission) → SafeUnder U e
+      → EntriesSafe U (cond is_none [] (e ∷ []))
+  unless_none true e h = no_entry
+  unless_none false e h = one_entry e h
 
   yes_entries : (a : Answer) (e : Admission) → (a ≡ answers.Reply replies.Yes → SafeUnder U e)
       → EntriesSafe U (if_yes a e)
@@ -115,13 +95,9 @@ module _ {V U : Op → Type 0} (more : Within V U) {b after : BenchState} {x : O
   module _ {pid : Pid} (p : Process) (lives : map.get b.processes pid ≡ Some p) where
     order_safe : (order : orders.Order) → Does V b (By pid (Order order)) (Ok x) after
         → EntriesSafe U (order_entries (party pid p) order)
-    order_safe (Tag policy) d = no_entry U
-    order_safe Group d = no_entry U
-    order_safe (Put group c) d = one_entry U _ (λ y m. put_admitted more p lives group c d y (two_caps (Grow group) c y m))
-    order_safe (MakeLogin c secret) d =
-        one_entry U _ (λ y m. subst (effective U p) (sym (one_cap c y m)) (login_admitted more p lives c secret d))
-    order_safe (OpenGroup group) d =
-        one_entry U _ (λ y m. opening_admitted more p lives group d y (two_caps (Use group) (Grow group) y m))
+    order_safe order d =
+        unless_none U (takes_nothing order) (Grant (party pid p) (order_takes order))
+        (order_admitted more p lives order d)
 
     opened_safe : (mode : Mode) (given : GivenLabels) → Does V b (By pid (Mail (Open mode given))) (Ok x) after
         → EntriesSafe U (endpoint_entries (party pid p) mode (labels_of given))

@@ -1,5 +1,5 @@
 -- What is noted is of the moment, and each message that arrives is noted.
-use Rattle.std.proofs.Common.{◌≡◌, ◌⊎◌, ◌∙◌, ◌++◌, inl, inr, refl, sym, ap, subst, arith, Bool, ℕ, zero, suc}
+use Rattle.std.proofs.Common.{◌≡◌, ◌⊎◌, ◌∙◌, ◌++◌, inl, inr, refl, sym, ap, subst, arith, Bool, true, false, cond, ℕ, zero, suc}
 use Rattle.std.proofs.Common.{List, [], ◌∷◌}
 use Rattle.std.proofs.Common.{Option, Some, None, Ok, Err}
 use Rattle.std.specs.FinMap as map
@@ -25,11 +25,11 @@ use Rattle.fl_jobs.specs.declared.job.Job.{Job}
 use Rattle.fl_jobs.specs.declared.job.Job.TheVariants.{Proc, By, Member, Arrive}
 use Rattle.fl_jobs.specs.declared.job.Mail.TheVariants.{Open, Tune, Close, Send, Take}
 use Rattle.fl_jobs.specs.declared.job.Order as orders
-use Rattle.fl_jobs.specs.declared.job.Order.TheVariants.{Tag, Group, Put, MakeLogin, OpenGroup}
 use Rattle.fl_jobs.specs.declared.secret.Secret.{Secret}
 use Rattle.fl_jobs.specs.declared.answer.Outcome.{Outcome}
 use Rattle.fl_jobs.specs.declared.answer.Reply.TheVariants as replies
 use Rattle.fl_jobs.specs.declared.answer.Reply.TheVariants.{Arrived}
+use Rattle.fl_bench.specs.Process.{order_takes, takes_nothing}
 use Rattle.fl_bench.specs.declared.process.Process.{Process}
 use Rattle.fl_bench.specs.laws.Puts.{none_some, same_found}
 use Rattle.fl_bench.specs.Bench.{BenchState}
@@ -47,6 +47,7 @@ use Rattle.fl_system.specs.WorldCalls.{SaveAt, PublishAt, CancelAt, RestartAt}
 use Rattle.fl_system.specs.WorldJobs.{JobAt, sent_message, party_at}
 use Rattle.fl_system.specs.WorldSteps.{Step, IsAt, node_of}
 use Rattle.fl_system.specs.declared.admission.Admission.{Admission}
+use Rattle.fl_system.specs.declared.admission.Admission.TheVariants.{Grant}
 use Rattle.fl_system.specs.declared.admission.Party.{Party}
 use Rattle.fl_system.specs.declared.answer.Answer.{Answer}
 use Rattle.fl_system.specs.declared.answer.Answer.TheVariants as answers
@@ -84,11 +85,11 @@ module _ (w : World) (number : ℕ) (s : KeptNode) (at : IsAt w number s) where
 
   module _ (pid : Pid) (p : Process) (stands : Stands w number (party pid p)) where
     order_now : (order : orders.Order) → EachEntry Now (order_entries (party pid p) order)
-    order_now (Tag policy) = none Now
-    order_now Group = none Now
-    order_now (Put group c) = one Now _ stands
-    order_now (MakeLogin c secret) = one Now _ stands
-    order_now (OpenGroup group) = one Now _ stands
+    order_now order = where_any (takes_nothing order) (Grant (party pid p) (order_takes order)) stands
+      where
+        where_any : (none_taken : Bool) (x : Admission) → Now x → EachEntry Now (cond none_taken [] (x ∷ []))
+        where_any true x h = none Now
+        where_any false x h = one Now x h
 
     endpoint_now : (mode : Mode) (o : Option Labels) → EachEntry Now (endpoint_entries (party pid p) mode o)
     endpoint_now mode None = none Now

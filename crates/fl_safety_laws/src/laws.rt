@@ -29,14 +29,14 @@ ghost use Rattle.fl_jobs.specs.declared.job.Act.TheVariants.{Enter, Emit, Mail};
 ghost use Rattle.fl_jobs.specs.declared.job.GivenLabels.{GivenLabels};
 ghost use Rattle.fl_jobs.specs.declared.job.Job.TheVariants.{By, Member, Arrive};
 ghost use Rattle.fl_jobs.specs.declared.job.Mail.TheVariants.{Open, Tune, Send};
-ghost use Rattle.fl_jobs.specs.declared.job.Order.TheVariants.{Put, MakeLogin, OpenGroup};
+ghost use Rattle.fl_jobs.specs.declared.job.Order as orders;
 ghost use Rattle.fl_jobs.specs.declared.job.Side.{Side};
 ghost use Rattle.fl_jobs.specs.declared.secret.Secret.{Secret};
 ghost use Rattle.fl_bench.specs.Bench.{BenchState};
 ghost use Rattle.fl_bench.specs.Guarded.{IsGuarded};
 ghost use Rattle.fl_bench.specs.Guards.{sent_from};
 ghost use Rattle.fl_bench.specs.Jobs.{Does};
-ghost use Rattle.fl_bench.specs.Process.{effective, side_of, PutTakes, OpenTakes};
+ghost use Rattle.fl_bench.specs.Process.{effective, side_of, order_takes};
 ghost use Rattle.fl_bench.specs.Secrets.{digest_of};
 ghost use Rattle.fl_bench.specs.declared.process.Process.{Process};
 ghost use Rattle.fl_system.specs.Audit.{SafeUnder};
@@ -89,21 +89,11 @@ pub fn law_admitted()
         Within (Listed view) (Listed ops) → map.get b.processes pid ≡ Some p →
         Does (Listed view) b (By pid (Spawn caps)) (Ok x) after →
         Within (In caps) (effective (Listed ops) p) }
-    ensures put { (view ops : List Op) (b after : BenchState) (pid : Pid) (p : Process)
-        (x : Outcome) (group : Name) (cap : Cap) →
+    ensures order { (view ops : List Op) (b after : BenchState) (pid : Pid) (p : Process)
+        (x : Outcome) (order : orders.Order) →
         Within (Listed view) (Listed ops) → map.get b.processes pid ≡ Some p →
-        Does (Listed view) b (By pid (Order (Put group cap))) (Ok x) after →
-        Within (PutTakes group cap) (effective (Listed ops) p) }
-    ensures login { (view ops : List Op) (b after : BenchState) (pid : Pid) (p : Process)
-        (x : Outcome) (cap : Cap) (secret : Secret) →
-        Within (Listed view) (Listed ops) → map.get b.processes pid ≡ Some p →
-        Does (Listed view) b (By pid (Order (MakeLogin cap secret))) (Ok x) after →
-        effective (Listed ops) p cap }
-    ensures opening { (view ops : List Op) (b after : BenchState) (pid : Pid) (p : Process)
-        (x : Outcome) (group : Name) →
-        Within (Listed view) (Listed ops) → map.get b.processes pid ≡ Some p →
-        Does (Listed view) b (By pid (Order (OpenGroup group))) (Ok x) after →
-        Within (OpenTakes group) (effective (Listed ops) p) }
+        Does (Listed view) b (By pid (Order order)) (Ok x) after →
+        Within (In (order_takes order)) (effective (Listed ops) p) }
     ensures sent { (view ops : List Op) (b after : BenchState) (pid : Pid) (p : Process)
         (x : Outcome) (from to : Endpoint) (receiver : Pid) (message : Message) →
         Within (Listed view) (Listed ops) → map.get b.processes pid ≡ Some p →

@@ -1,14 +1,12 @@
 -- What is noted of a job, and when an entry is safe.
-use Rattle.std.specs.Prelude.{List, [], ◌∷◌}
+use Rattle.std.specs.Prelude.{List, [], ◌∷◌, cond}
 use Rattle.std.specs.FinMap as map
 use Rattle.std.specs.declared.option.Option.{Option}
 use Rattle.std.specs.declared.option.Option.TheVariants.{None, Some}
 use Rattle.std.specs.declared.result.Result.TheVariants.{Ok, Err}
 use Rattle.fl_labels.specs.Caps.{Caps}
 use Rattle.fl_labels.specs.Found.{Within}
-use Rattle.fl_labels.specs.SetBy as set
 use Rattle.fl_labels.specs.SetBy.{In}
-use Rattle.fl_labels.specs.declared.cap.Cap.TheVariants.{Use, Grow}
 use Rattle.fl_labels.specs.declared.name.Name.{Name}
 use Rattle.fl_labels.specs.declared.pid.Pid.{Pid}
 use Rattle.fl_ops.specs.Registry.{Registry, Reach, From, InEffect, IsLogin}
@@ -22,7 +20,6 @@ use Rattle.fl_mailbox.specs.declared.mailbox.Mailbox.{Mailbox}
 use Rattle.fl_jobs.specs.Given.{labels_of}
 use Rattle.fl_jobs.specs.declared.job.GivenLabels.{GivenLabels}
 use Rattle.fl_jobs.specs.declared.job.Order as orders
-use Rattle.fl_jobs.specs.declared.job.Order.TheVariants.{Tag, Group, Put, MakeLogin, OpenGroup}
 use Rattle.fl_jobs.specs.declared.job.Mail as mails
 use Rattle.fl_jobs.specs.declared.job.Mail.TheVariants.{Open, Tune, Close, Send, Take}
 use Rattle.fl_jobs.specs.declared.job.Act.{Act}
@@ -32,7 +29,7 @@ use Rattle.fl_jobs.specs.declared.job.Job.{Job}
 use Rattle.fl_jobs.specs.declared.job.Job.TheVariants.{Proc, By, Member, Arrive}
 use Rattle.fl_jobs.specs.declared.secret.Secret.{Secret}
 use Rattle.fl_jobs.specs.declared.answer.Reply.TheVariants as replies
-use Rattle.fl_bench.specs.Process.{owns, side_of}
+use Rattle.fl_bench.specs.Process.{owns, side_of, order_takes, takes_nothing}
 use Rattle.fl_bench.specs.Secrets.{digest_of}
 use Rattle.fl_bench.specs.declared.process.Process.{Process}
 use Rattle.fl_system.specs.declared.admission.Party.{Party}
@@ -77,13 +74,9 @@ abbrev pub if_entered : Answer → Party → Name → Secret → List Admission
 if_entered (answers.Reply (replies.Entered c)) p login secret = Entry p login c (digest_of secret) ∷ []
 if_entered other p login secret = []
 
--- a put, a new login and an opening hand capabilities on
+-- an order hands on what it takes, if it takes anything
 abbrev pub order_entries : Party → orders.Order → List Admission
-order_entries p (Tag policy) = []
-order_entries p Group = []
-order_entries p (Put group c) = Grant p (set.of_list (Grow group ∷ c ∷ [])) ∷ []
-order_entries p (MakeLogin c secret) = Grant p (set.of_list (c ∷ [])) ∷ []
-order_entries p (OpenGroup group) = Grant p (set.of_list (Use group ∷ Grow group ∷ [])) ∷ []
+order_entries p order = cond (takes_nothing order) [] (Grant p (order_takes order) ∷ [])
 
 -- an endpoint of this mode has these labels now
 abbrev pub endpoint_entries : Party → Mode → Option Labels → List Admission

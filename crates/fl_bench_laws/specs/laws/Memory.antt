@@ -19,8 +19,6 @@ use Rattle.fl_jobs.specs.declared.job.Job.{Job}
 use Rattle.fl_jobs.specs.declared.job.Job.TheVariants.{Proc, By, Member, Arrive}
 use Rattle.fl_jobs.specs.declared.job.Mail as mailbox
 use Rattle.fl_jobs.specs.declared.job.Mail.TheVariants.{Open, Tune, Close, Send, Take}
-use Rattle.fl_jobs.specs.declared.job.Order as orders
-use Rattle.fl_jobs.specs.declared.job.Order.TheVariants.{Tag, Group, Put, MakeLogin, OpenGroup}
 use Rattle.fl_jobs.specs.declared.secret.Secret.{Secret}
 use Rattle.fl_jobs.specs.declared.answer.Refusal.{Refusal}
 use Rattle.fl_jobs.specs.declared.answer.Refusal.TheVariants.{NoProcess, Busy, NamesSpent}
@@ -42,7 +40,7 @@ use Rattle.fl_bench.specs.Guards.{entry_refusal, pair_check, endpoints_check, un
 use Rattle.fl_bench.specs.Mailbox.{mail_checks, arrival_checks}
 use Rattle.fl_bench.specs.Process.{owns, is_busy, effective, with_side}
 use Rattle.fl_bench.specs.Bench.{BenchState}
-use Rattle.fl_bench.specs.Jobs.{order_checks, enter_check, checks_of, act_checks, bench_checks}
+use Rattle.fl_bench.specs.Jobs.{enter_check, checks_of, act_checks, bench_checks}
 use Rattle.fl_bench.specs.Jobs.{checks, Does, passed, failed, no_room, TakesMemory}
 use Rattle.fl_bench.specs.declared.process.Process.{Process}
 
@@ -94,13 +92,6 @@ never_endpoints : (E : Caps) (process : Labels) (table : Table)
 never_endpoints E process table =
     never_demand offender_cmp (CrossesAt process table) (DualAt E) unsafe_by (λ x e. cc)
 
-never_order : (E : Caps) (order : orders.Order) → NeverWants (order_checks E order)
-never_order E (Tag policy) = never_said
-never_order E Group = never_said
-never_order E (Put group c) = never_cap _ E
-never_order E (MakeLogin c secret) = never_cap _ E
-never_order E (OpenGroup group) = never_cap _ E
-
 never_enter : (V : Op → Type 0) (login : Name) (secret : Secret)
     → NeverWants (enter_check V login secret)
 never_enter V login secret None h e = cc
@@ -137,7 +128,7 @@ never_arrival ch d = never_with (map.get ch.endpoints d.to) (NoEndpoint d.to) _ 
     (λ opened. never_then _ _ (never_pair d opened) (never_if _ InboxFull (λ e. cc)))
 
 never_act : (V : Op → Type 0) (p : Process) (act : Act) → NeverWants (checks_of V p act)
-never_act V p (Order order) = never_order (effective V p) order
+never_act V p (Order order) = never_cap _ _
 never_act V p (Relabel side (Ok label)) =
     never_then _ _ (never_cap _ _) (never_endpoints (effective V p) (with_side side label p.labels)
     p.mailbox.endpoints)

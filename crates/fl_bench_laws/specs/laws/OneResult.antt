@@ -17,8 +17,6 @@ use Rattle.fl_ops.specs.laws.Logins.{one_first}
 use Rattle.fl_rules.specs.declared.labels.Labels.{Labels}
 use Rattle.fl_mailbox.specs.Endpoints.{Table}
 use Rattle.fl_jobs.specs.declared.secret.Secret.{Secret}
-use Rattle.fl_jobs.specs.declared.job.Order as orders
-use Rattle.fl_jobs.specs.declared.job.Order.TheVariants.{Tag, Group, Put, MakeLogin, OpenGroup}
 use Rattle.fl_jobs.specs.declared.job.Act.{Act}
 use Rattle.fl_jobs.specs.declared.job.Act.TheVariants.{Order, Relabel, Ask, Spawn, Exit, Drop, Enter, Emit, Mail}
 use Rattle.fl_jobs.specs.declared.job.Job.{Job}
@@ -34,7 +32,7 @@ use Rattle.fl_bench.specs.Mailbox.{arrival_checks}
 use Rattle.fl_bench.specs.Secrets.{digest_of}
 use Rattle.fl_bench.specs.Process.{newborn, owns, owning, child_of, is_busy, effective, receiving}
 use Rattle.fl_bench.specs.Bench.{BenchState, IsNext, has_at, born}
-use Rattle.fl_bench.specs.Jobs.{order_checks, enter_check, checks_of, act_checks, bench_checks}
+use Rattle.fl_bench.specs.Jobs.{enter_check, checks_of, act_checks, bench_checks}
 use Rattle.fl_bench.specs.Jobs.{checks, Answers, Performs, Effect, Does, passed, failed, no_room}
 use Rattle.fl_bench.specs.declared.process.Process.{Process}
 use Rattle.fl_bench.specs.laws.Puts.{same_found}
@@ -42,13 +40,6 @@ use Rattle.fl_bench_laws.specs.laws.OneCheck.{OneVerdict, one_said, one_then, on
 use Rattle.fl_bench_laws.specs.laws.OneMail.{one_mail_check, one_arrival_check, one_mail_does}
 
 -- ---- each job has one verdict
-
-one_order_check : (E : Cap → Type 0) (order : orders.Order) → OneVerdict (order_checks E order)
-one_order_check E (Tag policy) = one_said
-one_order_check E Group = one_said
-one_order_check E (Put group c) = one_demand cap_total cap_exact _ _ MissingCap
-one_order_check E (MakeLogin c secret) = one_demand cap_total cap_exact _ _ MissingCap
-one_order_check E (OpenGroup group) = one_demand cap_total cap_exact _ _ MissingCap
 
 -- an entry, since a name has one first login
 module _ (V : Op → Type 0) (login : Name) (secret : Secret) where
@@ -79,7 +70,7 @@ one_endpoints_check E process table = one_demand offender_total offender_exact _
 
 module _ (V : Op → Type 0) where
   one_check_of : (p : Process) (act : Act) → OneVerdict (checks_of V p act)
-  one_check_of p (Order order) = one_order_check (effective V p) order
+  one_check_of p (Order order) = one_demand cap_total cap_exact _ _ MissingCap
   one_check_of p (Relabel side (Ok label)) =
       one_then _ _ (one_demand cap_total cap_exact _ _ MissingCap)
       (one_endpoints_check (effective V p) _ _)

@@ -25,7 +25,7 @@ use Rattle.fl_jobs.specs.declared.secret.Secret.{Secret}
 use Rattle.fl_jobs.specs.declared.job.Side.{Side}
 use Rattle.fl_jobs.specs.declared.job.TooLong.{TooLong}
 use Rattle.fl_jobs.specs.declared.answer.Refusal.{Refusal}
-use Rattle.fl_jobs.specs.declared.answer.Refusal.TheVariants.{NoProcess, MissingCap, NoLogin, WrongSecret, NamesSpent, LabelTooLong, Memory, NotOwned, Busy, NoEndpoint}
+use Rattle.fl_jobs.specs.declared.answer.Refusal.TheVariants.{NoProcess, NoLogin, WrongSecret, NamesSpent, LabelTooLong, Memory, NotOwned, Busy, NoEndpoint}
 use Rattle.fl_jobs.specs.declared.answer.Reply.TheVariants.{Made, Done, Entered, Arrived}
 use Rattle.fl_jobs.specs.declared.answer.Outcome.{Outcome}
 use Rattle.fl_rules.specs.declared.labels.Labels.{Labels}
@@ -47,11 +47,6 @@ use Rattle.fl_monitor.specs.declared.sequel.Sequel.{Sequel}
 use Rattle.fl_monitor.specs.declared.sequel.Sequel.TheVariants.{Answer, Birth, End}
 
 -- ---- single acts
-
--- c is in effect, or is named as what is missing
-pub data Required (E : Caps) (c : Cap) : Result (Unit {0}) Refusal → Type 0 where
-  there : E c → Required E c (Ok tt)
-  missing : (¬ E c) → Required E c (Err (MissingCap c))
 
 -- a process of these labels and with no mail, which owns these
 abbrev pub born_with : Labels → SetBy cap_cmp → Process

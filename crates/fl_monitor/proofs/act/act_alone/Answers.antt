@@ -6,18 +6,18 @@ use Rattle.fl_monitor.proofs.act.act_alone.Goals as goal
 pub returns-in_default-clause-acts : goal.returns-in_default-clause-acts
 returns-in_default-clause-acts g c = act_busy _ c.args.pid c.args.process.now c.args.act c.in_default.not-Idle
 
-pub returns-in_err-check_order-in-Order-clause-acts : goal.returns-in_err-check_order-in-Order-clause-acts
-returns-in_err-check_order-in-Order-clause-acts g c =
+pub returns-in_err-check-in-Order-clause-acts : goal.returns-in_err-check-in-Order-clause-acts
+returns-in_err-check-in-Order-clause-acts g c =
     over _ c.args.pid c.args.process.now c.args.act (λ s. record c.args.process.now { owned = Idle s }) c.caps.ensures
-    (act_unchecked _ c.args.pid c.args.process.now c.args.act _ (c.in-Idle.is ∙ ap Idle (sym c.caps.ensures)) _ c.in-Order.is c.check_order.ensures.checked _ c.in_err-check_order-in-Order.was c.from_residual.ensures)
+    (act_unchecked _ c.args.pid c.args.process.now c.args.act _ (c.in-Idle.is ∙ ap Idle (sym c.caps.ensures)) _ c.in-Order.is c.check.ensures.checked _ c.in_err-check-in-Order.was c.from_residual.ensures)
 
 pub returns-in_default-begin-clause-acts : goal.returns-in_default-begin-clause-acts
 returns-in_default-begin-clause-acts g c =
-    act_full _ c.args.pid c.args.process.now c.args.act _ (c.in-Idle.is ∙ ap Idle (sym c.caps.ensures)) _ c.in-Order.is c.check_order.ensures.checked _ c.in_ok-check_order-in-Order.was _ (c.in_default-begin.ensures.err ∙ ap Idle (sym c.caps.ensures))
+    act_full _ c.args.pid c.args.process.now c.args.act _ (c.in-Idle.is ∙ ap Idle (sym c.caps.ensures)) _ c.in-Order.is c.check.ensures.checked _ c.in_ok-check-in-Order.was _ (c.in_default-begin.ensures.err ∙ ap Idle (sym c.caps.ensures))
 
 pub returns-in-Ok-clause-acts : goal.returns-in-Ok-clause-acts
 returns-in-Ok-clause-acts g c =
-    act_order _ c.args.pid c.args.process.now c.args.act _ (c.in-Idle.is ∙ ap Idle (sym c.caps.ensures)) _ c.in-Order.is c.check_order.ensures.checked _ c.in_ok-check_order-in-Order.was _ c.body_of_order.ensures _ (c.in-Ok.ensures.ok ∙ ap Ordering (sym c.caps.ensures))
+    act_order _ c.args.pid c.args.process.now c.args.act _ (c.in-Idle.is ∙ ap Idle (sym c.caps.ensures)) _ c.in-Order.is c.check.ensures.checked _ c.in_ok-check-in-Order.was _ c.body_of_order.ensures _ (c.in-Ok.ensures.ok ∙ ap Ordering (sym c.caps.ensures))
 
 pub returns-in-Relabel-clause-acts : goal.returns-in-Relabel-clause-acts
 returns-in-Relabel-clause-acts g c =
@@ -46,12 +46,12 @@ returns-in-Enter-clause-acts g c = act_enter _ c.args.pid c.args.process.now c.a
 pub returns-in_err-check-in-Emit-clause-acts : goal.returns-in_err-check-in-Emit-clause-acts
 returns-in_err-check-in-Emit-clause-acts g c =
     over _ c.args.pid c.args.process.now c.args.act (λ s. record c.args.process.now { owned = Idle s }) c.caps-in-Emit.ensures
-    (act_kept_in _ c.args.pid c.args.process.now c.args.act _ (c.in-Idle.is ∙ ap Idle (sym c.caps-in-Emit.ensures)) _ c.in-Emit.is c.check.ensures.checked _ c.in_err-check-in-Emit.was c.from_residual-in_err-check-in-Emit.ensures)
+    (act_kept_in _ c.args.pid c.args.process.now c.args.act _ (c.in-Idle.is ∙ ap Idle (sym c.caps-in-Emit.ensures)) _ c.in-Emit.is c.check-in-Emit.ensures.checked _ c.in_err-check-in-Emit.was c.from_residual-in_err-check-in-Emit.ensures)
 
 pub returns-in_ok-check-in-Emit-clause-acts : goal.returns-in_ok-check-in-Emit-clause-acts
 returns-in_ok-check-in-Emit-clause-acts g c =
     over _ c.args.pid c.args.process.now c.args.act (λ s. record c.args.process.now { owned = Idle s }) c.caps-in-Emit.ensures
-    (act_emit _ c.args.pid c.args.process.now c.args.act _ (c.in-Idle.is ∙ ap Idle (sym c.caps-in-Emit.ensures)) _ c.in-Emit.is c.check.ensures.checked _ c.in_ok-check-in-Emit.was)
+    (act_emit _ c.args.pid c.args.process.now c.args.act _ (c.in-Idle.is ∙ ap Idle (sym c.caps-in-Emit.ensures)) _ c.in-Emit.is c.check-in-Emit.ensures.checked _ c.in_ok-check-in-Emit.was)
 
 pub returns-in-Mail-clause-acts : goal.returns-in-Mail-clause-acts
 returns-in-Mail-clause-acts g c =
