@@ -1,4 +1,4 @@
-//! Tests of the text of refusals, which stand here as words: also of those that no script comes to.
+//! Tests of the text of refusals, also of those that no script comes to.
 use fl_answers::text::{write_dropped, write_refusal, write_sent};
 use fl_jobs::answer::Refusal;
 use fl_labels::cap::Cap;
@@ -7,7 +7,6 @@ use fl_labels::name::Name;
 use fl_labels::pid::Pid;
 use fl_sink::sink::{Sink, WriteFault};
 use std::alloc::Global;
-use std::test::Fail;
 
 const NAME: Name = Name { node: 1, seq: 4 };
 
@@ -19,83 +18,71 @@ const PID: Pid = Pid {
 
 const ENDPOINT: Endpoint = Endpoint { number: 64 };
 
-/// The refusal that the word stands for.
-fn refusal(word: &str) -> Refusal {
-    match word {
-        "no_process" => Refusal::NoProcess(PID),
-        "no_endpoint" => Refusal::NoEndpoint(ENDPOINT),
-        "missing_cap" => Refusal::MissingCap(Cap::Plus(NAME)),
-        "unsafe_endpoint" => Refusal::UnsafeEndpoint(ENDPOINT, NAME),
-        "not_writable" => Refusal::NotWritable(ENDPOINT),
-        "not_readable" => Refusal::NotReadable(ENDPOINT),
-        "secrecy" => Refusal::Secrecy(NAME),
-        "integrity" => Refusal::Integrity(NAME),
-        "no_login" => Refusal::NoLogin(NAME),
-        "not_owned" => Refusal::NotOwned(Cap::Grow(NAME)),
-        "endpoints_full" => Refusal::EndpointsFull,
-        "wrong_secret" => Refusal::WrongSecret,
-        "names_spent" => Refusal::NamesSpent,
-        "label_too_long" => Refusal::LabelTooLong,
-        "inbox_full" => Refusal::InboxFull,
-        "busy" => Refusal::Busy,
-        _ => Refusal::Memory,
-    }
-}
+const ROWS: [(Refusal, &str); 19] = [
+    (Refusal::NoProcess(PID), "refused F1 p1.2.3\n"),
+    (Refusal::NoEndpoint(ENDPOINT), "refused F2 e64\n"),
+    (Refusal::MissingCap(Cap::Plus(NAME)), "refused F3 +1.4\n"),
+    (
+        Refusal::UnsafeEndpoint(ENDPOINT, NAME),
+        "refused F4 e64 1.4\n",
+    ),
+    (Refusal::EndpointsFull, "refused F5\n"),
+    (Refusal::NotWritable(ENDPOINT), "refused F6 e64\n"),
+    (Refusal::NotReadable(ENDPOINT), "refused F7 e64\n"),
+    (Refusal::Secrecy(NAME), "refused F8 1.4\n"),
+    (Refusal::Integrity(NAME), "refused F9 1.4\n"),
+    (Refusal::NoLogin(NAME), "refused F10 1.4\n"),
+    (Refusal::WrongSecret, "refused F11\n"),
+    (Refusal::NamesSpent, "refused F12\n"),
+    (Refusal::LabelTooLong, "refused F13\n"),
+    (Refusal::Memory, "refused F14\n"),
+    (Refusal::NotOwned(Cap::Grow(NAME)), "refused F22 ^1.4\n"),
+    (Refusal::InboxFull, "refused F23\n"),
+    (Refusal::Busy, "refused F24\n"),
+    (Refusal::Integrity(NAME), "dropped F9 1.4\n"),
+    (Refusal::Memory, "dropped F14\n"),
+];
 
-/// Puts the line of what the words say: what is answered, and which.
-fn put(what: &str, word: &str, sink: &mut Sink, output: &mut Vec<u8>) -> Result<(), WriteFault> {
-    match what {
-        "refused" => write_refusal(refusal(word), sink, output),
-        "dropped" => write_dropped(refusal(word), sink, output),
-        _ => write_sent(10, sink, output),
-    }
-}
-
-/// The lines of these, in one output.
-fn lines(alloc: Global, what: &str, words: &str) -> Result<Vec<u8>, Fail> {
+// Whether the refusal is written as this text, which says of a message that it is dropped.
+fn is_written(alloc: Global, refusal: Refusal, text: &str) -> Result<bool, WriteFault> {
     let mut sink = Sink::new(alloc);
     let mut output = Vec::new(alloc);
-    for word in words.split(' ') {
-        put(what, word, &mut sink, &mut output)?;
+    put(refusal, text, &mut sink, &mut output)?;
+    Ok(output.as_slice() == text.as_bytes())
+}
+
+fn put(
+    refusal: Refusal,
+    text: &str,
+    sink: &mut Sink,
+    output: &mut Vec<u8>,
+) -> Result<(), WriteFault> {
+    if text.starts_with('d') {
+        write_dropped(refusal, sink, output)?;
+    } else {
+        write_refusal(refusal, sink, output)?;
     }
-    sink.finish(&mut output)?;
-    Ok(output)
+    sink.finish(output)
 }
 
 #[test]
-fn refusals_that_name(rt: HostRuntime) -> Result<(), Fail> {
-    let words =
-        "no_process no_endpoint missing_cap unsafe_endpoint not_writable not_readable secrecy integrity no_login not_owned";
-    let text =
-        b"refused F1 p1.2.3\nrefused F2 e64\nrefused F3 +1.4\nrefused F4 e64 1.4\nrefused F6 e64\nrefused F7 e64\nrefused F8 1.4\nrefused F9 1.4\nrefused F10 1.4\nrefused F22 ^1.4\n";
-    assert_eq!(rt;
-        lines(rt.alloc(), "refused", words)?.as_slice(),
-        text.as_slice()
-    );
+fn refusals_are_written(rt: HostRuntime) -> Result<(), WriteFault> {
+    for (refusal, text) in ROWS {
+        assert!(rt; is_written(rt.alloc(), refusal, text)?, "{text}");
+    }
     Ok(())
 }
 
-#[test]
-fn refusals_by_number(rt: HostRuntime) -> Result<(), Fail> {
-    let words = "endpoints_full wrong_secret names_spent label_too_long memory inbox_full busy";
-    let text =
-        b"refused F5\nrefused F11\nrefused F12\nrefused F13\nrefused F14\nrefused F23\nrefused F24\n";
-    assert_eq!(rt;
-        lines(rt.alloc(), "refused", words)?.as_slice(),
-        text.as_slice()
-    );
-    Ok(())
+fn put_sent(sink: &mut Sink, output: &mut Vec<u8>) -> Result<(), WriteFault> {
+    write_sent(10, sink, output)?;
+    sink.finish(output)
 }
 
 #[test]
-fn packets(rt: HostRuntime) -> Result<(), Fail> {
-    assert_eq!(rt;
-        lines(rt.alloc(), "sent", "ten")?.as_slice(),
-        b"sent 10\n".as_slice()
-    );
-    assert_eq!(rt;
-        lines(rt.alloc(), "dropped", "integrity memory")?.as_slice(),
-        b"dropped F9 1.4\ndropped F14\n".as_slice()
-    );
+fn packets_are_counted(rt: HostRuntime) -> Result<(), WriteFault> {
+    let mut sink = Sink::new(rt.alloc());
+    let mut output = Vec::new(rt.alloc());
+    put_sent(&mut sink, &mut output)?;
+    assert!(rt; output.as_slice() == b"sent 10\n".as_slice());
     Ok(())
 }

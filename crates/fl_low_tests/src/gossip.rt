@@ -1,110 +1,186 @@
-//! What is taken and replied.
-use crate::read_packets::{bytes_of, push_packet};
+//! Sets of operations, their windows, and what nodes tell each other by them.
+ghost use Rattle.std.specs.Prelude.{◌<◌, IfOk};
+ghost use Rattle.fl_labels.specs.SetBy.{In};
+ghost use Rattle.fl_opset.specs.Catching.{HaveNoClash};
+
+use crate::packets::push_packet;
 use crate::rows::parts;
-use crate::windows::named;
-use fl_gossip::fault::GossipFault;
 use fl_gossip::replying::reply;
 use fl_gossip::taking::take;
-use fl_labels::name::NodeNumber;
-use fl_labels::text::read_number;
-use fl_ops::op::Op;
+use fl_labels::name::Name;
+use fl_ops::op::{Body, Op, Policy};
+use fl_opset::intervals::Intervals;
 use fl_opset::set::OpSet;
 use fl_wire::packet::Packet;
-use fl_wire::reading::decode;
 use std::alloc::{AllocError, Global};
 
-/// How many operations are new of a packet to a set of a node, or what is refused: the set, the node, and the packet's bytes.
-pub fn taken(alloc: Global, out: &mut String, rest: &str) -> Result<(), AllocError> {
-    let (name, rest) = parts(rest);
-    let (node, digits) = parts(rest);
-    let node = u16::try_from(read_number(node).unwrap_or(0)).unwrap_or(0);
-    let saved = named(alloc, name)?;
-    let bytes = bytes_of(alloc, digits)?;
-    match decode(alloc, &bytes) {
-        Ok(packet) => push_taken(alloc, out, &saved, node, &packet),
-        Err(_) => out.push_str("no packet"),
+const TAG: Op = Op {
+    name: Name { node: 1, seq: 1 },
+    body: Body::MakeTag(Policy::Export),
+};
+
+const WIDE: Op = Op {
+    name: Name {
+        node: 70_000,
+        seq: 1,
+    },
+    body: Body::Open(Name { node: 1, seq: 2 }),
+};
+
+fn group(seq: u32) -> Op
+    requires { 0 < seq }
+{
+    Op {
+        name: Name { node: 1, seq },
+        body: Body::MakeGroup,
     }
 }
 
-fn push_taken(
+// So many groups of node 1, each second one where they are odd.
+fn groups(alloc: Global, end: u32, odd: bool) -> Result<Vec<Op>, AllocError> {
+    let mut ops = Vec::new(alloc);
+    for seq in 1..end {
+        if !odd || seq % 2 == 1 {
+            ops.push(group(seq))?;
+        }
+    }
+    Ok(ops)
+}
+
+// The operations of the set of this name.
+fn listed(alloc: Global, name: &str) -> Result<Vec<Op>, AllocError> {
+    match name {
+        "tag" => Vec::from_slice(alloc, &[TAG]),
+        "gap" => Vec::from_slice(alloc, &[TAG, group(3)]),
+        "whole" => Vec::from_slice(alloc, &[TAG, group(2), group(3)]),
+        "wide" => Vec::from_slice(alloc, &[TAG, WIDE]),
+        "64" => groups(alloc, 65, false),
+        "odd" => groups(alloc, 1026, true),
+        "all" => groups(alloc, 1026, false),
+        _ => Ok(Vec::new(alloc)),
+    }
+}
+
+// Adds an operation whose name is not there.
+fn put(ops: &mut OpSet, op: Op) -> Result<(), AllocError>
+    requires { HaveNoClash (In ops.old) (In ops.old) }
+    ensures { HaveNoClash (In ops.new) (In ops.new) }
+{
+    if ops.clash(&op).is_some() {
+        return Ok(());
+    }
+    ops.add(op)?;
+    Ok(())
+}
+
+// The set of this name, which has each name once.
+fn named(alloc: Global, name: &str) -> Result<OpSet, AllocError>
+    ensures { IfOk result (λ ops. HaveNoClash (In ops) (In ops)) }
+{
+    let list = listed(alloc, name)?;
+    let mut ops = OpSet::new(alloc);
+    for op in &list {
+        put(&mut ops, *op)?;
+    }
+    Ok(ops)
+}
+
+/// What is asked of a set, which is known by a word, and of another one: the answer.
+pub fn say(alloc: Global, out: &mut String, what: &str, rest: &str) -> Result<(), AllocError> {
+    let (first, second) = parts(rest);
+    let saved = named(alloc, first)?;
+    match what {
+        "windows" => windows(alloc, out, &saved),
+        "copy" => compare(out, &saved.copy(alloc)?, &saved),
+        _ => {
+            let mut other = named(alloc, second)?;
+            let windows = other.have(alloc)?;
+            answer_all(alloc, out, &saved, &windows, &mut other)?;
+            compare(out, &other, &saved)
+        }
+    }
+}
+
+fn compare(out: &mut String, first: &OpSet, second: &OpSet) -> Result<(), AllocError> {
+    let is_same = first.as_slice() == second.as_slice();
+    out.push_str(if is_same { "all" } else { "not all" })
+}
+
+fn windows(alloc: Global, out: &mut String, ops: &OpSet) -> Result<(), AllocError> {
+    for window in ops.have(alloc)? {
+        push_window(alloc, out, window)?;
+    }
+    Ok(())
+}
+
+// The ends of a window, how many spans it has, and its bytes.
+fn push_window(alloc: Global, out: &mut String, window: Intervals) -> Result<(), AllocError> {
+    let spans = window.spans.as_slice().len();
+    write!(out, "{}-{} {spans} ", window.from, window.to)?;
+    push_packet(alloc, out, &Packet::Have(window), &[])?;
+    out.push(';')
+}
+
+fn answer_all(
     alloc: Global,
     out: &mut String,
     saved: &OpSet,
-    node: NodeNumber,
-    packet: &Packet,
-) -> Result<(), AllocError> {
-    match take(alloc, saved, node, packet) {
-        Ok(new) => write!(out, "new {}", new.len()),
-        Err(GossipFault::Impostor(name)) => write!(out, "impostor {name}"),
-        Err(GossipFault::Clash(name)) => write!(out, "clash {name}"),
-        Err(GossipFault::Memory) => out.push_str("memory"),
-    }
-}
-
-/// How many operations each packet has that the first set replies to each window of the second.
-pub fn counts(alloc: Global, out: &mut String, rest: &str) -> Result<(), AllocError> {
-    let (saved, other) = parts(rest);
-    let saved = named(alloc, saved)?;
-    let windows = named(alloc, other)?.have(alloc)?;
-    for window in &windows {
-        push_counts(out, &reply(alloc, &saved, window)?)?;
+    windows: &[Intervals],
+    other: &mut OpSet,
+) -> Result<(), AllocError>
+    requires { HaveNoClash (In saved.now) (In saved.now) }
+{
+    for window in windows {
+        answer(alloc, out, saved, window, other)?;
     }
     Ok(())
 }
 
-fn push_counts(out: &mut String, packets: &[Packet]) -> Result<(), AllocError> {
-    for packet in packets {
-        match packet {
-            Packet::Delta(batch) => write!(out, "{} ", batch.ops.as_slice().len())?,
-            _ => out.push_str("no delta ")?,
-        }
+// The bytes of what the first set replies to a window, which the other one, of node 2, takes.
+fn answer(
+    alloc: Global,
+    out: &mut String,
+    saved: &OpSet,
+    window: &Intervals,
+    other: &mut OpSet,
+) -> Result<(), AllocError>
+    requires { HaveNoClash (In saved.now) (In saved.now) }
+{
+    for packet in &reply(alloc, saved, window)? {
+        push_packet(alloc, out, packet, &[])?;
+        take_new(alloc, other, packet)?;
     }
-    out.push_str(";")
+    out.push(';')
 }
 
-/// The bytes of what the first set replies to the windows of the second.
-pub fn answers(alloc: Global, out: &mut String, rest: &str) -> Result<(), AllocError> {
-    let (saved, other) = parts(rest);
-    let saved = named(alloc, saved)?;
-    let windows = named(alloc, other)?.have(alloc)?;
-    for window in &windows {
-        for packet in &reply(alloc, &saved, window)? {
-            push_packet(alloc, out, packet)?;
-        }
-    }
-    Ok(())
-}
-
-/// Whether the second set, of node 2, is the first one once it took all that the first replies.
-pub fn caught_up(alloc: Global, out: &mut String, rest: &str) -> Result<(), AllocError> {
-    let (saved, other) = parts(rest);
-    let saved = named(alloc, saved)?;
-    let mut other = named(alloc, other)?;
-    let windows = other.have(alloc)?;
-    for window in &windows {
-        take_all(alloc, &mut other, &reply(alloc, &saved, window)?)?;
-    }
-    out.push_str(if other.as_slice() == saved.as_slice() {
-        "all"
-    } else {
-        "not all"
-    })
-}
-
-// Takes what is new of the packets.
-fn take_all(alloc: Global, ops: &mut OpSet, packets: &[Packet]) -> Result<(), AllocError> {
-    for packet in packets {
-        let Ok(new) = take(alloc, ops, 2, packet) else {
-            return Ok(());
-        };
-        add_all(ops, &new)?;
-    }
-    Ok(())
-}
-
-fn add_all(ops: &mut OpSet, new: &[Op]) -> Result<(), AllocError> {
-    for op in new {
+fn take_new(alloc: Global, ops: &mut OpSet, packet: &Packet) -> Result<(), AllocError> {
+    let Ok(new) = take(alloc, ops, 2, packet) else {
+        return Ok(());
+    };
+    for op in &new {
         ops.add(*op)?;
     }
     Ok(())
 }
+
+/// The windows of sets.
+pub const WINDOWS: &str = "\
+windows none => 1.1-4294967295.4294967295 0 f2020000000100000001ffffffffffffffff0000;
+windows all => 1.1-4294967295.4294967295 1 \
+f2020000000100000001ffffffffffffffff0001000000010000000100000401;
+windows gap => 1.1-4294967295.4294967295 2 \
+f2020000000100000001ffffffffffffffff0002000000010000000100000001000000010000000300000003;
+windows wide => 1.1-4294967295.4294967295 2 \
+f2020000000100000001ffffffffffffffff0002000000010000000100000001000111700000000100000001;
+windows odd => 1.1-1.1023 512 6164 ;1.1024-4294967295.4294967295 1 \
+f2020000000100000400ffffffffffffffff0001000000010000040100000401;";
+
+/// What one set replies to another, which then has all of it or not.
+pub const REPLIES: &str = "\
+reply whole gap => f2030102020000000100000002;all
+reply tag none => f203010201000000010000000101;all
+reply wide tag => f20301020500011170000000010000000100000002;all
+reply tag whole => ;not all
+copy whole => all
+reply 64 none => 643 ;all
+reply all odd => 643 643 643 643 643 643 643 633 ;f2030102020000000100000400;all";

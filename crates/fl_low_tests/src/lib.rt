@@ -1,5 +1,5 @@
-//! Tests of names and sets, operations and their bytes, sets of operations and their windows,
-//! packets, rules, mailboxes, aliases, the text of answers, and the bytes that wait to be written.
+//! Tests of names and sets, operations and packets and their bytes, sets of operations and their
+//! windows, letters, aliases, the text of answers, and the bytes that wait to be written.
 #![tactic(auto)]
 
 #[cfg(test)]
@@ -7,13 +7,15 @@ mod aliases;
 #[cfg(test)]
 mod answers;
 #[cfg(test)]
-mod caps;
+mod bytes;
 #[cfg(test)]
-mod exchanges;
+mod caps;
 #[cfg(test)]
 mod gossip;
 #[cfg(test)]
 mod labels;
+#[cfg(test)]
+mod laws;
 #[cfg(test)]
 mod mailbox;
 #[cfg(test)]
@@ -21,18 +23,12 @@ mod operations;
 #[cfg(test)]
 mod packets;
 #[cfg(test)]
-mod read_packets;
-#[cfg(test)]
 mod registries;
 #[cfg(test)]
 mod rows;
 #[cfg(test)]
-mod rules;
-#[cfg(test)]
 mod secrets;
 #[cfg(test)]
 mod sink;
-#[cfg(test)]
-mod windows;
 #[cfg(test)]
 mod words;

@@ -1,28 +1,15 @@
 //! Operations, their order, and their bytes both ways.
-use crate::packets::{self, VECTOR};
-use crate::rows::{check, compare, parts, push_hex};
+use crate::rows::{compare, parts, push_hex};
+use fl_labels::cap::Cap;
 use fl_labels::name::Name;
 use fl_labels::text::{read_cap, read_name};
 use fl_ops::digest::Digest;
-use fl_ops::fields::{NAME_SIZE, byte_at, cap_at, name_at, push_cap, push_name};
-use fl_ops::laws::{law_login, law_one_spelling, law_order, law_reach};
+use fl_ops::fields::{byte_at, cap_at, name_at, push_cap, push_name};
+use fl_ops::format::Format;
 use fl_ops::op::{Body, Op, Policy};
 use fl_ops::reading::decode;
-use fl_ops::writing::{encode, push_op};
+use fl_ops::writing::encode;
 use std::alloc::{AllocError, Global};
-
-const EXPORT: [u8; 9] = [1, 1, 0, 1, 0, 0, 0, 1, 1];
-
-const GROUP: [u8; 8] = [1, 2, 0, 1, 0, 0, 0, 2];
-
-const PUT: [u8; 21] = [
-    1, 3, 0, 1, 0, 0, 0, 6, 0, 1, 0, 0, 0, 4, 3, 0, 1, 0, 0, 0, 5,
-];
-
-const LOGIN: [u8; 47] = [
-    1, 4, 0, 1, 0, 0, 0, 7, 1, 0, 1, 0, 0, 0, 5, 0, 1, 2, 3, 4, 5, 6, 7, 8, 9, 10, 11, 12, 13, 14,
-    15, 16, 17, 18, 19, 20, 21, 22, 23, 24, 25, 26, 27, 28, 29, 128, 255,
-];
 
 const MIXED: Digest = Digest {
     bytes: [
@@ -31,7 +18,8 @@ const MIXED: Digest = Digest {
     ],
 };
 
-/// The operation of such a line of a registry's text, where the digest of a login is `mixed`, or one number for each of its bytes.
+/// The operation of such a line of a registry's text, where the digest of a login is `mixed`, or
+/// one number for each of its bytes.
 pub fn read_op(line: &str) -> Option<Op> {
     let (name, rest) = parts(line);
     let (kind, rest) = parts(rest);
@@ -48,6 +36,7 @@ fn body(kind: &str, rest: &str) -> Option<Body> {
         "group" => Some(Body::MakeGroup),
         "put" => Some(Body::Put(read_name(first)?, read_cap(second)?)),
         "login" => Some(Body::MakeLogin(read_cap(first)?, digest(second)?)),
+        "open" => Some(Body::Open(read_name(first)?)),
         _ => None,
     }
 }
@@ -69,173 +58,219 @@ fn digest(word: &str) -> Option<Digest> {
     Some(Digest { bytes: [byte; 32] })
 }
 
-/// What is asked of an operation, and the operation: the answer.
-pub fn say(alloc: Global, out: &mut String, rest: &str) -> Result<(), AllocError> {
-    let (what, line) = parts(rest);
-    if what == "order" {
-        let (first, second) = line.split_once(", ").unwrap_or((line, ""));
-        return compare(out, read_op(first), read_op(second));
-    }
-    match read_op(line) {
-        Some(op) => spell(alloc, out, &op),
-        None => out.push_str("no operation"),
-    }
-}
-
-// Its kind, its length and its bytes, and whether it is what these bytes begin with, whatever follows them.
-fn spell(alloc: Global, out: &mut String, op: &Op) -> Result<(), AllocError> {
-    let mut bytes = encode(alloc, op)?;
-    spell_as(out, op, &mut bytes)
-}
-
-fn spell_as(out: &mut String, op: &Op, bytes: &mut Vec<u8>) -> Result<(), AllocError> {
-    write!(out, "{} {} ", op.body.kind(), op.length())?;
-    push_hex(out, bytes)?;
-    push_op(bytes, op)?;
-    let is_read = decode(bytes) == Ok((*op, op.length()));
-    out.push_str(if is_read { " again" } else { " no more" })
-}
-
-/// Where the fault is in the bytes of an operation or of a packet, which are known by a word: in each front of them, or with one changed.
-pub fn say_bytes(alloc: Global, out: &mut String, rest: &str) -> Result<(), AllocError> {
-    let (what, rest) = parts(rest);
-    let (of, rest) = parts(rest);
-    let bytes = match of {
-        "export" => EXPORT.as_slice(),
-        "group" => &GROUP,
-        "put" => &PUT,
-        "login" => &LOGIN,
-        _ => &VECTOR,
+/// The kind of an operation, how long it is in each format, and its bytes.
+pub fn spell(alloc: Global, out: &mut String, line: &str) -> Result<(), AllocError> {
+    let Some(op) = read_op(line) else {
+        return out.push_str("no operation");
     };
-    match what {
-        "cut" => cut(alloc, out, of, bytes),
-        _ => changed(alloc, out, of, bytes, rest),
-    }
+    write!(out, "{} ", op.body.kind())?;
+    write!(
+        out,
+        "{} {} ",
+        op.length(Format::One),
+        op.length(Format::Two)
+    )?;
+    push_hex(out, &encode(alloc, &op)?)
 }
 
-// The place of the fault, where no operation begins the bytes, or they are no packet.
-fn fault(alloc: Global, of: &str, bytes: &[u8]) -> Option<usize> {
-    if of == "vector" {
-        return packets::fault(alloc, bytes);
-    }
+/// How many bytes the operation takes that begins these, and how it is written, or the place of the
+/// fault.
+pub fn read(alloc: Global, out: &mut String, bytes: &[u8]) -> Result<(), AllocError> {
     match decode(bytes) {
-        Ok(_) => None,
-        Err(field) => Some(field.place),
+        Ok((op, length)) => {
+            write!(out, "{length} ")?;
+            push_hex(out, &encode(alloc, &op)?)
+        }
+        Err(field) => write!(out, "{}", field.place),
     }
 }
 
-fn say_fault(alloc: Global, out: &mut String, of: &str, bytes: &[u8]) -> Result<(), AllocError> {
-    match fault(alloc, of, bytes) {
-        Some(place) => write!(out, "{place} "),
-        None => out.push_str("none "),
-    }
+/// How two operations stand to each other, with a comma between them.
+pub fn order(out: &mut String, rest: &str) -> Result<(), AllocError> {
+    let (first, second) = rest.split_once(", ").unwrap_or((rest, ""));
+    compare(out, read_op(first), read_op(second))
 }
 
-fn cut(alloc: Global, out: &mut String, of: &str, bytes: &[u8]) -> Result<(), AllocError> {
-    for length in 0..bytes.len() {
-        say_fault(alloc, out, of, &bytes[..length])?;
-    }
-    Ok(())
-}
+/// Operations, and how they are written.
+pub const SPELLED: &str = "\
+spell 1.1 tag export => 1 9 11 0201000000010000000101
+spell 258.16909060 tag integrity => 1 9 11 0201000001020102030403
+spell 1.1 tag read => 1 9 11 0201000000010000000102
+spell 1.2 group => 2 8 10 02020000000100000002
+spell 70000.1 group => 2 8 10 02020001117000000001
+spell 1.6 put 1.4 +1.5 => 3 21 27 020300000001000000060000000100000004010000000100000005
+spell 1.6 put 1.4 -1.5 => 3 21 27 020300000001000000060000000100000004020000000100000005
+spell 1.6 put 1.4 *1.5 => 3 21 27 020300000001000000060000000100000004030000000100000005
+spell 1.6 put 1.4 ^1.5 => 3 21 27 020300000001000000060000000100000004040000000100000005
+spell 70000.2 put 65536.1 *4294967295.4294967295 => 3 21 27 \
+02030001117000000002000100000000000103ffffffffffffffff
+spell 1.7 login +1.5 mixed => 4 47 51 020400000001000000070100000001000000050001020304050607080\
+90a0b0c0d0e0f101112131415161718191a1b1c1d80ff
+spell 1.6 open 1.5 => 5 14 18 020500000001000000060000000100000005";
 
-// One byte is another: each a place, `=`, and the byte.
-fn changed(
-    alloc: Global,
-    out: &mut String,
-    of: &str,
-    bytes: &[u8],
-    changes: &str,
-) -> Result<(), AllocError> {
-    for change in changes.split(' ') {
-        let changed = with_change(alloc, bytes, change)?;
-        say_fault(alloc, out, of, &changed)?;
-    }
-    Ok(())
-}
+/// In both formats, of which the first is read alone.
+pub const READ: &str = "\
+read op 0201000000010000000101 => 11 0201000000010000000101
+read op 0201000000010000000101ff => 11 0201000000010000000101
+read op 010100010000000101 => 9 0201000000010000000101
+read op 010100010000000101ff => 9 0201000000010000000101
+read op 0201000001020102030403 => 11 0201000001020102030403
+read op 0201000001020102030403ff => 11 0201000001020102030403
+read op 010101020102030403 => 9 0201000001020102030403
+read op 010101020102030403ff => 9 0201000001020102030403
+read op 0201000000010000000102 => 11 0201000000010000000102
+read op 0201000000010000000102ff => 11 0201000000010000000102
+read op 010100010000000102 => 9 0201000000010000000102
+read op 010100010000000102ff => 9 0201000000010000000102
+read op 02020000000100000002 => 10 02020000000100000002
+read op 02020000000100000002ff => 10 02020000000100000002
+read op 0102000100000002 => 8 02020000000100000002
+read op 0102000100000002ff => 8 02020000000100000002
+read op 02020001117000000001 => 10 02020001117000000001
+read op 02020001117000000001ff => 10 02020001117000000001
+read op 020300000001000000060000000100000004010000000100000005 => 27 \
+020300000001000000060000000100000004010000000100000005
+read op 020300000001000000060000000100000004010000000100000005ff => 27 \
+020300000001000000060000000100000004010000000100000005
+read op 010300010000000600010000000401000100000005 => 21 \
+020300000001000000060000000100000004010000000100000005
+read op 010300010000000600010000000401000100000005ff => 21 \
+020300000001000000060000000100000004010000000100000005
+read op 020300000001000000060000000100000004020000000100000005 => 27 \
+020300000001000000060000000100000004020000000100000005
+read op 020300000001000000060000000100000004020000000100000005ff => 27 \
+020300000001000000060000000100000004020000000100000005
+read op 010300010000000600010000000402000100000005 => 21 \
+020300000001000000060000000100000004020000000100000005
+read op 010300010000000600010000000402000100000005ff => 21 \
+020300000001000000060000000100000004020000000100000005
+read op 020300000001000000060000000100000004030000000100000005 => 27 \
+020300000001000000060000000100000004030000000100000005
+read op 020300000001000000060000000100000004030000000100000005ff => 27 \
+020300000001000000060000000100000004030000000100000005
+read op 010300010000000600010000000403000100000005 => 21 \
+020300000001000000060000000100000004030000000100000005
+read op 010300010000000600010000000403000100000005ff => 21 \
+020300000001000000060000000100000004030000000100000005
+read op 020300000001000000060000000100000004040000000100000005 => 27 \
+020300000001000000060000000100000004040000000100000005
+read op 020300000001000000060000000100000004040000000100000005ff => 27 \
+020300000001000000060000000100000004040000000100000005
+read op 010300010000000600010000000404000100000005 => 21 \
+020300000001000000060000000100000004040000000100000005
+read op 010300010000000600010000000404000100000005ff => 21 \
+020300000001000000060000000100000004040000000100000005
+read op 02030001117000000002000100000000000103ffffffffffffffff => 27 \
+02030001117000000002000100000000000103ffffffffffffffff
+read op 02030001117000000002000100000000000103ffffffffffffffffff => 27 \
+02030001117000000002000100000000000103ffffffffffffffff
+read op 02040000000100000007010000000100000005000102030405060708090a0b0c0d0e0f10111213141516171\
+8191a1b1c1d80ff => 51 02040000000100000007010000000100000005000102030405060708090a0b0c0d0e0f101\
+112131415161718191a1b1c1d80ff
+read op 02040000000100000007010000000100000005000102030405060708090a0b0c0d0e0f10111213141516171\
+8191a1b1c1d80ffff => 51 02040000000100000007010000000100000005000102030405060708090a0b0c0d0e0f1\
+01112131415161718191a1b1c1d80ff
+read op 010400010000000701000100000005000102030405060708090a0b0c0d0e0f101112131415161718191a1b1\
+c1d80ff => 47 02040000000100000007010000000100000005000102030405060708090a0b0c0d0e0f10111213141\
+5161718191a1b1c1d80ff
+read op 010400010000000701000100000005000102030405060708090a0b0c0d0e0f101112131415161718191a1b1\
+c1d80ffff => 47 02040000000100000007010000000100000005000102030405060708090a0b0c0d0e0f101112131\
+415161718191a1b1c1d80ff
+read op 020500000001000000060000000100000005 => 18 020500000001000000060000000100000005
+read op 020500000001000000060000000100000005ff => 18 020500000001000000060000000100000005
+read op 01020001117000000001 => 8 02020000000111700000
+read op 010200010001000000000001 => 8 02020000000100010000
+read op 02020001117000000001 => 10 02020001117000000001
+read op 030100010000000101 => 0
+read op 0001000100000001 => 0
+read op 0105000100000006000100000005 => 1
+read op 020600000001000000060000000100000005 => 1
+read op 02020000000000000001 => 2
+read op 02020000000100000000 => 2
+read op 0202ffffffffffffffff => 10 0202ffffffffffffffff
+read op 0102ffffffffffff => 8 02020000ffffffffffff";
 
-fn with_change(alloc: Global, bytes: &[u8], change: &str) -> Result<Vec<u8>, AllocError> {
-    let (place, byte) = change.split_once('=').unwrap_or((change, ""));
-    let place: usize = place.parse().unwrap_or(0);
-    let byte: u8 = byte.parse().unwrap_or(0);
-    let mut changed = Vec::from_slice(alloc, bytes)?;
-    if let Some(cell) = changed.get_mut(place) {
-        *cell = byte;
-    }
-    Ok(changed)
-}
+/// Where the fault is with so few of the bytes, or with one of them another.
+pub const FAULTS: &str = "\
+cut op 010100010000000101 => 0 1 2 2 2 2 2 2 8 
+cut op 0102000100000002 => 0 1 2 2 2 2 2 2 
+cut op 010300010000000600010000000403000100000005 => 0 1 2 2 2 2 2 2 8 8 8 8 8 8 14 15 15 15 15 \
+15 15 
+cut op 010400010000000701000100000005000102030405060708090a0b0c0d0e0f101112131415161718191a1b1c\
+1d80ff => 0 1 2 2 2 2 2 2 8 9 9 9 9 9 9 15 15 15 15 15 15 15 15 15 15 15 15 15 15 15 15 15 15 \
+15 15 15 15 15 15 15 15 15 15 15 15 15 15 
+cut op 0201000000010000000101 => 0 1 2 2 2 2 2 2 2 2 10 
+cut op 02020000000100000002 => 0 1 2 2 2 2 2 2 2 2 
+cut op 020300000001000000060000000100000004030000000100000005 => 0 1 2 2 2 2 2 2 2 2 10 10 10 \
+10 10 10 10 10 18 19 19 19 19 19 19 19 19 
+cut op 02040000000100000007010000000100000005000102030405060708090a0b0c0d0e0f101112131415161718\
+191a1b1c1d80ff => 0 1 2 2 2 2 2 2 2 2 10 11 11 11 11 11 11 11 11 19 19 19 19 19 19 19 19 19 19 \
+19 19 19 19 19 19 19 19 19 19 19 19 19 19 19 19 19 19 19 19 19 19 
+cut op 020500000001000000060000000100000005 => 0 1 2 2 2 2 2 2 2 2 10 10 10 10 10 10 10 10 
+change op 010100010000000101 0=0 0=2 0=3 1=0 1=5 3=0 7=0 8=0 8=4 => 0 2 0 1 1 2 2 8 8 
+change op 010300010000000600010000000403000100000005 0=2 0=3 1=0 1=5 3=0 7=0 => 18 0 1 1 2 2 
+change op 010300010000000600010000000403000100000005 9=0 13=0 14=0 14=5 16=0 20=0 => 8 8 14 14 \
+15 15 
+change op 010400010000000701000100000005000102030405060708090a0b0c0d0e0f101112131415161718191a1\
+b1c1d80ff 0=2 0=3 1=5 3=0 7=0 8=0 8=5 10=0 14=0 => 19 0 1 2 2 8 8 9 9 
+change op 0201000000010000000101 0=0 0=1 0=3 1=0 1=6 5=0 9=0 10=0 10=4 => 0 2 0 1 1 2 2 10 10 
+change op 020300000001000000060000000100000004030000000100000005 0=3 1=0 1=6 5=0 9=0 13=0 17=0 \
+18=0 18=5 22=0 26=0 => 0 1 1 2 2 10 10 18 18 19 19 
+change op 02040000000100000007010000000100000005000102030405060708090a0b0c0d0e0f101112131415161\
+718191a1b1c1d80ff 0=3 1=6 5=0 9=0 10=0 10=5 14=0 18=0 => 0 1 2 2 10 10 11 11 
+change op 020500000001000000060000000100000005 0=0 0=1 1=6 5=0 9=0 13=0 17=0 => 0 1 1 2 2 10 10 ";
 
-const SPELLED: &str = "\
-op spell 1.1 tag export => 1 9 010100010000000101 again
-op spell 258.16909060 tag integrity => 1 9 010101020102030403 again
-op spell 1.1 tag read => 1 9 010100010000000102 again
-op spell 1.2 group => 2 8 0102000100000002 again
-op spell 1.6 put 1.4 +1.5 => 3 21 010300010000000600010000000401000100000005 again
-op spell 1.6 put 1.4 -1.5 => 3 21 010300010000000600010000000402000100000005 again
-op spell 1.6 put 1.4 *1.5 => 3 21 010300010000000600010000000403000100000005 again
-op spell 1.6 put 1.4 ^1.5 => 3 21 010300010000000600010000000404000100000005 again
-op spell 1.7 login +1.5 mixed => 4 47 0104000100000007010001000000050001\
-02030405060708090a0b0c0d0e0f101112131415161718191a1b1c1d80ff again";
+/// Operations in their order.
+pub const ORDERS: &str = "\
+order ops 1.2 tag read, 1.2 tag read => equal
+order ops 1.2 tag read, 1.10 tag export => less
+order ops 1.2 tag read, 2.1 tag export => less
+order ops 1.2 tag read, 1.2 tag integrity => less
+order ops 1.2 tag read, 1.2 tag export => greater
+order ops 1.2 tag read, 1.2 group => less
+order ops 1.2 tag read, 1.1 group => greater
+order ops 1.2 put 1.1 -1.2, 1.2 put 1.1 -1.2 => equal
+order ops 1.2 put 1.1 -1.2, 1.2 tag integrity => greater
+order ops 1.2 put 1.1 -1.2, 1.2 group => greater
+order ops 1.2 put 1.1 -1.2, 1.3 tag export => less
+order ops 1.2 put 1.1 -1.2, 1.2 put 1.2 +1.1 => less
+order ops 1.2 put 1.1 -1.2, 1.2 put 1.1 *1.1 => less
+order ops 1.2 put 1.1 -1.2, 1.2 put 1.1 +9.9 => greater
+order ops 1.2 put 1.1 -1.2, 1.2 put 1.1 -1.1 => greater
+order ops 1.2 put 1.1 -1.2, 1.2 put 1.1 -2.1 => less
+order ops 1.2 put 1.1 -1.2, 1.2 put 1.1 ^1.2 => less
+order ops 1.2 login -1.2 1, 1.2 login -1.2 1 => equal
+order ops 1.2 login -1.2 1, 1.2 group => greater
+order ops 1.2 login -1.2 1, 1.2 put 1.2 ^1.2 => greater
+order ops 1.2 login -1.2 1, 1.3 tag export => less
+order ops 1.2 login -1.2 1, 1.2 login -1.2 2 => less
+order ops 1.2 login -1.2 1, 1.2 login *1.1 1 => less
+order ops 1.2 login -1.2 1, 1.2 login +1.2 2 => greater
+order ops 1.2 login -1.2 1, 1.2 login -1.1 2 => greater
+order ops 1.2 open 1.1, 1.2 open 1.1 => equal
+order ops 1.2 open 1.1, 1.2 open 1.2 => less
+order ops 1.2 open 1.1, 1.2 open 2.1 => less
+order ops 1.2 open 1.1, 1.2 login ^9.9 9 => greater
+order ops 1.2 open 1.1, 1.2 tag integrity => greater
+order ops 1.2 open 1.1, 1.3 tag export => less
+order ops 70000.1 group, 65535.9 open 1.1 => greater";
 
-const FAULTS: &str = "\
-bytes cut export => 0 1 2 2 2 2 2 2 8 \n\
-bytes cut group => 0 1 2 2 2 2 2 2 \n\
-bytes cut put => 0 1 2 2 2 2 2 2 8 8 8 8 8 8 14 15 15 15 15 15 15 \n\
-bytes cut login => 0 1 2 2 2 2 2 2 8 9 9 9 9 9 9 \
-15 15 15 15 15 15 15 15 15 15 15 15 15 15 15 15 15 15 15 15 15 15 15 15 15 15 15 15 15 15 15 15 \n\
-bytes changed export 0=0 0=2 1=0 1=5 3=0 7=0 8=0 8=4 => 0 0 1 1 2 2 8 8 \n\
-bytes changed put 0=2 1=0 1=5 3=0 7=0 => 0 1 1 2 2 \n\
-bytes changed put 9=0 13=0 14=0 14=5 16=0 20=0 => 8 8 14 14 15 15 \n\
-bytes changed login 0=2 1=5 3=0 7=0 8=0 8=5 10=0 14=0 => 0 1 2 2 8 8 9 9 ";
-
-const ORDERS: &str = "\
-op order 1.2 tag read, 1.2 tag read => equal
-op order 1.2 tag read, 1.10 tag export => less
-op order 1.2 tag read, 2.1 tag export => less
-op order 1.2 tag read, 1.2 tag integrity => less
-op order 1.2 tag read, 1.2 tag export => greater
-op order 1.2 tag read, 1.2 group => less
-op order 1.2 tag read, 1.1 group => greater
-op order 1.2 put 1.1 -1.2, 1.2 put 1.1 -1.2 => equal
-op order 1.2 put 1.1 -1.2, 1.2 tag integrity => greater
-op order 1.2 put 1.1 -1.2, 1.2 group => greater
-op order 1.2 put 1.1 -1.2, 1.3 tag export => less
-op order 1.2 put 1.1 -1.2, 1.2 put 1.2 +1.1 => less
-op order 1.2 put 1.1 -1.2, 1.2 put 1.1 *1.1 => less
-op order 1.2 put 1.1 -1.2, 1.2 put 1.1 +9.9 => greater
-op order 1.2 put 1.1 -1.2, 1.2 put 1.1 -1.1 => greater
-op order 1.2 put 1.1 -1.2, 1.2 put 1.1 -2.1 => less
-op order 1.2 put 1.1 -1.2, 1.2 put 1.1 ^1.2 => less
-op order 1.2 login -1.2 1, 1.2 login -1.2 1 => equal
-op order 1.2 login -1.2 1, 1.2 group => greater
-op order 1.2 login -1.2 1, 1.2 put 1.2 ^1.2 => greater
-op order 1.2 login -1.2 1, 1.3 tag export => less
-op order 1.2 login -1.2 1, 1.2 login -1.2 2 => less
-op order 1.2 login -1.2 1, 1.2 login *1.1 1 => less
-op order 1.2 login -1.2 1, 1.2 login +1.2 2 => greater
-op order 1.2 login -1.2 1, 1.2 login -1.1 2 => greater";
-
-#[test]
-fn operations(rt: HostRuntime) -> Result<(), AllocError> {
-    for rows in [SPELLED, FAULTS, ORDERS] {
-        check(&rt, rows)?;
-    }
-    law_order();
-    law_one_spelling();
-    law_reach();
-    law_login();
-    Ok(())
+// Whether a name and the use of a group of this name are the fields of the bytes.
+fn are_fields(bytes: &[u8], name: Name) -> bool {
+    name_at(Format::Two, bytes, 0) == Ok(name)
+        && cap_at(Format::Two, bytes, 8) == Ok(Cap::Use(name))
+        && byte_at(bytes, 8, 1, 4) == Ok(3)
 }
 
 #[test]
 fn fields_stand_alone(rt: HostRuntime) -> Result<(), AllocError> {
     let mut bytes = Vec::new(rt.alloc());
-    let name = Name { node: 1, seq: 5 };
-    if let Some(cap) = read_cap("*1.5") {
-        push_name(&mut bytes, name)?;
-        push_cap(&mut bytes, cap)?;
-        assert_eq!(rt; cap_at(&bytes, NAME_SIZE), Ok(cap));
-    }
-    assert_eq!(rt; name_at(&bytes, 0), Ok(name));
-    assert_eq!(rt; byte_at(&bytes, NAME_SIZE, 1, 4), Ok(3));
+    let name = Name {
+        node: 70_000,
+        seq: 5,
+    };
+    push_name(&mut bytes, name)?;
+    push_cap(&mut bytes, Cap::Use(name))?;
+    assert!(rt; are_fields(&bytes, name));
     Ok(())
 }

@@ -1,53 +1,35 @@
 //! Rows of a question, ` => ` and its answer.
-use crate::{caps, gossip, labels, operations, packets, read_packets, registries, windows, words};
+use crate::{bytes, caps, gossip, labels, operations, registries, words};
 use std::alloc::{AllocError, AllocGlobal, Global};
 use std::process::Abort;
 
-/// Each row's question has its answer.
-pub fn check(rt: &(impl Abort + AllocGlobal), rows: &str) -> Result<(), AllocError> {
+// Each row's question has its answer.
+fn check(rt: &(impl Abort + AllocGlobal), rows: &str) -> Result<(), AllocError> {
     let mut out = String::new(rt.alloc());
     for row in rows.split('\n') {
         let (question, answer) = row.split_once(" => ").unwrap_or((row, "no answer"));
-        let (what, rest) = parts(question);
         out.clear();
-        say(rt.alloc(), &mut out, what, rest)?;
+        say(rt.alloc(), &mut out, question)?;
         assert_eq!(rt; out.as_str(), answer, "{question}");
     }
     Ok(())
 }
 
 // Says what is asked of each kind of thing.
-fn say(alloc: Global, out: &mut String, what: &str, rest: &str) -> Result<(), AllocError> {
+fn say(alloc: Global, out: &mut String, question: &str) -> Result<(), AllocError> {
+    let (what, rest) = parts(question);
     match what {
-        "number" => words::number(out, rest),
-        "node" => words::node(out, rest),
-        "name" => words::name(out, rest),
-        "cap" => words::cap(out, rest),
-        "process" => words::process(out, rest),
-        "endpoint" => words::endpoint(out, rest),
+        "word" => words::say(out, rest),
         "order" => words::order(out, rest),
         "label" => labels::say(alloc, out, rest),
-        "long" => labels::say_long(alloc, out, rest),
         "caps" => caps::say(alloc, out, rest),
-        "room" => caps::room(alloc, out, rest),
         "sorted" => caps::sorted(alloc, out, rest),
-        "items" => caps::items(alloc, out, rest),
-        "op" => operations::say(alloc, out, rest),
-        "bytes" => operations::say_bytes(alloc, out, rest),
+        "spell" => operations::spell(alloc, out, rest),
+        "read" => bytes::read(alloc, out, rest),
+        "cut" => bytes::cut(alloc, out, rest),
+        "change" => bytes::change(alloc, out, rest),
         "set" => registries::say(alloc, out, rest),
-        "packet" => packets::say(alloc, out, rest),
-        "sized" => packets::sized(alloc, out, rest),
-        "message" => packets::message(alloc, out, rest),
-        "read" => read_packets::read(alloc, out, rest),
-        "cut" => read_packets::cut(alloc, out, rest),
-        "windows" => windows::windows(alloc, out, rest),
-        "have" => windows::have(alloc, out, rest),
-        "copy" => windows::copy(alloc, out, rest),
-        "take" => gossip::taken(alloc, out, rest),
-        "reply" => gossip::counts(alloc, out, rest),
-        "answer" => gossip::answers(alloc, out, rest),
-        "catch" => gossip::caught_up(alloc, out, rest),
-        _ => out.push_str("no question"),
+        _ => gossip::say(alloc, out, what, rest),
     }
 }
 
@@ -78,6 +60,40 @@ pub fn compare<T: Ord + Copy + Drop>(
 pub fn push_hex(out: &mut String, bytes: &[u8]) -> Result<(), AllocError> {
     for byte in bytes {
         write!(out, "{byte:02x}")?;
+    }
+    Ok(())
+}
+
+#[test]
+fn rows_have_their_answers(rt: HostRuntime) -> Result<(), AllocError> {
+    for rows in [
+        words::NUMBERS,
+        words::NAMES,
+        words::CAPS,
+        words::PROCESSES,
+        words::ENDPOINTS,
+        labels::LABELS,
+        labels::CHANGES,
+        caps::ROWS,
+        operations::SPELLED,
+        operations::READ,
+        operations::FAULTS,
+        operations::ORDERS,
+        bytes::PACKETS,
+        bytes::HOSTILE,
+        bytes::FRONTS,
+        bytes::CHANGED,
+        bytes::PARTS,
+        bytes::SIZES,
+        registries::CHANGES,
+        registries::TEXTS,
+        registries::MERGED,
+        registries::CLASHING,
+        registries::LOGINS,
+        gossip::WINDOWS,
+        gossip::REPLIES,
+    ] {
+        check(&rt, rows)?;
     }
     Ok(())
 }

@@ -23,23 +23,32 @@ impl Write for NarrowWriter {
     }
 }
 
+// How many bytes were written behind each of some pieces, and in the end.
+fn pass(
+    sink: &mut Sink,
+    output: &mut Vec<u8>,
+    long: &[u8],
+) -> std::result::Result<[usize; 4], WriteFault> {
+    sink.put(output, b"ok ")?;
+    sink.put_all(output, &[b"1", b".", b"1\n"])?;
+    let short = output.len();
+    sink.put(output, long)?;
+    let held = output.len();
+    sink.put(output, b"end")?;
+    let full = output.len();
+    sink.finish(output)?;
+    sink.finish(output)?;
+    Ok([short, held, full, output.len()])
+}
+
 #[test]
 fn bytes_pass_in_their_order(rt: HostRuntime) -> std::result::Result<(), Fail> {
+    let long = vec![in rt.alloc(); b'-'; 70_000]?;
     let mut output = Vec::new(rt.alloc());
     let mut sink = Sink::new(rt.alloc());
-    sink.put(&mut output, b"ok ")?;
-    sink.put_all(&mut output, &[b"1", b".", b"1\n"])?;
-    assert!(rt; output.is_empty());
-    let long = vec![in rt.alloc(); b'-'; 70_000]?;
-    sink.put(&mut output, &long)?;
-    assert!(rt; output.is_empty());
-    sink.put(&mut output, b"end")?;
-    assert_eq!(rt; output.len(), 70_007);
-    sink.finish(&mut output)?;
-    sink.finish(&mut output)?;
-    assert_eq!(rt; output.len(), 70_010);
-    assert!(rt; output.starts_with(b"ok 1.1\n--"));
-    assert!(rt; output.ends_with(b"--end"));
+    let lengths = pass(&mut sink, &mut output, &long)?;
+    assert_eq!(rt; lengths, [0, 0, 70_007, 70_010]);
+    assert!(rt; output.starts_with(b"ok 1.1\n--") && output.ends_with(b"--end"));
     Ok(())
 }
 

@@ -1,6 +1,6 @@
 use Rattle.std.proofs.Common.{sym, ◌∙◌}
 use Rattle.fl_opset.specs.laws.Once.{same_once, insert_once, none_found}
-use Rattle.fl_low_tests.proofs.windows.put.Goals as goal
+use Rattle.fl_low_tests.proofs.gossip.put.Goals as goal
 
 pub returns-in_err-add : goal.returns-in_err-add
 returns-in_err-add c = same_once _ _ c.in_err-add.ensures.err c.requires
