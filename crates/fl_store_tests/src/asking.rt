@@ -38,20 +38,31 @@ pub enum Said {
     Refused(KeeperFault),
 }
 
-/// Asks the keeper each of the lines. Its answers are put behind what was said before, as lines. A
-/// line is
-///
-/// - `number`, `failures`, `boot`, `load`: that call; what is loaded is written as a registry's
-///   text.
-/// - `save none`, `save 1.1`, `save 1.2 1.3`: a batch of these groups is saved.
+/// What a keeper is asked.
+#[derive(Clone, Copy)]
+pub enum Line {
+    Number,
+    Failures,
+    Boot,
+    /// What is loaded is written as a registry's text.
+    Load,
+    /// To save the empty batch.
+    SaveNone,
+    /// To save the first group.
+    SaveFirst,
+    /// To save the second and the third, in one batch.
+    SaveRest,
+}
+
+/// Asks the keeper each of the lines. Its answers are put behind what was said before, as lines.
 pub fn ask<K: Keeper>(
     alloc: Global,
     keeper: &mut K,
-    lines: &[&str],
+    lines: &[Line],
     said: &mut Vec<u8>,
 ) -> io::Result<()> {
     for line in lines {
-        let answer = answer(alloc, keeper, line, said)?;
+        let answer = answer(alloc, keeper, *line, said)?;
         tell(answer, said)?;
     }
     Ok(())
@@ -61,18 +72,17 @@ pub fn ask<K: Keeper>(
 fn answer<K: Keeper>(
     alloc: Global,
     keeper: &mut K,
-    line: &str,
+    line: Line,
     said: &mut Vec<u8>,
 ) -> io::Result<Said> {
     match line {
-        "number" => Ok(Said::Count(u64::from(keeper.number()))),
-        "failures" => Ok(Said::Count(keeper.failures())),
-        "boot" => Ok(booted(keeper)),
-        "load" => loaded(alloc, keeper, said),
-        "save none" => Ok(done(save_none(keeper))),
-        "save 1.1" => Ok(done(save_one(alloc, keeper, FIRST))),
-        "save 1.2 1.3" => Ok(done(save_two(alloc, keeper, SECOND, THIRD))),
-        _ => Err(io::Error::other("no such line")),
+        Line::Number => Ok(Said::Count(u64::from(keeper.number()))),
+        Line::Failures => Ok(Said::Count(keeper.failures())),
+        Line::Boot => Ok(booted(keeper)),
+        Line::Load => loaded(alloc, keeper, said),
+        Line::SaveNone => Ok(done(save_none(keeper))),
+        Line::SaveFirst => Ok(done(save_one(alloc, keeper, FIRST))),
+        Line::SaveRest => Ok(done(save_two(alloc, keeper, SECOND, THIRD))),
     }
 }
 

@@ -1,5 +1,5 @@
 //! Tests of keepers over databases that are damaged in some way.
-use crate::asking::{Said, ask, tell};
+use crate::asking::{Line, Said, ask, tell};
 use fl_labels::name::NodeNumber;
 use fl_sql_store::sql_keeper::SqlKeeper;
 use sqlite::{Alter, Connection};
@@ -9,7 +9,7 @@ use std::test::Fail;
 
 /// What becomes of a database: this text of SQL is run, and then a keeper of this node is opened
 /// and asked these lines. None is opened where there are no lines.
-pub type Visit = (&'static str, NodeNumber, &'static [&'static str]);
+pub type Visit = (&'static str, NodeNumber, &'static [Line]);
 
 /// A visit to a database, which is handed back. What the keeper answers, or why it is not opened,
 /// is put behind what was said.
@@ -40,12 +40,12 @@ pub fn asked<S: Alter>(
 }
 
 /// The database of node 1 with one operation.
-const FOUNDED: Visit = ("", 1, &["boot", "save 1.1"]);
+const FOUNDED: Visit = ("", 1, &[Line::Boot, Line::SaveFirst]);
 
 /// What is done to the database, by which node it is then visited, and what that finds.
 type Damage = (&'static str, NodeNumber, &'static str);
 
-const DAMAGES: [Damage; 24] = [
+static DAMAGES: [Damage; 26] = [
     ("", 1, "1.1 group\n"),
     ("", 2, "wrong node\n"),
     ("", 65_537, "wrong node\n"),
@@ -53,6 +53,12 @@ const DAMAGES: [Damage; 24] = [
     ("UPDATE self SET node = 65537", 1, "wrong node\n"),
     ("UPDATE self SET format = 3", 1, "bad row\n"),
     ("UPDATE self SET format = 0", 1, "bad row\n"),
+    ("UPDATE self SET format = 1", 1, "1.1 group\n"),
+    (
+        "UPDATE self SET format = 1; UPDATE ops SET seq = 2",
+        1,
+        "bad row\n",
+    ),
     ("UPDATE self SET boot = 4294967296", 1, "bad row\n"),
     ("UPDATE self SET boot = -1", 1, "bad row\n"),
     ("DELETE FROM self", 1, "bad row\n"),
@@ -115,8 +121,8 @@ fn said_of(alloc: Global, visits: &[Visit]) -> Result<Vec<u8>, Fail> {
 
 #[test]
 fn damaged_databases(rt: HostRuntime) -> Result<(), Fail> {
-    for (damage, number, wanted) in DAMAGES {
-        let said = said_of(rt.alloc(), &[FOUNDED, (damage, number, &["load"])])?;
+    for (damage, number, wanted) in &DAMAGES {
+        let said = said_of(rt.alloc(), &[FOUNDED, (*damage, *number, &[Line::Load])])?;
         let found = said.strip_prefix(b"boot 1\nok\n").unwrap_or_default();
         assert_eq!(rt; found, wanted.as_bytes(), "{damage}");
     }
@@ -136,7 +142,7 @@ INSERT INTO ops (node, seq, bytes) VALUES (1, 1, x'010100010000000101'), \
 /// Visits, one after the other, and what is said.
 type History = (&'static [Visit], &'static str);
 
-const HISTORIES: [History; 3] = [
+static HISTORIES: [History; 3] = [
     (
         &[
             FOUNDED,
@@ -144,18 +150,18 @@ const HISTORIES: [History; 3] = [
                 "",
                 1,
                 &[
-                    "number",
-                    "save none",
-                    "boot",
-                    "save 1.2 1.3",
-                    "load",
-                    "failures",
+                    Line::Number,
+                    Line::SaveNone,
+                    Line::Boot,
+                    Line::SaveRest,
+                    Line::Load,
+                    Line::Failures,
                 ],
             ),
             (
                 "UPDATE self SET boot = 4294967295",
                 1,
-                &["boot", "failures", "save none"],
+                &[Line::Boot, Line::Failures, Line::SaveNone],
             ),
         ],
         "boot 1\nok\n\
@@ -164,9 +170,9 @@ names spent\n0\nok\n",
     ),
     (
         &[
-            (FIRST_FORMAT, 2, &["load"]),
-            ("", 1, &["load", "boot"]),
-            ("", 1, &["load", "boot"]),
+            (FIRST_FORMAT, 2, &[Line::Load]),
+            ("", 1, &[Line::Load, Line::Boot]),
+            ("", 1, &[Line::Load, Line::Boot]),
         ],
         "wrong node\n\
 1.1 tag export\n1.2 group\n1.3 put 1.2 +1.1\nboot 2\n\
@@ -175,7 +181,11 @@ names spent\n0\nok\n",
     (
         &[
             (FIRST_FORMAT, 1, &[]),
-            ("DELETE FROM ops", 1, &["save 1.1", "save 1.2 1.3", "load"]),
+            (
+                "DELETE FROM ops",
+                1,
+                &[Line::SaveFirst, Line::SaveRest, Line::Load],
+            ),
         ],
         "ok\nok\n1.1 group\n1.2 group\n1.3 group\n",
     ),
@@ -183,7 +193,7 @@ names spent\n0\nok\n",
 
 #[test]
 fn keeps_in_a_database(rt: HostRuntime) -> Result<(), Fail> {
-    for (visits, wanted) in HISTORIES {
+    for (visits, wanted) in &HISTORIES {
         let said = said_of(rt.alloc(), visits)?;
         assert_eq!(rt; said.as_slice(), wanted.as_bytes());
     }

@@ -1,4 +1,5 @@
 //! A test of a keeper over a file.
+use crate::asking::Line;
 use crate::databases::{Visit, asked};
 use sqlite::Connection;
 use std::fs;
@@ -18,8 +19,8 @@ fn visited(rt: &HostRuntime, visit: Visit, said: &mut Vec<u8>) -> Result<(), Fai
 }
 
 /// The boot is changed where the tables have the rows that they are said to have, and no others.
-const VISITS: [Visit; 5] = [
-    ("", 1, &["boot", "save 1.1"]),
+static VISITS: [Visit; 5] = [
+    ("", 1, &[Line::Boot, Line::SaveFirst]),
     (
         "UPDATE self SET boot = 7 WHERE node = 1 AND boot = 1 AND format = 2 \
 AND 1 = (SELECT count(*) FROM ops) \
@@ -27,9 +28,9 @@ AND 1 = (SELECT count(*) FROM ops WHERE node = 1 AND bytes = x'02020000000100000
         1,
         &[],
     ),
-    ("", 2, &["load"]),
-    ("", 1, &["load", "boot"]),
-    ("", 1, &["boot"]),
+    ("", 2, &[Line::Load]),
+    ("", 1, &[Line::Load, Line::Boot]),
+    ("", 1, &[Line::Boot]),
 ];
 
 #[test]
@@ -37,8 +38,8 @@ fn read_back_from_a_file(rt: HostRuntime) -> Result<(), Fail> {
     let _ = fs::remove_dir_all(&rt, FOLDER);
     fs::create_dir(&rt, FOLDER)?;
     let mut said = Vec::new(rt.alloc());
-    for visit in VISITS {
-        visited(&rt, visit, &mut said)?;
+    for visit in &VISITS {
+        visited(&rt, *visit, &mut said)?;
     }
     fs::remove_dir_all(&rt, FOLDER)?;
     let wanted = "boot 1\nok\nwrong node\n1.1 group\nboot 8\nboot 9\n";

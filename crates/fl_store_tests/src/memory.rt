@@ -1,7 +1,7 @@
 //! Tests of keepers in memory.
 ghost use Rattle.std.specs.Prelude.{◌<◌};
 
-use crate::asking::{FIRST, ask};
+use crate::asking::{FIRST, Line, ask};
 use fl_ops::op::Op;
 use fl_store::mem::MemKeeper;
 use std::alloc::{AllocError, Global};
@@ -12,16 +12,16 @@ use std::test::Fail;
 fn keeps_in_memory(rt: HostRuntime) -> Result<(), Fail> {
     let mut said = Vec::new(rt.alloc());
     let lines = [
-        "number",
-        "load",
-        "boot",
-        "save none",
-        "load",
-        "save 1.1",
-        "save 1.2 1.3",
-        "boot",
-        "load",
-        "failures",
+        Line::Number,
+        Line::Load,
+        Line::Boot,
+        Line::SaveNone,
+        Line::Load,
+        Line::SaveFirst,
+        Line::SaveRest,
+        Line::Boot,
+        Line::Load,
+        Line::Failures,
     ];
     ask(
         rt.alloc(),
@@ -42,7 +42,13 @@ fn keeper_with(alloc: Global, op: Op) -> Result<MemKeeper, AllocError> {
 #[test]
 fn last_boot_is_spent(rt: HostRuntime) -> Result<(), Fail> {
     let mut said = Vec::new(rt.alloc());
-    let lines = ["boot", "boot", "failures", "load", "save 1.2 1.3"];
+    let lines = [
+        Line::Boot,
+        Line::Boot,
+        Line::Failures,
+        Line::Load,
+        Line::SaveRest,
+    ];
     ask(
         rt.alloc(),
         &mut keeper_with(rt.alloc(), FIRST)?,
@@ -61,37 +67,37 @@ struct Break {
     /// Whether it keeps what it then saves.
     keeps: bool,
     /// What it is asked.
-    lines: &'static [&'static str],
+    lines: &'static [Line],
     /// What it is asked then, mended.
-    mended: &'static [&'static str],
+    mended: &'static [Line],
     /// What it answers.
     wanted: &'static str,
 }
 
-const BROKEN: [&str; 8] = [
-    "boot",
-    "save 1.1",
-    "failures",
-    "save 1.2 1.3",
-    "failures",
-    "boot",
-    "load",
-    "save none",
+const BROKEN: [Line; 8] = [
+    Line::Boot,
+    Line::SaveFirst,
+    Line::Failures,
+    Line::SaveRest,
+    Line::Failures,
+    Line::Boot,
+    Line::Load,
+    Line::SaveNone,
 ];
 
-const BREAKS: [Break; 3] = [
+static BREAKS: [Break; 3] = [
     Break {
         save: 2,
         keeps: false,
         lines: &BROKEN,
-        mended: &["failures", "load", "boot", "save 1.2 1.3"],
+        mended: &[Line::Failures, Line::Load, Line::Boot, Line::SaveRest],
         wanted: "boot 1\nok\n0\nbroken\n1\nbroken\nbroken\nbroken\n0\n1.1 group\nboot 2\nok\n",
     },
     Break {
         save: 2,
         keeps: true,
         lines: &BROKEN,
-        mended: &["load", "boot", "save none"],
+        mended: &[Line::Load, Line::Boot, Line::SaveNone],
         wanted: "boot 1\nok\n0\nbroken\n1\nbroken\nbroken\nbroken\n\
 1.1 group\n1.2 group\n1.3 group\nboot 2\nok\n",
     },
@@ -99,8 +105,8 @@ const BREAKS: [Break; 3] = [
     Break {
         save: 1,
         keeps: true,
-        lines: &["save none", "failures"],
-        mended: &["load", "save 1.1"],
+        lines: &[Line::SaveNone, Line::Failures],
+        mended: &[Line::Load, Line::SaveFirst],
         wanted: "broken\n1\nok\n",
     },
 ];

@@ -1,6 +1,7 @@
 //! Tests of a keeper whose files stop at some call.
 ghost use Rattle.std.specs.Prelude.{IsTrue};
 
+use crate::asking::Line;
 use crate::databases::{Visit, asked};
 use sqlite::{Connection, FileStore, Files, Options};
 use sqlite_disk::{Crash, Disk, Fuse, Memory};
@@ -25,10 +26,10 @@ struct Run {
 }
 
 /// A database is made, booted, and saved in twice.
-const KEEPING: Run = Run {
+static KEEPING: Run = Run {
     before: &[],
-    visit: ("", 1, &["boot", "save 1.1", "save 1.2 1.3"]),
-    after: ("", 1, &["boot", "load"]),
+    visit: ("", 1, &[Line::Boot, Line::SaveFirst, Line::SaveRest]),
+    after: ("", 1, &[Line::Boot, Line::Load]),
     stops: &[
         ("", ["boot 1\n"; 2]),
         ("broken\n", ["boot 1\n"; 2]),
