@@ -7,8 +7,9 @@ use fl_labels::name::Name;
 use fl_ops::op::{Body, Op};
 use fl_opset::set::OpSet;
 use fl_store::keeper::{Keeper, KeeperFault};
-use std::alloc::Global;
+use std::alloc::{AllocGlobal, Global};
 use std::io::{self, Write};
+use std::process::Abort;
 
 /// The group 1.1.
 pub const FIRST: Op = Op {
@@ -36,6 +37,12 @@ pub enum Said {
     Count(u64),
     Boot(u32),
     Refused(KeeperFault),
+}
+
+/// What was said is this, and then that. It lets go of what was said.
+pub fn check(rt: &(impl Abort + AllocGlobal), said: Vec<u8>, before: &str, wanted: &str) {
+    let found = said.strip_prefix(before.as_bytes()).unwrap_or_default();
+    assert_eq!(rt; found, wanted.as_bytes(), "{wanted}");
 }
 
 /// What a keeper is asked.

@@ -1,9 +1,9 @@
 //! Tests of keepers over databases that are damaged in some way.
-use crate::asking::{Line, Said, ask, tell};
+use crate::asking::{Line, Said, ask, check, tell};
 use fl_labels::name::NodeNumber;
 use fl_sql_store::sql_keeper::SqlKeeper;
 use sqlite::{Alter, Connection};
-use std::alloc::{AllocGlobal, Global};
+use std::alloc::Global;
 use std::io;
 use std::test::Fail;
 
@@ -123,8 +123,7 @@ fn said_of(alloc: Global, visits: &[Visit]) -> Result<Vec<u8>, Fail> {
 fn damaged_databases(rt: HostRuntime) -> Result<(), Fail> {
     for (damage, number, wanted) in &DAMAGES {
         let said = said_of(rt.alloc(), &[FOUNDED, (*damage, *number, &[Line::Load])])?;
-        let found = said.strip_prefix(b"boot 1\nok\n").unwrap_or_default();
-        assert_eq!(rt; found, wanted.as_bytes(), "{damage}");
+        check(&rt, said, "boot 1\nok\n", wanted);
     }
     Ok(())
 }
@@ -195,7 +194,7 @@ names spent\n0\nok\n",
 fn keeps_in_a_database(rt: HostRuntime) -> Result<(), Fail> {
     for (visits, wanted) in &HISTORIES {
         let said = said_of(rt.alloc(), visits)?;
-        assert_eq!(rt; said.as_slice(), wanted.as_bytes());
+        check(&rt, said, "", wanted);
     }
     Ok(())
 }

@@ -1,5 +1,5 @@
 //! A test of a keeper over a file.
-use crate::asking::Line;
+use crate::asking::{Line, check};
 use crate::databases::{Visit, asked};
 use sqlite::Connection;
 use std::fs;
@@ -43,6 +43,6 @@ fn read_back_from_a_file(rt: HostRuntime) -> Result<(), Fail> {
     }
     fs::remove_dir_all(&rt, FOLDER)?;
     let wanted = "boot 1\nok\nwrong node\n1.1 group\nboot 8\nboot 9\n";
-    assert_eq!(rt; said.as_slice(), wanted.as_bytes());
+    check(&rt, said, "", wanted);
     Ok(())
 }

@@ -1,36 +1,39 @@
 //! Tests of keepers in memory.
 ghost use Rattle.std.specs.Prelude.{◌<◌};
 
-use crate::asking::{FIRST, Line, ask};
+use crate::asking::{FIRST, Line, ask, check};
 use fl_ops::op::Op;
 use fl_store::mem::MemKeeper;
 use std::alloc::{AllocError, Global};
 use std::io;
 use std::test::Fail;
 
+// What the keeper answers to the lines. It lets go of the keeper.
+fn said_by(alloc: Global, keeper: MemKeeper, lines: &[Line]) -> io::Result<Vec<u8>> {
+    let mut keeper = keeper;
+    let mut said = Vec::new(alloc);
+    ask(alloc, &mut keeper, lines, &mut said)?;
+    Ok(said)
+}
+
+static KEPT: [Line; 10] = [
+    Line::Number,
+    Line::Load,
+    Line::Boot,
+    Line::SaveNone,
+    Line::Load,
+    Line::SaveFirst,
+    Line::SaveRest,
+    Line::Boot,
+    Line::Load,
+    Line::Failures,
+];
+
 #[test]
 fn keeps_in_memory(rt: HostRuntime) -> Result<(), Fail> {
-    let mut said = Vec::new(rt.alloc());
-    let lines = [
-        Line::Number,
-        Line::Load,
-        Line::Boot,
-        Line::SaveNone,
-        Line::Load,
-        Line::SaveFirst,
-        Line::SaveRest,
-        Line::Boot,
-        Line::Load,
-        Line::Failures,
-    ];
-    ask(
-        rt.alloc(),
-        &mut MemKeeper::new(rt.alloc(), 7),
-        &lines,
-        &mut said,
-    )?;
+    let said = said_by(rt.alloc(), MemKeeper::new(rt.alloc(), 7), &KEPT)?;
     let wanted = "7\nboot 1\nok\nok\nok\nboot 2\n1.1 group\n1.2 group\n1.3 group\n0\n";
-    assert_eq!(rt; said.as_slice(), wanted.as_bytes());
+    check(&rt, said, "", wanted);
     Ok(())
 }
 
@@ -39,24 +42,19 @@ fn keeper_with(alloc: Global, op: Op) -> Result<MemKeeper, AllocError> {
     MemKeeper::with(alloc, 1, 4_294_967_294, &[op])
 }
 
+static LAST: [Line; 5] = [
+    Line::Boot,
+    Line::Boot,
+    Line::Failures,
+    Line::Load,
+    Line::SaveRest,
+];
+
 #[test]
 fn last_boot_is_spent(rt: HostRuntime) -> Result<(), Fail> {
-    let mut said = Vec::new(rt.alloc());
-    let lines = [
-        Line::Boot,
-        Line::Boot,
-        Line::Failures,
-        Line::Load,
-        Line::SaveRest,
-    ];
-    ask(
-        rt.alloc(),
-        &mut keeper_with(rt.alloc(), FIRST)?,
-        &lines,
-        &mut said,
-    )?;
+    let said = said_by(rt.alloc(), keeper_with(rt.alloc(), FIRST)?, &LAST)?;
     let wanted = "boot 4294967295\nnames spent\n0\n1.1 group\nok\n";
-    assert_eq!(rt; said.as_slice(), wanted.as_bytes());
+    check(&rt, said, "", wanted);
     Ok(())
 }
 
@@ -123,7 +121,7 @@ fn breaks_and_is_mended(rt: HostRuntime) -> Result<(), Fail> {
     for broken in &BREAKS {
         let mut said = Vec::new(rt.alloc());
         break_one(rt.alloc(), broken, &mut said)?;
-        assert_eq!(rt; said.as_slice(), broken.wanted.as_bytes());
+        check(&rt, said, "", broken.wanted);
     }
     Ok(())
 }
