@@ -30,10 +30,10 @@ use Rattle.fl_sql_tables.specs.Stored.{self_row, HasSelf}
 use Rattle.fl_sql_tables.proofs.Texts.{raise_boot_is, plain_4, boot_query, self_query, select_self_is, plain_5, unlisted_5}
 use Rattle.fl_sql_tables.proofs.Inserts.{went, same_value, cast_int, cast_null}
 
-abbrev boot_edit : Trees → List Row → Edit
+abbrev pub boot_edit : Trees → List Row → Edit
 boot_edit db rows = edit_of db self_table (ids_of rows) Given 1 rows
 
-abbrev raised_row : Format → ℕ → ℕ → Row
+abbrev pub raised_row : Format → ℕ → ℕ → Row
 raised_row f node boot = Int (pos 1) ∷ self_row f node boot
 
 itself : has_rowid (pos 1) (self_row Two 0 0) ≡ true
@@ -50,18 +50,18 @@ shows_boot db params f node old_boot boot rows given one a =
     let ordered = one_permutation o a.ordered (subst (λ k. IsPermutation k a.ordered) kept a.same) in
     a.shown ∙ ap (λ xs. page boot_query params (map (λ (p : Output). p.1) xs)) ordered
 
-updated : (db : Trees) (f : Format) (node old_boot boot : ℕ) (rows : List Row) → db 0 ≡ self_row f node old_boot ∷ [] → rows ≡ raised_row f node boot ∷ []
-    → edited db (boot_edit db rows) ≡ self_row f node boot ∷ []
+updated : (db : Trees) (f g : Format) (node old_boot boot : ℕ) (rows : List Row) → db 0 ≡ self_row f node old_boot ∷ [] → rows ≡ raised_row g node boot ∷ []
+    → edited db (boot_edit db rows) ≡ self_row g node boot ∷ []
 unfolding value_cmp lib.Ieee.is_nan lib.Ieee.lt
-updated db f node old_boot boot rows one is = rw (is, one, cast_int node, cast_int 1, cast_int boot, cast_int (format_byte f), cast_null)
+updated db f g node old_boot boot rows one is = rw (is, one, cast_int node, cast_int 1, cast_int boot, cast_int (format_byte g), cast_null)
 
-after_update : (keys : Keys) (old new : Database) (next : Trees) (rows : List Row) (f : Format) (node old_boot boot : ℕ)
-    → rows ≡ raised_row f node boot ∷ [] → old.trees 0 ≡ self_row f node old_boot ∷ []
+pub after_update : (keys : Keys) (old new : Database) (next : Trees) (rows : List Row) (f g : Format) (node old_boot boot : ℕ)
+    → rows ≡ raised_row g node boot ∷ [] → old.trees 0 ≡ self_row f node old_boot ∷ []
     → new ≡ record { schema = keeper_schema; trees = next } → Applies keeper_schema keys old.trees (boot_edit old.trees rows) next
-    → (new.schema ≡ keeper_schema) × (new.trees 0 ≡ self_row f node boot ∷ []) × (new.trees 1 ≡ old.trees 1) × (new.trees catalog_tree ≡ old.trees catalog_tree)
-after_update keys old new next rows f node old_boot boot is one now a = (
+    → (new.schema ≡ keeper_schema) × (new.trees 0 ≡ self_row g node boot ∷ []) × (new.trees 1 ≡ old.trees 1) × (new.trees catalog_tree ≡ old.trees catalog_tree)
+after_update keys old new next rows f g node old_boot boot is one now a = (
   ap (λ (d : Database). d.schema) now,
-  ap (λ (d : Database). d.trees 0) now ∙ a.rows ∙ updated old.trees f node old_boot boot rows one is,
+  ap (λ (d : Database). d.trees 0) now ∙ a.rows ∙ updated old.trees f g node old_boot boot rows one is,
   ap (λ (d : Database). d.trees 1) now ∙ a.others 1 (omega arith) (omega arith, tt),
   ap (λ (d : Database). d.trees catalog_tree) now ∙ a.others catalog_tree (omega arith) (omega arith, tt),
 )
@@ -82,7 +82,7 @@ raises_boot old new f node old_boot boot count has one h =
     let rows : asked.0 ≡ raised_row f node boot ∷ [] = shows_boot db params f node old_boot boot asked.0 refl one a in
     let written = went asked.2 in
     let trees : done.0.trees ≡ written.0 = ap (λ (it : Written). it.trees) (same_value written.2) in
-    after_update _ old.now new.now written.0 asked.0 f node old_boot boot rows one (now ∙ ap (λ t. record { schema = keeper_schema; trees = t }) trees) (one_step keeper_schema _ db written.0 (boot_edit db asked.0) refl written.1)
+    after_update _ old.now new.now written.0 asked.0 f f node old_boot boot rows one (now ∙ ap (λ t. record { schema = keeper_schema; trees = t }) trees) (one_step keeper_schema _ db written.0 (boot_edit db asked.0) refl written.1)
 
 -- what SELECT shows of it
 abbrev pub shown_self : Format → ℕ → ℕ → Row

@@ -14,7 +14,7 @@ use Rattle.sqlite_typing.specs.Types.{accepts_program}
 use Rattle.sqlite.specs.declared.error.Error.{Error}
 use Rattle.sqlite.specs.declared.error.Error.TheVariants.{SqliteFailure}
 use Rattle.sqlite.specs.declared.error.ErrorCode.TheVariants as code
-use Rattle.sqlite.specs.Effect.{RefusesToRead}
+use Rattle.sqlite.specs.Effect.{Database, RefusesToRead}
 use Rattle.sqlite.specs.Listing.{understood, reads_listing, IsSourceOf}
 use Rattle.sqlite.specs.Given.{IsPlain}
 use Rattle.sqlite.specs.State.{State, Fails, HasCause, IsNotRun, IsNoStatement, FailsToQuery, store_error, is_disk_error}
@@ -24,7 +24,7 @@ use Rattle.sqlite_resolve.specs.declared.compiled.Compiled.{Compiled}
 use Rattle.sqlite_resolve.specs.declared.error.CompileError.{CompileError}
 use Rattle.sqlite.proofs.Callers.{command_of}
 use Rattle.fl_sql_tables.specs.Tables.{keeper_schema, select_self_text, select_ops_text, insert_op_text, raise_boot_text}
-use Rattle.sqlite.specs.Command.TheVariants.{Update, Insert, CreateTable}
+use Rattle.sqlite.specs.Command.TheVariants.{Update, Insert, CreateTable, DropTable}
 use Rattle.sqlite.specs.Reading.{IsReadError}
 use Rattle.sqlite.specs.Order.{column}
 use Rattle.sqlite.specs.Values.{type_of}
@@ -192,11 +192,12 @@ get_fault old new (Err e) row f number boot low is kind named =
 
 -- ---- a statement that writes
 
--- it changes rows or makes a table, and neither begins nor ends anything
+-- it changes rows, or makes or drops a table, and neither begins nor ends anything
 abbrev pub writes : Command → Bool
 writes (Insert at from) = true
 writes (Update at q) = true
 writes CreateTable = true
+writes (DropTable at) = true
 writes _ = false
 
 not_written : (command other : Command) → writes command ≡ true → writes other ≡ false → ¬ (command ≡ other)
@@ -222,6 +223,7 @@ shows_none c h none = by_command c.command h none
     by_command (Insert at from) h none = rw none
     by_command (Update at q) h none = rw none
     by_command CreateTable h none = rw none
+    by_command (DropTable at) h none = rw none
     by_command _ h none = absurd cc
 
 module _ (schema : Schema) (sql : List ℕ) (params : Row) (old new : State) (has : old.now.schema ≡ schema) (is_open : IsTrue old.is_open)
@@ -284,6 +286,9 @@ handed_on (Err f) e P is p = subst P (sym is) p
 none_more : (rows : List Row) → IsPermutation rows (rows ++ [])
 none_more rows = subst (IsPermutation rows) (sym (append-nil rows)) (IsPermutation-refl rows)
 
+pub adds_none : (db : Database) → db.schema ≡ keeper_schema → AddsOps [] db db
+adds_none db ours = record { schema = ours; itself = refl; catalog = refl; rows = none_more (map shown_op (db.trees 1)); added = sym (with_none (ops_in (db.trees 1))) }
+
 -- the next operation is not put, after those before it
 pub save_fault : (old mid new : State) (ops : List Op) (i : ℕ) (d : Op) → i < length ops → (i ≡ 0 → mid ≡ old) → (0 < i → PutsIn (take i ops) old mid)
     → IsOurs old → IsTrue old.is_open → old.faults ≤ mid.faults → mid.step_limit ≡ old.step_limit → (e : Error) → FailsToPut (get_or ops i d) mid new e → FailsToSave ops old new e
@@ -293,7 +298,7 @@ save_fault old mid new ops i d within first so_far ours is_open counts limit e (
     let added : AddsOps (take i ops) old.now mid.now = elim (zero_or i) [
       | inl start ↦
           subst₂ (λ xs (m : State). AddsOps xs old.now m.now) (sym (ap (λ n. take n ops) start)) (sym (first start))
-          (record { schema = ours is_open; itself = refl; catalog = refl; rows = none_more (map shown_op (old.now.trees 1)); added = sym (with_none (ops_in (old.now.trees 1))) })
+          (adds_none old.now (ours is_open))
       | inr more ↦ (so_far more).added
     ] in
     let refused = subst (λ limit. IsRefused (record mid { step_limit = limit }) mid.now insert_op_text (row_of (get_or ops i d)) (understood keeper_schema insert_op_text)) limit h in

@@ -15,3 +15,4 @@ pub mod FailLemmas
 pub mod FoundLemmas
 pub mod LoadLemmas
 pub mod OwnLemmas
+pub mod MigrateLemmas

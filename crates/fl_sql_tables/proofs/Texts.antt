@@ -2,17 +2,18 @@
 use Rattle.std.proofs.Common.{◌≡◌, List, [], ◌∷◌, refl, codes, Ok, false, None, pos, negsuc}
 use Rattle.sqlite.specs.Compile.{table_defined_by}
 use Rattle.sqlite.specs.Change.{created}
+use Rattle.sqlite_catalog.specs.Change.{without_table}
 use Rattle.sqlite_tied.specs.Compute.{everything}
 use Rattle.sqlite.specs.Listing.{understood, reads_listing}
 use Rattle.sqlite.specs.declared.types.Value.TheVariants.{Null, Int}
 use Rattle.sqlite.specs.Term.{Term, lit, col}
 use Rattle.sqlite.specs.Query.{Query, inner, end}
 use Rattle.sqlite.specs.Source.TheVariants.{Values}
-use Rattle.sqlite.specs.Command.TheVariants.{Insert, Select, CreateTable, Update}
+use Rattle.sqlite.specs.Command.TheVariants.{Insert, Select, CreateTable, DropTable, Update}
 use Rattle.sqlite.specs.Collation.TheVariants.{Binary}
 use Rattle.sqlite_value.specs.Keys.{ascending}
 use Rattle.sqlite.proofs.Callers.{IsPlain, command_of, statement_of}
-use Rattle.fl_sql_tables.specs.Tables.{create_self_text, create_ops_text, self_table, ops_made, no_schema, keeper_schema, insert_self_text, insert_op_text, select_ops_text, select_self_text, raise_boot_text, self_schema, select_whole_text}
+use Rattle.fl_sql_tables.specs.Tables.{create_self_text, create_ops_text, self_table, ops_made, no_schema, keeper_schema, insert_self_text, insert_op_text, select_ops_text, select_self_text, raise_boot_text, self_schema, select_whole_text, drop_ops_text, set_format_text}
 
 pub self_defined : table_defined_by create_self_text ≡ Ok self_table
 unfolding everything
@@ -158,3 +159,35 @@ plain_6 = (refl, refl)
 pub unlisted_6 : reads_listing keeper_schema select_whole_text ≡ false
 unfolding everything
 unlisted_6 = refl
+
+pub drop_ops_is : command_of (understood keeper_schema drop_ops_text) ≡ DropTable 1
+unfolding understood everything
+drop_ops_is = refl
+
+pub plain_7 : IsPlain (understood keeper_schema drop_ops_text)
+unfolding understood everything
+plain_7 = (refl, refl)
+
+pub ops_dropped : without_table keeper_schema 1 ≡ self_schema
+ops_dropped = refl
+
+abbrev pub format_query : Query
+format_query = record {
+  from = inner 0 end;
+  filter = [];
+  group = None;
+  project = col 1 0 ∷ col 1 0 ∷ lit Null ∷ col 1 2 ∷ col 1 3 ∷ lit (Int (pos 2)) ∷ [];
+  distinct = false;
+  collations = [];
+  order = [];
+  limit = lit (Int (negsuc 0));
+  offset = lit (Int (pos 0));
+}
+
+pub set_format_is : command_of (understood keeper_schema set_format_text) ≡ Update 0 (record { lets = []; body = format_query })
+unfolding understood everything
+set_format_is = refl
+
+pub plain_8 : IsPlain (understood keeper_schema set_format_text)
+unfolding understood everything
+plain_8 = (refl, refl)

@@ -6,4 +6,5 @@ pub mod Stored
 pub mod Serving
 pub mod Failing
 pub mod Founding
+pub mod Migrating
 pub mod laws

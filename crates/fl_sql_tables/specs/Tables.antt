@@ -88,6 +88,12 @@ select_self_text = codes "SELECT node, boot, format FROM self"
 abbrev pub raise_boot_text : List ℕ
 raise_boot_text = codes "UPDATE self SET boot = ?1"
 
+abbrev pub drop_ops_text : List ℕ
+drop_ops_text = codes "DROP TABLE ops"
+
+abbrev pub set_format_text : List ℕ
+set_format_text = codes "UPDATE self SET format = 2"
+
 abbrev pub self_schema : Schema
 self_schema = record { tables = self_table ∷ []; indexes = []; views = [] }
 

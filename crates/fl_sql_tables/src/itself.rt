@@ -7,6 +7,7 @@ ghost use Rattle.fl_sql_tables.specs.Founding.{itself_of, IsItself};
 
 use crate::reading::number_at;
 use fl_labels::name::NodeNumber;
+use fl_ops::format::Format;
 use sqlite::{Alter, Connection, Error, Row};
 
 /// What the table of the node itself says.
@@ -16,8 +17,8 @@ pub enum Itself {
     Bad,
     /// It is another node's.
     Other,
-    /// It is this node's.
-    Own,
+    /// It is this node's, in a database of this format.
+    Own(Format),
 }
 
 fn itself_in(rows: &[Row], number: NodeNumber) -> Itself
@@ -39,7 +40,8 @@ fn itself_in(rows: &[Row], number: NodeNumber) -> Itself
         return Itself::Bad;
     }
     match number_at(row, 3) {
-        Some(1 | 2) => Itself::Own,
+        Some(1) => Itself::Own(Format::One),
+        Some(2) => Itself::Own(Format::Two),
         _ => Itself::Bad,
     }
 }

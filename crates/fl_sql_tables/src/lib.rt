@@ -5,6 +5,7 @@ pub mod boot;
 pub mod found;
 pub mod itself;
 pub mod load;
+pub mod migrate;
 pub mod ours;
 pub mod put;
 mod reading;

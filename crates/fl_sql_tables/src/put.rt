@@ -36,7 +36,11 @@ fn put_op<S: Alter>(alloc: Global, tx: &mut Transaction<'_, S>, op: &Op) -> Resu
 }
 
 // Adds the operations in a transaction.
-fn put_ops<S: Alter>(alloc: Global, tx: &mut Transaction<'_, S>, ops: &[Op]) -> Result<(), Error>
+pub(crate) fn put_ops<S: Alter>(
+    alloc: Global,
+    tx: &mut Transaction<'_, S>,
+    ops: &[Op],
+) -> Result<(), Error>
     ensures same_reference { tx.new.conn.ghost_name ≡ tx.old.conn.ghost_name }
     ensures ok { HasCleanDisk (state S.Store tx.new.conn.now) → IsTrue
         (state S.Store tx.old.conn.now).in_transaction → IsOurs (state S.Store tx.old.conn.now)
