@@ -22,7 +22,7 @@ more_before : (a b c : ℕ) → a ≤ b → MoreFaults b c → MoreFaults a c
 more_before a b c le h = omega (arith, h)
 
 -- a fault after a call is one of both
-fault_after : (a b c : State) (e : Error) → a.faults ≤ b.faults → b.step_limit ≡ a.step_limit → IsFault b c e → IsFault a c e
+pub fault_after : (a b c : State) (e : Error) → a.faults ≤ b.faults → b.step_limit ≡ a.step_limit → IsFault b c e → IsFault a c e
 fault_after a b c e counts limit (inl h) = inl h
 fault_after a b c e counts limit (inr (inl h)) = inr (inl (h.0, more_before a.faults b.faults c.faults counts h.1))
 fault_after a b c e counts limit (inr (inr h)) = inr (inr (h.0, subst IsSome limit h.1))

@@ -18,7 +18,7 @@ use Rattle.fl_store.specs.declared.keeper.KeeperFault.{KeeperFault}
 use Rattle.fl_store.specs.declared.keeper.KeeperFault.TheVariants.{Memory, Broken}
 use Rattle.fl_sql_tables.specs.Tables.{select_whole_text}
 use Rattle.fl_sql_tables.specs.Failing.{FailsToFound}
-use Rattle.fl_sql_store.specs.Opening.{IsFailure, RefusesToOpen}
+use Rattle.fl_sql_store.specs.Opening.{IsFailure, RefusesToServe}
 use Rattle.fl_store.specs.Kept.{Kept}
 use Rattle.fl_ops.specs.declared.format.Format.TheVariants.{Two}
 use Rattle.fl_sql_tables.specs.Stored.{IsListed, if_listed, nothing_kept, kept_by, kept_in, ops_in, boot_in, HasSelf}
@@ -95,16 +95,16 @@ ready_founded number old new h = record {
 
 -- the row of the node was not shown
 pub not_shown : (number : ℕ) (old new : State) (e : Error) (fault : KeeperFault) → old.now.schema ≡ keeper_schema → (fault ≡ Memory) ⊎ (fault ≡ Broken)
-    → (fault ≡ Memory → e ≡ SqliteFailure OutOfMemory) → (fault ≡ Broken → IsFailure e) → FailsToQuery select_whole_text [] old new e → RefusesToOpen number old new fault
+    → (fault ≡ Memory → e ≡ SqliteFailure OutOfMemory) → (fault ≡ Broken → IsFailure e) → FailsToQuery select_whole_text [] old new e → RefusesToServe number old new fault
 not_shown number old new e fault has (inl is) wants fails h =
-    subst (RefusesToOpen number old new) (sym is) (inl (has, subst (FailsToQuery select_whole_text [] old new) (wants is) h))
-not_shown number old new e fault has (inr is) wants fails h = subst (RefusesToOpen number old new) (sym is) (inr (inl (has, (e, fails is, h))))
+    subst (RefusesToServe number old new) (sym is) (inl (has, subst (FailsToQuery select_whole_text [] old new) (wants is) h))
+not_shown number old new e fault has (inr is) wants fails h = subst (RefusesToServe number old new) (sym is) (inr (inl (has, (e, fails is, h))))
 
 -- the tables were not made
 pub not_made : (number : ℕ) (old new : State) (e : Error) (fault : KeeperFault) → old.now.schema ≡ no_schema → (fault ≡ Memory) ⊎ (fault ≡ Broken)
     → (fault ≡ Memory → e ≡ SqliteFailure OutOfMemory) → (fault ≡ Broken → IsFailure e) → (IsTrue old.is_open → FailsToFound number old new e)
-    → RefusesToOpen number old new fault
+    → RefusesToServe number old new fault
 not_made number old new e fault none (inl is) wants fails h =
-    subst (RefusesToOpen number old new) (sym is) (inr (none, λ is_open. subst (FailsToFound number old new) (wants is) (h is_open)))
+    subst (RefusesToServe number old new) (sym is) (inr (none, λ is_open. subst (FailsToFound number old new) (wants is) (h is_open)))
 not_made number old new e fault none (inr is) wants fails h =
-    subst (RefusesToOpen number old new) (sym is) (inr (inr (e, fails is, (none, h))))
+    subst (RefusesToServe number old new) (sym is) (inr (inr (e, fails is, (none, h))))

@@ -1,3 +1,4 @@
 pub mod KeepLemmas
 pub mod FoundLemmas
 pub mod CauseLemmas
+pub mod RewriteLemmas

@@ -1,5 +1,5 @@
 -- What an opening makes of a database, and why it is refused.
-use Rattle.std.specs.Prelude.{◌≡◌, ◌≢◌, ◌⊎◌, ℕ, [], IsTrue}
+use Rattle.std.specs.Prelude.{◌≡◌, ◌≢◌, ◌⊎◌, ℕ, List, [], IsTrue}
 use Rattle.sqlite.specs.declared.error.Error.{Error}
 use Rattle.sqlite.specs.declared.error.Error.TheVariants.{SqliteFailure}
 use Rattle.sqlite.specs.declared.error.ErrorCode.TheVariants.{OutOfMemory}
@@ -7,18 +7,33 @@ use Rattle.sqlite.specs.State.{State, IsUnchanged, FailsToQuery}
 use Rattle.fl_store.specs.declared.keeper.KeeperFault.{KeeperFault}
 use Rattle.fl_store.specs.declared.keeper.KeeperFault.TheVariants.{Memory, Broken, WrongNode, BadRow, NamesSpent}
 use Rattle.fl_sql_tables.specs.Tables.{keeper_schema, no_schema, select_whole_text}
-use Rattle.fl_sql_tables.specs.Founding.{Founds, IsOwn, IsOthers}
-use Rattle.fl_sql_tables.specs.Failing.{FailsToFound}
+use Rattle.fl_labels.specs.SetBy as set
+use Rattle.fl_ops.specs.declared.format.Format.TheVariants.{One, Two}
+use Rattle.fl_ops.specs.declared.op.Op.{Op}
+use Rattle.fl_ops.specs.OpOrder.{op_cmp}
+use Rattle.fl_sql_tables.specs.Stored.{ops_in, HasBadRow}
+use Rattle.fl_sql_tables.specs.Founding.{Founds, IsOwn, IsOwnIn, IsOthers}
+use Rattle.fl_sql_tables.specs.Failing.{FailsToFound, FailsToLoad}
+use Rattle.fl_sql_tables.specs.Migrating.{Migrates, FailsToMigrate}
 
 -- an error for another cause than want of memory
 abbrev pub IsFailure : Error → Type 0
 IsFailure e = e ≢ SqliteFailure OutOfMemory
 
--- the database is this node's, and stays as it was; or it had no table, and has become this node's
+-- the database was this node's in the first format, with these operations and no bad row, and has become one of the second
+pub record Rewrites (number : ℕ) (old new : State) : Type 0 where
+  pub ops : List Op
+  pub are : set.of_list {R = op_cmp} ops ≡ ops_in (old.now.trees 1)
+  pub good : ¬ HasBadRow (old.now.trees 1)
+  pub migrates : Migrates number ops old new
+
+-- the database is this node's, and stays as it was; or it was so in the first format, and is rewritten; or it had no table, and has
+-- become this node's
 abbrev pub OpensAs : ℕ → State → State → Type 0
 OpensAs number old new =
-    ((old.now.schema ≡ keeper_schema) × IsOwn number (old.now.trees 0) × IsUnchanged old new)
-    ⊎ ((old.now.schema ≡ no_schema) × Founds number old new)
+    ((old.now.schema ≡ keeper_schema) × IsOwnIn Two number (old.now.trees 0) × IsUnchanged old new)
+    ⊎ (((old.now.schema ≡ keeper_schema) × IsOwnIn One number (old.now.trees 0) × Rewrites number old new)
+    ⊎ ((old.now.schema ≡ no_schema) × Founds number old new))
 
 -- it has a keeper's tables, and its one row is another node's
 abbrev pub IsAnothers : ℕ → State → Type 0
@@ -51,10 +66,31 @@ LacksMemory number old new =
     ((old.now.schema ≡ keeper_schema) × FailsToQuery select_whole_text [] old new (SqliteFailure OutOfMemory))
     ⊎ FailsToMakeTables number old new (SqliteFailure OutOfMemory)
 
+-- why no keeper was opened over a database that is not rewritten
+abbrev pub RefusesToServe : ℕ → State → State → KeeperFault → Type 0
+RefusesToServe number old new Memory = LacksMemory number old new
+RefusesToServe number old new Broken = CannotServe number old new
+RefusesToServe number old new WrongNode = IsAnothers number old × IsUnchanged old new
+RefusesToServe number old new BadRow = IsForeign number old
+RefusesToServe number old new NamesSpent = ⊥
+
+-- the database did not give its operations, or did not take them again
+abbrev pub FailsToRewrite : State → State → Error → Type 0
+FailsToRewrite old new e = FailsToLoad old new e ⊎ ((ops : List Op) × FailsToMigrate ops old new e)
+
+-- why a database of the first format was not rewritten: a row is bad; there was not enough memory; or the database failed
+abbrev pub RefusesToRewrite : State → State → KeeperFault → Type 0
+RefusesToRewrite old new Memory = IsUnchanged old new ⊎ FailsToRewrite old new (SqliteFailure OutOfMemory)
+RefusesToRewrite old new Broken = (e : Error) × IsFailure e × FailsToRewrite old new e
+RefusesToRewrite old new WrongNode = ⊥
+RefusesToRewrite old new BadRow = HasBadRow (old.now.trees 1)
+RefusesToRewrite old new NamesSpent = ⊥
+
+-- it is this node's in the first format, and was not rewritten
+abbrev pub RefusesFormer : ℕ → State → State → KeeperFault → Type 0
+RefusesFormer number old new fault =
+    (old.now.schema ≡ keeper_schema) × IsOwnIn One number (old.now.trees 0) × RefusesToRewrite old new fault
+
 -- why no keeper was opened
 abbrev pub RefusesToOpen : ℕ → State → State → KeeperFault → Type 0
-RefusesToOpen number old new Memory = LacksMemory number old new
-RefusesToOpen number old new Broken = CannotServe number old new
-RefusesToOpen number old new WrongNode = IsAnothers number old × IsUnchanged old new
-RefusesToOpen number old new BadRow = IsForeign number old
-RefusesToOpen number old new NamesSpent = ⊥
+RefusesToOpen number old new fault = RefusesToServe number old new fault ⊎ RefusesFormer number old new fault

@@ -1,20 +1,29 @@
 //! Opening a keeper over a database.
-ghost use Rattle.std.specs.Prelude.{◌≡◌, ◌⊎◌, false, IfErr, OnOk, Err};
+ghost use Rattle.std.specs.Prelude.{◌≡◌, ◌≤◌, ◌⊎◌, false, IfOk, IfErr, OnOk, Err};
 ghost use Rattle.sqlite.specs.Held.{state};
 ghost use Rattle.sqlite.specs.State.{HasCleanDisk, IsLive, IsUnchanged, Survives};
 ghost use Rattle.fl_sql_tables.specs.Tables.{keeper_schema, no_schema};
 ghost use Rattle.fl_store.specs.Keeping.{Stays};
-ghost use Rattle.fl_sql_tables.specs.Serving.{IsReady};
-ghost use Rattle.fl_sql_tables.specs.Founding.{Founds, IsOwn, IsOthers, IsSettled};
+ghost use Rattle.sqlite.specs.View.{doubt};
+ghost use Rattle.fl_sql_tables.specs.Stored.{HasBadRow, ops_in};
+ghost use Rattle.fl_sql_tables.specs.Serving.{IsReady, IsServing};
+ghost use Rattle.fl_sql_tables.specs.Founding.{Founds, IsOwnIn, IsOthers, IsSettled};
+ghost use Rattle.fl_sql_tables.specs.Migrating.{IsFormer, Migrates, MigratesTo};
 ghost use Rattle.fl_sql_store.specs.SqlKeeping.{held_in};
-ghost use Rattle.fl_sql_store.specs.Opening.{IsFailure, FailsToShowItself, OpensAs, RefusesToOpen};
+ghost use Rattle.fl_sql_store.specs.Opening.{IsFailure, FailsToShowItself, OpensAs, RefusesToServe, RefusesToRewrite, RefusesToOpen, Rewrites};
 
 use fl_labels::name::NodeNumber;
+use fl_ops::format::Format;
+use fl_ops::op::Op;
+use fl_opset::set::OpSet;
 use fl_sql_tables::found::found;
 use fl_sql_tables::itself::{Itself, read_itself};
+use fl_sql_tables::load::{LoadFault, load_ops};
+use fl_sql_tables::migrate::migrate;
 use fl_sql_tables::ours::{is_nothing, is_ours};
 use fl_store::keeper::KeeperFault;
 use sqlite::{Alter, Connection, Error, ErrorCode};
+use std::alloc::Global;
 
 // What an error comes to as a keeper is opened.
 fn refusal(error: Error) -> KeeperFault
@@ -38,7 +47,7 @@ fn found_on<S: Alter>(conn: &mut Connection<S>, number: NodeNumber) -> Result<()
     ensures idle { conn.new.in_transaction ≡ false }
     ensures either { IfErr result (λ e. (e ≡ KeeperFault.Memory) ⊎ (e ≡ KeeperFault.Broken)) }
     ensures refuses { HasCleanDisk (state S.Store conn.new) → IfErr result
-        (RefusesToOpen number (state S.Store conn.old) (state S.Store conn.new)) }
+        (RefusesToServe number (state S.Store conn.old) (state S.Store conn.new)) }
     ensures founds { HasCleanDisk (state S.Store conn.new)
         → OnOk result (Founds number (state S.Store conn.old) (state S.Store conn.new)) }
     ensures ready { HasCleanDisk (state S.Store conn.new)
@@ -52,33 +61,141 @@ fn found_on<S: Alter>(conn: &mut Connection<S>, number: NodeNumber) -> Result<()
     }
 }
 
-// Reads whose a database is that has the tables.
-fn itself_on<S: Alter>(conn: &mut Connection<S>, number: NodeNumber) -> Result<(), KeeperFault>
+// Reads whose a database is that has the tables, and in which format.
+fn itself_on<S: Alter>(conn: &mut Connection<S>, number: NodeNumber) -> Result<Format, KeeperFault>
     requires idle { conn.old.in_transaction ≡ false }
     requires ours { (state S.Store conn.old).now.schema ≡ keeper_schema }
     requires live { IsLive (state S.Store conn.old) }
     requires settled { IsSettled (state S.Store conn.old) }
     ensures idle { conn.new.in_transaction ≡ false }
     ensures own { HasCleanDisk (state S.Store conn.new)
-        → OnOk result (IsOwn number ((state S.Store conn.old).now.trees 0)) }
+        → IfOk result (λ format. IsOwnIn format number ((state S.Store conn.old).now.trees 0)) }
     ensures same { HasCleanDisk (state S.Store conn.new)
         → OnOk result (IsUnchanged (state S.Store conn.old) (state S.Store conn.new)) }
     ensures ready { HasCleanDisk (state S.Store conn.new)
         → OnOk result (IsReady number (state S.Store conn.new)) }
     ensures refuses { HasCleanDisk (state S.Store conn.new) → IfErr result
-        (RefusesToOpen number (state S.Store conn.old) (state S.Store conn.new)) }
+        (RefusesToServe number (state S.Store conn.old) (state S.Store conn.new)) }
     ensures survives { Survives (state S.Store conn.old) (state S.Store conn.new) (λ _. ⊥) }
 {
     match read_itself(conn, number) {
-        Ok(Itself::Own) => Ok(()),
+        Ok(Itself::Own(format)) => Ok(format),
         Ok(Itself::Other) => Err(KeeperFault::WrongNode),
         Ok(Itself::Bad) => Err(KeeperFault::BadRow),
         Err(error) => Err(refusal(error)),
     }
 }
 
-/// Whether the database can be this node's. One that has no tables gets them.
-pub fn check<S: Alter>(conn: &mut Connection<S>, number: NodeNumber) -> Result<(), KeeperFault>
+// The operations of a database of the first format.
+fn former_ops<S: Alter>(
+    alloc: Global,
+    conn: &mut Connection<S>,
+    number: NodeNumber,
+) -> Result<OpSet, KeeperFault>
+    requires idle { conn.old.in_transaction ≡ false }
+    requires serving { IsServing number (state S.Store conn.old) }
+    ensures idle { conn.new.in_transaction ≡ false }
+    ensures ok { HasCleanDisk (state S.Store conn.new)
+        → IfOk result (λ ops. ops ≡ ops_in ((state S.Store conn.old).now.trees 1)) }
+    ensures good { HasCleanDisk (state S.Store conn.new)
+        → OnOk result (¬ HasBadRow ((state S.Store conn.old).now.trees 1)) }
+    ensures same { HasCleanDisk (state S.Store conn.new)
+        → OnOk result (IsUnchanged (state S.Store conn.old) (state S.Store conn.new)) }
+    ensures refuses { HasCleanDisk (state S.Store conn.new) → IfErr result
+        (RefusesToRewrite (state S.Store conn.old) (state S.Store conn.new)) }
+    ensures survives { Survives (state S.Store conn.old) (state S.Store conn.new) (λ _. ⊥) }
+{
+    match load_ops(alloc, conn, number) {
+        Ok(ops) => Ok(ops),
+        Err(LoadFault::BadRow) => Err(KeeperFault::BadRow),
+        Err(LoadFault::Memory) => Err(KeeperFault::Memory),
+        Err(LoadFault::Failed(error)) => Err(refusal(error)),
+    }
+}
+
+// Writes these operations, which the database has, in the second format.
+fn migrate_with<S: Alter>(
+    alloc: Global,
+    conn: &mut Connection<S>,
+    number: NodeNumber,
+    ops: &[Op],
+) -> Result<(), KeeperFault>
+    requires idle { conn.old.in_transaction ≡ false }
+    requires former { IsFormer number (state S.Store conn.old) }
+    ensures idle { conn.new.in_transaction ≡ false }
+    ensures ok { HasCleanDisk (state S.Store conn.new) → OnOk result
+        (Migrates number ops.now (state S.Store conn.old) (state S.Store conn.new)) }
+    ensures refuses { HasCleanDisk (state S.Store conn.new) → IfErr result
+        (RefusesToRewrite (state S.Store conn.old) (state S.Store conn.new)) }
+    ensures survives { Survives (state S.Store conn.old)
+        (state S.Store conn.new) (MigratesTo number ops.now (state S.Store conn.old).now) }
+{
+    match migrate(alloc, conn, number, ops) {
+        Ok(()) => Ok(()),
+        Err(error) => Err(refusal(error)),
+    }
+}
+
+// Rewrites this node's database of the first format in the second.
+fn migrate_on<S: Alter>(
+    alloc: Global,
+    conn: &mut Connection<S>,
+    number: NodeNumber,
+) -> Result<(), KeeperFault>
+    requires idle { conn.old.in_transaction ≡ false }
+    requires former { IsFormer number (state S.Store conn.old) }
+    ensures clean { doubt (state S.Store conn.old).is_clean ≤ doubt
+        (state S.Store conn.new).is_clean }
+    ensures idle { conn.new.in_transaction ≡ false }
+    ensures rewrites { HasCleanDisk (state S.Store conn.new) → OnOk result
+        (Rewrites number (state S.Store conn.old) (state S.Store conn.new)) }
+    ensures ready { HasCleanDisk (state S.Store conn.new)
+        → OnOk result (IsReady number (state S.Store conn.new)) }
+    ensures refuses { HasCleanDisk (state S.Store conn.new) → IfErr result
+        (RefusesToRewrite (state S.Store conn.old) (state S.Store conn.new)) }
+    ensures held { HasCleanDisk (state S.Store conn.new)
+        → Stays (held_in number (state S.Store conn.old)) (held_in number (state S.Store conn.new)) }
+{
+    match former_ops(alloc, conn, number) {
+        Ok(ops) => migrate_with(alloc, conn, number, ops.as_slice()),
+        Err(fault) => Err(fault),
+    }
+}
+
+// Opens a database that has the tables.
+fn own_on<S: Alter>(
+    alloc: Global,
+    conn: &mut Connection<S>,
+    number: NodeNumber,
+) -> Result<(), KeeperFault>
+    requires idle { conn.old.in_transaction ≡ false }
+    requires ours { (state S.Store conn.old).now.schema ≡ keeper_schema }
+    requires live { IsLive (state S.Store conn.old) }
+    requires settled { IsSettled (state S.Store conn.old) }
+    ensures idle { conn.new.in_transaction ≡ false }
+    ensures ready { HasCleanDisk (state S.Store conn.new)
+        → OnOk result (IsReady number (state S.Store conn.new)) }
+    ensures opens { HasCleanDisk (state S.Store conn.new)
+        → OnOk result (OpensAs number (state S.Store conn.old) (state S.Store conn.new)) }
+    ensures refuses { HasCleanDisk (state S.Store conn.new) → IfErr result
+        (RefusesToOpen number (state S.Store conn.old) (state S.Store conn.new)) }
+    ensures held { HasCleanDisk (state S.Store conn.new)
+        → Stays (held_in number (state S.Store conn.old)) (held_in number (state S.Store conn.new)) }
+{
+    match itself_on(conn, number) {
+        Ok(Format::Two) => Ok(()),
+        Ok(Format::One) => migrate_on(alloc, conn, number),
+        Err(fault) => Err(fault),
+    }
+}
+
+/// Whether the database can be this node's. One that has no tables gets them, and one of the first format is rewritten in the
+/// second.
+pub fn check<S: Alter>(
+    alloc: Global,
+    conn: &mut Connection<S>,
+    number: NodeNumber,
+) -> Result<(), KeeperFault>
     ensures idle { OnOk result (conn.new.in_transaction ≡ false) }
     ensures ready { HasCleanDisk (state S.Store conn.new)
         → OnOk result (IsReady number (state S.Store conn.new)) }
@@ -98,5 +215,5 @@ pub fn check<S: Alter>(conn: &mut Connection<S>, number: NodeNumber) -> Result<(
     if !is_ours(conn.schema()) {
         return Err(KeeperFault::BadRow);
     }
-    itself_on(conn, number)
+    own_on(alloc, conn, number)
 }

@@ -78,12 +78,15 @@ impl<S: Alter> SqlKeeper<S> {
     }
 
     /// Opens a keeper of this node over a database, which stays as it was; one that has no tables gets them, and the row of the
-    /// node with boot 0, in one transaction.
+    /// node with boot 0, in one transaction. One of the first format is rewritten in the second, in one transaction: all of its
+    /// rows are read and written, and stopped anywhere it is whole in the one or in the other. What an opening finds in it is the
+    /// same.
     ///
     /// It hands the database back where it refuses: `WrongNode` where its one row of `self` is another node's; `BadRow` where it
-    /// has other tables than a keeper's, or not one row of `self` that a keeper writes, as one of another format; `Memory`; and
-    /// `Broken` where a transaction is under way, or where the database fails for another cause than memory. What an opening
-    /// finds in it is then as before. Rows of `ops` are not read before `load`.
+    /// has other tables than a keeper's, or not one row of `self` that a keeper writes, as one of a third format, or where it is
+    /// to be rewritten and a row of `ops` is bad; `Memory`; and `Broken` where a transaction is under way, or where the database
+    /// fails for another cause than memory. What an opening finds in it is then as before. Rows of `ops` of the second format are
+    /// not read before `load`.
     pub fn open(
         alloc: Global,
         conn: Connection<S>,
@@ -102,7 +105,7 @@ impl<S: Alter> SqlKeeper<S> {
             → Stays (held_in number (state S.Store conn)) (held_in number (state S.Store e.1))) }
     {
         let mut conn = conn;
-        match check(&mut conn, number) {
+        match check(alloc, &mut conn, number) {
             Ok(()) => Ok(SqlKeeper::over(alloc, conn, number)),
             Err(fault) => Err((fault, conn)),
         }

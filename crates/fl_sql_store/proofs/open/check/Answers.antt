@@ -1,6 +1,6 @@
-use Rattle.sqlite.specs.Held.{state}
-use Rattle.fl_sql_store.proofs.KeepLemmas.{stays_quiet}
+use Rattle.std.proofs.Common.{inl}
+use Rattle.fl_sql_store.proofs.RewriteLemmas.{if_err_then}
 use Rattle.fl_sql_store.proofs.open.check.Goals as goal
 
-pub returns-clause-held : goal.returns-clause-held
-returns-clause-held g c clean = stays_quiet c.args.number (state g.S.Store c.args.conn.now) (state g.S.Store c.itself_on.new.conn) clean c.itself_on.ensures.survives
+pub returns-then-is_nothing-clause-refuses : goal.returns-then-is_nothing-clause-refuses
+returns-then-is_nothing-clause-refuses g c clean = if_err_then c.found_on.result (c.found_on.ensures.refuses clean) (λ fault h. inl h)

@@ -7,7 +7,7 @@ returns-in-Ok-Own-clause-ready g c clean =
     let old = state g.S.Store c.args.conn.now in
     let new = state g.S.Store c.read_itself.new.conn in
     let one = rw c.in-Ok-Own.field-0-is at (c.in-Ok-Own.ensures.ok clean) in
-    ready_found c.args.number one.0 old new one.1 c.requires.ours c.requires.live c.requires.settled (c.in-Ok-Own.ensures.same clean) one.2
+    ready_found c.args.number one.0 old new one.1 c.requires.ours c.requires.live c.requires.settled (c.in-Ok-Own.ensures.same clean) (c.in-Ok-Own.format, one.2)
 
 pub returns-in-Err-clause-refuses : goal.returns-in-Err-clause-refuses
 returns-in-Err-clause-refuses g c clean =
