@@ -138,6 +138,15 @@ INSERT INTO self (id, node, boot, format) VALUES (1, 1, 1, 1); \
 INSERT INTO ops (node, seq, bytes) VALUES (1, 1, x'010100010000000101'), \
 (1, 2, x'0102000100000002'), (1, 3, x'010300010000000300010000000201000100000001')";
 
+/// The boot tells of which format all of that database is: it becomes 10 or 20.
+pub const TELLS_FORMAT: &str = "\
+UPDATE self SET boot = 10 WHERE boot = 1 AND format = 1 AND 3 = (SELECT count(*) FROM ops \
+WHERE bytes IN (x'010100010000000101', x'0102000100000002', \
+x'010300010000000300010000000201000100000001')); \
+UPDATE self SET boot = 20 WHERE boot = 1 AND format = 2 AND 3 = (SELECT count(*) FROM ops \
+WHERE bytes IN (x'0201000000010000000101', x'02020000000100000002', \
+x'020300000001000000030000000100000002010000000100000001'))";
+
 /// Visits, one after the other, and what is said.
 type History = (&'static [Visit], &'static str);
 
@@ -170,12 +179,12 @@ names spent\n0\nok\n",
     (
         &[
             (FIRST_FORMAT, 2, &[Line::Load]),
-            ("", 1, &[Line::Load, Line::Boot]),
-            ("", 1, &[Line::Load, Line::Boot]),
+            ("", 1, &[Line::Load]),
+            (TELLS_FORMAT, 1, &[Line::Boot, Line::Load]),
         ],
         "wrong node\n\
-1.1 tag export\n1.2 group\n1.3 put 1.2 +1.1\nboot 2\n\
-1.1 tag export\n1.2 group\n1.3 put 1.2 +1.1\nboot 3\n",
+1.1 tag export\n1.2 group\n1.3 put 1.2 +1.1\n\
+boot 21\n1.1 tag export\n1.2 group\n1.3 put 1.2 +1.1\n",
     ),
     (
         &[

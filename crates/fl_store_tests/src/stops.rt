@@ -2,7 +2,7 @@
 ghost use Rattle.std.specs.Prelude.{IsTrue};
 
 use crate::asking::Line;
-use crate::databases::{Visit, asked};
+use crate::databases::{FIRST_FORMAT, TELLS_FORMAT, Visit, asked};
 use sqlite::{Connection, FileStore, Files, Options};
 use sqlite_disk::{Crash, Disk, Fuse, Memory};
 use std::alloc::{AllocGlobal, Global};
@@ -48,6 +48,26 @@ static KEEPING: Run = Run {
         (
             "boot 1\nok\nok\n",
             ["boot 2\n1.1 group\n1.2 group\n1.3 group\n"; 2],
+        ),
+    ],
+};
+
+const IN_FIRST: &str = "boot 11\n1.1 tag export\n1.2 group\n1.3 put 1.2 +1.1\n";
+
+const IN_SECOND: &str = "boot 21\n1.1 tag export\n1.2 group\n1.3 put 1.2 +1.1\n";
+
+/// A database of the first format is opened, which writes it in the second, and loaded.
+static REWRITING: Run = Run {
+    before: &[(FIRST_FORMAT, 1, &[])],
+    visit: ("", 1, &[Line::Number, Line::Load]),
+    after: (TELLS_FORMAT, 1, &[Line::Boot, Line::Load]),
+    stops: &[
+        ("", [IN_FIRST; 2]),
+        ("broken\n", [IN_FIRST, IN_SECOND]),
+        ("1\nbroken\n", [IN_SECOND; 2]),
+        (
+            "1\n1.1 tag export\n1.2 group\n1.3 put 1.2 +1.1\n",
+            [IN_SECOND; 2],
         ),
     ],
 };
@@ -172,5 +192,17 @@ fn stopped_at_each_call_of_the_log(rt: HostRuntime) -> Result<(), Fail> {
 #[test]
 fn stopped_at_each_call_of_the_database(rt: HostRuntime) -> Result<(), Fail> {
     assert!(rt; stops(&rt, &KEEPING, false)? > 3);
+    Ok(())
+}
+
+#[test]
+fn rewriting_stops_at_each_call_of_the_log(rt: HostRuntime) -> Result<(), Fail> {
+    assert!(rt; stops(&rt, &REWRITING, true)? > 5);
+    Ok(())
+}
+
+#[test]
+fn rewriting_stops_at_each_call_of_the_database(rt: HostRuntime) -> Result<(), Fail> {
+    assert!(rt; stops(&rt, &REWRITING, false)? > 3);
     Ok(())
 }
