@@ -4,7 +4,10 @@ use Rattle.std.proofs.Common.{inl, inr, sym, ap, subst, ◌∙◌}
 use Rattle.std.proofs.lemmas.Bool.{false≢true}
 use Rattle.std.specs.BTreeMap.{get}
 use Rattle.std.specs.BTreeSet.{BTreeSet, contains, IsDifference}
-use Rattle.std.specs.List.{Contains}
+use Rattle.std.specs.Cmp.{Equal-is}
+use Rattle.std.specs.List.{Contains, filter, list_any}
+use Rattle.std.specs.Ordering.{eq_by_cmp}
+use Rattle.std.proofs.lemmas.Map.Views.{any-filter_same}
 use Rattle.std.proofs.lemmas.List.{append-nil}
 use Rattle.std.proofs.lemmas.List.Elements.{Contains-append_left, Contains-append_right, Contains-append_cases}
 use Rattle.fl_labels.specs.Cap.{cap_cmp}
@@ -15,7 +18,7 @@ use Rattle.fl_labels.specs.declared.cap.Cap.{Cap}
 use Rattle.fl_labels.specs.declared.cap.Cap.TheVariants.{Plus, Minus, Use, Grow}
 use Rattle.fl_closure.specs.declared.rows.Rows.{Rows}
 use Rattle.fl_closure.specs.declared.rows.Owner.TheVariants.{Everybody, Group}
-use Rattle.fl_closure.specs.parts.Rows.{row_has, Holds, listed, row_caps}
+use Rattle.fl_closure.specs.parts.Rows.{row_has, has, Holds, listed, row_caps}
 use Rattle.fl_closure.specs.parts.Closed.{Behind}
 use Rattle.fl_closure.proofs.Members.{none, any_has, has_any}
 
@@ -87,15 +90,30 @@ lacks rows name caps row items is there c =
       λ h. any_has cap_total cap_exact items c (is c ∙ beside (contains cap_cmp caps c) (contains cap_cmp row c) (has_any cap_total cap_exact caps.keys c h.0) (λ m. h.1 (sym held ∙ m))),
     )
 
+without : (b a : Bool) → (not b && a) ≡ true → (a ≡ true) × ¬ (b ≡ true)
+without true a h = absurd (false≢true h)
+without false a h = (h, false≢true)
+
+outside : (b a : Bool) → a ≡ true → ¬ (b ≡ true) → (not b && a) ≡ true
+outside true a h n = absurd (n refl)
+outside false a h n = h
+
 -- and what everybody's row does
-pub lacks_all : (rows : Rows) (caps : BTreeSet Cap) (items : List Cap) → IsDifference cap_cmp caps rows.everybody items
-    → (c : Cap) → Contains items c ↔ (Contains caps.keys c × ¬ Holds rows Everybody c)
-lacks_all rows caps items is c = (
-  λ h.
-      let two = apart (contains cap_cmp caps c) (contains cap_cmp rows.everybody c) (sym (is c) ∙ has_any cap_total cap_exact items c h) in
-      (any_has cap_total cap_exact caps.keys c two.0, two.1),
-  λ h. any_has cap_total cap_exact items c (is c ∙ beside (contains cap_cmp caps c) (contains cap_cmp rows.everybody c) (has_any cap_total cap_exact caps.keys c h.0) h.1),
-)
+pub lacks_all : (rows : Rows) (some : BTreeSet Cap) (items : List Cap)
+    → items ≡ filter (λ c. not (has rows Everybody c)) some.keys
+    → (c : Cap) → Contains items c ↔ (Contains some.keys c × ¬ Holds rows Everybody c)
+lacks_all rows some items is c =
+    let lacking : Cap → Bool = λ d. not (has rows Everybody d) in
+    let same : list_any (eq_by_cmp cap_cmp c) items ≡ (lacking c && list_any (eq_by_cmp cap_cmp c) some.keys) =
+        ap (list_any (eq_by_cmp cap_cmp c)) is
+        ∙ any-filter_same (eq_by_cmp cap_cmp c) lacking (lacking c)
+        (λ k t. ap lacking (sym (cap_exact c k ((Equal-is (cap_cmp c k)).0 t)))) some.keys in (
+      λ h.
+          let two = without (has rows Everybody c) _ (sym same ∙ has_any cap_total cap_exact items c h) in
+          (any_has cap_total cap_exact some.keys c two.0, two.1),
+      λ h. any_has cap_total cap_exact items c
+          (same ∙ outside (has rows Everybody c) _ (has_any cap_total cap_exact some.keys c h.0) h.1),
+    )
 
 pub if_ok : {A E : Type 0} {P Q : A → Type 0} (r : Result A E) → ((a : A) → P a → Q a) → IfOk r P → IfOk r Q
 if_ok (Ok a) to p = to a p

@@ -3,16 +3,19 @@ use Rattle.std.specs.Prelude.{◌≡◌, ◌⊎◌, ◌↔◌, Bool, true, false
 use Rattle.std.proofs.Common.{inl, inr, sym, ap, subst, ◌∙◌}
 use Rattle.std.specs.BTreeMap.{BTreeMap, get, is_at, UpdatesBy}
 use Rattle.std.specs.BTreeSet.{BTreeSet, contains, IsUnchanged, UpdatesBy as ChangesBy}
+use Rattle.std.specs.HashSet.{contains as is_among, IsUnchanged as IsAsBefore, UpdatesBy as ChangesAmong}
+use Rattle.std.specs.List.{list_any}
 use Rattle.std.specs.Map.{lookup, set_value}
 use Rattle.std.proofs.lemmas.Map.Steps.{set_value_same}
 use Rattle.std.specs.Cmp.{Equal-is, tied_itself}
 use Rattle.std.specs.Ordering.{is_eq}
 use Rattle.std.proofs.lemmas.Bool.{false≢true}
 use Rattle.fl_labels.specs.Cap.{cap_cmp}
-use Rattle.fl_labels.specs.CapOrder.{cap_total, cap_exact}
+use Rattle.fl_labels.specs.CapOrder.{cap_total, cap_exact, cap_tied}
 use Rattle.fl_labels.specs.Name.{name_cmp}
 use Rattle.fl_labels.specs.NameOrder.{name_total, name_exact}
 use Rattle.fl_labels.specs.declared.name.Name.{Name}
+use Rattle.fl_labels.specs.contracts.cap.CapPartialEq.TheImpl as caps
 use Rattle.fl_labels.specs.declared.cap.Cap.{Cap}
 use Rattle.fl_closure.specs.declared.rows.Rows.{Rows}
 use Rattle.fl_closure.specs.declared.rows.Owner.{Owner}
@@ -99,23 +102,23 @@ module _ (old new : Rows) (owner : Owner) (c : Cap) where
 -- ---- everybody's row
 
 module _ (old new : Rows) (c : Cap) (still : new.groups ≡ old.groups) where
-  changed_all : (b : Bool) → ChangesBy cap_cmp (cap_cmp c) old.everybody new.everybody b → Changes old new Everybody c b
+  changed_all : (b : Bool) → ChangesAmong caps.ghosts.eq (caps.ghosts.eq c) old.everybody new.everybody b → Changes old new Everybody c b
   unfolding same_owner
   changed_all b is (Group name) d = ap (λ m. row_has (get name_cmp m name) d) still
-  changed_all b is Everybody d = is.0 d
+  changed_all b is Everybody d = is.0 d ∙ ap (λ t. cond t b (has old Everybody d)) (cap_tied c d)
 
-  pub add_to_all : ChangesBy cap_cmp (cap_cmp c) old.everybody new.everybody true → Adds old Everybody c new
+  pub add_to_all : ChangesAmong caps.ghosts.eq (caps.ghosts.eq c) old.everybody new.everybody true → Adds old Everybody c new
   add_to_all is = to_adds old new Everybody c (changed_all true is)
 
-  pub take_from_all : ChangesBy cap_cmp (cap_cmp c) old.everybody new.everybody false → Takes old Everybody c new
+  pub take_from_all : ChangesAmong caps.ghosts.eq (caps.ghosts.eq c) old.everybody new.everybody false → Takes old Everybody c new
   take_from_all is = to_takes old new Everybody c (changed_all false is)
 
-  pub all_left : IsUnchanged old.everybody new.everybody → IsSameRows old new
+  pub all_left : IsAsBefore old.everybody new.everybody → IsSameRows old new
   all_left is = record { holds = λ other d. go other d }
     where
       go : (other : Owner) (d : Cap) → Holds new other d ↔ Holds old other d
       go (Group name) d = let e = ap (λ m. row_has (get name_cmp m name) d) still in (λ h. sym e ∙ h, λ h. e ∙ h)
-      go Everybody d = let e = ap (λ ks. contains cap_cmp (record { keys = ks }) d) is in (λ h. sym e ∙ h, λ h. e ∙ h)
+      go Everybody d = let e = ap (λ ks. list_any (caps.ghosts.eq d) ks) is in (λ h. sym e ∙ h, λ h. e ∙ h)
 
 -- ---- a group's
 
@@ -123,7 +126,7 @@ module _ (old new : Rows) (name : Name) (c : Cap) (still : new.everybody ≡ old
   changed : (b : Bool) (row : BTreeSet Cap) → UpdatesBy name_cmp (name_cmp name) old.groups new.groups (Some row)
       → ((d : Cap) → contains cap_cmp row d ≡ cond (is_at (cap_cmp c) d) b (has old (Group name) d)) → Changes old new (Group name) c b
   unfolding same_owner
-  changed b row up is Everybody d = ap (λ r. contains cap_cmp r d) still
+  changed b row up is Everybody d = ap (λ r. is_among caps.ghosts.eq r d) still
   changed b row up is (Group other) d = by_name (is_at (name_cmp name) other) refl
     where
       by_name : (t : Bool) → is_at (name_cmp name) other ≡ t
@@ -158,7 +161,7 @@ module _ (old new : Rows) (name : Name) (c : Cap) (still : new.everybody ≡ old
   left_as_it_was row same e there is = record { holds = λ other d. go other d }
     where
       go : (other : Owner) (d : Cap) → Holds new other d ↔ Holds old other d
-      go Everybody d = let e = ap (λ r. contains cap_cmp r d) still in (λ h. sym e ∙ h, λ h. e ∙ h)
+      go Everybody d = let e = ap (λ r. is_among caps.ghosts.eq r d) still in (λ h. sym e ∙ h, λ h. e ∙ h)
       go (Group other) d =
           let as_before : has new (Group other) d ≡ has old (Group other) d = ap (λ l. row_has (lookup (is_at (name_cmp other)) l) d) (e ∙ set_value_same (is_at (name_cmp name)) old.groups.entries same (there ∙ ap (λ ks. Some (record { keys = ks })) (sym is))) in
           (λ h. sym as_before ∙ h, λ h. as_before ∙ h)

@@ -76,7 +76,7 @@ impl ClosedRows {
         }
     }
 
-    /// Whether everybody reaches the capability. One search by order.
+    /// Whether everybody reaches the capability. One search by hash.
     pub fn is_everybodys(&self, cap: Cap) -> bool
         ensures { Tells result (Holds self.now Everybody cap) }
     {

@@ -25,7 +25,7 @@ use std::marker::Model;
 ///
 /// Each pair of a group and a capability that it reaches takes some 30 bytes, and as much again
 /// where that is the use of a group: ten thousand groups in a chain would have fifty million pairs.
-/// Each capability that everybody reaches takes some 30 bytes too, and each opened group some 20.
+/// Each capability that everybody reaches takes some 50 bytes, and each opened group some 20.
 #[derive(Debug)]
 pub struct Index {
     ops: OpSet,
@@ -190,8 +190,8 @@ impl Index {
     /// Whether the owner of these capabilities has this one in effect: reaches it from what it
     /// owns, or from what everybody has. Takes no memory.
     ///
-    /// A binary search in what is owned, and a search by order in what everybody reaches. Where it
-    /// is in neither, then two searches by order for each use of a group that is owned.
+    /// A binary search in what is owned, and a search by hash in what everybody reaches. Where it is
+    /// in neither, then two searches by order for each use of a group that is owned.
     pub fn effective(&self, owned: &CapSet, cap: Cap) -> bool
         ensures { Tells result (InEffect (In self.now) (In owned.now) cap) }
     {

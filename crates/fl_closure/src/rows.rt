@@ -10,7 +10,7 @@ ghost use Rattle.fl_closure.specs.parts.Rows.{has, Holds, row_caps, Adds, Takes,
 use fl_labels::cap::Cap;
 use fl_labels::name::Name;
 use std::alloc::{AllocError, Global};
-use std::collections::{BTreeMap, BTreeSet};
+use std::collections::{BTreeMap, BTreeSet, HashSet};
 
 /// Whose a row is.
 #[derive(Clone, Copy, Debug)]
@@ -21,11 +21,12 @@ pub enum Owner {
     Everybody,
 }
 
-/// A row of capabilities for each group, in order, and one for everybody.
+/// A row of capabilities for each group, in order, and one for everybody, which each question looks
+/// into.
 #[derive(Debug, Drop)]
 pub struct Rows {
     groups: BTreeMap<Name, BTreeSet<Cap>>,
-    everybody: BTreeSet<Cap>,
+    everybody: HashSet<Cap>,
     alloc: Global,
 }
 
@@ -36,7 +37,7 @@ impl Rows {
     {
         Rows {
             groups: BTreeMap::new(alloc),
-            everybody: BTreeSet::new(alloc),
+            everybody: HashSet::new(alloc),
             alloc,
         }
     }
@@ -51,7 +52,8 @@ impl Rows {
         }
     }
 
-    /// Whether the owner's row has the capability. Two searches by order, and one for everybody.
+    /// Whether the owner's row has the capability. Two searches by order, and for everybody one by
+    /// hash.
     pub fn has(&self, owner: Owner, cap: Cap) -> bool
         ensures { result ≡ has self.now owner cap }
     {
@@ -79,7 +81,8 @@ impl Rows {
     }
 
     /// Adds a capability to the owner's row, and answers whether it is new there. Two searches by
-    /// order, and one for everybody. An error leaves the rows.
+    /// order, and for everybody one by hash, where now and then the row is made again for twice as
+    /// many. An error leaves the rows.
     pub fn add(&mut self, owner: Owner, cap: Cap) -> Result<bool, AllocError>
         ensures ok { OnOk result (Adds self.old owner cap self.new) }
         ensures new { IfOk result (λ new. new ≡ not (has self.old owner cap)) }
@@ -94,8 +97,8 @@ impl Rows {
         }
     }
 
-    /// Takes a capability out of the owner's row. Two searches by order, and one for everybody;
-    /// takes no memory.
+    /// Takes a capability out of the owner's row. Two searches by order, and for everybody one by
+    /// hash; takes no memory.
     pub fn take(&mut self, owner: Owner, cap: Cap)
         ensures { Takes self.old owner cap self.new }
     {
@@ -139,13 +142,15 @@ impl Rows {
         ensures { IfOk result (λ lacking. (c : Cap) →
             Contains lacking.items c ↔ (Contains caps.now.keys c × ¬ Holds self.now Everybody c)) }
     {
-        caps.difference(&self.everybody)
+        caps.iter()
             .copied()
+            .filter(|cap| !self.everybody.contains(cap))
             .collect(self.alloc)
     }
 
     /// Those of these capabilities that the owner's row lacks. One walk along both, or where these
-    /// are far fewer a search by order for each. Fails only where there is not enough memory.
+    /// are far fewer a search by order for each; for everybody a search by hash for each. Fails only
+    /// where there is not enough memory.
     pub fn lacking(&self, owner: Owner, caps: &BTreeSet<Cap>) -> Result<Vec<Cap>, AllocError>
         ensures { IfOk result (λ lacking. (c : Cap) →
             Contains lacking.items c ↔ (Contains caps.now.keys c × ¬ Holds self.now owner c)) }

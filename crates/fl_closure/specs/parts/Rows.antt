@@ -2,10 +2,12 @@
 use Rattle.std.specs.Prelude.{◌≡◌, ◌⊎◌, ◌↔◌, Bool, true, false, Option, Some, None, List, []}
 use Rattle.std.specs.BTreeMap.{get}
 use Rattle.std.specs.BTreeSet.{BTreeSet, contains}
+use Rattle.std.specs.HashSet.{contains as is_among}
 use Rattle.fl_labels.specs.Cap.{cap_cmp}
 use Rattle.fl_labels.specs.Name.{name_cmp}
 use Rattle.fl_labels.specs.declared.name.Name.{Name}
 use Rattle.fl_labels.specs.declared.cap.Cap.{Cap}
+use Rattle.fl_labels.specs.contracts.cap.CapPartialEq.TheImpl as caps
 use Rattle.fl_closure.specs.contracts.rows.Rows as rows_row
 use Rattle.fl_closure.specs.declared.rows.Rows.{Rows}
 use Rattle.fl_closure.specs.declared.rows.Owner.{Owner}
@@ -22,7 +24,7 @@ row_has (Some row) c = contains cap_cmp row c
 -- whether the owner's row has the capability
 abbrev pub has : Rows → Owner → Cap → Bool
 has rows (Group name) c = row_has (get name_cmp rows.groups name) c
-has rows Everybody c = contains cap_cmp rows.everybody c
+has rows Everybody c = is_among caps.ghosts.eq rows.everybody c
 
 abbrev pub Holds : Rows → Owner → Cap → Type 0
 Holds rows owner c = has rows owner c ≡ true
