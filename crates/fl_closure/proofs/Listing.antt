@@ -105,9 +105,9 @@ pub lacks_all : (rows : Rows) (some : BTreeSet Cap) (items : List Cap)
 lacks_all rows some items is c =
     let lacking : Cap → Bool = λ d. not (has rows Everybody d) in
     let same : list_any (eq_by_cmp cap_cmp c) items ≡ (lacking c && list_any (eq_by_cmp cap_cmp c) some.keys) =
-        ap (list_any (eq_by_cmp cap_cmp c)) is
-        ∙ any-filter_same (eq_by_cmp cap_cmp c) lacking (lacking c)
-        (λ k t. ap lacking (sym (cap_exact c k ((Equal-is (cap_cmp c k)).0 t)))) some.keys in (
+    ap (list_any (eq_by_cmp cap_cmp c)) is
+    ∙ any-filter_same (eq_by_cmp cap_cmp c) lacking (lacking c)
+    (λ k t. ap lacking (sym (cap_exact c k ((Equal-is (cap_cmp c k)).0 t)))) some.keys in (
       λ h.
           let two = without (has rows Everybody c) _ (sym same ∙ has_any cap_total cap_exact items c h) in
           (any_has cap_total cap_exact some.keys c two.0, two.1),
