@@ -6,6 +6,7 @@ pub mod Shown
 pub mod Turning
 pub mod Entries
 pub mod Worlds
+pub mod Noting
 pub mod Moments
 pub mod Runs
 pub mod Living

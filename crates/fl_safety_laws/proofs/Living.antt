@@ -48,7 +48,7 @@ use Rattle.fl_safety_laws.proofs.Numbers.{changed_here, length_changed}
 use Rattle.fl_safety_laws.proofs.Turning.{KeepsTags, BenchTurn, NodeOrderly, Turns, works, opens}
 use Rattle.fl_safety_laws.proofs.Entries.{EntriesSafe, sender_there, sender_is, message_safe}
 use Rattle.fl_safety_laws.proofs.Worlds.{Guarded, Orderly, WorldTurn, seen_in, item_there}
-use Rattle.fl_safety_laws.proofs.Moments.{comes}
+use Rattle.fl_safety_laws.proofs.Noting.{comes}
 use Rattle.fl_safety_laws.proofs.Runs.{pushed_at}
 
 -- ---- pids that were given
@@ -307,7 +307,9 @@ module _ {w : World} (g : Guarded w) (o : Orderly w) (number : ℕ) (s : KeptNod
       → sent.packet ≡ packets.Data d → (receiver : Pid) {n : NodeState}
       → Arrives s.node d (Ok (Arrived receiver)) n → Taken w packet receiver
   taken_message packet sent there d is receiver does =
-      let it = comes s.node d receiver does in
+      let it = comes s.node d (Arrived receiver) does in
+      let arrived : Arrived receiver ≡ Arrived d.receiver = it.is in
+      let same : receiver ≡ d.receiver = cc in
       let all = message_safe s.node (g.nodes number s at) (seen_in g number s at) d sent.sender
       (λ p by. g.messages sent (item_there w.packets packet sent there) d p is by) does in
       let bench = bench_with (item_at s.node.benches (bench_of (length s.node.benches) d.receiver.serial)) d.receiver
@@ -316,7 +318,7 @@ module _ {w : World} (g : Guarded w) (o : Orderly w) (number : ℕ) (s : KeptNod
         sent = sent;
         there = there;
         taker = it.process;
-        lives = subst (λ k. Lives w k it.process) (sym it.is) (lives_from number d.receiver g o at bench.1 bench.2);
+        lives = subst (λ k. Lives w k it.process) (sym same) (lives_from number d.receiver g o at bench.1 bench.2);
         safe = safe_entry d sent.sender it.process it.stands all;
       }
 

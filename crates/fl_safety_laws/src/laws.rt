@@ -53,7 +53,8 @@ ghost use Rattle.fl_system.specs.declared.reply.Reply.{Reply};
 ghost use Rattle.fl_system.specs.declared.reply.Reply.TheVariants.{Job as Answered};
 ghost use Rattle.fl_system.specs.declared.sent.Sent.{Sent};
 ghost use Rattle.fl_store.specs.Kept.{Kept};
-ghost use Rattle.fl_safety_laws.specs.Moments.{IsOfNow, IsSentNow, IsNoted};
+ghost use Rattle.fl_safety_laws.specs.Moments.{IsAdmitted, IsEntryOf, IsNoted, IsSentNow};
+ghost use Rattle.fl_safety_laws.specs.Moments.{NotesOne};
 ghost use Rattle.fl_system.specs.declared.admission.Admission.{Admission};
 
 /// What a job lets pass under a view, which may lag, is safe under all operations that are saved:
@@ -141,20 +142,25 @@ pub fn law_safe()
         SafeUnder (Union (end w later)) entry }
 {}
 
-/// Each entry of the audit is of the moment that added it: it has the labels and the owned
-/// capabilities of its process as that was just before, and of a message the sender's as they were
-/// when it was sent. Each message that arrives is noted, once. To join a world and to be opened
-/// over another keeper adds no entry.
+/// Each event that was admitted, and let something pass, adds its one entry to the audit, and no
+/// other event adds any. The entry is of that event, and has the labels and the owned capabilities
+/// of its process as that was just before. Of a message that arrives it has the receiver's so, and
+/// the sender's as they were when this very packet was sent. To join a world and to be opened over
+/// another keeper adds no entry.
 pub fn law_noted()
     ensures moment { (w after : World) (event : Event) (reply : Reply) (entry : Admission) →
         Step w event reply after → Contains after.audit entry →
-        Contains w.audit entry ⊎ IsOfNow w (node_of event) entry }
+        Contains w.audit entry ⊎ IsEntryOf w event reply entry }
+    ensures once { (w after : World) (event : Event) (reply : Reply) → IsReached w →
+        Step w event reply after → IsAdmitted event reply → NotesOne w event reply after }
+    ensures only { (w after : World) (event : Event) (reply : Reply) →
+        Step w event reply after → ¬ IsAdmitted event reply → after.audit ≡ w.audit }
     ensures sender { (w after : World) (event : Event) (reply : Reply) (sent : Sent) →
         Step w event reply after → Contains after.packets sent →
         Contains w.packets sent ⊎ IsSentNow w (node_of event) sent }
     ensures arrival { (w after : World) (packet number : ℕ) (receiver : Pid) →
         IsReached w → Step w (Deliver packet number) (Answered (Arrived receiver)) after →
-        IsNoted w receiver after }
+        IsNoted w packet number receiver after }
     ensures joins { (w after : World) (number : ℕ) (kept : Kept) (reply : Reply) →
         Joins w number kept reply after → after.audit ≡ w.audit }
     ensures reopens { (w after : World) (number : ℕ) (kept : Kept) (reply : Reply) →

@@ -30,7 +30,7 @@ use Rattle.fl_system.specs.WorldSteps.{Step, IsAt, node_of}
 use Rattle.fl_world_laws.specs.Places.{IsNameRefusal}
 use Rattle.fl_agreement_laws.specs.Gains.{IsBegunIn, gains}
 use Rattle.fl_agreement_laws.specs.Knowledge.{HasProcess, IsAnswer, KnowsNoLess, Sees}
-use Rattle.fl_safety_laws.specs.Moments.{IsOfNow, IsSentNow, IsNoted}
+use Rattle.fl_safety_laws.specs.Moments.{IsAdmitted, IsEntryOf, NotesOne, IsSentNow, IsNoted}
 
 -- A yes that a desk gives now is not withdrawn: each later answer to the same question is yes again, at that desk, at one of its
 -- node that sees no less, and after the node was opened again; to a process, where it owns no less.
@@ -67,14 +67,22 @@ pub record Grows (w : World) : Type 0 where
   pub own : (ms : List Moment) (number : ℕ) (s : KeptNode) (op : Op) → IsRun w ms → IsAt w number s
       → Contains (gains number w ms) op → IsOnItsWay s.node.state op ⊎ IsBegunIn number op w ms
 
--- what the next event notes is of the world now, so is the sender of what it sends, and a message that arrives is noted
+-- What the next event notes is its own one entry, where it is admitted and lets something pass, and
+-- else nothing: of the world now, and of a message the sender that was noted of its packet. The
+-- sender of what it sends is of the world now too.
 pub record Notes (w : World) : Type 0 where
-  pub moment : (after : World) (event : Event) (reply : Reply) (entry : Admission) → Step w event reply after
-      → Contains after.audit entry → Contains w.audit entry ⊎ IsOfNow w (node_of event) entry
+  pub moment : (after : World) (event : Event) (reply : Reply) (entry : Admission)
+      → Step w event reply after → Contains after.audit entry
+      → Contains w.audit entry ⊎ IsEntryOf w event reply entry
+  pub once : (after : World) (event : Event) (reply : Reply) → Step w event reply after
+      → IsAdmitted event reply → NotesOne w event reply after
+  pub only : (after : World) (event : Event) (reply : Reply) → Step w event reply after
+      → ¬ IsAdmitted event reply → after.audit ≡ w.audit
   pub sender : (after : World) (event : Event) (reply : Reply) (sent : Sent) → Step w event reply after
       → Contains after.packets sent → Contains w.packets sent ⊎ IsSentNow w (node_of event) sent
   pub arrival : (after : World) (packet number : ℕ) (receiver : Pid)
-      → Step w (Deliver packet number) (Answered (Arrived receiver)) after → IsNoted w receiver after
+      → Step w (Deliver packet number) (Answered (Arrived receiver)) after
+      → IsNoted w packet number receiver after
 
 -- A tag that came to a process along processes that never have its minus in effect stays in its label as long as it lives, and it
 -- emits nothing.

@@ -20,6 +20,8 @@ returns c = λ w reached. record {
   };
   noted = record {
     moment = λ after event reply entry. c.law_noted.ensures.moment w after event reply entry;
+    once = λ after event reply. c.law_noted.ensures.once w after event reply reached;
+    only = λ after event reply. c.law_noted.ensures.only w after event reply;
     sender = λ after event reply sent. c.law_noted.ensures.sender w after event reply sent;
     arrival = λ after packet number receiver. c.law_noted.ensures.arrival w after packet number receiver reached;
   };
