@@ -1,3 +1,4 @@
 pub mod Headlines
 pub mod Reaching
 pub mod Running
+pub mod Along

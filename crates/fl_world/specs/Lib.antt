@@ -1,4 +1,5 @@
 pub mod Reached
 pub mod Headline
 pub mod Lasting
+pub mod Along
 pub mod Looking

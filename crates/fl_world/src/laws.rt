@@ -1,6 +1,10 @@
-//! The headline, in each world that a run leads to.
-ghost use Rattle.fl_system.specs.Runs.{IsReached};
+//! The headline, in each world that a run leads to, and along a run.
+ghost use Rattle.std.specs.Prelude.{List};
+ghost use Rattle.fl_system.specs.declared.event.Event.{Event};
+ghost use Rattle.fl_system.specs.declared.reply.Reply.{Reply};
+ghost use Rattle.fl_system.specs.Runs.{IsReached, Moment, Run};
 ghost use Rattle.fl_system.specs.World.{World};
+ghost use Rattle.fl_world.specs.Along.{AreMoments, Lasts, moments_of};
 ghost use Rattle.fl_world.specs.Headline.{IsSafeWorld};
 ghost use Rattle.fl_world.specs.Lasting.{IsLastingWorld};
 
@@ -28,4 +32,23 @@ pub fn law_lasting()
     law_noted();
     law_confined();
     law_names();
+}
+
+/// A run of events, as `World::run` gives it, is a run of moments, as the laws speak of it, and
+/// back: the events happen in these, each once and in order, the replies are those to them, and
+/// they lead to the same world. Where a run led to the world before, all lasts along this one: no
+/// yes is withdrawn, nodes that published the same have one text, desks that see the same answer
+/// alike, a tag is confined, and each moment is of a safe world.
+pub fn law_run()
+    ensures moments { (w w' : World) (events : List Event) (replies : List Reply)
+        (run : Run w events replies w') →
+        AreMoments w events replies w' (moments_of w events replies w' run) }
+    ensures back { (w w' : World) (events : List Event) (replies : List Reply) (ms : List Moment) →
+        AreMoments w events replies w' ms → Run w events replies w' }
+    ensures lasts { (w w' : World) (events : List Event) (replies : List Reply)
+        (run : Run w events replies w') → IsReached w →
+        Lasts w events replies (moments_of w events replies w' run) }
+{
+    law_headline();
+    law_lasting();
 }

@@ -21,8 +21,9 @@ ghost use Rattle.fl_world.specs.Looking.{LooksFar};
 ghost use Rattle.fl_world.specs.Reached.{InEach};
 ghost use Rattle.fl_world.specs.Headline.{HasSafeAudit, IsSafeWorld};
 ghost use Rattle.fl_world.specs.Lasting.{IsLastingWorld};
+ghost use Rattle.fl_world.specs.Along.{LastingRun};
 
-use crate::laws::{law_headline, law_lasting};
+use crate::laws::{law_headline, law_lasting, law_run};
 use fl_jobs::answer::Refusal;
 use fl_jobs::job::Job;
 use fl_labels::name::NodeNumber;
@@ -264,12 +265,19 @@ impl<K: Keeper> World<K> {
 
     /// Has the events happen one after another, and gives what each is answered. Room for the answers is taken first: an error
     /// says that there was not enough memory for them, and nothing has happened then.
+    ///
+    /// All along the run no yes is withdrawn, nodes that published the same have one text, desks
+    /// that see the same answer alike, and a tag is confined.
     pub fn run(&mut self, alloc: Global, events: Vec<Event>) -> Result<Vec<Reply>, AllocError>
         requires { All LooksFar events.items }
         ensures ok { IfOk result (λ replies. Goes K.is_honest K.may_hold self.old self.new
             (λ w w'. Run w events.items replies.items w')) }
+        ensures lasting { IfOk result (λ replies. Goes K.is_honest K.may_hold self.old self.new
+            (λ w w'. LastingRun w events.items replies.items w')) }
         ensures err { OnErr result (self.new ≡ self.old) }
     {
+        let _nodes = &self.nodes;
+        law_run();
         let mut replies = Vec::with_capacity(alloc, events.len())?;
         for event in events {
             let reply = self.step(alloc, event);

@@ -1,8 +1,11 @@
-use Rattle.std.proofs.Common.{◌∙◌, sym, ap, length, arith}
+use Rattle.std.proofs.Common.{◌∙◌, sym, ap, subst, length, arith}
 use Rattle.std.proofs.lemmas.Iterator.Adapters.{YieldsList-from_vec}
 use Rattle.std.proofs.lemmas.Iterator.Consumers.{YieldsList-end}
 use Rattle.std.proofs.lemmas.List.{map-id}
 use Rattle.std.specs.Vec.{vec_len, vec_capacity}
+use Rattle.fl_system.specs.Runs.{IsReached}
+use Rattle.fl_world.specs.Reached.{InEach}
+use Rattle.fl_world.proofs.Along.{run_lasts}
 use Rattle.fl_world.proofs.Running.{RunsTo, none_yet, one_more, all_done}
 use Rattle.fl_world.proofs.world.World.run.Goals as goal
 
@@ -29,3 +32,9 @@ returns-clause-ok g c =
     c.next.result c.next.new.self c.in-None.is c.next.ensures.steps in
     all_done g.K.Keeper.is_honest g.K.Keeper.may_hold _ _ _ _ _ _ _ _ c.loop-event.invariant
     (sym (map-id c.loop-event.yielded) ∙ end.0)
+
+pub returns-clause-lasting : goal.returns-clause-lasting
+returns-clause-lasting g c =
+    run_lasts g.K.Keeper.is_honest g.K.Keeper.may_hold _ _ _ _ c.law_run.ensures.lasts
+    (subst (λ o. InEach g.K.Keeper.is_honest g.K.Keeper.may_hold o IsReached) c.self.view_is
+    c.self.invariant) (returns-clause-ok g c)
