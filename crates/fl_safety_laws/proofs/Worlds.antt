@@ -85,7 +85,8 @@ MessageGuarded U s = (d : Data) (p : Party) → s.packet ≡ packets.Data d → 
 
 -- of a message it is noted who sent it
 abbrev pub HasSender : Sent → Type 0
-HasSender s = (d : Data) → s.packet ≡ packets.Data d → (p : Party) × (s.sender ≡ Some p)
+HasSender s = (d : Data) → s.packet ≡ packets.Data d
+    → (p : Party) × (s.sender ≡ Some p) × (p.pid ≡ d.sender)
 
 message_kept : {U V : Op → Type 0} → Within U V → (s : Sent) → MessageGuarded U s → MessageGuarded V s
 message_kept more s h d p is by = endpoint_more (held_more more p) (h d p is by)
@@ -287,8 +288,11 @@ module _ (w : World) (g : Guarded w) (number : ℕ) (s : KeptNode) (at : IsAt w 
   sender_noted : (desk upto : ℕ) (job : Job) (d : Data) {n : NodeState}
       → Jobs s.node desk upto job (Ok (answers.Out d)) n → HasSender (sent_message number s.node d)
   sender_noted desk upto job d does e is =
-      let found = sender_there s.node desk upto job d does in
-      (party d.sender found.0, ap (party_at d.sender) found.1)
+      let found = sender_there s.node desk upto job d does in (
+        party d.sender found.0,
+        ap (party_at d.sender) found.1,
+        ap (λ (x : Data). x.sender) (data_in is),
+      )
 
   one_sent : (P : Sent → Type 0) (x : Sent) → P x → (y : Sent) → Contains (x ∷ []) y → P y
   one_sent P x h y (zero, inside, is) = subst P is h

@@ -166,11 +166,13 @@ pub record NotesOne (w : World) (event : Event) (reply : Reply) (w' : World) : T
   pub its : IsEntryOf w event reply entry
   pub noted : w'.audit ≡ w.audit ++ entry ∷ []
 
--- one entry more: that this packet, a message, arrived at the receiver at the node of this number
+-- one entry more: that this packet, a message of the sender, arrived at the receiver, a process of
+-- the node of this number
 pub record IsNoted (w : World) (packet number : ℕ) (receiver : Pid) (w' : World) : Type 0 where
   pub sender : Party
   pub taker : Party
   pub brings : Brings w packet number sender taker
+  pub own : sender.pid ≡ brings.message.sender
   pub taker_is : taker.pid ≡ receiver
   pub noted : w'.audit ≡ w.audit ++ Message sender taker ∷ []
 
