@@ -11,3 +11,7 @@ pub mod NoFault
 pub mod Added
 pub mod Windows
 pub mod Heads
+pub mod There
+pub mod OpThere
+pub mod RowsThere
+pub mod PacketThere

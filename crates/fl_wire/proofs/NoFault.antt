@@ -92,7 +92,7 @@ pub name_rising : (b : Option Name) (x : Name) → is_lt (slice_cmp nat_cmp (key
 name_rising None x = refl
 name_rising (Some y) x = ap (λ o. is_lt (ordering_then (nat_cmp y.node x.node) o)) (then_level (nat_cmp y.seq x.seq))
 
-cap_rising : (b : Option Cap) (x : Cap) → is_lt (slice_cmp nat_cmp (key_before key_of_cap b) (key_of_cap x)) ≡ is_above cap_cmp b x
+pub cap_rising : (b : Option Cap) (x : Cap) → is_lt (slice_cmp nat_cmp (key_before key_of_cap b) (key_of_cap x)) ≡ is_above cap_cmp b x
 cap_rising None x = refl
 cap_rising (Some y) x =
     let node = nat_cmp (cap_name y).node (cap_name x).node in

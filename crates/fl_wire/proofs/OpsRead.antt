@@ -35,7 +35,7 @@ pub record OpsTo (f : Format) (bytes : List ℕ) (at count place left : ℕ) (xs
   pub near : place + 51 * left ≤ at + 51 * count
 
 -- the last of one operation more
-last_more : (xs : List Op) (x : Op) → last_name (xs ++ x ∷ []) ≡ Some x.name
+pub last_more : (xs : List Op) (x : Op) → last_name (xs ++ x ∷ []) ≡ Some x.name
 last_more xs x = ap (λ n. option_map (λ op. op.name) (slice_get (xs ++ x ∷ []) n)) (before (length-append xs (x ∷ []))) ∙ ap (option_map (λ op. op.name)) (at_end xs)
   where
     before : {n k : ℕ} → n ≡ k + 1 → n - 1 ≡ k
