@@ -1,5 +1,6 @@
 //! Sets of operations, in a sorted `Vec`.
 ghost use Rattle.std.specs.Prelude.{◌≡◌, ◌≢◌, ◌≤◌, ◌<◌, IfOk, IfSome, IfNone, OnOk, OnErr, false, not, ◌&&◌, is_ok};
+ghost use Rattle.fl_labels.specs.Found.{Tells, Within};
 ghost use Rattle.fl_labels.specs.SetBy as set;
 ghost use Rattle.fl_labels.specs.SetBy.{In};
 ghost use Rattle.fl_ops.specs.declared.op.Op.{Op};
@@ -19,6 +20,7 @@ use crate::text::write_lines;
 use crate::windows::windows_of;
 use fl_labels::cap::Cap;
 use fl_labels::name::{Name, NodeNumber};
+use fl_labels::sorted::first_outside;
 use fl_ops::digest::Digest;
 use fl_ops::op::Op;
 use fl_sink::sink::{Sink, WriteFault};
@@ -172,13 +174,23 @@ impl OpSet {
         }
     }
 
-    /// Adds the members of another set; operations of one name all stay. An error leaves the set.
+    // Whether each member of the other is one of this set. One walk along the two; takes no memory.
+    fn has_each(&self, other: &OpSet) -> bool
+        ensures { Tells result (Within (In other.now) (In self.now)) }
+    {
+        first_outside(&other.ops, &self.ops).is_none()
+    }
+
+    /// Adds the members of another set; operations of one name all stay. Fails only where one of
+    /// them is new and there is not enough memory, and then leaves the set.
     ///
-    /// Where all of the other's are above all members, they are appended, and no member moves. Else both sets are walked once,
-    /// into a new vector, and its spans are found by one more walk.
+    /// Where all of the other's are above all members, they are appended, and no member moves. Else
+    /// both sets are walked once, into a new vector, and its spans are found by one more walk.
+    /// Where there is no memory for that vector, a walk along both tells whether a member is new.
     pub fn merge(&mut self, other: &OpSet) -> Result<(), AllocError>
         ensures ok { OnOk result (self.new ≡ set.union self.old other.now) }
         ensures err { OnErr result (self.new ≡ self.old) }
+        ensures new { OnErr result (¬ Within (In other.now) (In self.old)) }
     {
         if all_below(&self.ops, &other.ops) {
             self.ops.extend_from_slice(&other.ops)?;
@@ -186,7 +198,13 @@ impl OpSet {
             self.known = still_known(self.known, added);
             return Ok(());
         }
-        self.ops = merged(*self.ops.allocator(), &self.ops, &other.ops)?;
+        let Ok(ops) = merged(*self.ops.allocator(), &self.ops, &other.ops) else {
+            if self.has_each(other) {
+                return Ok(());
+            }
+            return Err(AllocError);
+        };
+        self.ops = ops;
         self.known = false;
         self.find_spans();
         Ok(())

@@ -1,8 +1,8 @@
-use Rattle.std.proofs.Common.{ap, ◌∙◌, refl}
+use Rattle.std.proofs.Common.{◌<◌, length, ap, ◌∙◌, refl, arith}
 use Rattle.fl_ops.specs.OpLaws.{op_total, op_exact}
 use Rattle.fl_labels.specs.SetBy.{of_list}
 use Rattle.fl_opset.proofs.Kept.{kept_same, kept_union, kept_lost}
-use Rattle.fl_opset.proofs.MergeLemmas.{merged_lists, appended_lists}
+use Rattle.fl_opset.proofs.MergeLemmas.{merged_lists, appended_lists, new_above, none_new, on_error}
 use Rattle.fl_opset.proofs.set.OpSet.merge.Goals as goal
 
 pub invariant_of-self : goal.invariant_of-self
@@ -20,8 +20,16 @@ returns-then-all_below-clause-ok c =
 
 pub invariant_of-self-2 : goal.invariant_of-self-2
 invariant_of-self-2 c =
-    kept_lost _ _ _ (merged_lists op_total op_exact _ _ _ _ _ _ _ c.self.invariant.rises c.other.invariant.rises c.self.view_is c.other.view_is c.deref-3.ensures.value c.deref-4.ensures.value c.in_ok-self-inside.ensures).rises c.self.invariant.fits refl
+    kept_lost _ _ _ (merged_lists op_total op_exact _ _ _ _ _ _ _ c.self.invariant.rises c.other.invariant.rises c.self.view_is c.other.view_is c.deref-3.ensures.value c.deref-4.ensures.value c.in-Ok.ensures).rises c.self.invariant.fits refl
 
 pub returns-clause-ok : goal.returns-clause-ok
 returns-clause-ok c =
-    c.find_spans.ensures ∙ (merged_lists op_total op_exact _ _ _ _ _ _ _ c.self.invariant.rises c.other.invariant.rises c.self.view_is c.other.view_is c.deref-3.ensures.value c.deref-4.ensures.value c.in_ok-self-inside.ensures).view
+    c.find_spans.ensures ∙ (merged_lists op_total op_exact _ _ _ _ _ _ _ c.self.invariant.rises c.other.invariant.rises c.self.view_is c.other.view_is c.deref-3.ensures.value c.deref-4.ensures.value c.in-Ok.ensures).view
+
+pub returns-in_err-extend_from_slice-clause-new : goal.returns-in_err-extend_from_slice-clause-new
+returns-in_err-extend_from_slice-clause-new c =
+    let some : 0 < length c.other.inside.ops.items = omega (arith, c.in_err-extend_from_slice.ensures.full, c.self.inside.ops.ok, ap length c.deref-then-all_below.ensures.value) in
+    on_error c.from_residual.result (new_above c.self.inside.ops.items c.other.inside.ops.items _ _ _ _ c.self.view_is c.other.view_is c.deref.ensures.value c.deref-2.ensures.value (c.all_below.ensures.below c.if-all_below.true) some)
+
+pub returns-then-has_each-clause-ok : goal.returns-then-has_each-clause-ok
+returns-then-has_each-clause-ok c = none_new _ _ (c.has_each.ensures.holds c.if-has_each.true)
