@@ -3,7 +3,7 @@ use Rattle.std.proofs.Common.{◌≡◌, inl, inr, ℕ, ◌+◌, ◌<◌, ◌≤
 use Rattle.std.specs.Cmp.{tied_itself}
 use Rattle.std.specs.List.{Contains, filter}
 use Rattle.std.specs.List.Sorted.{IsStrictlySortedBy}
-use Rattle.std.proofs.lemmas.Bool.{cases_lt}
+use Rattle.std.proofs.lemmas.Bool.{cases_lt, false≢true}
 use Rattle.std.proofs.lemmas.List.{take_more, take_all, get_or-take, length-take-le, get_or_default}
 use Rattle.std.proofs.lemmas.List.Elements.{Contains-push_cases, filter-append}
 use Rattle.std.proofs.lemmas.Map.Keys.{Less-from_sorted}
@@ -14,7 +14,7 @@ use Rattle.fl_opset.specs.Catching.{MayTake}
 use Rattle.fl_wire.specs.NameOrder.{by_name, by_name_total}
 use Rattle.fl_gossip.specs.declared.fault.GossipFault.{GossipFault}
 use Rattle.fl_gossip.specs.declared.fault.GossipFault.TheVariants.{Impostor, Clash, Memory}
-use Rattle.fl_gossip.specs.Taking.{Offends, AreTaken, IsLeastOffence, Refuses}
+use Rattle.fl_gossip.specs.Taking.{Offends, AreTaken, BringsNew, IsLeastOffence, Refuses}
 
 -- what `!` says of a test
 pub is_there : (b : Bool) → not b ≡ false → b ≡ true
@@ -58,6 +58,10 @@ module _ (me : ℕ) (saved : SetBy op_cmp) (ops : List Op) where
     pub taken_new : (ys : List Op) → MayTake me (In saved) x → contains saved x ≡ false → ys ≡ new ++ x ∷ [] → TakenTo me saved ops (i + 1) ys
     taken_new ys may there more = record { each = each_more may; lacked = more ∙ sym (filtered true (ap not there)) }
 
+    -- one that is new, for which there is no memory
+    pub brings_new : contains saved x ≡ false → BringsNew (In saved) ops
+    brings_new lacking = record { op = x; there = (i, inside, sym at); new = λ there. absurd (false≢true (sym lacking ∙ there)) }
+
     module _ (up : IsStrictlySortedBy by_name ops) where
       not_less : (y : Op) → by_name y y ≡ Less → ⊥
       not_less y h = let e : by_name y y ≡ Equal = tied_itself by_name_total y in cc
@@ -84,7 +88,7 @@ module _ (me : ℕ) (saved : SetBy op_cmp) (ops : List Op) where
       pub refused : (f : GossipFault) → Offends me (In saved) x f → Refuses me (In saved) ops f
       refused (Impostor n) h = offence (Impostor n) h
       refused (Clash n) h = offence (Clash n) h
-      refused Memory h = tt
+      refused Memory h = absurd h
 
   pub all_taken : (i : ℕ) (new all : List Op) → length ops ≤ i → all ≡ ops → TakenTo me saved ops i new → AreTaken me saved all new
   all_taken i new all done same t =

@@ -39,8 +39,14 @@ pub record IsLeastOffence (me : ℕ) (U : Registry) (ops : List Op) (f : GossipF
   pub offends : Offends me U op f
   pub least : (other : Op) → Contains ops other → by_name other op ≡ Less → MayTake me U other
 
--- that, or no memory
+-- one of them is new
+pub record BringsNew (U : Registry) (ops : List Op) : Type 0 where
+  pub op : Op
+  pub there : Contains ops op
+  pub new : ¬ U op
+
+-- that, or no memory for what is new
 abbrev pub Refuses : ℕ → Registry → List Op → GossipFault → Type 0
 Refuses me U ops (Impostor name) = IsLeastOffence me U ops (Impostor name)
 Refuses me U ops (Clash name) = IsLeastOffence me U ops (Clash name)
-Refuses me U ops Memory = Unit {0}
+Refuses me U ops Memory = BringsNew U ops

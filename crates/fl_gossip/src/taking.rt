@@ -87,8 +87,11 @@ fn is_new(members: &[Op], me: NodeNumber, op: &Op) -> Result<bool, GossipFault>
 
 /// The operations of a packet that the set lacks, rising; of a packet without operations, none.
 ///
-/// For the least name of an operation that may not be taken: `Impostor` where its node is `me` and the set has no operation of
-/// that name, and `Clash` where the set has another operation of that name. `Memory` where there was not enough for the answer.
+/// For the least name of an operation that may not be taken: `Impostor` where its node is `me` and
+/// the set has no operation of that name, and `Clash` where the set has another operation of that
+/// name. `Memory` only where there was not enough for an operation that the set lacks: where it
+/// lacks none of the packet's, nothing is allocated.
+///
 /// Goes through the set with the packet, by a search for each operation, in steps that double from where the one before ended.
 pub fn take(
     alloc: Global,

@@ -2,8 +2,8 @@ use Rattle.std.proofs.Common.{List, arith, sym, subst, ◌∙◌}
 use Rattle.std.proofs.lemmas.Result.{err_from_is_err_and}
 use Rattle.fl_labels.specs.SetBy.{In}
 use Rattle.fl_ops.specs.declared.op.Op.{Op}
-use Rattle.fl_gossip.specs.Taking.{Refuses}
-use Rattle.fl_gossip.proofs.Take.{is_there, is_lacking, taken_none, taken_old, taken_new, refused, all_taken}
+use Rattle.fl_gossip.specs.Taking.{BringsNew, Refuses}
+use Rattle.fl_gossip.proofs.Take.{is_there, is_lacking, taken_none, taken_old, taken_new, brings_new, refused, all_taken}
 use Rattle.fl_gossip.proofs.Fronts.{left_all, left_more, left_from, same_left, may_all, offends_all}
 use Rattle.fl_gossip.proofs.taking.take.Goals as goal
 use Rattle.fl_gossip.proofs.taking.take.Goals.{then-branch+in_ok-push, else-branch}
@@ -46,6 +46,19 @@ returns-in_err-is_new c =
     rw (p.1, p.2) (subst (λ (l : List Op). Refuses c.args.me (In s) l c.in_err-is_new.field-0.0) c.operations-ops.ensures.ops
     (refused _ _ _ _ x (omega arith) c.op-item.is _ c.loop-op.invariant.taken c.operations-ops.ensures.rise c.in_err-is_new.field-0.0
     (offends_all c.args.me s _ x left.of same c.in_err-is_new.field-0.0 c.in_err-is_new.ensures)))
+
+pub returns-in_err-push : goal.returns-in_err-push
+returns-in_err-push c =
+    let s = c.args.saved.now in
+    let ops = c.operations-ops.result.now in
+    let x = c.op-item.result in
+    let i = c.loop-op.op-index in
+    let left = left_from s ops i x (omega arith) c.op-item.is c.operations-ops.ensures.rise _ _ c.loop-op.invariant.left c.from_name-rest.ensures in
+    let same = same_left s ops i x (omega arith) c.op-item.is c.operations-ops.ensures.rise _ left in
+    let e = may_all c.args.me s _ x left.of same _ c.in_ok-is_new.ensures in
+    let p = err_from_is_err_and c.from_residual-in_err-push.result c.from_residual-in_err-push.ensures.1 in
+    rw (p.1, p.2) (subst (BringsNew (In s)) c.operations-ops.ensures.ops
+    (brings_new _ _ _ _ x (omega arith) c.op-item.is _ c.loop-op.invariant.taken (is_lacking _ (sym e.1 ∙ c.if-branch.true))))
 
 pub returns : goal.returns
 returns c = all_taken _ _ _ c.loop-op.op-index _ _ (omega arith) (sym c.operations-ops.ensures.ops) c.loop-op.invariant.taken
