@@ -120,7 +120,7 @@ unites_leads first second w answer w' (calls.stopped which at why) = stays w
 checks_leads : (number : ℕ) (bytes : List ℕ) (w : World) (answer : Said) (w' : World)
     → ChecksAt w number bytes answer w' → Leads w w'
 checks_leads number bytes w answer w' (calls.no_packet fault) = stays w
-checks_leads number bytes w answer w' (calls.no_room head) = stays w
+checks_leads number bytes w answer w' (calls.no_room head some) = stays w
 checks_leads number bytes w answer w' (calls.tells at is told) = stays w
 checks_leads number bytes w answer w' (calls.refuses at is why) = stays w
 

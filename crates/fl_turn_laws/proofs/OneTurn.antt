@@ -280,8 +280,8 @@ module _ (one_spelling : (f g : Format) (a b : Packet) → HasPacket f a → Has
   unfolding One no_memory
   checks_one number bytes w x y a b (calls.no_packet {place} fault) (calls.no_packet {place = other} fault') p q =
       (ap bad_packet (same_found fault fault'), refl)
-  checks_one number bytes w x y a b (calls.no_room head) k p q = absurd (not_sure p)
-  checks_one number bytes w x y a b h (calls.no_room head) p q = absurd (not_sure q)
+  checks_one number bytes w x y a b (calls.no_room head some) k p q = absurd (not_sure p)
+  checks_one number bytes w x y a b h (calls.no_room head some) p q = absurd (not_sure q)
   checks_one number bytes w x y a b (calls.no_packet {place} fault) (calls.tells {packet} at is counts_) p q =
       absurd (no_fault packet bytes place is fault)
   checks_one number bytes w x y a b (calls.no_packet {place} fault) (calls.refuses {packet} at is why) p q =

@@ -1,5 +1,5 @@
 -- The first fault of fields in a row.
-use Rattle.std.proofs.Common.{◌≡◌, ℕ, Bool, true, false, List, [], ◌∷◌, ◌++◌, Some, None, refl, ◌∙◌}
+use Rattle.std.proofs.Common.{◌≡◌, ℕ, ◌≤◌, arith, Bool, true, false, List, [], ◌∷◌, ◌++◌, Some, None, refl, ◌∙◌}
 use Rattle.fl_ops.specs.Grammar.{first_fault}
 use Rattle.fl_wire.specs.declared.fault.ReadFault.{ReadFault}
 use Rattle.fl_wire.specs.declared.fault.ReadFault.TheVariants.{BadPacket, Memory}
@@ -17,27 +17,32 @@ fault_rest [] gs h = refl
 fault_rest ((at, true) ∷ fs) gs h = fault_rest fs gs h
 fault_rest ((at, false) ∷ fs) gs h = absurd (cc)
 
-pub bad_front : (fs gs : List (ℕ × Bool)) (f : ReadFault) → IsBadOrMemory fs f → IsBadOrMemory (fs ++ gs) f
-bad_front fs gs (BadPacket place) h = fault_front fs gs place h
-bad_front fs gs Memory h = tt
+pub bad_front : (kept : ℕ) (fs gs : List (ℕ × Bool)) (f : ReadFault) → IsBadOrMemory kept fs f → IsBadOrMemory kept (fs ++ gs) f
+bad_front kept fs gs (BadPacket place) h = fault_front fs gs place h
+bad_front kept fs gs Memory h = h
 
-pub bad_rest : (fs gs : List (ℕ × Bool)) (f : ReadFault) → first_fault fs ≡ None → IsBadOrMemory gs f → IsBadOrMemory (fs ++ gs) f
-bad_rest fs gs (BadPacket place) none h = fault_rest fs gs none ∙ h
-bad_rest fs gs Memory none h = tt
+pub bad_rest : (kept : ℕ) (fs gs : List (ℕ × Bool)) (f : ReadFault) → first_fault fs ≡ None → IsBadOrMemory kept gs f → IsBadOrMemory kept (fs ++ gs) f
+bad_rest kept fs gs (BadPacket place) none h = fault_rest fs gs none ∙ h
+bad_rest kept fs gs Memory none h = h
 
 -- no want of memory is a want of memory or not
-pub bad_only : (fs : List (ℕ × Bool)) (f : ReadFault) → IsBad fs f → IsBadOrMemory fs f
-bad_only fs (BadPacket place) h = h
-bad_only fs Memory h = tt
+pub bad_only : (kept : ℕ) (fs : List (ℕ × Bool)) (f : ReadFault) → IsBad fs f → IsBadOrMemory kept fs f
+bad_only kept fs (BadPacket place) h = h
+bad_only kept fs Memory h = absurd h
 
-pub bad_next : (at : ℕ) (there : Bool) (fs : List (ℕ × Bool)) (f : ReadFault) → there ≡ true → IsBadOrMemory fs f → IsBadOrMemory ((at, there) ∷ fs) f
-bad_next at there fs (BadPacket place) is h = rw is h
-bad_next at there fs Memory is h = tt
+pub bad_next : (kept at : ℕ) (there : Bool) (fs : List (ℕ × Bool)) (f : ReadFault) → there ≡ true → IsBadOrMemory kept fs f → IsBadOrMemory kept ((at, there) ∷ fs) f
+bad_next kept at there fs (BadPacket place) is h = rw is h
+bad_next kept at there fs Memory is h = h
 
-pub bad_at : (fs : List (ℕ × Bool)) (place : ℕ) (f : ReadFault) → f ≡ BadPacket place → first_fault fs ≡ Some place → IsBadOrMemory fs f
-bad_at fs place f is h = rw is h
+pub bad_at : (kept : ℕ) (fs : List (ℕ × Bool)) (place : ℕ) (f : ReadFault) → f ≡ BadPacket place → first_fault fs ≡ Some place → IsBadOrMemory kept fs f
+bad_at kept fs place f is h = rw is h
+
+-- memory that is wanted for some is wanted for more
+pub bad_more : (some more : ℕ) (fs : List (ℕ × Bool)) (f : ReadFault) → some ≤ more → IsBadOrMemory some fs f → IsBadOrMemory more fs f
+bad_more some more fs (BadPacket place) within h = h
+bad_more some more fs Memory within h = omega arith
 
 -- after a head without a fault, memory may be wanted
-pub bad_after : (head fs : List (ℕ × Bool)) (f : ReadFault) → first_fault head ≡ None → IsBadOrMemory fs f → IsBadOrMemoryAfter head fs f
-bad_after head fs (BadPacket place) none h = h
-bad_after head fs Memory none h = none
+pub bad_after : (head : List (ℕ × Bool)) (kept : ℕ) (fs : List (ℕ × Bool)) (f : ReadFault) → first_fault head ≡ None → IsBadOrMemory kept fs f → IsBadOrMemoryAfter head kept fs f
+bad_after head kept fs (BadPacket place) none h = h
+bad_after head kept fs Memory none h = (none, h)

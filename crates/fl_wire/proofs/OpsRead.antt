@@ -82,11 +82,11 @@ module _ {f : Format} {bytes : List ℕ} {at count : ℕ} where
       subst (OpsTo f bytes at count end less ys) (sym (ap last_name n.added ∙ last_more xs n.op)) (ops_more place left xs ys (last_name xs) n.op end less r n.next q n.added)
 
   pub ops_bad : (place left : ℕ) (xs : List Op) (before : Option Name) (less : ℕ) (x : ReadFault) → OpsTo f bytes at count place left xs before → left ≡ suc less
-      → IsBad (next_op f bytes place (key_before name_key before)) x → IsBadOrMemory (ops_fields f bytes at [] count) x
+      → IsBad (next_op f bytes place (key_before name_key before)) x → IsBadOrMemory count (ops_fields f bytes at [] count) x
   ops_bad place left xs before less (BadPacket p) r q bad =
       r.faults ∙ ap (λ m. first_fault (ops_fields f bytes place (key_before name_key before) m)) q
-      ∙ bad_front (next_op f bytes place (key_before name_key before)) _ (BadPacket p) (bad_only (next_op f bytes place (key_before name_key before)) (BadPacket p) bad)
-  ops_bad place left xs before less Memory r q bad = tt
+      ∙ bad_front count (next_op f bytes place (key_before name_key before)) _ (BadPacket p) (bad_only count (next_op f bytes place (key_before name_key before)) (BadPacket p) bad)
+  ops_bad place left xs before less Memory r q bad = absurd bad
 
   pub ops_all : (place left : ℕ) (xs : List Op) (before : Option Name) → OpsTo f bytes at count place left xs before → left ≡ 0 → length bytes ≤ place → AreOps f bytes at count xs
   ops_all place left xs before r done end = record {

@@ -54,11 +54,11 @@ module _ {f : Format} {bytes : List ℕ} {at from high count : ℕ} where
   })
 
   pub spans_bad : (place low left : ℕ) (xs : List Span) (less : ℕ) (x : ReadFault) → SpansTo f bytes at from high count place low left xs → left ≡ suc less
-      → IsBad (span_fields f bytes place low high) x → IsBadOrMemory (spans_fields f bytes at from high count) x
+      → IsBad (span_fields f bytes place low high) x → IsBadOrMemory count (spans_fields f bytes at from high count) x
   spans_bad place low left xs less (BadPacket p) r q bad =
       r.faults ∙ ap (λ m. first_fault (spans_fields f bytes place low high m)) q
-      ∙ bad_front (span_fields f bytes place low high) (spans_fields f bytes (place + span_size f) (last_at f bytes place + 2) high less) (BadPacket p) (bad_only (span_fields f bytes place low high) (BadPacket p) bad)
-  spans_bad place low left xs less Memory r q bad = tt
+      ∙ bad_front count (span_fields f bytes place low high) (spans_fields f bytes (place + span_size f) (last_at f bytes place + 2) high less) (BadPacket p) (bad_only count (span_fields f bytes place low high) (BadPacket p) bad)
+  spans_bad place low left xs less Memory r q bad = absurd bad
 
   pub spans_all : (place low left : ℕ) (xs : List Span) → SpansTo f bytes at from high count place low left xs → left ≡ 0 → length bytes ≤ place → AreSpansAt f bytes at from high count xs
   spans_all place low left xs r done end = record {

@@ -1,5 +1,5 @@
 -- What a reader's fault says of the fields that it read.
-use Rattle.std.specs.Prelude.{◌≡◌, ℕ, Bool, List, Some, None}
+use Rattle.std.specs.Prelude.{◌≡◌, ◌<◌, ℕ, Bool, List, Some, None}
 use Rattle.fl_ops.specs.Grammar.{first_fault}
 use Rattle.fl_wire.specs.declared.fault.ReadFault.{ReadFault}
 use Rattle.fl_wire.specs.declared.fault.ReadFault.TheVariants.{BadPacket, Memory}
@@ -9,12 +9,12 @@ abbrev pub IsBad : List (ℕ × Bool) → ReadFault → Type 0
 IsBad fields (BadPacket place) = first_fault fields ≡ Some place
 IsBad fields Memory = ⊥
 
--- that, or no memory
-abbrev pub IsBadOrMemory : List (ℕ × Bool) → ReadFault → Type 0
-IsBadOrMemory fields (BadPacket place) = first_fault fields ≡ Some place
-IsBadOrMemory fields Memory = Unit {0}
+-- that, or no memory for what is kept: for so many items, of which there is one at least
+abbrev pub IsBadOrMemory : ℕ → List (ℕ × Bool) → ReadFault → Type 0
+IsBadOrMemory kept fields (BadPacket place) = first_fault fields ≡ Some place
+IsBadOrMemory kept fields Memory = 0 < kept
 
--- that, or no memory, where the fields of the head are there
-abbrev pub IsBadOrMemoryAfter : List (ℕ × Bool) → List (ℕ × Bool) → ReadFault → Type 0
-IsBadOrMemoryAfter head fields (BadPacket place) = first_fault fields ≡ Some place
-IsBadOrMemoryAfter head fields Memory = first_fault head ≡ None
+-- that, where the fields of the head are there
+abbrev pub IsBadOrMemoryAfter : List (ℕ × Bool) → ℕ → List (ℕ × Bool) → ReadFault → Type 0
+IsBadOrMemoryAfter head kept fields (BadPacket place) = first_fault fields ≡ Some place
+IsBadOrMemoryAfter head kept fields Memory = (first_fault head ≡ None) × (0 < kept)

@@ -45,6 +45,10 @@ payload_fields bytes at =
     ∷ (at + 2 + short_at bytes at, nat_le (length bytes) (at + 2 + short_at bytes at))
     ∷ []
 
+-- how many items of it are kept: capabilities and bytes
+abbrev pub message_kept : Format → List ℕ → ℕ → ℕ
+message_kept f bytes at = slice_index bytes at + short_at bytes (after_caps f bytes at)
+
 abbrev pub message_fields : Format → List ℕ → ℕ → List (ℕ × Bool)
 message_fields f bytes at = caps_fields f bytes at ++ payload_fields bytes (after_caps f bytes at)
 
@@ -54,6 +58,13 @@ content_fields f bytes at =
     label_fields f bytes at
     ++ (label_fields f bytes (after_label f bytes at) ++ message_fields f bytes (after_label f bytes (after_label f bytes at)))
 
+-- how many items of them are kept: tags, capabilities and bytes
+abbrev pub content_kept : Format → List ℕ → ℕ → ℕ
+content_kept f bytes at =
+    short_at bytes at
+    + (short_at bytes (after_label f bytes at)
+    + message_kept f bytes (after_label f bytes (after_label f bytes at)))
+
 -- the sender's end and the receiver's
 abbrev pub data_head : Format → List ℕ → ℕ → List (ℕ × Bool)
 data_head f bytes at = end_fields f bytes at ++ end_fields f bytes (at + end_size f)
@@ -61,6 +72,9 @@ data_head f bytes at = end_fields f bytes at ++ end_fields f bytes (at + end_siz
 -- these, and what is sent
 abbrev pub data_fields : Format → List ℕ → ℕ → List (ℕ × Bool)
 data_fields f bytes at = end_fields f bytes at ++ (end_fields f bytes (at + end_size f) ++ content_fields f bytes (at + 2 * end_size f))
+
+abbrev pub data_kept : Format → List ℕ → ℕ → ℕ
+data_kept f bytes at = content_kept f bytes (at + 2 * end_size f)
 
 -- an operation, of a name above the one before
 abbrev pub next_op : Format → List ℕ → ℕ → List ℕ → List (ℕ × Bool)
@@ -93,6 +107,9 @@ batch_head bytes at = (at, has_byte bytes at 1 64) ∷ []
 -- that, and each
 abbrev pub batch_fields : Format → List ℕ → ℕ → List (ℕ × Bool)
 batch_fields f bytes at = batch_head bytes at ++ ops_fields f bytes (at + 1) [] (slice_index bytes at)
+
+abbrev pub batch_kept : List ℕ → ℕ → ℕ
+batch_kept bytes at = slice_index bytes at
 
 -- the rank of the name at a place, and that of the last name of the span there
 abbrev pub rank_at : Format → List ℕ → ℕ → ℕ
@@ -137,6 +154,10 @@ window_fields f bytes at =
     ++ spans_fields f bytes (at + (2 * name_size f + 2)) (rank_at f bytes at) (rank_at f bytes (at + name_size f))
     (short_at bytes (at + 2 * name_size f))
 
+-- how many spans
+abbrev pub window_kept : Format → List ℕ → ℕ → ℕ
+window_kept f bytes at = short_at bytes (at + 2 * name_size f)
+
 -- what follows the kind: operations, a window, operations, or a message
 abbrev pub kind_fields : Format → List ℕ → ℕ → List (ℕ × Bool)
 kind_fields f bytes kind =
@@ -152,6 +173,14 @@ kind_head f bytes kind =
     else (if kind == 2 then window_head f bytes 2
     else (if kind == 3 then batch_head bytes 2
     else data_head f bytes 2))
+
+-- how many items of it are kept: operations, spans, operations, or tags, capabilities and bytes
+abbrev pub kind_kept : Format → List ℕ → ℕ → ℕ
+kind_kept f bytes kind =
+    if kind == 1 then batch_kept bytes 2
+    else (if kind == 2 then window_kept f bytes 2
+    else (if kind == 3 then batch_kept bytes 2
+    else data_kept f bytes 2))
 
 -- the format that a byte says
 abbrev pub packet_format : ℕ → Format
@@ -170,6 +199,10 @@ packet_fields bytes =
     (0, has_byte bytes 0 241 242)
     ∷ (1, has_byte bytes 1 1 4)
     ∷ kind_fields (packet_format (slice_index bytes 0)) bytes (slice_index bytes 1)
+
+-- how many items of a packet are kept
+abbrev pub packet_kept : List ℕ → ℕ
+packet_kept bytes = kind_kept (packet_format (slice_index bytes 0)) bytes (slice_index bytes 1)
 
 -- the place of the first fault, if there is one
 abbrev pub packet_fault : List ℕ → Option ℕ

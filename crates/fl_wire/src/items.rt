@@ -1,8 +1,8 @@
 //! Sets from bytes.
-ghost use Rattle.std.specs.Prelude.{◌≡◌, ◌<◌, ◌≤◌, ◌+◌, ◌^◌, MatchResult, true, false, slice_index, drop, None, ◌++◌};
+ghost use Rattle.std.specs.Prelude.{◌≡◌, ◌<◌, ◌≤◌, ◌+◌, ◌^◌, MatchResult, IfOk, OnErr, true, false, length, slice_index, drop, None, ◌++◌};
 ghost use Rattle.fl_labels.specs.Name.{name_cmp};
 ghost use Rattle.fl_labels.specs.Cap.{cap_cmp};
-ghost use Rattle.fl_labels.specs.SetBy.{len};
+ghost use Rattle.fl_labels.specs.SetBy.{len, of_list};
 ghost use Rattle.fl_ops.specs.Bytes.{name_bytes, name_size, cap_bytes, cap_size};
 ghost use Rattle.fl_ops.specs.Fits.{HasName, HasCap};
 ghost use Rattle.fl_ops.specs.Grammar.{has_name, first_fault};
@@ -21,7 +21,7 @@ use fl_labels::label::Label;
 use fl_labels::name::Name;
 use fl_ops::fields::byte_at;
 use fl_ops::format::Format;
-use std::alloc::Global;
+use std::alloc::{AllocError, Global};
 
 // Whether an item is above the one before it, where there is one.
 fn rises_above<T: Ord + Copy + Drop>(before: Option<T>, item: &T) -> bool
@@ -68,7 +68,7 @@ fn tags_at(
     ensures { MatchResult result
         (λ tags. AreRead name_cmp (HasName format) (name_bytes format) (tag_fields format bytes.now at count)
         (name_size format) bytes.now at count tags.items)
-        (IsBadOrMemory (tag_fields format bytes.now at count)) }
+        (IsBadOrMemory count (tag_fields format bytes.now at count)) }
 {
     let mut tags = Vec::with_capacity(alloc, count)?;
     let mut before = None;
@@ -94,7 +94,7 @@ pub(crate) fn label_at(
         (λ s. (first_fault (label_fields format bytes.now at) ≡ None) × HasLabel format s × (len s ≡ short_at bytes.now at)
         × (len s ≤ 256)
         × (drop at bytes.now ≡ label_bytes format s ++ drop (after_label format bytes.now at) bytes.now))
-        (IsBadOrMemory (label_fields format bytes.now at)) }
+        (IsBadOrMemory (short_at bytes.now at) (label_fields format bytes.now at)) }
 {
     let count = usize::from(short_at(bytes, at, 0, 256)?);
     let tags = tags_at(alloc, format, bytes, at + 2, count)?;
@@ -131,7 +131,7 @@ fn each_cap_at(
     ensures { MatchResult result
         (λ caps. AreRead cap_cmp (HasCap format) (cap_bytes format) (each_cap format bytes.now at count)
         (cap_size format) bytes.now at count caps.items)
-        (IsBadOrMemory (each_cap format bytes.now at count)) }
+        (IsBadOrMemory count (each_cap format bytes.now at count)) }
 {
     let mut caps = Vec::with_capacity(alloc, count)?;
     let mut before = None;
@@ -143,6 +143,17 @@ fn each_cap_at(
         place += format.cap_size();
     }
     Ok(caps)
+}
+
+// The set of these capabilities. That of none takes no memory.
+fn set_of(alloc: Global, caps: Vec<Cap>) -> Result<CapSet, AllocError>
+    ensures ok { IfOk result (λ made. made ≡ of_list caps.items) }
+    ensures wants { OnErr result (0 < length caps.items) }
+{
+    if caps.is_empty() {
+        return Ok(CapSet::new(alloc));
+    }
+    CapSet::from_vec(caps)
 }
 
 // The set of capabilities at a place.
@@ -157,9 +168,9 @@ pub(crate) fn caps_at(
         (λ s. (first_fault (caps_fields format bytes.now at) ≡ None) × HasCaps format s × (len s ≡ slice_index bytes.now at)
         × (len s ≤ 64)
         × (drop at bytes.now ≡ caps_bytes format s ++ drop (after_caps format bytes.now at) bytes.now))
-        (IsBadOrMemory (caps_fields format bytes.now at)) }
+        (IsBadOrMemory (slice_index bytes.now at) (caps_fields format bytes.now at)) }
 {
     let count = usize::from(byte_at(bytes, at, 0, 64)?);
     let caps = each_cap_at(alloc, format, bytes, at + 1, count)?;
-    Ok(CapSet::from_vec(caps)?)
+    Ok(set_of(alloc, caps)?)
 }

@@ -6,7 +6,7 @@ ghost use Rattle.fl_ops.specs.Grammar.{first_fault};
 ghost use Rattle.fl_wire.specs.Faults.{IsBadOrMemory, IsBadOrMemoryAfter};
 ghost use Rattle.fl_wire.specs.parts.Ops.{AreOps};
 ghost use Rattle.fl_wire.specs.PacketBytes.{batch_bytes};
-ghost use Rattle.fl_wire.specs.PacketGrammar.{ops_fields, batch_head, batch_fields};
+ghost use Rattle.fl_wire.specs.PacketGrammar.{ops_fields, batch_head, batch_kept, batch_fields};
 
 use crate::batch::{Batch, OpList};
 use crate::fault::ReadFault;
@@ -27,7 +27,7 @@ fn ops_at(
     requires place { at < 2 ^ 28 }
     requires few { count ≤ 64 }
     ensures { MatchResult result (λ ops. AreOps format bytes.now at count ops.items)
-        (IsBadOrMemory (ops_fields format bytes.now at [] count)) }
+        (IsBadOrMemory count (ops_fields format bytes.now at [] count)) }
 {
     let mut ops = Vec::with_capacity(alloc, count)?;
     let mut place = at;
@@ -51,7 +51,8 @@ pub(crate) fn batch_at(
     ensures { MatchResult result
         (λ b. (first_fault (batch_fields format bytes.now at) ≡ None) × AllByRecursion (HasOp format) b.ops
         × (drop at bytes.now ≡ batch_bytes format b.ops))
-        (IsBadOrMemoryAfter (batch_head bytes.now at) (batch_fields format bytes.now at)) }
+        (IsBadOrMemoryAfter (batch_head bytes.now at) (batch_kept bytes.now at)
+        (batch_fields format bytes.now at)) }
 {
     let count = usize::from(byte_at(bytes, at, 1, 64)?);
     let ops = OpList::from_vec(ops_at(alloc, format, bytes, at + 1, count)?);

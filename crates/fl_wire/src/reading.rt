@@ -1,10 +1,11 @@
 //! Packets from bytes.
-ghost use Rattle.std.specs.Prelude.{◌≡◌, ◌<◌, ◌≤◌, ◌+◌, ◌^◌, ◌*◌, MatchResult, length, drop, slice_index, None, ◌++◌};
+ghost use Rattle.std.specs.Prelude.{◌≡◌, ◌<◌, ◌≤◌, ◌+◌, ◌^◌, ◌*◌, IfOk, OnErr, MatchResult, length, drop, slice_index, None, ◌++◌};
 ghost use Rattle.fl_ops.specs.Grammar.{first_fault};
+ghost use Rattle.fl_wire.specs.Fields.{short_at};
 ghost use Rattle.fl_wire.specs.Faults.{IsBadOrMemory, IsBadOrMemoryAfter};
 ghost use Rattle.fl_wire.specs.PacketFits.{HasCaps, HasData, HasPacket};
 ghost use Rattle.fl_wire.specs.PacketBytes.{payload_bytes, message_bytes, data_bytes, packet_bytes};
-ghost use Rattle.fl_wire.specs.PacketGrammar.{payload_fields, message_fields, data_head, data_fields, packet_head, packet_fields, packet_format};
+ghost use Rattle.fl_wire.specs.PacketGrammar.{payload_fields, message_kept, message_fields, data_head, data_kept, data_fields, packet_head, packet_kept, packet_fields, packet_format};
 
 use crate::fault::ReadFault;
 use crate::fields::{end_at, short_at};
@@ -16,7 +17,7 @@ use fl_message::message::{Data, Message};
 use fl_message::payload::Payload;
 use fl_ops::fields::byte_at;
 use fl_ops::format::Format;
-use std::alloc::Global;
+use std::alloc::{AllocError, Global};
 
 // How many bytes so many items of a size take.
 fn sized(size: usize, count: usize) -> usize
@@ -27,13 +28,23 @@ fn sized(size: usize, count: usize) -> usize
     size * count
 }
 
+// The bytes again. No bytes take no memory.
+fn copied(alloc: Global, bytes: &[u8]) -> Result<Vec<u8>, AllocError>
+    ensures items { IfOk result (λ made. made.items ≡ bytes.now) }
+    ensures wants { OnErr result (0 < length bytes.now) }
+{
+    let mut made = Vec::with_capacity(alloc, bytes.len())?;
+    made.extend_from_slice(bytes)?;
+    Ok(made)
+}
+
 // The payload, and the end of the bytes after it.
 fn payload_at(alloc: Global, bytes: &[u8], at: usize) -> Result<Payload, ReadFault>
     requires { at < 2 ^ 31 }
     ensures { MatchResult result
         (λ p. (first_fault (payload_fields bytes.now at) ≡ None) × (length p ≤ 1024)
         × (drop at bytes.now ≡ payload_bytes p))
-        (IsBadOrMemory (payload_fields bytes.now at)) }
+        (IsBadOrMemory (short_at bytes.now at) (payload_fields bytes.now at)) }
 {
     let start = at + 2;
     let end = start + usize::from(short_at(bytes, at, 0, 1024)?);
@@ -43,7 +54,7 @@ fn payload_at(alloc: Global, bytes: &[u8], at: usize) -> Result<Payload, ReadFau
     if end < bytes.len() {
         return Err(ReadFault::BadPacket { place: end });
     }
-    Ok(Payload::from_vec(Vec::from_slice(alloc, field)?))
+    Ok(Payload::from_vec(copied(alloc, field)?))
 }
 
 // The message, which ends the bytes.
@@ -52,7 +63,7 @@ fn message_at(alloc: Global, format: Format, bytes: &[u8], at: usize) -> Result<
     ensures { MatchResult result
         (λ m. (first_fault (message_fields format bytes.now at) ≡ None)
         × HasCaps format m.caps × (drop at bytes.now ≡ message_bytes format m))
-        (IsBadOrMemory (message_fields format bytes.now at)) }
+        (IsBadOrMemory (message_kept format bytes.now at) (message_fields format bytes.now at)) }
 {
     let caps = caps_at(alloc, format, bytes, at)?;
     let payload = payload_at(
@@ -68,7 +79,8 @@ fn data_at(alloc: Global, format: Format, bytes: &[u8]) -> Result<Data, ReadFaul
     ensures { MatchResult result
         (λ d. (first_fault (data_fields format bytes.now 2) ≡ None) × HasData format d
         × (drop 2 bytes.now ≡ data_bytes format d))
-        (IsBadOrMemoryAfter (data_head format bytes.now 2) (data_fields format bytes.now 2)) }
+        (IsBadOrMemoryAfter (data_head format bytes.now 2) (data_kept format bytes.now 2)
+        (data_fields format bytes.now 2)) }
 {
     let end = format.node_size() + 9;
     let (sender, from) = end_at(format, bytes, 2)?;
@@ -101,16 +113,20 @@ fn format_of(byte: u8) -> Format
     }
 }
 
-/// The packet that the bytes spell, all of them, in either format. Linear, and takes memory for the sets, the operations, the spans and the
-/// payload alone, none before the head is right: the format, the kind, and what stands before the first of these.
+/// The packet that the bytes spell, all of them, in either format. Linear, and takes memory for the
+/// sets, the operations, the spans and the payload alone, none before the head is right: the
+/// format, the kind, and what stands before the first of these. So none of a window without spans,
+/// nor of a message without tags, capabilities and bytes.
 ///
-/// `BadPacket` where no packet spells them, at the first byte of the first field that is cut off, out of its range or against a
-/// rule with what came before it, or at the first byte after the packet's end. `Memory` where there is not enough memory.
+/// `BadPacket` where no packet spells them, at the first byte of the first field that is cut off,
+/// out of its range or against a rule with what came before it, or at the first byte after the
+/// packet's end. `Memory` where there is not enough memory.
 pub fn decode(alloc: Global, bytes: &[u8]) -> Result<Packet, ReadFault>
     ensures { MatchResult result
         (λ packet. let f = packet_format (slice_index bytes.now 0) in
         HasPacket f packet × (packet_bytes f packet ≡ bytes.now))
-        (IsBadOrMemoryAfter (packet_head bytes.now) (packet_fields bytes.now)) }
+        (IsBadOrMemoryAfter (packet_head bytes.now) (packet_kept bytes.now)
+        (packet_fields bytes.now)) }
 {
     let format = format_of(byte_at(bytes, 0, 0xf1, 0xf2)?);
     match byte_at(bytes, 1, 1, 4)? {

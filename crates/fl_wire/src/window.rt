@@ -4,7 +4,7 @@ ghost use Rattle.fl_ops.specs.Grammar.{first_fault};
 ghost use Rattle.fl_wire.specs.Faults.{IsBad, IsBadOrMemory, IsBadOrMemoryAfter};
 ghost use Rattle.fl_wire.specs.PacketBytes.{intervals_bytes};
 ghost use Rattle.fl_wire.specs.PacketFits.{HasWindow};
-ghost use Rattle.fl_wire.specs.PacketGrammar.{span_fields, spans_fields, window_head, window_fields};
+ghost use Rattle.fl_wire.specs.PacketGrammar.{span_fields, spans_fields, window_head, window_kept, window_fields};
 ghost use Rattle.fl_wire.specs.parts.SpansRead.{IsSpanAt, AreSpansAt};
 
 use crate::fault::ReadFault;
@@ -50,7 +50,7 @@ fn spans_at(
     requires place { at < 2 ^ 30 }
     requires few { count ≤ 512 }
     ensures { MatchResult result (λ spans. AreSpansAt format bytes.now at from to count spans.items)
-        (IsBadOrMemory (spans_fields format bytes.now at from to count)) }
+        (IsBadOrMemory count (spans_fields format bytes.now at from to count)) }
 {
     let mut spans = Vec::with_capacity(alloc, count)?;
     let mut low = from;
@@ -78,7 +78,8 @@ pub(crate) fn window_at(
     ensures { MatchResult result
         (λ w. (first_fault (window_fields format bytes.now at) ≡ None) × HasWindow format w
         × (drop at bytes.now ≡ intervals_bytes format w))
-        (IsBadOrMemoryAfter (window_head format bytes.now at) (window_fields format bytes.now at)) }
+        (IsBadOrMemoryAfter (window_head format bytes.now at) (window_kept format bytes.now at)
+        (window_fields format bytes.now at)) }
 {
     let size = format.name_size();
     let from = tag_at(format, bytes, at)?;

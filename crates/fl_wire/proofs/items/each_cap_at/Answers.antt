@@ -30,7 +30,7 @@ pub returns-in_err-cap : goal.returns-in_err-cap
 returns-in_err-cap c =
     let i = c.loop-i.i in
     let p = err_from_is_err_and c.from_residual-in_err-cap.result c.from_residual-in_err-cap.ensures.1 in
-    rw (p.1, p.2) (bad_at (each_cap c.args.format c.args.bytes.now c.args.at c.args.count) c.loop-i.place c.in_err-cap.field-0.0 c.in_err-cap.ensures.1
+    rw (p.1, p.2) (bad_at c.args.count (each_cap c.args.format c.args.bytes.now c.args.at c.args.count) c.loop-i.place c.in_err-cap.field-0.0 c.in_err-cap.ensures.1
     (read_fault c.loop-i.place (c.args.count - i) c.loop-i.caps.items c.loop-i.before (c.args.count - (i + 1)) c.loop-i.invariant.0 (omega arith) c.in_err-cap.ensures.0))
 
 pub returns : goal.returns

@@ -3,8 +3,8 @@ use Rattle.std.proofs.lemmas.Result.{err_from_is_err_and}
 use Rattle.fl_ops.specs.Bytes.{name_size}
 use Rattle.fl_wire.specs.Fields.{short_at}
 use Rattle.fl_wire.specs.PacketBytes.{label_bytes, message_bytes}
-use Rattle.fl_wire.specs.PacketGrammar.{end_size, label_fields, after_label, message_fields}
-use Rattle.fl_wire.proofs.Faults.{bad_front}
+use Rattle.fl_wire.specs.PacketGrammar.{end_size, label_fields, after_label, message_fields, content_kept}
+use Rattle.fl_wire.proofs.Faults.{bad_front, bad_more}
 use Rattle.fl_wire.proofs.Parts.{middle_bad, last_bad, content_found, receiver_bad, content_bad, data_found}
 use Rattle.fl_wire.proofs.reading.data_at.Goals as goal
 
@@ -27,7 +27,8 @@ returns-in_err-secrecy c =
     let first = 2 + 2 * end in
     let p = err_from_is_err_and c.from_residual-in_err-secrecy.result c.from_residual-in_err-secrecy.ensures.1 in
     rw (p.1, p.2) (content_bad f bs _ _ two three c.in_ok-sender.ensures.0 x c.in_ok-receiver.ensures.0
-    (bad_front (label_fields f bs first) (label_fields f bs (after_label f bs first) ++ message_fields f bs (after_label f bs (after_label f bs first))) x c.in_err-secrecy.ensures))
+    (bad_front (content_kept f bs first) (label_fields f bs first) (label_fields f bs (after_label f bs first) ++ message_fields f bs (after_label f bs (after_label f bs first))) x
+    (bad_more (short_at bs first) (content_kept f bs first) (label_fields f bs first) x (omega arith) c.in_err-secrecy.ensures)))
 
 pub returns-in_err-integrity : goal.returns-in_err-integrity
 returns-in_err-integrity c =

@@ -3,7 +3,7 @@ use Rattle.std.proofs.lemmas.Result.{err_from_is_err_and}
 use Rattle.fl_wire.specs.Faults.{IsBadOrMemoryAfter}
 use Rattle.fl_wire.specs.PacketBytes.{data_bytes, packet_byte, packet_bytes}
 use Rattle.fl_wire.specs.PacketFits.{HasData}
-use Rattle.fl_wire.specs.PacketGrammar.{kind_head, kind_fields}
+use Rattle.fl_wire.specs.PacketGrammar.{kind_head, kind_kept, kind_fields}
 use Rattle.fl_wire.specs.declared.packet.Packet.TheVariants as kinds
 use Rattle.fl_wire.proofs.Heads.{format_is, packet_bad, packet_spelled}
 use Rattle.fl_wire.proofs.reading.decode.Goals as goal
@@ -16,7 +16,7 @@ returns-in_err-data_at-in_default c =
     let f = c.format_of-format.result in
     let x = c.in_err-data_at-in_default.field-0.0 in
     let last : 4 ≡ c.in_ok-byte_at-2.field-0 = search rules in
-    let h = subst (λ k. IsBadOrMemoryAfter (kind_head f bs k) (kind_fields f bs k) x) last c.in_err-data_at-in_default.ensures in
+    let h = subst (λ k. IsBadOrMemoryAfter (kind_head f bs k) (kind_kept f bs k) (kind_fields f bs k) x) last c.in_err-data_at-in_default.ensures in
     let p = err_from_is_err_and c.from_residual-in_err-data_at-in_default.result c.from_residual-in_err-data_at-in_default.ensures.1 in
     rw (p.1, p.2) (packet_bad bs b kind f c.in_ok-byte_at.ensures c.in_ok-byte_at-2.ensures c.format_of-format.ensures x h)
 

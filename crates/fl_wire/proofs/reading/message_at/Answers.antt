@@ -1,8 +1,8 @@
 use Rattle.std.proofs.Common.{◌≡◌, ◌+◌, ◌*◌, slice_index, ◌∙◌, arith}
 use Rattle.std.proofs.lemmas.Result.{err_from_is_err_and}
 use Rattle.fl_ops.specs.Bytes.{cap_size}
-use Rattle.fl_wire.specs.PacketGrammar.{caps_fields, after_caps, payload_fields}
-use Rattle.fl_wire.proofs.Faults.{bad_front}
+use Rattle.fl_wire.specs.PacketGrammar.{caps_fields, after_caps, payload_fields, message_kept}
+use Rattle.fl_wire.proofs.Faults.{bad_front, bad_more}
 use Rattle.fl_wire.proofs.Parts.{message_found, message_bad}
 use Rattle.fl_wire.proofs.reading.message_at.Goals as goal
 
@@ -11,7 +11,10 @@ returns-in_err-caps c =
     let f = c.args.format in
     let bs = c.args.bytes.now in
     let p = err_from_is_err_and c.from_residual.result c.from_residual.ensures.1 in
-    rw (p.1, p.2) (bad_front (caps_fields f bs c.args.at) (payload_fields bs (after_caps f bs c.args.at)) c.in_err-caps.field-0.0 c.in_err-caps.ensures)
+    let x = c.in_err-caps.field-0.0 in
+    let kept = message_kept f bs c.args.at in
+    rw (p.1, p.2) (bad_front kept (caps_fields f bs c.args.at) (payload_fields bs (after_caps f bs c.args.at)) x
+    (bad_more (slice_index bs c.args.at) kept (caps_fields f bs c.args.at) x (omega arith) c.in_err-caps.ensures))
 
 pub returns-in_err-payload : goal.returns-in_err-payload
 returns-in_err-payload c =
