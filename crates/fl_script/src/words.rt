@@ -1,7 +1,7 @@
 //! Words of a line: a reader for each form that only lines have.
-ghost use Rattle.std.specs.Prelude.{◌≡◌};
+ghost use Rattle.std.specs.Prelude.{◌≡◌, ◌≢◌, codes};
 ghost use Rattle.fl_labels.specs.Found.{Finds};
-ghost use Rattle.fl_script.specs.parts.Reads.{Reads};
+ghost use Rattle.fl_script.specs.parts.Reads.{Reads, StarvesIf};
 ghost use Rattle.fl_ops.specs.PolicyText.{policy_text};
 ghost use Rattle.fl_script.specs.Words.{AreGivenWords, AreMessageWords, IsBytesWord, IsCapsWord, IsLabelWord, IsSecretWord, mode_text, side_text};
 
@@ -106,9 +106,10 @@ pub fn secret_from_word(word: &str) -> Option<Secret>
 }
 
 /// The bytes that a word spells: no bytes of `none`, and else those of its hexadecimal digits, two
-/// of each byte, in either case. `Bad` where the word is neither. Linear.
+/// of each byte, in either case. `Bad` where the word is neither. Linear; `none` takes no memory.
 pub fn bytes_from_word(alloc: Global, word: &str) -> Result<Payload, Unread>
-    ensures { Reads result (λ bytes. IsBytesWord bytes word.now) }
+    ensures ok { Reads result (λ bytes. IsBytesWord bytes word.now) }
+    ensures memory { StarvesIf result (word.now ≢ codes "none") }
 {
     if word == "none" {
         return Ok(Payload::from_vec(Vec::new(alloc)));
