@@ -25,7 +25,7 @@ use std::marker::Model;
 ///
 /// Each pair of a group and a capability that it reaches takes some 30 bytes, and as much again
 /// where that is the use of a group: ten thousand groups in a chain would have fifty million pairs.
-/// Each capability that everybody reaches takes some 50 bytes, and each opened group some 20.
+/// Each capability that everybody reaches takes 30 to 40 bytes, and each opened group some 20.
 #[derive(Debug)]
 pub struct Index {
     ops: OpSet,
