@@ -1,22 +1,23 @@
 -- Why a call over the connection failed, and what it is told as.
-use Rattle.std.proofs.Common.{◌≡◌, ◌<◌, ◌≤◌, ◌+◌, ◌⊎◌, inl, inr, ℕ, pos, List, [], ◌∷◌, min, subst, sym, refl, arith}
+use Rattle.std.proofs.Common.{◌≡◌, ◌<◌, ◌≤◌, ◌+◌, ◌⊎◌, inl, inr, ℕ, pos, List, [], ◌∷◌, subst, sym, arith}
+use Rattle.std.proofs.Common.{◌∙◌, ◌≢◌}
 use Rattle.sqlite.specs.Disk.{MoreFaults}
 use Rattle.sqlite.specs.Order.{Row}
-use Rattle.sqlite.specs.Held.{Held, state}
+use Rattle.sqlite.specs.Held.{Held}
 use Rattle.sqlite.specs.Store.{Ghosts}
-use Rattle.sqlite.specs.State.{State, IsUnchanged, Survives}
+use Rattle.sqlite.specs.State.{State, IsUnchanged, IsNotRun, KeepsCommit, Survives}
 use Rattle.sqlite.specs.Listing.{understood}
 use Rattle.sqlite.specs.declared.types.Value.TheVariants.{Int}
 use Rattle.sqlite.specs.declared.error.Error.{Error}
 use Rattle.std.specs.Prelude.{IsSome, Option}
 use Rattle.sqlite.specs.Effect.{Database}
 use Rattle.fl_store.specs.declared.keeper.KeeperFault.{KeeperFault}
-use Rattle.fl_store.specs.declared.keeper.KeeperFault.TheVariants.{Memory, Broken}
+use Rattle.fl_store.specs.declared.keeper.KeeperFault.TheVariants.{Memory, Broken, BadRow, NamesSpent}
 use Rattle.fl_sql_tables.specs.Tables.{keeper_schema, raise_boot_text}
-use Rattle.fl_sql_tables.specs.Stored.{HasSelf}
+use Rattle.fl_sql_tables.specs.Stored.{HasSelf, IsUndone}
 use Rattle.fl_sql_tables.specs.Failing.{IsFault, IsRefused, FailsToRaise, FailsToLoad}
 use Rattle.fl_sql_store.proofs.KeepLemmas.{one_boot}
-use Rattle.fl_sql_store.specs.Breaking.{IsToldAs, IsTold, FailsToBoot, RefusesToLoad}
+use Rattle.fl_sql_store.specs.Breaking.{IsTold, FailsToBoot, RefusesToLoad}
 
 more_before : (a b c : ℕ) → a ≤ b → MoreFaults b c → MoreFaults a c
 more_before a b c le h = omega (arith, h)
@@ -47,9 +48,63 @@ not_last number boot rows below is last =
     omega (arith, below, same)
 
 -- the database did not give the operations
-pub load_told : {S : Type 0} (g : Ghosts S) (old left new : Held S) (e : Error) (fault : KeeperFault) → (fault ≡ Memory) ⊎ (fault ≡ Broken) → FailsToLoad (state g old) (state g left) e
-    → IsToldAs (state g left) (state g new) e fault → RefusesToLoad g old new fault
-load_told g old left new e fault (inl is) cause told =
-    subst (RefusesToLoad g old new) (sym is) (inr (record { left = left; error = e; cause = cause; told = subst (IsToldAs (state g left) (state g new) e) is told }))
-load_told g old left new e fault (inr is) cause told =
-    subst (RefusesToLoad g old new) (sym is) (record { left = left; error = e; cause = cause; told = subst (IsToldAs (state g left) (state g new) e) is told })
+pub load_told : {S : Type 0} (g : Ghosts S) (old new : Held S) (fault : KeeperFault)
+    → (fault ≡ Memory) ⊎ (fault ≡ Broken) → IsTold g FailsToLoad old new fault
+    → RefusesToLoad g old new fault
+load_told g old new fault (inl is) told =
+    subst (RefusesToLoad g old new) (sym is) (inr (subst (IsTold g FailsToLoad old new) is told))
+load_told g old new fault (inr is) told =
+    subst (RefusesToLoad g old new) (sym is) (subst (IsTold g FailsToLoad old new) is told)
+
+-- nothing changed before a call that committed nothing
+pub undone_after : (a b c : State) → IsUnchanged a b → IsUndone b c → IsUndone a c
+undone_after a b c same undone = record {
+  was_open = λ is_open. same.0.was_open;
+  now_is = λ is_open. undone.now_is is_open ∙ same.0.committed_is;
+  committed_is = λ is_open. undone.committed_is is_open ∙ same.0.committed_is;
+}
+
+-- what changes nothing commits nothing
+pub kept_if_same : (old new : State) → IsUnchanged old new → KeepsCommit old new
+kept_if_same old new h = record { was_open = λ _. h.0.was_open; committed = λ _. h.0.committed_is }
+
+-- a text that is not run commits nothing
+pub kept_if_not_run : (old new : State) (sql : List ℕ) (params : Row) (e : Error)
+    → IsNotRun old new sql params e → KeepsCommit old new
+unfolding IsNotRun
+kept_if_not_run old new sql params e (inl h) = record {
+  was_open = λ _. h.1.0.was_open;
+  committed = λ _. h.1.0.committed_is;
+}
+kept_if_not_run old new sql params e (inr h) = record {
+  was_open = h.3.was_open;
+  committed = λ is_open. (h.3.undone is_open).1;
+}
+
+-- what a call was refused with, but for what it serves on after
+module _ (e : KeeperFault) where
+  pub save_broken : (e ≡ Memory) ⊎ (e ≡ Broken) → e ≢ Memory → e ≡ Broken
+  save_broken (inl is) not_memory = absurd (not_memory is)
+  save_broken (inr is) not_memory = is
+
+  pub boot_broken : (e ≡ Memory) ⊎ ((e ≡ Broken) ⊎ (e ≡ NamesSpent)) → e ≢ Memory → e ≢ NamesSpent → e ≡ Broken
+  boot_broken (inl is) not_memory not_spent = absurd (not_memory is)
+  boot_broken (inr (inl is)) not_memory not_spent = is
+  boot_broken (inr (inr is)) not_memory not_spent = absurd (not_spent is)
+
+pub memory_not_spent : Memory ≡ NamesSpent → ⊥
+memory_not_spent is = absurd (cc)
+
+module _ {S : Type 0} (g : Ghosts S) (Fails : State → State → Error → Type 0) (old new : Held S) (e : KeeperFault) where
+  pub told_memory : e ≡ Memory → IsTold g Fails old new e → IsTold g Fails old new Memory
+  told_memory is told = subst (IsTold g Fails old new) is told
+
+  pub told_broken : e ≡ Broken → IsTold g Fails old new e → IsTold g Fails old new Broken
+  told_broken is told = subst (IsTold g Fails old new) is told
+
+pub load_broken : {S : Type 0} (g : Ghosts S) (old new : Held S) (e : KeeperFault)
+    → (e ≡ Memory) ⊎ ((e ≡ Broken) ⊎ (e ≡ BadRow)) → e ≢ Memory → e ≢ BadRow → RefusesToLoad g old new e
+    → IsTold g FailsToLoad old new Broken
+load_broken g old new e (inl is) not_memory not_bad h = absurd (not_memory is)
+load_broken g old new e (inr (inl is)) not_memory not_bad h = subst (RefusesToLoad g old new) is h
+load_broken g old new e (inr (inr is)) not_memory not_bad h = absurd (not_bad is)

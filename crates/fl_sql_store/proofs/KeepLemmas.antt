@@ -1,16 +1,12 @@
 -- What the calls of a keeper over a database leave to the next opening.
-use Rattle.std.proofs.Common.{◌≡◌, ◌<◌, ◌⊎◌, inl, inr, ℕ, ◌+◌, ◌-◌, ◌^◌, pos, List, [], ◌∷◌, Bool, true, false, IsTrue, Ok, Err, Result, OnOk, IfOk, IfErr, refl, sym, ap, subst, ◌∙◌, arith}
-use Rattle.fl_labels.specs.SetBy.{SetBy, empty, contains, same_set, contains-empty, contains-union}
-use Rattle.std.specs.Prelude.{◌||◌}
-use Rattle.fl_ops.specs.OpLaws.{op_total, op_exact}
+use Rattle.std.proofs.Common.{◌≡◌, ◌<◌, ◌⊎◌, inl, inr, ℕ, ◌+◌, List, true, false, IsTrue, refl, sym, ap, subst, ◌∙◌, arith}
+use Rattle.fl_labels.specs.SetBy.{SetBy}
 use Rattle.sqlite.proofs.StateLemmas.{survives_then}
 use Rattle.fl_ops.specs.OpOrder.{op_cmp}
 use Rattle.sqlite.specs.Order.{Row}
 use Rattle.sqlite.specs.Tree.{Trees}
 use Rattle.sqlite.specs.State.{State, HasCleanDisk, IsUnchanged, Survives}
 use Rattle.fl_ops.specs.declared.op.Op.{Op}
-use Rattle.fl_store.specs.declared.keeper.KeeperFault.{KeeperFault}
-use Rattle.fl_store.specs.declared.keeper.KeeperFault.TheVariants.{Memory, Broken, WrongNode, BadRow, NamesSpent}
 use Rattle.fl_sql_tables.specs.Stored.{AddsOps, Saves, AddsTo, ops_in, boot_in, kept_in, HasSelf, IsOurs, IsListed, if_listed, nothing_kept, kept_by}
 use Rattle.sqlite_trees.specs.Objects.{catalog_tree}
 use Rattle.sqlite.specs.Effect.{Database}
@@ -164,14 +160,6 @@ survives_on a b c = survives_then a b c _ _ (λ _. ⊥) (λ _ db none. none) (λ
 
 pub clean_before : (a b : State) (P : Trees → Type 0) → Survives a b P → HasCleanDisk b → HasCleanDisk a
 clean_before a b P s clean = omega (arith, s.clean)
-
--- a set with no more operations
-pub with_none : (saved : SetBy op_cmp) → with_ops saved [] ≡ saved
-with_none saved = same_set op_total op_exact _ _ (λ q. contains-union op_total saved empty q ∙ ap (λ b. contains saved q || b) (contains-empty op_cmp q) ∙ or_none (contains saved q))
-  where
-    or_none : (a : Bool) → (a || false) ≡ a
-    or_none true = refl
-    or_none false = refl
 
 -- the row of the node itself has one boot
 pub one_boot : (number a b : ℕ) (rows : List Row) → HasSelf number a rows → HasSelf number b rows → a ≡ b

@@ -1,6 +1,5 @@
 -- What a database of the first format is opened as.
-use Rattle.std.proofs.Common.{◌≡◌, ◌<◌, ◌≤◌, ◌⊎◌, inl, inr, ℕ, ◌-◌, ◌^◌, List, [], length, IsTrue, Ok, Err, Result, OnOk, IfErr, refl, sym, ap, subst, ◌∙◌, arith}
-use Rattle.sqlite.specs.Tree.{Trees}
+use Rattle.std.proofs.Common.{◌≡◌, ◌<◌, ◌≤◌, ◌⊎◌, inl, inr, ℕ, ◌-◌, ◌^◌, List, length, IsTrue, Ok, Err, Result, OnOk, IfErr, refl, sym, ap, subst, ◌∙◌, arith}
 use Rattle.sqlite.specs.declared.error.Error.{Error}
 use Rattle.sqlite.specs.declared.error.Error.TheVariants.{SqliteFailure}
 use Rattle.sqlite.specs.declared.error.ErrorCode.TheVariants.{OutOfMemory}

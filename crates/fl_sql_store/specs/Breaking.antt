@@ -1,17 +1,19 @@
 -- What breaks a keeper over a database.
-use Rattle.std.specs.Prelude.{◌≡◌, ◌<◌, ◌+◌, ◌⊎◌, ℕ, List, [], ◌∷◌, codes}
+use Rattle.std.specs.Prelude.{◌≡◌, ◌<◌, ◌+◌, ◌⊎◌, ℕ, List, codes, length}
 use Rattle.sqlite.specs.Order.{Row}
 use Rattle.sqlite.specs.declared.error.Error.{Error}
 use Rattle.sqlite.specs.declared.error.Error.TheVariants.{SqliteFailure}
 use Rattle.sqlite.specs.declared.error.ErrorCode.TheVariants.{OutOfMemory}
-use Rattle.sqlite.specs.State.{State, IsNotRun, IsUnchanged}
+use Rattle.sqlite.specs.State.{State, IsNotRun, IsUnchanged, KeepsCommit, Survives}
 use Rattle.sqlite.specs.Held.{Held, state}
 use Rattle.sqlite.specs.Store.{Ghosts}
 use Rattle.fl_store.specs.declared.keeper.KeeperFault.{KeeperFault}
 use Rattle.fl_store.specs.declared.keeper.KeeperFault.TheVariants.{Memory, Broken, WrongNode, BadRow, NamesSpent}
-use Rattle.fl_sql_tables.specs.Stored.{HasSelf, HasBadRow}
-use Rattle.fl_sql_tables.specs.Failing.{IsFault, FailsToRaise, FailsToLoad}
+use Rattle.fl_store.specs.Call.{Call, Load, Boot, Save}
+use Rattle.fl_sql_tables.specs.Stored.{HasSelf, HasBadRow, IsUndone}
+use Rattle.fl_sql_tables.specs.Failing.{IsFault, FailsToRaise, FailsToLoad, FailsToSave}
 use Rattle.fl_sql_store.specs.Opening.{IsFailure}
+use Rattle.fl_sql_store.specs.SqlKeeping.{SqlKept}
 
 -- a statement that reads no table
 abbrev pub probe_text : List ℕ
@@ -33,12 +35,17 @@ IsToldAs old new e WrongNode = ⊥
 IsToldAs old new e BadRow = ⊥
 IsToldAs old new e NamesSpent = ⊥
 
--- a call failed with an error that has this cause, and what it left became this with what the error was told as
-pub record IsTold {S : Type 0} (g : Ghosts S) (Fails : State → Error → Type 0) (new : Held S) (fault : KeeperFault) : Type 0 where
+-- A call failed with an error that has this cause, and committed nothing; and what it left became
+-- this with what the error was told as, where again nothing was committed.
+pub record IsTold {S : Type 0} (g : Ghosts S) (Fails : State → State → Error → Type 0)
+    (old new : Held S) (fault : KeeperFault) : Type 0 where
   pub left : Held S
   pub error : Error
-  pub cause : Fails (state g left) error
+  pub cause : Fails (state g old) (state g left) error
+  pub undone : IsUndone (state g old) (state g left)
   pub told : IsToldAs (state g left) (state g new) error fault
+  pub kept : KeepsCommit (state g left) (state g new)
+  pub survives : Survives (state g left) (state g new) (λ _. ⊥)
 
 -- why the boot was not raised: a fault, or below the last boot the table of the node itself does not take the next one
 abbrev pub FailsToBoot : ℕ → State → State → Error → Type 0
@@ -47,8 +54,25 @@ FailsToBoot number old new e =
 
 -- why the operations were not loaded: a row is bad; there was not enough memory for them; or the database failed
 abbrev pub RefusesToLoad : {S : Type 0} → Ghosts S → Held S → Held S → KeeperFault → Type 0
-RefusesToLoad g old new Memory = IsUnchanged (state g old) (state g new) ⊎ IsTold g (FailsToLoad (state g old)) new Memory
-RefusesToLoad g old new Broken = IsTold g (FailsToLoad (state g old)) new Broken
+RefusesToLoad g old new Memory =
+    ((0 < length ((state g old).now.trees 1)) × IsUnchanged (state g old) (state g new))
+    ⊎ IsTold g FailsToLoad old new Memory
+RefusesToLoad g old new Broken = IsTold g FailsToLoad old new Broken
 RefusesToLoad g old new WrongNode = ⊥
 RefusesToLoad g old new BadRow = HasBadRow ((state g old).now.trees 1) × IsUnchanged (state g old) (state g new)
 RefusesToLoad g old new NamesSpent = ⊥
+
+-- what breaks a keeper over a database: the call over its connection failed, and the error was told
+-- as a break
+abbrev pub SqlBreaks : {S : Type 0} → Ghosts S → Call → SqlKept S → SqlKept S → Type 0
+SqlBreaks g Load old new = IsTold g FailsToLoad old.conn new.conn Broken
+SqlBreaks g Boot old new = IsTold g (FailsToBoot old.number) old.conn new.conn Broken
+SqlBreaks g (Save ops) old new =
+    (0 < length ops) × IsTold g (FailsToSave ops) old.conn new.conn Broken
+
+-- what wants for memory: the call over the connection did, or the operations that it read
+abbrev pub SqlWants : {S : Type 0} → Ghosts S → Call → SqlKept S → SqlKept S → Type 0
+SqlWants g Load old new = RefusesToLoad g old.conn new.conn Memory
+SqlWants g Boot old new = IsTold g (FailsToBoot old.number) old.conn new.conn Memory
+SqlWants g (Save ops) old new =
+    (0 < length ops) × IsTold g (FailsToSave ops) old.conn new.conn Memory

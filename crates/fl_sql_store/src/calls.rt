@@ -77,8 +77,8 @@ pub fn save_on<S: Alter>(
         → result ≡ Err KeeperFault.Memory → IsAsCommitted (state S.Store conn.old)
         (state S.Store conn.new) }
     ensures fails { HasCleanDisk (state S.Store conn.new) → IsOurs (state S.Store conn.old)
-        → IsTrue (state S.Store conn.old).is_open → IfErr result (IsTold S.Store
-        (FailsToSave ops.now (state S.Store conn.old)) conn.new) }
+        → IsTrue (state S.Store conn.old).is_open
+        → IfErr result (IsTold S.Store (FailsToSave ops.now) conn.old conn.new) }
     ensures survives { IsOurs (state S.Store conn.old) → Survives (state S.Store conn.old)
         (state S.Store conn.new) (AddsTo ops.now (state S.Store conn.old).now) }
 {
@@ -111,11 +111,10 @@ pub fn boot_on<S: Alter>(conn: &mut Connection<S>, number: NodeNumber) -> Result
         ⊎ ((e ≡ KeeperFault.Broken) ⊎ (e ≡ KeeperFault.NamesSpent))) }
     ensures last { HasCleanDisk (state S.Store conn.new)
         → HasSelf number (2 ^ 32 - 1) ((state S.Store conn.old).now.trees 0)
-        → IsErrAnd result (λ e. (e ≡ KeeperFault.NamesSpent) ⊎ IsTold S.Store
-        (IsFault (state S.Store conn.old)) conn.new e) }
+        → IsErrAnd result (λ e. (e ≡ KeeperFault.NamesSpent)
+        ⊎ IsTold S.Store IsFault conn.old conn.new e) }
     ensures fails { HasCleanDisk (state S.Store conn.new) → IfErr result (λ e.
-        e ≢ KeeperFault.NamesSpent → IsTold S.Store
-        (FailsToBoot number (state S.Store conn.old)) conn.new e) }
+        e ≢ KeeperFault.NamesSpent → IsTold S.Store (FailsToBoot number) conn.old conn.new e) }
     ensures survives { (was : ℕ) → HasSelf number was ((state S.Store conn.old).now.trees 0)
         → Survives (state S.Store conn.old) (state S.Store conn.new) (RaisesTo number (was + 1)
         (state S.Store conn.old).now) }

@@ -1,7 +1,7 @@
 //! What an error of the database comes to.
 ghost use Rattle.std.specs.Prelude.{◌≡◌, ◌⊎◌, false};
 ghost use Rattle.sqlite.specs.Held.{state};
-ghost use Rattle.sqlite.specs.State.{HasCleanDisk, IsUnchanged, Survives};
+ghost use Rattle.sqlite.specs.State.{HasCleanDisk, IsUnchanged, KeepsCommit, Survives};
 ghost use Rattle.fl_sql_store.specs.Breaking.{Breaks, IsToldAs};
 
 use fl_store::keeper::KeeperFault;
@@ -18,6 +18,8 @@ pub fn fault_of<S: Alter>(conn: &mut Connection<S>, error: Error) -> KeeperFault
         → IsUnchanged (state S.Store conn.old) (state S.Store conn.new) }
     ensures told { HasCleanDisk (state S.Store conn.new)
         → IsToldAs (state S.Store conn.old) (state S.Store conn.new) error result }
+    ensures kept { HasCleanDisk (state S.Store conn.new)
+        → KeepsCommit (state S.Store conn.old) (state S.Store conn.new) }
     ensures survives { Survives (state S.Store conn.old) (state S.Store conn.new) (λ _. ⊥) }
 {
     if error != Error::SqliteFailure(ErrorCode::OutOfMemory) {

@@ -7,6 +7,7 @@ ghost use Rattle.fl_store.specs.Kept.{Kept};
 ghost use Rattle.fl_sql_tables.specs.Stored.{HasBadRow};
 ghost use Rattle.fl_sql_store.specs.SqlKeeping.{held_in, something_held, kept_number};
 ghost use Rattle.fl_sql_store.specs.Opening.{OpensAs, RefusesToOpen};
+ghost use Rattle.fl_sql_store.specs.Breaking.{SqlBreaks, SqlWants};
 
 use crate::calls::{boot_on, load_on, save_on};
 use crate::open::check;
@@ -140,6 +141,10 @@ impl<S: Alter> Keeper for SqlKeeper<S> {
 
     ghost is_honest = { λ k. HasCleanDisk (state S.Store k.conn) };
 
+    ghost breaks = { SqlBreaks S.Store };
+
+    ghost wants = { SqlWants S.Store };
+
     ghost has_bad_row = { λ k. HasBadRow ((state S.Store k.conn).now.trees 1) };
 
     ghost holds = { λ k clean. something_held k.number
@@ -161,13 +166,15 @@ impl<S: Alter> Keeper for SqlKeeper<S> {
         }
         match load_on(alloc, &mut self.conn, self.number) {
             Ok(ops) => Ok(ops),
-            Err(KeeperFault::Memory) => Err(KeeperFault::Memory),
-            Err(KeeperFault::BadRow) => Err(KeeperFault::BadRow),
-            Err(_) => {
-                self.is_broken = true;
-                self.failures = 1;
-                Err(KeeperFault::Broken)
-            }
+            Err(fault) => match fault {
+                KeeperFault::Memory => Err(KeeperFault::Memory),
+                KeeperFault::BadRow => Err(KeeperFault::BadRow),
+                _ => {
+                    self.is_broken = true;
+                    self.failures = 1;
+                    Err(KeeperFault::Broken)
+                }
+            },
         }
     }
 
@@ -177,13 +184,15 @@ impl<S: Alter> Keeper for SqlKeeper<S> {
         }
         match boot_on(&mut self.conn, self.number) {
             Ok(boot) => Ok(boot),
-            Err(KeeperFault::Memory) => Err(KeeperFault::Memory),
-            Err(KeeperFault::NamesSpent) => Err(KeeperFault::NamesSpent),
-            Err(_) => {
-                self.is_broken = true;
-                self.failures = 1;
-                Err(KeeperFault::Broken)
-            }
+            Err(fault) => match fault {
+                KeeperFault::Memory => Err(KeeperFault::Memory),
+                KeeperFault::NamesSpent => Err(KeeperFault::NamesSpent),
+                _ => {
+                    self.is_broken = true;
+                    self.failures = 1;
+                    Err(KeeperFault::Broken)
+                }
+            },
         }
     }
 
@@ -196,12 +205,14 @@ impl<S: Alter> Keeper for SqlKeeper<S> {
         }
         match save_on(self.alloc, &mut self.conn, ops) {
             Ok(()) => Ok(()),
-            Err(KeeperFault::Memory) => Err(KeeperFault::Memory),
-            Err(_) => {
-                self.is_broken = true;
-                self.failures = 1;
-                Err(KeeperFault::Broken)
-            }
+            Err(fault) => match fault {
+                KeeperFault::Memory => Err(KeeperFault::Memory),
+                _ => {
+                    self.is_broken = true;
+                    self.failures = 1;
+                    Err(KeeperFault::Broken)
+                }
+            },
         }
     }
 }

@@ -1,5 +1,5 @@
 -- Why a call over a keeper's database fails.
-use Rattle.std.specs.Prelude.{◌≡◌, ◌≤◌, ◌⊎◌, ◌-◌, ◌^◌, ℕ, pos, List, [], ◌∷◌, ◌++◌, length, Option, None, Result, Ok, Err, IsTrue, IsSome}
+use Rattle.std.specs.Prelude.{◌≡◌, ◌<◌, ◌≤◌, ◌⊎◌, ◌-◌, ◌^◌, ℕ, pos, List, [], ◌∷◌, ◌++◌, length, Option, None, Result, Ok, Err, IsTrue, IsSome}
 use Rattle.sqlite.specs.Disk.{MoreFaults}
 use Rattle.sqlite.specs.declared.types.Value.TheVariants.{Int}
 use Rattle.sqlite.specs.Order.{Row}
@@ -70,8 +70,8 @@ FailsToSave ops old new e =
 abbrev pub FailsToLoad : State → State → Error → Type 0
 FailsToLoad old new e = IsFault old new e ⊎ ((e ≡ SqliteFailure TooBig) × (2 ^ 64 - 1 ≤ length (old.now.trees 1)))
 
--- why no operations were loaded, and what stays
+-- why no operations were loaded, and what stays: they want for memory only where there are some
 abbrev pub RefusesToLoad : State → State → LoadFault → Type 0
 RefusesToLoad old new (Failed e) = FailsToLoad old new e
-RefusesToLoad old new Memory = IsUnchanged old new
+RefusesToLoad old new Memory = (0 < length (old.now.trees 1)) × IsUnchanged old new
 RefusesToLoad old new BadRow = HasBadRow (old.now.trees 1) × IsUnchanged old new

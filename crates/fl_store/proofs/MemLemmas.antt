@@ -1,14 +1,16 @@
 -- What a call of a keeper in memory leaves to the next opening.
-use Rattle.std.proofs.Common.{◌≡◌, ◌⊎◌, inl, inr, ◌∙◌, refl, sym, ap, subst, ℕ, true, false, zero, suc, List}
+use Rattle.std.proofs.Common.{◌≡◌, ◌⊎◌, inl, inr, ◌∙◌, refl, sym, ap, subst, ℕ, true, false, zero, suc, List, [], ◌∷◌, length, arith}
+use Rattle.fl_labels.specs.SetBy as set
 use Rattle.fl_labels.specs.SetBy.{SetBy}
 use Rattle.fl_ops.specs.declared.op.Op.{Op}
 use Rattle.fl_ops.specs.OpOrder.{op_cmp}
+use Rattle.fl_ops.specs.OpLaws.{op_total, op_exact}
 use Rattle.fl_store.specs.declared.health.Health.{Health}
 use Rattle.fl_store.specs.declared.health.Health.TheVariants.{Sound, BreaksAfter, Broken}
-use Rattle.fl_store.specs.Kept.{Kept, HasNamesOnce, AreNew, with_batch}
+use Rattle.fl_store.specs.Kept.{Kept, HasNamesOnce, AreNew, with_batch, with_ops}
 use Rattle.fl_store.specs.Keeping.{Held, Follows}
 use Rattle.fl_store.specs.MemKeeping.{health_after, saved_after, is_broken_at}
-use Rattle.fl_store.specs.laws.KeptSets.{once-more}
+use Rattle.fl_store.specs.laws.KeptSets.{once-more, with-none}
 
 -- an opening finds this alone
 abbrev pub Just : Kept → Held
@@ -59,3 +61,18 @@ once_after (BreaksAfter zero true) ops saved new once = once-more ops saved new 
 once_after (BreaksAfter zero false) ops saved new once = once
 once_after (BreaksAfter (suc saves) keeps) ops saved new once = once-more ops saved new once
 once_after Broken ops saved new once = once
+
+-- a set of no members has none
+pub none_saved : (saved : SetBy op_cmp) → set.len saved ≡ 0 → saved ≡ set.empty
+none_saved saved none =
+    sym (set.of_list-members op_total op_exact saved)
+    ∙ go (set.members saved) (sym (set.len-members saved) ∙ none)
+  where
+    go : (ops : List Op) → length ops ≡ 0 → set.of_list {R = op_cmp} ops ≡ set.empty
+    go [] none = refl
+    go (op ∷ ops) none = absurd (omega (arith, none))
+
+-- with the operations of a list that has none
+pub add_none : (saved : SetBy op_cmp) (ops : List Op) → length ops ≡ 0 → saved ≡ with_ops saved ops
+add_none saved [] none = sym (with-none saved)
+add_none saved (op ∷ ops) none = absurd (omega (arith, none))

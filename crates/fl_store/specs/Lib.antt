@@ -1,4 +1,5 @@
 pub mod Kept
+pub mod Call
 pub mod Keeping
 pub mod MemKeeping
 pub mod laws

@@ -1,5 +1,6 @@
 //! Keepers: what a node has over a restart.
-ghost use Rattle.std.specs.Prelude.{◌≡◌, ◌<◌, ◌≤◌, ◌↔◌, ℕ, Bool, IsTrue, IfOk, IfErr, OnOk};
+ghost use Rattle.std.specs.Prelude.{◌≡◌, ◌≢◌, ◌<◌, ◌≤◌, ◌↔◌, ◌⊎◌, ◌+◌};
+ghost use Rattle.std.specs.Prelude.{ℕ, Bool, IsTrue, IfOk, IfErr, OnOk};
 ghost use Rattle.fl_store.specs.Kept.{Kept};
 
 use fl_labels::name::NodeNumber;
@@ -27,7 +28,11 @@ pub enum KeeperFault {
 /// A contract knows what the next opening may find, if the call or the process ends here: one thing while the keeper is not
 /// broken; where it breaks, what was kept before, or that with what was asked for, as a whole. This is promised as far as what
 /// was written is read back, and nobody else has written; a keeper in memory needs no such premise.
+///
+/// It breaks, and counts one fault, only for a cause, and wants for memory only for one. What is a
+/// cause, each keeper says.
 pub trait Keeper {
+    ghost use Rattle.fl_store.specs.Call.{Call, Load, Boot, Save};
     ghost use Rattle.fl_store.specs.Kept.{AreNew, HasNamesOnce};
     ghost use Rattle.fl_store.specs.Keeping.{AfterSave, AfterBoot, AfterLoad};
     ghost use Rattle.fl_store.specs.Keeping.{LoadFails, BootFails, SaveFails};
@@ -48,6 +53,15 @@ pub trait Keeper {
     // nobody else has written what is kept, and what was written is read back
     ghost is_honest: { Self → Type 0 };
 
+    // why a call breaks the first, which is then the second
+    ghost breaks: { Call → Self → Self → Type 0 };
+
+    // why a call of the first wants for memory; it is then the second
+    ghost wants: { Call → Self → Self → Type 0 };
+
+    // what more a keeper says of a call that did not want for memory
+    ghost becomes: { Call → Self → Self → Type 0 } = { λ _ _ _. Unit {0} };
+
     /// The node whose operations are kept.
     fn number(&self) -> NodeNumber
         ensures { result ≡ number self.now };
@@ -66,6 +80,14 @@ pub trait Keeper {
         ensures breaks { (result ≡ Err KeeperFault.Broken) ↔ IsTrue (is_broken self.new) }
         ensures cause { let is_bad = is_honest self.new → has_bad_row self.old in
             IfErr result (LoadFails (is_broken self.new) (failed self.new) is_bad) }
+        ensures broke { is_honest self.new → result ≡ Err KeeperFault.Broken
+            → IsTrue (is_broken self.old) ⊎ breaks Load self.old self.new }
+        ensures counted { is_honest self.new → (failed self.new ≡ failed self.old)
+            ⊎ ((failed self.new ≡ failed self.old + 1) × breaks Load self.old self.new) }
+        ensures wanted { is_honest self.new → result ≡ Err KeeperFault.Memory
+            → wants Load self.old self.new }
+        ensures becomes { is_honest self.new → (result ≢ Err KeeperFault.Memory)
+            → becomes Load self.old self.new }
         ensures whole { is_honest self.new → OnOk result (¬ has_bad_row self.old) }
         ensures names { IfOk result HasNamesOnce }
         ensures held { is_honest self.new
@@ -81,6 +103,14 @@ pub trait Keeper {
         ensures stays { IsTrue (is_broken self.old) → result ≡ Err KeeperFault.Broken }
         ensures breaks { (result ≡ Err KeeperFault.Broken) ↔ IsTrue (is_broken self.new) }
         ensures cause { IfErr result (BootFails (is_broken self.new) (failed self.new)) }
+        ensures broke { is_honest self.new → result ≡ Err KeeperFault.Broken
+            → IsTrue (is_broken self.old) ⊎ breaks Boot self.old self.new }
+        ensures counted { is_honest self.new → (failed self.new ≡ failed self.old)
+            ⊎ ((failed self.new ≡ failed self.old + 1) × breaks Boot self.old self.new) }
+        ensures wanted { is_honest self.new → result ≡ Err KeeperFault.Memory
+            → wants Boot self.old self.new }
+        ensures becomes { is_honest self.new → (result ≢ Err KeeperFault.Memory)
+            → becomes Boot self.old self.new }
         ensures held { is_honest self.new
             → is_honest self.old × AfterBoot (may_hold self.old) (may_hold self.new) result };
 
@@ -95,6 +125,14 @@ pub trait Keeper {
         ensures stays { IsTrue (is_broken self.old) → result ≡ Err KeeperFault.Broken }
         ensures breaks { (result ≡ Err KeeperFault.Broken) ↔ IsTrue (is_broken self.new) }
         ensures cause { IfErr result (SaveFails (is_broken self.new) (failed self.new)) }
+        ensures broke { is_honest self.new → result ≡ Err KeeperFault.Broken
+            → IsTrue (is_broken self.old) ⊎ breaks (Save ops.now) self.old self.new }
+        ensures counted { is_honest self.new → (failed self.new ≡ failed self.old)
+            ⊎ ((failed self.new ≡ failed self.old + 1) × breaks (Save ops.now) self.old self.new) }
+        ensures wanted { is_honest self.new → result ≡ Err KeeperFault.Memory
+            → wants (Save ops.now) self.old self.new }
+        ensures becomes { is_honest self.new → (result ≢ Err KeeperFault.Memory)
+            → becomes (Save ops.now) self.old self.new }
         ensures held { is_honest self.new
             → is_honest self.old × AfterSave ops.now (may_hold self.old) (may_hold self.new) result };
 

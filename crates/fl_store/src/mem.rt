@@ -1,11 +1,14 @@
 //! A keeper in memory.
-ghost use Rattle.std.specs.Prelude.{◌≡◌, ◌≢◌, ◌<◌, ◌≤◌, ◌-◌, ◌↔◌, IsTrue, IfOk, IfErr, OnOk, OnErr, refl};
+ghost use Rattle.std.specs.Prelude.{◌≡◌, ◌≢◌, ◌<◌, ◌≤◌, ◌-◌, ◌↔◌, ◌⊎◌};
+ghost use Rattle.std.specs.Prelude.{IsTrue, IfOk, IfErr, OnOk, OnErr, length, refl};
 ghost use Rattle.std.proofs.Common.{ap};
 ghost use Rattle.fl_labels.specs.SetBy as set;
 ghost use Rattle.fl_ops.specs.OpOrder.{op_cmp};
 ghost use Rattle.fl_store.specs.Kept.{Kept, HasNamesOnce, AreNew, with_ops};
 ghost use Rattle.fl_store.specs.Keeping.{AfterSave, SaveFails};
-ghost use Rattle.fl_store.specs.MemKeeping.{MemKept, is_broken_at, failed_at, breaking, health_after, saved_after};
+ghost use Rattle.fl_store.specs.MemKeeping.{MemKept, is_broken_at, failed_at, breaking};
+ghost use Rattle.fl_store.specs.MemKeeping.{health_after, saved_after, adds_at};
+ghost use Rattle.fl_store.specs.MemKeeping.{MemBecomes, MemBreaks, MemWants};
 
 use crate::health::Health;
 use crate::keeper::{Keeper, KeeperFault};
@@ -53,11 +56,15 @@ fn collected(alloc: Global, ops: &[Op]) -> Result<OpSet, AllocError>
     Ok(all)
 }
 
-// Adds the operations. An error leaves the set.
+// Adds the operations. None take no memory. An error leaves the set.
 fn add_all(alloc: Global, saved: &mut OpSet, ops: &[Op]) -> Result<(), AllocError>
     ensures ok { OnOk result (saved.new ≡ with_ops saved.old ops.now) }
     ensures err { OnErr result (saved.new ≡ saved.old) }
+    ensures some { OnErr result (0 < length ops.now) }
 {
+    if ops.is_empty() {
+        return Ok(());
+    }
     let batch = collected(alloc, ops)?;
     saved.merge(&batch)
 }
@@ -67,6 +74,8 @@ fn serve(alloc: Global, health: Health, saved: &mut OpSet, ops: &[Op]) -> Result
     ensures health { IfOk result (λ after. after ≡ health_after health) }
     ensures saved { OnOk result (saved.new ≡ saved_after health saved.old ops.now) }
     ensures err { OnErr result (saved.new ≡ saved.old) }
+    ensures adds { OnErr result (IsTrue (adds_at health)) }
+    ensures some { OnErr result (0 < length ops.now) }
 {
     match health {
         Health::Broken => return Ok(Health::Broken),
@@ -126,8 +135,9 @@ impl MemKeeper {
         })
     }
 
-    /// From now on it breaks at the save of this count, whose batch it keeps or not: at the next one for 1. A save that is
-    /// refused for memory does not count. A broken keeper stays as it is.
+    /// From now on it breaks at the save of this count, whose batch it keeps or not: at the next one
+    /// for 1. A save that is refused for memory does not count, and no other call changes when it
+    /// breaks (`MemBecomes`). A broken keeper stays as it is.
     pub fn break_at(&mut self, save: u64, keeps: bool)
         requires { 0 < save }
         ensures { self.new ≡ record self.old { health = breaking self.old.health (save - 1) keeps } }
@@ -163,6 +173,12 @@ impl Keeper for MemKeeper {
 
     ghost is_honest = { λ k. Unit {0} };
 
+    ghost breaks = { MemBreaks };
+
+    ghost wants = { MemWants };
+
+    ghost becomes = { MemBecomes };
+
     ghost holds = { λ keeper _. ∣ (keeper.kept, refl) ∣₁ };
 
     ghost numbered = { λ keeper k h. ap (λ (k : Kept). k.number) h };
@@ -178,18 +194,22 @@ impl Keeper for MemKeeper {
         }
     }
 
-    /// Copies them.
+    /// Copies them. None take no memory.
     fn load(&mut self, alloc: Global) -> Result<OpSet, KeeperFault> {
         if self.health.is_broken() {
             return Err(KeeperFault::Broken);
         }
         let mut saved = OpSet::new(alloc);
+        if self.saved.len() == 0 {
+            return Ok(saved);
+        }
         let Ok(()) = saved.merge(&self.saved) else {
             return Err(KeeperFault::Memory);
         };
         Ok(saved)
     }
 
+    /// Takes no memory.
     fn boot(&mut self) -> Result<u32, KeeperFault> {
         if self.health.is_broken() {
             return Err(KeeperFault::Broken);
@@ -201,6 +221,7 @@ impl Keeper for MemKeeper {
         Ok(boot)
     }
 
+    /// No operations take no memory.
     fn save(&mut self, ops: &[Op]) -> Result<(), KeeperFault> {
         if self.health.is_broken() {
             return Err(KeeperFault::Broken);

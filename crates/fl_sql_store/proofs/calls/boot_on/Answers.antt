@@ -1,8 +1,8 @@
-use Rattle.std.proofs.Common.{◌≡◌, ◌<◌, ◌+◌, ℕ, inl, inr, refl, sym, ap, subst, ◌∙◌, arith}
+use Rattle.std.proofs.Common.{◌<◌, inl, inr, arith}
 use Rattle.sqlite.specs.Held.{state}
 use Rattle.sqlite.specs.State.{HasCleanDisk}
 use Rattle.fl_sql_store.proofs.KeepLemmas.{survives_raising, clean_before}
-use Rattle.fl_sql_store.proofs.CauseLemmas.{boot_fault, not_last}
+use Rattle.fl_sql_store.proofs.CauseLemmas.{boot_fault, not_last, undone_after}
 use Rattle.fl_sql_store.proofs.calls.boot_on.Goals as goal
 
 pub returns-in-Err-raise_boot-clause-survives : goal.returns-in-Err-raise_boot-clause-survives
@@ -18,11 +18,15 @@ pub returns-in-Err-clause-fails : goal.returns-in-Err-clause-fails
 returns-in-Err-clause-fails g c clean differs =
     let left = state g.S.Store c.read_boot.new.conn in
     let new = state g.S.Store c.fault_of.new.conn in
+    let late = clean_before left new _ c.fault_of.ensures.survives clean in
     record {
       left = c.read_boot.new.conn;
       error = c.in-Err.error;
-      cause = inl (c.in-Err.ensures.fails (clean_before left new _ c.fault_of.ensures.survives clean));
+      cause = inl (c.in-Err.ensures.fails late);
+      undone = c.in-Err.ensures.err late;
       told = c.fault_of.ensures.told clean;
+      kept = c.fault_of.ensures.kept clean;
+      survives = c.fault_of.ensures.survives;
     }
 
 pub returns-in-Err-raise_boot-clause-fails : goal.returns-in-Err-raise_boot-clause-fails
@@ -38,18 +42,27 @@ returns-in-Err-raise_boot-clause-fails g c clean differs =
       left = c.raise_boot.new.conn;
       error = c.in-Err-raise_boot.error;
       cause = boot_fault c.args.number old read left c.in-Ok.boot _ below (c.in-Ok.ensures.ok before) (c.in-Ok.ensures.same before) c.read_boot.ensures.survives (c.in-Err-raise_boot.ensures.fails late);
+      undone =
+          undone_after old read left (c.in-Ok.ensures.same before)
+          (c.in-Err-raise_boot.ensures.err late);
       told = c.fault_of-in-Err-raise_boot.ensures.told clean;
+      kept = c.fault_of-in-Err-raise_boot.ensures.kept clean;
+      survives = c.fault_of-in-Err-raise_boot.ensures.survives;
     }
 
 pub returns-in-Err-clause-last : goal.returns-in-Err-clause-last
 returns-in-Err-clause-last g c clean spent =
     let left = state g.S.Store c.read_boot.new.conn in
     let new = state g.S.Store c.fault_of.new.conn in
+    let late = clean_before left new _ c.fault_of.ensures.survives clean in
     inr (record {
       left = c.read_boot.new.conn;
       error = c.in-Err.error;
-      cause = c.in-Err.ensures.fails (clean_before left new _ c.fault_of.ensures.survives clean);
+      cause = c.in-Err.ensures.fails late;
+      undone = c.in-Err.ensures.err late;
       told = c.fault_of.ensures.told clean;
+      kept = c.fault_of.ensures.kept clean;
+      survives = c.fault_of.ensures.survives;
     })
 
 pub returns-in-Ok-raise_boot-clause-last : goal.returns-in-Ok-raise_boot-clause-last

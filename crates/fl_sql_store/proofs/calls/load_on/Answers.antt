@@ -8,4 +8,12 @@ returns-in-Err-Failed-clause-refuses g c clean =
     let left = state g.S.Store c.load_ops.new.conn in
     let new = state g.S.Store c.fault_of.new.conn in
     let late = clean_before left new _ c.fault_of.ensures.survives clean in
-    load_told g.S.Store c.args.conn.now c.load_ops.new.conn c.fault_of.new.conn _ c.fault_of.result c.fault_of.ensures.either (rw c.in-Err-Failed.field-0-is at (c.in-Err-Failed.ensures.refuses late)) (c.fault_of.ensures.told clean)
+    load_told g.S.Store c.args.conn.now c.fault_of.new.conn c.fault_of.result c.fault_of.ensures.either (record {
+      left = c.load_ops.new.conn;
+      error = _;
+      cause = rw c.in-Err-Failed.field-0-is at (c.in-Err-Failed.ensures.refuses late);
+      undone = c.in-Err-Failed.ensures.err late;
+      told = c.fault_of.ensures.told clean;
+      kept = c.fault_of.ensures.kept clean;
+      survives = c.fault_of.ensures.survives;
+    })

@@ -6,9 +6,13 @@ pub returns-in-Err-clause-fails : goal.returns-in-Err-clause-fails
 returns-in-Err-clause-fails g c clean ours is_open =
     let left = state g.S.Store c.save_ops.new.conn in
     let new = state g.S.Store c.fault_of.new.conn in
+    let late = clean_before left new _ c.fault_of.ensures.survives clean in
     record {
       left = c.save_ops.new.conn;
       error = c.in-Err.error;
-      cause = c.in-Err.ensures.fails (clean_before left new _ c.fault_of.ensures.survives clean) ours is_open;
+      cause = c.in-Err.ensures.fails late ours is_open;
+      undone = c.in-Err.ensures.err late ours;
       told = c.fault_of.ensures.told clean;
+      kept = c.fault_of.ensures.kept clean;
+      survives = c.fault_of.ensures.survives;
     }

@@ -1,7 +1,7 @@
 use Rattle.std.proofs.Common.{inl, inr, ap, ◌∙◌, arith}
 use Rattle.sqlite.specs.Held.{state}
 use Rattle.sqlite.specs.State.{HasCleanDisk}
-use Rattle.fl_sql_store.proofs.KeepLemmas.{clean_before, stays_quiet}
+use Rattle.fl_sql_store.proofs.KeepLemmas.{stays_quiet}
 use Rattle.fl_sql_store.proofs.RewriteLemmas.{rewrites_after, stays_on, refuses_after, on_ok_then, if_err_then}
 use Rattle.fl_sql_store.proofs.open.own_on.Goals as goal
 

@@ -1,4 +1,4 @@
-use Rattle.std.proofs.Common.{◌≡◌, [], refl, sym, subst, rules, arith, inl, inr, ◌∙◌}
+use Rattle.std.proofs.Common.{◌≡◌, ◌+◌, [], refl, sym, subst, rules, arith, inl, inr, ◌∙◌}
 use Rattle.sqlite.specs.Held.{state}
 use Rattle.sqlite.specs.Given.{IsRefused}
 use Rattle.sqlite.specs.State.{HasCleanDisk, Survives, FailsToQuery, CommitsShowing, IsUnchanged}
@@ -138,6 +138,21 @@ returns-then-is_some-clause-refuses g c clean =
           c.in-Ok-Found.op found.1.1.0 (rw c.in-Ok-Found.field-0-is at (c.in-Ok-Found.ensures.ok late)) found.1.1.1 (found.1.1.2 ∙ found.1.0) found.1.1.3,
       (let same : IsUnchanged old new = unchanged_then old mid new (c.rows.invariant.same before) (c.in-Ok-Found.ensures.same late) in search rules),
     )
+
+pub returns-then-is_err-clause-refuses : goal.returns-then-is_err-clause-refuses
+returns-then-is_err-clause-refuses g c clean =
+    let old = state g.S.Store c.args.conn.now in
+    let mid = state g.S.Store c.rows.rows.conn.now in
+    let new = state g.S.Store c.next_op.new.rows.conn.now in
+    let late : HasCleanDisk new = search rules in
+    let before = clean_before mid new _ c.next_op.ensures.survives late in
+    let ready = c.requires.serving (clean_before old mid _ c.rows.invariant.survives before) in
+    let same : IsUnchanged old new = unchanged_then old mid new (c.rows.invariant.same before) (c.in-Ok-Found.ensures.same late) in
+    let given = given_more g.S.Store c.rows.rows.conn.now c.next_op.new.rows.conn.now c.rows.ops (insert c.rows.ops c.in-Ok-Found.op)
+        c.rows._count c.in-Ok-Found.op (c.rows.invariant.given before) (rw c.in-Ok-Found.field-0-is at (c.in-Ok-Found.ensures.ok late)) refl in
+    let many = has_rows g.S.Store old c.next_op.new.rows.conn.now c.next_op.new.rows.conn.now (insert c.rows.ops c.in-Ok-Found.op)
+        (c.rows._count + 1) ready.schema same given in
+    (omega (arith, many), (let same : IsUnchanged old new = same in search rules))
 
 pub returns-clause-refuses : goal.returns-clause-refuses
 returns-clause-refuses g c clean =

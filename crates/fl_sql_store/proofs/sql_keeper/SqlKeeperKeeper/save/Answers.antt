@@ -1,12 +1,16 @@
-use Rattle.std.proofs.Common.{◌≡◌, ◌<◌, [], ◌∷◌, length, List, ap, subst, sym, inl, inr, refl, arith, rules, IsTrue, Ok, Err}
+use Rattle.std.proofs.Common.{◌≡◌, ◌<◌, [], ◌∷◌, length, List, ap, subst, sym, inl, inr, refl, arith, Ok, Err, ◌⊎◌, ◌+◌}
 use Rattle.sqlite.specs.Held.{state}
-use Rattle.sqlite.specs.State.{State, HasCleanDisk}
+use Rattle.sqlite.specs.State.{HasCleanDisk}
 use Rattle.fl_ops.specs.declared.op.Op.{Op}
 use Rattle.fl_store.specs.declared.keeper.KeeperFault.TheVariants.{Memory, Broken}
 use Rattle.fl_store.specs.Kept.{with_batch}
 use Rattle.fl_store.specs.Keeping.{AfterSave}
+use Rattle.fl_store.specs.laws.KeptSets.{with-none}
 use Rattle.fl_sql_store.specs.SqlKeeping.{SqlKept, held_in}
-use Rattle.fl_sql_store.proofs.KeepLemmas.{with_none, ready_saved, ready_as_committed, held_saved, held_unchanged, held_either, ours_if_serving}
+use Rattle.fl_sql_store.proofs.KeepLemmas.{ready_saved, ready_as_committed, held_saved, held_unchanged, held_either}
+use Rattle.fl_sql_tables.specs.Failing.{FailsToSave}
+use Rattle.fl_sql_store.specs.Breaking.{IsTold}
+use Rattle.fl_sql_store.proofs.CauseLemmas.{told_memory, told_broken, save_broken}
 use Rattle.fl_sql_store.proofs.sql_keeper.SqlKeeperKeeper.save.Goals as goal
 
 pub returns-then-self-clause-held : goal.returns-then-self-clause-held
@@ -19,7 +23,7 @@ none_left (op ∷ ops) none = absurd (omega arith)
 pub returns-then-is_empty-clause-held : goal.returns-then-is_empty-clause-held
 returns-then-is_empty-clause-held g c clean =
     let none : length c.args.ops.now ≡ 0 = grind arith in
-    (clean, λ after h. (after, h, subst (λ ops. after ≡ with_batch after ops) (sym (none_left c.args.ops.now none)) (ap (λ s. record after { saved = s }) (sym (with_none after.saved)))))
+    (clean, λ after h. (after, h, subst (λ ops. after ≡ with_batch after ops) (sym (none_left c.args.ops.now none)) (ap (λ s. record after { saved = s }) (sym (with-none after.saved)))))
 
 pub invariant_of-self : goal.invariant_of-self
 invariant_of-self g c = (
@@ -33,14 +37,14 @@ invariant_of-self g c = (
   c.self.invariant.3,
 )
 
-pub invariant_of-self-in-Err-Memory : goal.invariant_of-self-in-Err-Memory
-invariant_of-self-in-Err-Memory g c = (
+pub invariant_of-self-in-Memory : goal.invariant_of-self-in-Memory
+invariant_of-self-in-Memory g c = (
   c.save_on.ensures.idle,
   λ whole clean.
       let old = state g.S.Store c.self.inside.conn in
       let new = state g.S.Store c.save_on.new.conn in
       let ready = c.self.invariant.1 whole (omega (arith, c.save_on.ensures.clean)) in
-      ready_as_committed c.self.inside.number old new ready (c.in-Err-Memory.ensures.memory clean (λ _. ready.schema) (ap Err c.in-Err-Memory.field-0-is)),
+      ready_as_committed c.self.inside.number old new ready (c.in-Err.ensures.memory clean (λ _. ready.schema) (ap Err c.in-Memory.is)),
   c.self.invariant.2,
   c.self.invariant.3,
 )
@@ -55,18 +59,18 @@ returns-in-Ok-clause-held g c clean =
     (c.in-Ok.ensures.ok clean (λ _. ready.schema)) in
     subst (λ (k : SqlKept _). HasCleanDisk (state g.S.Store k.conn) × AfterSave c.args.ops.now (held_in k.number (state g.S.Store k.conn)) (held_in c.self.inside.number new) (Ok tt)) c.self.view_is (before, whole)
 
-pub returns-in-Err-Memory-clause-held : goal.returns-in-Err-Memory-clause-held
-returns-in-Err-Memory-clause-held g c clean =
+pub returns-in-Memory-clause-held : goal.returns-in-Memory-clause-held
+returns-in-Memory-clause-held g c clean =
     let old = state g.S.Store c.self.inside.conn in
     let new = state g.S.Store c.save_on.new.conn in
     let before : HasCleanDisk old = omega (arith, c.save_on.ensures.clean) in
     let ready = c.self.invariant.1 c.if-self.false before in
-    let it = c.in-Err-Memory.ensures.memory clean (λ _. ready.schema) (ap Err c.in-Err-Memory.field-0-is) in
+    let it = c.in-Err.ensures.memory clean (λ _. ready.schema) (ap Err c.in-Memory.is) in
     let whole = held_unchanged c.self.inside.number old new ready (g.met.S.Store.settled c.save_on.new.conn.store) (g.met.S.Store.stays c.self.inside.conn.store) it.is_open it.committed_is in
     subst (λ (k : SqlKept _). HasCleanDisk (state g.S.Store k.conn) × AfterSave c.args.ops.now (held_in k.number (state g.S.Store k.conn)) (held_in c.self.inside.number new) (Err Memory)) c.self.view_is (before, whole)
 
-pub returns-in-Err-clause-held : goal.returns-in-Err-clause-held
-returns-in-Err-clause-held g c clean =
+pub returns-in_default-clause-held : goal.returns-in_default-clause-held
+returns-in_default-clause-held g c clean =
     let old = state g.S.Store c.self.inside.conn in
     let new = state g.S.Store c.save_on.new.conn in
     let before : HasCleanDisk old = omega (arith, c.save_on.ensures.clean) in
@@ -74,3 +78,40 @@ returns-in-Err-clause-held g c clean =
     let whole = held_either c.self.inside.number old new ready (g.met.S.Store.settled c.save_on.new.conn.store) (g.met.S.Store.stays c.self.inside.conn.store) c.args.ops.now clean
     (c.save_on.ensures.survives (λ _. ready.schema)) in
     subst (λ (k : SqlKept _). HasCleanDisk (state g.S.Store k.conn) × AfterSave c.args.ops.now (held_in k.number (state g.S.Store k.conn)) (held_in c.self.inside.number new) (Err Broken)) c.self.view_is (before, whole)
+
+pub returns-in-Memory-clause-wanted : goal.returns-in-Memory-clause-wanted
+returns-in-Memory-clause-wanted g c clean _ =
+    let old = state g.S.Store c.self.inside.conn in
+    let before : HasCleanDisk old = omega (arith, c.save_on.ensures.clean) in
+    let ready = c.self.invariant.1 c.if-self.false before in
+    let some : 0 < length c.args.ops.now = grind arith in
+    let fails = c.in-Err.ensures.fails clean (λ _. ready.schema) ready.is_open in
+    let told = told_memory g.S.Store (FailsToSave c.args.ops.now) c.self.inside.conn c.save_on.new.conn _ c.in-Memory.is fails in
+    subst (λ (k : SqlKept _). (0 < length c.args.ops.now) × IsTold g.S.Store (FailsToSave c.args.ops.now) k.conn c.save_on.new.conn Memory)
+    c.self.view_is (some, told)
+
+pub returns-in_default-clause-broke : goal.returns-in_default-clause-broke
+returns-in_default-clause-broke g c clean _ =
+    let old = state g.S.Store c.self.inside.conn in
+    let before : HasCleanDisk old = omega (arith, c.save_on.ensures.clean) in
+    let ready = c.self.invariant.1 c.if-self.false before in
+    let some : 0 < length c.args.ops.now = grind arith in
+    let fails = c.in-Err.ensures.fails clean (λ _. ready.schema) ready.is_open in
+    let told = told_broken g.S.Store (FailsToSave c.args.ops.now) c.self.inside.conn c.save_on.new.conn _
+    (save_broken _ c.in-Err.ensures.either c.in_default.not-Memory) fails in
+    inr (subst (λ (k : SqlKept _). (0 < length c.args.ops.now) × IsTold g.S.Store (FailsToSave c.args.ops.now) k.conn c.save_on.new.conn Broken)
+    c.self.view_is (some, told))
+
+pub returns-in_default-clause-counted : goal.returns-in_default-clause-counted
+returns-in_default-clause-counted g c clean =
+    let old = state g.S.Store c.self.inside.conn in
+    let before : HasCleanDisk old = omega (arith, c.save_on.ensures.clean) in
+    let ready = c.self.invariant.1 c.if-self.false before in
+    let some : 0 < length c.args.ops.now = grind arith in
+    let fails = c.in-Err.ensures.fails clean (λ _. ready.schema) ready.is_open in
+    let told = told_broken g.S.Store (FailsToSave c.args.ops.now) c.self.inside.conn c.save_on.new.conn _
+    (save_broken _ c.in-Err.ensures.either c.in_default.not-Memory) fails in
+    let none : c.self.inside.failures ≡ 0 = c.self.invariant.2 c.if-self.false in
+    subst (λ (k : SqlKept _). (1 ≡ k.failures) ⊎ ((1 ≡ k.failures + 1)
+    × ((0 < length c.args.ops.now) × IsTold g.S.Store (FailsToSave c.args.ops.now) k.conn c.save_on.new.conn Broken)))
+    c.self.view_is (inr (omega (arith, none), (some, told)))

@@ -1,9 +1,10 @@
-use Rattle.std.proofs.Common.{◌≡◌, ◌∙◌, refl, sym, ap, subst}
+use Rattle.std.proofs.Common.{◌≡◌, ◌∙◌, refl, sym, ap, subst, arith}
 use Rattle.fl_labels.specs.SetBy as set
 use Rattle.fl_ops.specs.OpLaws.{op_total, op_exact}
 use Rattle.fl_store.specs.Kept.{HasNamesOnce}
 use Rattle.fl_store.specs.MemKeeping.{MemKept}
-use Rattle.fl_store.specs.laws.KeptSets.{union-nothing}
+use Rattle.fl_store.specs.laws.KeptSets.{union-nothing, once-empty}
+use Rattle.fl_store.proofs.MemLemmas.{none_saved}
 use Rattle.fl_store.proofs.mem.MemKeeperKeeper.load.Goals as goal
 
 pub returns-clause-names : goal.returns-clause-names
@@ -14,4 +15,14 @@ returns-clause-names c =
 pub returns-clause-held : goal.returns-clause-held
 returns-clause-held c _ =
     let loaded : c.merge.new.self ≡ c.self.inside.saved = c.in-Ok.ensures.ok ∙ ap (λ s. set.union s c.self.inside.saved) c.new-saved.ensures ∙ union-nothing op_total op_exact _ in
+    (tt, λ after is. (_, refl, (is, loaded ∙ ap (λ (k : MemKept). k.kept.saved) c.self.view_is)))
+
+pub returns-then-len-eq0-clause-names : goal.returns-then-len-eq0-clause-names
+returns-then-len-eq0-clause-names c = subst HasNamesOnce (sym c.new-saved.ensures) once-empty
+
+pub returns-then-len-eq0-clause-held : goal.returns-then-len-eq0-clause-held
+returns-then-len-eq0-clause-held c _ =
+    let none : set.len c.self.inside.saved ≡ 0 = grind arith in
+    let loaded : c.new-saved.result ≡ c.self.inside.saved =
+    c.new-saved.ensures ∙ sym (none_saved c.self.inside.saved none) in
     (tt, λ after is. (_, refl, (is, loaded ∙ ap (λ (k : MemKept). k.kept.saved) c.self.view_is)))
