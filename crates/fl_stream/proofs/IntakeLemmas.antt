@@ -8,13 +8,13 @@ use Rattle.std.specs.Io.KnownBytes.{Appends, Keeps, Consumes, IsAtEnd, append_kn
 use Rattle.std.specs.Str.Lines.{lines}
 use Rattle.fl_stream.specs.Turns.{Turns, Run, texts, worst}
 use Rattle.fl_stream.specs.Output.{WritesOutput, WritesFirst}
-use Rattle.fl_stream.specs.Served.{Answered, Served, Outgrows}
+use Rattle.fl_stream.specs.Served.{Answered, Served, Outgrows, HearsMidLine, CountsPast, plus_known}
 use Rattle.fl_stream.specs.parts.Interpreter.{LinesCut, fresh}
 use Rattle.fl_stream.specs.parts.Stream.{StreamState, BytesPass, BytesCut, EndPasses, EndCuts, fresh_stream}
-use Rattle.fl_stream.specs.parts.Intake.{IsReady, ReadingPasses, ReadingCuts, Overruns}
+use Rattle.fl_stream.specs.parts.Intake.{CountsTo, IsReady, ReadingPasses, ReadingCuts, Overruns}
 use Rattle.fl_stream.proofs.RunLemmas.{Run-append}
 use Rattle.fl_stream.proofs.InterpreterLemmas.{lines_cut_then, texts-append, worst-append}
-use Rattle.fl_stream.proofs.StreamLemmas.{bytes_pass_split, bytes_pass_none, bytes_pass_then, bytes_cut_then, bytes_cut_passed, bytes_pass_kept}
+use Rattle.fl_stream.proofs.StreamLemmas.{bytes_pass_split, bytes_pass_none, bytes_pass_then, bytes_cut_then, bytes_cut_passed, bytes_pass_kept, no_feed_nil}
 
 -- what holds of each value holds of one that may be there
 pub if_some_always : {T : Type 0} (o : Option T) (P : T → Type 0) → ((x : T) → P x) → IfSome o P
@@ -40,10 +40,58 @@ pub heard_due : (h k : Option (List ℕ)) (P : List ℕ → Type 0) (bytes : Lis
 heard_due None k P bytes none e p = subst (λ y. IfSome y P) (sym e) tt
 heard_due (Some x) k P bytes none e p = subst (λ y. IfSome y P) (sym e) (subst (λ y. P (y ++ bytes)) (sym none) p)
 
+-- before the first byte
+pub ready_fresh : {M : Type 0} {start : M} {s : StreamState M} {room : ℕ} → s ≡ fresh_stream start → room ≡ 16777216 → IsReady s room
+ready_fresh {M} {start} {s} {room} e f =
+    let number : s.interpreter.number ≡ 1 = ap (λ (x : StreamState M). x.interpreter.number) e in
+    record {
+      part = no_feed_nil s.held (ap (λ (x : StreamState M). x.held) e);
+      number = omega arith;
+      sent = ap (λ (x : StreamState M). x.interpreter.pending) e;
+    }
+
+-- a known number does not grow by none
+plus_known-zero : (n : Option ℕ) → n ≡ plus_known n 0
+plus_known-zero None = refl
+plus_known-zero (Some n) = ap Some (omega arith)
+
+-- a known number grows twice
+plus_known-plus : (n : Option ℕ) (a b : ℕ) → plus_known (plus_known n a) b ≡ plus_known n (a + b)
+plus_known-plus None a b = refl
+plus_known-plus (Some n) a b = ap Some (omega arith)
+
+-- nothing was counted
+pub counts_none : (n : Option ℕ) {room most : ℕ} → room ≡ most → CountsTo n n most room
+counts_none n is = record { more = 0; counted = plus_known-zero n; fits = omega arith }
+
+-- more was counted
+pub counts_then : {n o q : Option ℕ} {room less least : ℕ} → CountsTo n o room less → CountsTo o q less least → CountsTo n q room least
+counts_then {n} a b = record {
+  more = a.more + b.more;
+  counted = b.counted ∙ ap (λ x. plus_known x b.more) a.counted ∙ plus_known-plus n a.more b.more;
+  fits = omega (arith, a.fits, b.fits);
+}
+
+-- more was counted than there was room for at first
+counts_past : {n o q : Option ℕ} {room less : ℕ} → CountsTo n o room less → CountsPast less o q → CountsPast room n q
+counts_past {n} a b = record {
+  more = a.more + b.more;
+  counted = b.counted ∙ ap (λ x. plus_known x b.more) a.counted ∙ plus_known-plus n a.more b.more;
+  many = omega (arith, a.fits, b.many);
+}
+
 module _ {M : Type 0} {turns : Turns M} where
   -- nothing was read
   pub reading_none : (r h a : Option (List ℕ)) (s : StreamState M) (room : ℕ) → ReadingPasses turns r r h h a a s s room room
   reading_none r h a s room = record { bytes = []; consumed = Consumes-nil r; grown_by = append_known-nil h; advance = bytes_pass_none a s; fits = omega arith }
+
+  -- before the first byte
+  pub reading_fresh : (r h a : Option (List ℕ)) {start : M} {s : StreamState M} {room : ℕ} → s ≡ fresh_stream start
+      → room ≡ 16777216 → ReadingPasses turns r r h h a a (fresh_stream start) s 16777216 room
+  reading_fresh r h a {start} {s} {room} e f =
+      subst (λ x. ReadingPasses turns r r h h a a (fresh_stream start) x 16777216 room) (sym e)
+      (subst (λ n. ReadingPasses turns r r h h a a (fresh_stream start) (fresh_stream start) 16777216 n) (sym f)
+      (reading_none r h a (fresh_stream start) 16777216))
 
   -- the end was read
   pub reading_end : {r l h k a : Option (List ℕ)} (s : StreamState M) (room : ℕ) (bytes : List ℕ) → bytes ≡ [] → Consumes r l bytes → k ≡ append_known h bytes → ReadingPasses turns r l h k a a s s room room
@@ -78,37 +126,54 @@ module _ {M : Type 0} {turns : Turns M} where
   }
 
   -- more was read than was taken
-  pub reading_cuts_beyond : {r l a : Option (List ℕ)} (s : StreamState M) (bytes : List ℕ) → Consumes r l bytes → ReadingCuts turns r l a a s
+  pub reading_cuts_beyond : {r l a : Option (List ℕ)} (s : StreamState M) (bytes : List ℕ) → Consumes r l bytes → ReadingCuts turns r l a a s s.interpreter.machine
   reading_cuts_beyond {r} {l} {a} s bytes q = record { bytes = bytes; consumed = q; stops = bytes_cut_passed bytes (bytes_pass_none a s) }
 
   -- what was read was taken, and its answers stopped
-  pub reading_cuts_sending : {r l a b : Option (List ℕ)} {s t : StreamState M} (c : Option (List ℕ)) (bytes : List ℕ) → Consumes r l bytes → BytesPass turns s t a b bytes → BytesCut turns t b c [] → ReadingCuts turns r l a c s
-  reading_cuts_sending {r} {l} {a} {b} {s} {t} c bytes q p stop = record {
+  pub reading_cuts_sending : {r l a b : Option (List ℕ)} {s t : StreamState M} {end : M} (c : Option (List ℕ)) (bytes : List ℕ) → Consumes r l bytes → BytesPass turns s t a b bytes → BytesCut turns t end b c [] → ReadingCuts turns r l a c s end
+  reading_cuts_sending {r} {l} {a} {b} {s} {t} {end} c bytes q p stop = record {
     bytes = bytes;
     consumed = q;
-    stops = subst (λ x. BytesCut turns s a c x) (append-nil bytes) (bytes_cut_then c [] p stop);
+    stops = subst (λ x. BytesCut turns s end a c x) (append-nil bytes) (bytes_cut_then c [] p stop);
   }
 
   -- what was read was taken and written, and not sent
-  pub reading_cuts_unsent : {r l a b c : Option (List ℕ)} {s t u : StreamState M} (d : Option (List ℕ)) (bytes : List ℕ) → Consumes r l bytes → BytesPass turns s t a b bytes → BytesPass turns t u b c [] → Keeps c d → ReadingCuts turns r l a d s
+  pub reading_cuts_unsent : {r l a b c : Option (List ℕ)} {s t u : StreamState M} (d : Option (List ℕ)) (bytes : List ℕ) → Consumes r l bytes → BytesPass turns s t a b bytes → BytesPass turns t u b c [] → Keeps c d → ReadingCuts turns r l a d s u.interpreter.machine
   reading_cuts_unsent {r} {l} {a} {b} {c} {s} {t} {u} d bytes q taken sent keep = record {
     bytes = bytes;
     consumed = q;
-    stops = subst (λ x. BytesCut turns s a d x) (append-nil (bytes ++ []) ∙ append-nil bytes) (bytes_cut_passed [] (bytes_pass_kept d (bytes_pass_then c taken sent) keep));
+    stops = subst (λ x. BytesCut turns s u.interpreter.machine a d x) (append-nil (bytes ++ []) ∙ append-nil bytes) (bytes_cut_passed [] (bytes_pass_kept d (bytes_pass_then c taken sent) keep));
   }
 
   -- hearing failed, or gave more than there was room for at first
-  pub reading_cause : {deaf : Type 0} {r l h k m a b : Option (List ℕ)} {s t : StreamState M} {room less : ℕ} → ReadingPasses turns r l h k a b s t room less → deaf ⊎ Outgrows less k m → deaf ⊎ Outgrows room h m
-  reading_cause p q = elim q [ inl d ↦ inl d | inr more ↦ inr (reading_outgrows p more) ]
+  pub reading_cause : {deaf : Type 0} {r l h k m a b : Option (List ℕ)} {s t : StreamState M} {room less : ℕ} {n o q : Option ℕ}
+      → ReadingPasses turns r l h k a b s t room less → CountsTo n o room less
+      → deaf ⊎ (Outgrows less k m × CountsPast less o q) → deaf ⊎ (Outgrows room h m × CountsPast room n q)
+  reading_cause p c q = elim q [ inl d ↦ inl d | inr more ↦ inr (reading_outgrows p more.0, counts_past c more.1) ]
+
+  -- what was heard last ends in a line that has not ended
+  pub reading_mid_line : {r l m h k n a b : Option (List ℕ)} {s t : StreamState M} {room less : ℕ}
+      → ReadingPasses turns r l h k a b s t room less → HearsMidLine l m k n → HearsMidLine r m h n
+  reading_mid_line {r} {l} {m} {h} {k} {n} p q = record {
+    bytes = p.bytes ++ q.bytes;
+    consumed = Consumes-trans r l m p.bytes q.bytes p.consumed q.consumed;
+    grown_by = q.grown_by ∙ ap (λ x. append_known x q.bytes) p.grown_by ∙ append_known-append h p.bytes q.bytes;
+    ends = record {
+      front = p.bytes ++ q.ends.front;
+      part = q.ends.part;
+      cut = ap (λ x. p.bytes ++ x) q.ends.cut ∙ sym (append_assoc p.bytes q.ends.front q.ends.part);
+      some = q.ends.some;
+      no_feed = q.ends.no_feed;
+    };
+  }
 
   -- all that was read was the whole script, and it was answered
-  output_end : {a b : Option (List ℕ)} {start : M} {s : StreamState M} {status : ℕ} (c : Option (List ℕ)) (taken : List ℕ) → BytesPass turns (fresh_stream start) s a b taken → EndPasses turns s b c status → WritesOutput turns start a c taken status
-  output_end {a} {b} {start} {s} {status} c taken p q = record {
+  output_end : {a b : Option (List ℕ)} {start end : M} {s : StreamState M} {status : ℕ} (c : Option (List ℕ)) (taken : List ℕ) → BytesPass turns (fresh_stream start) s a b taken → EndPasses turns s end b c status → WritesOutput turns start a c taken status end
+  output_end {a} {b} {start} {end} {s} {status} c taken p q = record {
     text = texts (p.proceeds.outputs ++ q.outputs);
     output = record {
       outputs = p.proceeds.outputs ++ q.outputs;
-      end = q.end;
-      run = rw (← append-nil taken, bytes_pass_split p [], append-nil s.held) (Run-append turns 1 start p.seen p.proceeds.outputs s.interpreter.machine (lines s.held) q.outputs q.end p.proceeds.run (rw p.proceeds.count at q.run));
+      run = rw (← append-nil taken, bytes_pass_split p [], append-nil s.held) (Run-append turns 1 start p.seen p.proceeds.outputs s.interpreter.machine (lines s.held) q.outputs end p.proceeds.run (rw p.proceeds.count at q.run));
       text_is = refl;
       status_is = q.status_is ∙ ap (λ x. max x (worst q.outputs)) (p.proceeds.status_is ∙ zero-max (worst p.proceeds.outputs)) ∙ sym (worst-append p.proceeds.outputs q.outputs);
     };
@@ -116,31 +181,31 @@ module _ {M : Type 0} {turns : Turns M} where
   }
 
   -- a front of the text of the first lines was written
-  first_halts : {a b : Option (List ℕ)} {start : M} (script : List ℕ) (first later : List (List ℕ)) → lines script ≡ first ++ later → LinesCut turns (fresh start) a b first → WritesFirst turns start a b script
-  first_halts {a} {b} {start} script first later split h = record {
+  first_halts : {a b : Option (List ℕ)} {start end : M} (script : List ℕ) (first later : List (List ℕ)) → lines script ≡ first ++ later → LinesCut turns (fresh start) end a b first → WritesFirst turns start a b script end
+  first_halts {a} {b} {start} {end} script first later split h = record {
     first = first;
     later = later;
     split = split;
     front = h.cut.front;
     rest = h.cut.rest;
     status = _;
-    output = record { outputs = h.outputs; end = h.end; run = h.run; text_is = sym h.cut.split; status_is = refl };
+    output = record { outputs = h.outputs; run = h.run; text_is = sym h.cut.split; status_is = refl };
     written = h.cut.written;
   }
 
   -- a front of the script was taken, and stopped
-  first_stops : (r l a c : Option (List ℕ)) {start : M} (taken : List ℕ) → Consumes r l taken → BytesCut turns (fresh_stream start) a c taken → IfSome r (λ script. WritesFirst turns start a c script)
+  first_stops : (r l a c : Option (List ℕ)) {start end : M} (taken : List ℕ) → Consumes r l taken → BytesCut turns (fresh_stream start) end a c taken → IfSome r (λ script. WritesFirst turns start a c script end)
   first_stops None l a c taken p q = tt
   first_stops (Some xs) None a c taken p q = absurd p
   first_stops (Some xs) (Some ys) a c taken p q = rw p (first_halts (taken ++ ys) q.seen (lines (q.left ++ ys)) (q.split ys) q.halts)
 
   -- all was taken, and the answers to what was held stopped
-  first_ends : {a b : Option (List ℕ)} {start : M} {s : StreamState M} (c : Option (List ℕ)) (taken : List ℕ) → BytesPass turns (fresh_stream start) s a b taken → EndCuts turns s b c → WritesFirst turns start a c taken
-  first_ends {a} {b} {start} {s} c taken p q =
+  first_ends : {a b : Option (List ℕ)} {start end : M} {s : StreamState M} (c : Option (List ℕ)) (taken : List ℕ) → BytesPass turns (fresh_stream start) s a b taken → EndCuts turns s end b c → WritesFirst turns start a c taken end
+  first_ends {a} {b} {start} {end} {s} c taken p q =
       first_halts taken (p.seen ++ lines s.held) [] (ap lines (sym (append-nil taken)) ∙ bytes_pass_split p [] ∙ ap (λ x. p.seen ++ lines x) (append-nil s.held) ∙ sym (append-nil (p.seen ++ lines s.held))) (lines_cut_then c p.proceeds q.halts)
 
   -- nothing is written for no line
-  pub first_none : (a : Option (List ℕ)) (start : M) (script : List ℕ) → WritesFirst turns start a a script
+  pub first_none : (a : Option (List ℕ)) (start : M) (script : List ℕ) → WritesFirst turns start a a script start
   first_none a start script = record {
     first = [];
     later = lines script;
@@ -148,24 +213,24 @@ module _ {M : Type 0} {turns : Turns M} where
     front = [];
     rest = [];
     status = 0;
-    output = record { outputs = []; end = start; run = refl; text_is = refl; status_is = refl };
+    output = record { outputs = []; run = refl; text_is = refl; status_is = refl };
     written = Appends-nil a;
   }
 
   -- more was read, and taking it stopped
-  pub reading_cuts : {r l h k m a b c : Option (List ℕ)} {start : M} {s : StreamState M} {room less : ℕ} → ReadingPasses turns r l h k a b (fresh_stream start) s room less → ReadingCuts turns l m b c s → IfSome r (λ script. WritesFirst turns start a c script)
-  reading_cuts {r} {l} {h} {k} {m} {a} {b} {c} {start} {s} {room} {less} p q =
-      first_stops r m a c (p.bytes ++ q.bytes) (Consumes-trans r l m p.bytes q.bytes p.consumed q.consumed) (subst (λ x. BytesCut turns (fresh_stream start) a c (p.bytes ++ x)) (append-nil q.bytes) (bytes_cut_then c [] p.advance q.stops))
+  pub reading_cuts : {r l h k m a b c : Option (List ℕ)} {start end : M} {s : StreamState M} {room less : ℕ} → ReadingPasses turns r l h k a b (fresh_stream start) s room less → ReadingCuts turns l m b c s end → IfSome r (λ script. WritesFirst turns start a c script end)
+  reading_cuts {r} {l} {h} {k} {m} {a} {b} {c} {start} {end} {s} {room} {less} p q =
+      first_stops r m a c (p.bytes ++ q.bytes) (Consumes-trans r l m p.bytes q.bytes p.consumed q.consumed) (subst (λ x. BytesCut turns (fresh_stream start) end a c (p.bytes ++ x)) (append-nil q.bytes) (bytes_cut_then c [] p.advance q.stops))
 
   -- there was no more to read, and all was answered
-  pub reading_answered : {r l h k a b : Option (List ℕ)} {start : M} {s : StreamState M} {room less : ℕ} {status : ℕ} (c : Option (List ℕ)) → ReadingPasses turns r l h k a b (fresh_stream start) s room less → IsAtEnd l → EndPasses turns s b c status → IfSome r (λ script. WritesOutput turns start a c script status)
-  reading_answered {r} {l} {h} {k} {a} {b} {start} {s} {room} {less} {status} c p end e =
-      Consumes-whole r l p.bytes (λ script. WritesOutput turns start a c script status) p.consumed end (output_end c p.bytes p.advance e)
+  pub reading_answered : {r l h k a b : Option (List ℕ)} {start end : M} {s : StreamState M} {room less : ℕ} {status : ℕ} (c : Option (List ℕ)) → ReadingPasses turns r l h k a b (fresh_stream start) s room less → IsAtEnd l → EndPasses turns s end b c status → IfSome r (λ script. WritesOutput turns start a c script status end)
+  reading_answered {r} {l} {h} {k} {a} {b} {start} {end} {s} {room} {less} {status} c p all e =
+      Consumes-whole r l p.bytes (λ script. WritesOutput turns start a c script status end) p.consumed all (output_end c p.bytes p.advance e)
 
   -- there was no more to read, and the answers stopped
-  pub reading_end_cuts : {r l h k a b : Option (List ℕ)} {start : M} {s : StreamState M} {room less : ℕ} (c : Option (List ℕ)) → ReadingPasses turns r l h k a b (fresh_stream start) s room less → IsAtEnd l → EndCuts turns s b c → IfSome r (λ script. WritesFirst turns start a c script)
-  reading_end_cuts {r} {l} {h} {k} {a} {b} {start} {s} {room} {less} c p end e =
-      Consumes-whole r l p.bytes (λ script. WritesFirst turns start a c script) p.consumed end (first_ends c p.bytes p.advance e)
+  pub reading_end_cuts : {r l h k a b : Option (List ℕ)} {start end : M} {s : StreamState M} {room less : ℕ} (c : Option (List ℕ)) → ReadingPasses turns r l h k a b (fresh_stream start) s room less → IsAtEnd l → EndCuts turns s end b c → IfSome r (λ script. WritesFirst turns start a c script end)
+  reading_end_cuts {r} {l} {h} {k} {a} {b} {start} {end} {s} {room} {less} c p all e =
+      Consumes-whole r l p.bytes (λ script. WritesFirst turns start a c script end) p.consumed all (first_ends c p.bytes p.advance e)
 
   -- the whole script was read, and there was room for it
   pub reading_short : {r l h k a b : Option (List ℕ)} {old s : StreamState M} {room less : ℕ} → ReadingPasses turns r l h k a b old s room less → IsAtEnd l → IfSome r (λ script. length script ≤ room)
@@ -173,7 +238,7 @@ module _ {M : Type 0} {turns : Turns M} where
       Consumes-whole r l p.bytes (λ script. length script ≤ room) p.consumed end (omega (arith, p.fits))
 
   -- all answers were written: exactly the lines that ended are answered
-  pub reading_replied : {r l h k a b : Option (List ℕ)} {start : M} {s : StreamState M} {room less : ℕ} (p : ReadingPasses turns r l h k a b (fresh_stream start) s room less) → IsReady s less → Answered turns start p.bytes a b
+  pub reading_replied : {r l h k a b : Option (List ℕ)} {start : M} {s : StreamState M} {room less : ℕ} (p : ReadingPasses turns r l h k a b (fresh_stream start) s room less) → IsReady s less → Answered turns start p.bytes a b s.interpreter.machine
   reading_replied {r} {l} {h} {k} {a} {b} {start} {s} {room} {less} p ready =
       let g = p.advance.proceeds in record {
         done = p.advance.done;
@@ -185,7 +250,6 @@ module _ {M : Type 0} {turns : Turns M} where
         status = _;
         output = record {
           outputs = g.outputs;
-          end = s.interpreter.machine;
           run = subst (λ x. Run turns 1 start x g.outputs s.interpreter.machine) (sym (ap lines (sym (append-nil p.advance.done)) ∙ p.advance.split [] ∙ append-nil p.advance.seen)) g.run;
           text_is = refl;
           status_is = refl;
@@ -193,19 +257,20 @@ module _ {M : Type 0} {turns : Turns M} where
         written = subst (λ x. Appends a b x) (sym (g.passed.split ∙ ap (λ x. g.passed.front ++ x) ready.sent ∙ append-nil g.passed.front)) g.passed.written;
       }
 
-  pub reading_served : {r l m h k a b c : Option (List ℕ)} {start : M} {s : StreamState M} {less : ℕ} → ReadingPasses turns r l h k a b (fresh_stream start) s 16777216 less → Overruns l m b c less → IsReady s less → Served turns start r m a c
-  reading_served {r} {l} {m} {h} {k} {a} {b} {c} {start} {s} {less} p q ready = record {
+  pub reading_served : {r l m h k a b c : Option (List ℕ)} {start end : M} {s : StreamState M} {less : ℕ} → ReadingPasses turns r l h k a b (fresh_stream start) s 16777216 less → Overruns l m b c less → end ≡ s.interpreter.machine → IsReady s less → Served turns start r m a c end
+  reading_served {r} {l} {m} {h} {k} {a} {b} {c} {start} {end} {s} {less} p q same ready = record {
     taken = p.bytes;
     beyond = q.beyond;
     consumed = Consumes-trans r l m p.bytes q.beyond p.consumed q.consumed;
     bounded = elim q.bounded [ inl e ↦ inl e | inr more ↦ inr (omega (arith, more, p.fits, length-append p.bytes q.beyond)) ];
-    answered = subst (λ x. Answered turns start p.bytes a x) (sym q.same) (reading_replied p ready);
+    answered = subst (λ x. Answered turns start p.bytes a c x) (sym same)
+        (subst (λ x. Answered turns start p.bytes a x s.interpreter.machine) (sym q.same) (reading_replied p ready));
   }
 
   -- more may be heard, since all that ended was answered
-  pub reading_due : {r l h k a b said : Option (List ℕ)} {start : M} {s : StreamState M} {room less : ℕ} (due : List ℕ → Option (List ℕ) → Type 0) → ReadingPasses turns r l h k a b (fresh_stream start) s room less → IsReady s less → IfSome h (λ x. x ≡ []) → said ≡ b → ((bytes : List ℕ) (spoken : Option (List ℕ)) → Answered turns start bytes a spoken → due bytes spoken) → IfSome k (λ bytes. due bytes said)
+  pub reading_due : {r l h k a b said : Option (List ℕ)} {start : M} {s : StreamState M} {room less : ℕ} (due : List ℕ → Option (List ℕ) → Type 0) → ReadingPasses turns r l h k a b (fresh_stream start) s room less → IsReady s less → IfSome h (λ x. x ≡ []) → said ≡ b → ((bytes : List ℕ) (spoken : Option (List ℕ)) (mid : M) → Answered turns start bytes a spoken mid → due bytes spoken) → IfSome k (λ bytes. due bytes said)
   reading_due {r} {l} {h} {k} {a} {b} {said} {start} {s} {room} {less} due p ready none sent allows =
-      heard_due h k (λ bytes. due bytes said) p.bytes none p.grown_by (allows p.bytes said (subst (λ x. Answered turns start p.bytes a x) (sym sent) (reading_replied p ready)))
+      heard_due h k (λ bytes. due bytes said) p.bytes none p.grown_by (allows p.bytes said s.interpreter.machine (subst (λ x. Answered turns start p.bytes a x s.interpreter.machine) (sym sent) (reading_replied p ready)))
 
 -- a read that failed took nothing
 pub overruns_none : {l m b : Option (List ℕ)} (room : ℕ) → Keeps l m → Overruns l m b b room

@@ -43,10 +43,9 @@ module _ {M : Type 0} {turns : Turns M} where
   }
 
   -- a front of one line's text was written
-  pub lines_cut_one : {a b : Option (List ℕ)} {line : List ℕ} {new : M} (d : InterpreterState M) → AnswerCuts turns d.number d.machine line new a b d.pending → LinesCut turns d a b (line ∷ [])
+  pub lines_cut_one : {a b : Option (List ℕ)} {line : List ℕ} {new : M} (d : InterpreterState M) → AnswerCuts turns d.number d.machine line new a b d.pending → LinesCut turns d new a b (line ∷ [])
   lines_cut_one {a} {b} {line} {new} d t = record {
     outputs = t.output ∷ [];
-    end = new;
     run = (new, t.turn, refl);
     cut = rw (append-nil t.output.text) t.cut;
   }
@@ -62,20 +61,18 @@ module _ {M : Type 0} {turns : Turns M} where
   }
 
   -- a front of more lines' text was written
-  pub lines_cut_then : {a b : Option (List ℕ)} {d e : InterpreterState M} {ls ms : List (List ℕ)} (c : Option (List ℕ)) → LinesPass turns d e a b ls → LinesCut turns e b c ms → LinesCut turns d a c (ls ++ ms)
-  lines_cut_then {a} {b} {d} {e} {ls} {ms} c p q =
+  pub lines_cut_then : {a b : Option (List ℕ)} {d e : InterpreterState M} {end : M} {ls ms : List (List ℕ)} (c : Option (List ℕ)) → LinesPass turns d e a b ls → LinesCut turns e end b c ms → LinesCut turns d end a c (ls ++ ms)
+  lines_cut_then {a} {b} {d} {e} {end} {ls} {ms} c p q =
       let r = subst (λ x. Cuts a c d.pending (texts p.outputs ++ x)) (append-nil (texts q.outputs)) (cuts_then c (texts q.outputs) [] p.passed q.cut) in record {
         outputs = p.outputs ++ q.outputs;
-        end = q.end;
-        run = Run-append turns d.number d.machine ls p.outputs e.machine ms q.outputs q.end p.run (rw p.count at q.run);
+        run = Run-append turns d.number d.machine ls p.outputs e.machine ms q.outputs end p.run (rw p.count at q.run);
         cut = rw (texts-append p.outputs q.outputs) r;
       }
 
   -- what goes on may halt
-  pub lines_cut_passed : {a b : Option (List ℕ)} {d e : InterpreterState M} {ls : List (List ℕ)} → LinesPass turns d e a b ls → LinesCut turns d a b ls
+  pub lines_cut_passed : {a b : Option (List ℕ)} {d e : InterpreterState M} {ls : List (List ℕ)} → LinesPass turns d e a b ls → LinesCut turns d e.machine a b ls
   lines_cut_passed {a} {b} {d} {e} {ls} p = record {
     outputs = p.outputs;
-    end = e.machine;
     run = p.run;
     cut = subst (λ x. Cuts a b d.pending x) (append-nil (texts p.outputs)) (cuts_passed [] p.passed);
   }
@@ -101,10 +98,9 @@ module _ {M : Type 0} {turns : Turns M} where
   }
 
   -- a front of what was pending was written
-  pub lines_cut_sent : {a b : Option (List ℕ)} (d : InterpreterState M) → Cuts a b [] d.pending → LinesCut turns d a b []
+  pub lines_cut_sent : {a b : Option (List ℕ)} (d : InterpreterState M) → Cuts a b [] d.pending → LinesCut turns d d.machine a b []
   lines_cut_sent {a} {b} d w = record {
     outputs = [];
-    end = d.machine;
     run = refl;
     cut = record { front = w.front; rest = w.rest; split = append-nil d.pending ∙ w.split; written = w.written };
   }
@@ -114,6 +110,6 @@ pub lines_pass_written : {M E T : Type 0} {a b : Option (List ℕ)} (turns : Tur
 lines_pass_written {M} {E} {T} {a} {b} turns (Ok x) d left empty w = lines_pass_sent a b d left empty w.is
 lines_pass_written turns (Err e) d left empty w = tt
 
-pub lines_cut_written : {M E T : Type 0} {a b : Option (List ℕ)} (turns : Turns M) (r : Result T E) (d : InterpreterState M) → Writes a b d.pending r → OnErr r (LinesCut turns d a b [])
+pub lines_cut_written : {M E T : Type 0} {a b : Option (List ℕ)} (turns : Turns M) (r : Result T E) (d : InterpreterState M) → Writes a b d.pending r → OnErr r (LinesCut turns d d.machine a b [])
 lines_cut_written turns (Ok x) d w = tt
 lines_cut_written turns (Err e) d w = lines_cut_sent d w.is

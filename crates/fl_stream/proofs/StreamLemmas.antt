@@ -1,12 +1,12 @@
 -- Bytes are taken, some at a time.
-use Rattle.std.proofs.Common.{◌≡◌, ◌++◌, ◌∙◌, ◌==◌, refl, sym, ap, List, [], ◌∷◌, ℕ, Bool, false, subst, Option, inl, inr}
+use Rattle.std.proofs.Common.{◌≡◌, ◌<◌, ◌++◌, ◌∙◌, ◌==◌, length, refl, sym, ap, List, [], ◌∷◌, ℕ, Bool, false, subst, Option, inl, inr}
 use Rattle.std.proofs.lemmas.List.{append_assoc, append-nil}
 use Rattle.std.proofs.lemmas.List.Elements.{All-append, All-nil}
 use Rattle.std.proofs.KnownBytes.{Appends-kept}
 use Rattle.std.specs.Io.KnownBytes.{Appends, Keeps}
 use Rattle.std.specs.Str.Lines.{lines, strip_carriage_return}
 use Rattle.fl_stream.specs.Turns.{Turns, Run, texts}
-use Rattle.fl_stream.specs.Served.{HasNoFeed, IsEnded}
+use Rattle.fl_stream.specs.Served.{HasNoFeed, IsEnded, EndsMidLine}
 use Rattle.fl_stream.specs.parts.Interpreter.{InterpreterState, LinesPass, LinesCut}
 use Rattle.fl_stream.specs.parts.Stream.{StreamState, BytesPass, BytesCut, EndPasses, EndCuts}
 use Rattle.fl_stream.proofs.InterpreterLemmas.{lines_pass_none, lines_pass_then, lines_cut_then, lines_cut_passed, lines_pass_kept}
@@ -48,7 +48,7 @@ module _ {M : Type 0} {turns : Turns M} where
   pub bytes_pass_sent : {a b : Option (List ℕ)} {s t : StreamState M} → t.held ≡ s.held → LinesPass turns s.interpreter t.interpreter a b [] → BytesPass turns s t a b []
   bytes_pass_sent {a} {b} {s} {t} same g = record { seen = []; done = []; cut = append-nil s.held ∙ sym same; ended = inl refl; split = λ later. refl; proceeds = g }
 
-  pub bytes_cut_sent : {a b : Option (List ℕ)} {s : StreamState M} → LinesCut turns s.interpreter a b [] → BytesCut turns s a b []
+  pub bytes_cut_sent : {a b : Option (List ℕ)} {s : StreamState M} {end : M} → LinesCut turns s.interpreter end a b [] → BytesCut turns s end a b []
   bytes_cut_sent {a} {b} {s} h = record { seen = []; left = s.held; split = λ later. refl; halts = h }
 
   -- bytes are taken after others
@@ -62,8 +62,8 @@ module _ {M : Type 0} {turns : Turns M} where
     proceeds = lines_pass_then c p.proceeds q.proceeds;
   }
 
-  pub bytes_cut_then : {a b : Option (List ℕ)} {s t : StreamState M} {xs ys : List ℕ} (c : Option (List ℕ)) (zs : List ℕ) → BytesPass turns s t a b xs → BytesCut turns t b c ys → BytesCut turns s a c (xs ++ (ys ++ zs))
-  bytes_cut_then {a} {b} {s} {t} {xs} {ys} c zs p q = record {
+  pub bytes_cut_then : {a b : Option (List ℕ)} {s t : StreamState M} {end : M} {xs ys : List ℕ} (c : Option (List ℕ)) (zs : List ℕ) → BytesPass turns s t a b xs → BytesCut turns t end b c ys → BytesCut turns s end a c (xs ++ (ys ++ zs))
+  bytes_cut_then {a} {b} {s} {t} {end} {xs} {ys} c zs p q = record {
     seen = p.seen ++ q.seen;
     left = q.left ++ zs;
     split = λ later.
@@ -72,7 +72,7 @@ module _ {M : Type 0} {turns : Turns M} where
   }
 
   -- what advanced may stop, before any further bytes
-  pub bytes_cut_passed : {a b : Option (List ℕ)} {s t : StreamState M} {xs : List ℕ} (zs : List ℕ) → BytesPass turns s t a b xs → BytesCut turns s a b (xs ++ zs)
+  pub bytes_cut_passed : {a b : Option (List ℕ)} {s t : StreamState M} {xs : List ℕ} (zs : List ℕ) → BytesPass turns s t a b xs → BytesCut turns s t.interpreter.machine a b (xs ++ zs)
   bytes_cut_passed {a} {b} {s} {t} {xs} zs p = record {
     seen = p.seen;
     left = t.held ++ zs;
@@ -90,7 +90,7 @@ module _ {M : Type 0} {turns : Turns M} where
     proceeds = g;
   }
 
-  pub bytes_cut_line : {a b : Option (List ℕ)} {s : StreamState M} (line ended : List ℕ) → HasNoFeed s.held → HasNoFeed line → ended ≡ strip_carriage_return (s.held ++ line) → LinesCut turns s.interpreter a b (ended ∷ []) → BytesCut turns s a b (line ++ 10 ∷ [])
+  pub bytes_cut_line : {a b : Option (List ℕ)} {s : StreamState M} {end : M} (line ended : List ℕ) → HasNoFeed s.held → HasNoFeed line → ended ≡ strip_carriage_return (s.held ++ line) → LinesCut turns s.interpreter end a b (ended ∷ []) → BytesCut turns s end a b (line ++ 10 ∷ [])
   bytes_cut_line {a} {b} {s} line ended h l e q = record {
     seen = ended ∷ [];
     left = [];
@@ -110,14 +110,20 @@ module _ {M : Type 0} {turns : Turns M} where
   }
 
   -- one more line was taken, and stopped
-  pub bytes_cut_more : {a b : Option (List ℕ)} {s t : StreamState M} {bytes rest : List ℕ} (c : Option (List ℕ)) (line after : List ℕ) → FrontPasses turns s t a b bytes rest → rest ≡ line ++ 10 ∷ after → BytesCut turns t b c (line ++ 10 ∷ []) → BytesCut turns s a c bytes
-  bytes_cut_more {a} {b} {s} {t} {bytes} {rest} c line after p cut q =
+  pub bytes_cut_more : {a b : Option (List ℕ)} {s t : StreamState M} {end : M} {bytes rest : List ℕ} (c : Option (List ℕ)) (line after : List ℕ) → FrontPasses turns s t a b bytes rest → rest ≡ line ++ 10 ∷ after → BytesCut turns t end b c (line ++ 10 ∷ []) → BytesCut turns s end a c bytes
+  bytes_cut_more {a} {b} {s} {t} {end} {bytes} {rest} c line after p cut q =
       let whole : p.front ++ ((line ++ 10 ∷ []) ++ after) ≡ bytes = ap (λ x. p.front ++ x) (append_assoc line (10 ∷ []) after ∙ sym cut) ∙ sym p.cut in
-      subst (λ x. BytesCut turns s a c x) whole (bytes_cut_then c after p.advance q)
+      subst (λ x. BytesCut turns s end a c x) whole (bytes_cut_then c after p.advance q)
 
   -- what was taken may stop
-  pub bytes_cut_front : {a b : Option (List ℕ)} {s t : StreamState M} {bytes rest : List ℕ} → FrontPasses turns s t a b bytes rest → BytesCut turns s a b bytes
-  bytes_cut_front {a} {b} {s} {t} {bytes} {rest} p = subst (λ x. BytesCut turns s a b x) (sym p.cut) (bytes_cut_passed rest p.advance)
+  pub bytes_cut_front : {a b : Option (List ℕ)} {s t : StreamState M} {bytes rest : List ℕ} → FrontPasses turns s t a b bytes rest → BytesCut turns s t.interpreter.machine a b bytes
+  bytes_cut_front {a} {b} {s} {t} {bytes} {rest} p = subst (λ x. BytesCut turns s t.interpreter.machine a b x) (sym p.cut) (bytes_cut_passed rest p.advance)
+
+  -- the rest has no line feed, and there is some
+  pub front_ends_mid_line : {a b : Option (List ℕ)} {s t : StreamState M} {bytes rest : List ℕ}
+      → FrontPasses turns s t a b bytes rest → HasNoFeed rest → 0 < length rest → EndsMidLine bytes
+  front_ends_mid_line {rest = rest} p none some =
+      record { front = p.front; part = rest; cut = p.cut; some = some; no_feed = none }
 
   -- the rest is held
   pub bytes_pass_front : {a b : Option (List ℕ)} {s t : StreamState M} {bytes rest : List ℕ} (held : List ℕ) → FrontPasses turns s t a b bytes rest → held ≡ t.held ++ rest → BytesPass turns s (record t { held = held }) a b bytes
@@ -125,41 +131,38 @@ module _ {M : Type 0} {turns : Turns M} where
       subst (λ x. BytesPass turns s (record t { held = x }) a b bytes) (sym e) (subst (λ x. BytesPass turns s (record t { held = t.held ++ rest }) a b x) (sym p.cut) (bytes_pass_then b p.advance (bytes_pass_held b t rest)))
 
   -- all lines were answered, and all was written
-  pub end_passes : {a b : Option (List ℕ)} {s : StreamState M} {e f : InterpreterState M} (c : Option (List ℕ)) → LinesPass turns s.interpreter e a b (lines s.held) → LinesPass turns e f b c [] → f.pending ≡ [] → EndPasses turns s a c f.status
+  pub end_passes : {a b : Option (List ℕ)} {s : StreamState M} {e f : InterpreterState M} (c : Option (List ℕ)) → LinesPass turns s.interpreter e a b (lines s.held) → LinesPass turns e f b c [] → f.pending ≡ [] → EndPasses turns s f.machine a c f.status
   end_passes {a} {b} {s} {e} {f} c p q empty =
       let g = lines_pass_then c p q in
       let all : lines s.held ++ [] ≡ lines s.held = append-nil (lines s.held) in
       record {
         outputs = g.outputs;
-        end = f.machine;
         run = subst (λ x. Run turns s.interpreter.number s.interpreter.machine x g.outputs f.machine) all g.run;
         status_is = g.status_is;
         written = subst (λ x. Appends a c x) (sym (g.passed.split ∙ ap (λ x. g.passed.front ++ x) empty ∙ append-nil g.passed.front)) g.passed.written;
       }
 
-  pub end_cuts : {a b : Option (List ℕ)} {s : StreamState M} {e : InterpreterState M} (c : Option (List ℕ)) → LinesPass turns s.interpreter e a b (lines s.held) → LinesCut turns e b c [] → EndCuts turns s a c
-  end_cuts {a} {b} {s} {e} c p q = record { halts = subst (λ x. LinesCut turns s.interpreter a c x) (append-nil (lines s.held)) (lines_cut_then c p q) }
+  pub end_cuts : {a b : Option (List ℕ)} {s : StreamState M} {e : InterpreterState M} {end : M} (c : Option (List ℕ)) → LinesPass turns s.interpreter e a b (lines s.held) → LinesCut turns e end b c [] → EndCuts turns s end a c
+  end_cuts {a} {b} {s} {e} {end} c p q = record { halts = subst (λ x. LinesCut turns s.interpreter end a c x) (append-nil (lines s.held)) (lines_cut_then c p q) }
 
   -- what was written stays
   pub bytes_pass_kept : {a b : Option (List ℕ)} {s t : StreamState M} {xs : List ℕ} (c : Option (List ℕ)) → BytesPass turns s t a b xs → Keeps b c → BytesPass turns s t a c xs
   bytes_pass_kept c p k = record { seen = p.seen; done = p.done; cut = p.cut; ended = p.ended; split = p.split; proceeds = lines_pass_kept c p.proceeds k }
 
-  pub end_passes_kept : {a b : Option (List ℕ)} {s : StreamState M} {status : ℕ} (c : Option (List ℕ)) → EndPasses turns s a b status → Keeps b c → EndPasses turns s a c status
-  end_passes_kept {a} {b} {s} {status} c p k = record {
+  pub end_passes_kept : {a b : Option (List ℕ)} {s : StreamState M} {end : M} {status : ℕ} (c : Option (List ℕ)) → EndPasses turns s end a b status → Keeps b c → EndPasses turns s end a c status
+  end_passes_kept {a} {b} {s} {end} {status} c p k = record {
     outputs = p.outputs;
-    end = p.end;
     run = p.run;
     status_is = p.status_is;
     written = Appends-kept a b c (s.interpreter.pending ++ texts p.outputs) p.written k;
   }
 
   -- all was written, and it stops there
-  pub end_cuts_passed : {a b : Option (List ℕ)} {s : StreamState M} {status : ℕ} → EndPasses turns s a b status → EndCuts turns s a b
-  end_cuts_passed {a} {b} {s} {status} p =
+  pub end_cuts_passed : {a b : Option (List ℕ)} {s : StreamState M} {end : M} {status : ℕ} → EndPasses turns s end a b status → EndCuts turns s end a b
+  end_cuts_passed {a} {b} {s} {end} {status} p =
       let all = s.interpreter.pending ++ texts p.outputs in record {
         halts = record {
           outputs = p.outputs;
-          end = p.end;
           run = p.run;
           cut = record { front = all; rest = []; split = sym (append-nil all); written = p.written };
         };

@@ -1,7 +1,8 @@
 //! The two ends of a conversation: what is heard, and what is said.
-ghost use Rattle.std.specs.Prelude.{◌≡◌, ◌+◌, ◌<◌, ◌≤◌, ℕ, List, Option, None, IfOk, IfSome, OnErr, OnOk, ⊤, take};
+ghost use Rattle.std.specs.Prelude.{◌≡◌, ◌+◌, ◌<◌, ◌≤◌, ℕ, List, Option, None, IfOk, IfSome, OnErr, OnOk, ⊤, length, take};
 ghost use Rattle.std.specs.Io.{ReadsAtMost};
 ghost use Rattle.std.specs.Io.KnownBytes.{Keeps, ReadConsumes, append_known};
+ghost use Rattle.fl_stream.specs.Served.{plus_known};
 
 use fl_sink::writer::Writer;
 use std::io::{Read, Result, Write};
@@ -16,6 +17,9 @@ pub trait Conversation<W: Writer> {
     // The bytes heard so far, where they are known.
     ghost heard: { Self → Option (List ℕ) };
 
+    // How many bytes were heard so far, where they are counted.
+    ghost counted: { Self → Option ℕ };
+
     // How often more was asked for.
     ghost hearings: { Self → ℕ };
 
@@ -28,16 +32,18 @@ pub trait Conversation<W: Writer> {
     // Where these bytes were heard and those said, more may be heard.
     ghost may_hear: { List ℕ → Option (List ℕ) → Type 0 };
 
-    /// Hears more, and says how many bytes. None are the end, where there is room for some.
+    /// Hears more, at most 64 KiB, and says how many bytes. None are the end, where there is room for some.
     ///
     /// Fails where hearing does; what was heard is then not known.
     fn hear(&mut self, output: &W, chunk: &mut [u8]) -> Result<usize>
         requires answered { IfSome (heard self.old) (λ bytes. may_hear bytes (said output.now)) }
         requires patient { hearings self.old < 16777217 }
+        requires short { length chunk.old ≤ 65536 }
         ensures bound { ReadsAtMost result chunk.new }
         ensures bytes { ReadConsumes (remaining self.old) (remaining self.new) result chunk.new }
         ensures grows { IfOk result (λ count.
             heard self.new ≡ append_known (heard self.old) (take count chunk.new)) }
+        ensures counts { IfOk result (λ count. counted self.new ≡ plus_known (counted self.old) count) }
         ensures count { hearings self.new ≤ hearings self.old + 1 }
         ensures deaf { OnErr result (is_deaf self.new) };
 
@@ -52,6 +58,8 @@ impl<R: Read, W: Write> Conversation<W> for R {
     ghost remaining = { R.remaining };
 
     ghost heard = { λ _. None };
+
+    ghost counted = { λ _. None };
 
     ghost hearings = { λ _. 0 };
 

@@ -1,9 +1,11 @@
 //! A script is heard, some bytes at a time.
-ghost use Rattle.std.specs.Prelude.{◌≡◌, ◌+◌, ◌<◌, ◌≤◌, ◌⊎◌, IfErr, IfOk, IfSome, OnErr, OnOk, false, true, vec_len};
+ghost use Rattle.std.specs.Prelude.{◌≡◌, ◌+◌, ◌<◌, ◌≤◌, ◌⊎◌, [], ℕ, List, Option};
+ghost use Rattle.std.specs.Prelude.{IfErr, IfOk, IfSome, OnErr, OnOk, false, true, length, vec_len};
 ghost use Rattle.std.specs.Io.KnownBytes.{IsAtEnd};
-ghost use Rattle.fl_stream.specs.Served.{Outgrows};
-ghost use Rattle.fl_stream.specs.parts.Stream.{EndCuts, EndPasses};
-ghost use Rattle.fl_stream.specs.parts.Intake.{IsReady, Overruns, ReadingPasses, ReadingCuts};
+ghost use Rattle.fl_stream.specs.Served.{Answered, CountsPast, HearsMidLine, Outgrows, Served};
+ghost use Rattle.fl_stream.specs.Output.{WritesFirst, WritesOutput};
+ghost use Rattle.fl_stream.specs.parts.Stream.{EndCuts, EndPasses, fresh_stream};
+ghost use Rattle.fl_stream.specs.parts.Intake.{CountsTo, IsReady, Overruns, ReadingPasses, ReadingCuts};
 
 use crate::conversation::Conversation;
 use crate::fault::RunFault;
@@ -24,7 +26,7 @@ impl<M: Machine> Intake<M> {
     /// Hears more once, answers the lines that have ended, and sends the answers. Says whether there was anything to hear.
     ///
     /// `Read` where hearing fails or gives more than there is room for; `Write` where a write fails or takes no bytes, or
-    /// sending fails; `Memory` where there is no room for a line that has not ended.
+    /// sending fails; `Memory` where what was heard ends in a line that has not ended, and there is no room for it.
     pub fn turn<C: Conversation<W>, W: Writer>(
         &mut self,
         alloc: Global,
@@ -48,11 +50,20 @@ impl<M: Machine> Intake<M> {
         ensures served { IfErr result (λ e. e ≡ RunFault.Read →
             Overruns (C.remaining input.old) (C.remaining input.new)
             (W.contents output.old) (W.contents output.new) self.old.room) }
-        ensures cause { IfErr result (λ e. e ≡ RunFault.Read →
-            C.is_deaf input.new ⊎ Outgrows self.old.room (C.heard input.old) (C.heard input.new)) }
+        ensures counts { OnOk result (CountsTo (C.counted input.old) (C.counted input.new)
+            self.old.room self.new.room) }
+        ensures cause { IfErr result (λ e. e ≡ RunFault.Read → C.is_deaf input.new
+            ⊎ (Outgrows self.old.room (C.heard input.old) (C.heard input.new)
+            × CountsPast self.old.room (C.counted input.old) (C.counted input.new))) }
         ensures write_cause { IfErr result (λ e. e ≡ RunFault.Write → W.has_failed output.new) }
+        ensures memory_cause { IfErr result (λ e. e ≡ RunFault.Memory →
+            HearsMidLine (C.remaining input.old) (C.remaining input.new)
+            (C.heard input.old) (C.heard input.new)) }
+        ensures same { IfErr result (λ e. e ≡ RunFault.Read →
+            self.new.stream.interpreter.machine ≡ self.old.stream.interpreter.machine) }
         ensures err { OnErr result (ReadingCuts M.turns (C.remaining input.old) (C.remaining input.new)
-            (W.contents output.old) (W.contents output.new) self.old.stream) }
+            (W.contents output.old) (W.contents output.new)
+            self.old.stream self.new.stream.interpreter.machine) }
     {
         let count = match input.hear(output, &mut self.chunk) {
             Ok(count) => count,
@@ -84,12 +95,14 @@ impl<M: Machine> Intake<M> {
         output: &mut W,
     ) -> Result<u8, RunFault>
         requires { IsReady self.old.stream self.old.room }
-        ensures ok { IfOk result (λ status. EndPasses M.turns self.old.stream
+        ensures ok { IfOk result (λ status. EndPasses M.turns
+            self.old.stream self.new.stream.interpreter.machine
             (W.contents output.old) (W.contents output.new) status) }
         ensures said { OnOk result (C.said output.new ≡ W.contents output.new) }
         ensures kind { IfErr result (λ e. e ≡ RunFault.Write) }
         ensures cause { OnErr result (W.has_failed output.new) }
-        ensures err { OnErr result (EndCuts M.turns self.old.stream
+        ensures err { OnErr result (EndCuts M.turns
+            self.old.stream self.new.stream.interpreter.machine
             (W.contents output.old) (W.contents output.new)) }
     {
         let status = self.stream.finish(alloc, output)?;
@@ -97,5 +110,63 @@ impl<M: Machine> Intake<M> {
             return Err(RunFault::Write);
         }
         Ok(status)
+    }
+
+    /// Hears all there is, and answers it: one turn after another, and then the last line, where it did not end. Gives the
+    /// greatest status of a line. To be called once, before any turn. Its faults are those of a turn and of the end.
+    pub fn hear_all<C: Conversation<W>, W: Writer>(
+        &mut self,
+        alloc: Global,
+        input: &mut C,
+        output: &mut W,
+    ) -> Result<u8, RunFault>
+        requires begun { self.old.stream ≡ fresh_stream self.old.stream.interpreter.machine }
+        requires room { self.old.room ≡ 16777216 }
+        requires chunk { vec_len self.old.chunk ≡ 65536 }
+        requires unheard { IfSome (C.heard input.old) (λ bytes. bytes ≡ []) }
+        requires fresh { C.hearings input.old ≡ 0 }
+        requires said { C.said output.old ≡ W.contents output.old }
+        requires due { (heard : List ℕ) (said : Option (List ℕ)) (mid : M) →
+            Answered M.turns self.old.stream.interpreter.machine
+            heard (W.contents output.old) said mid → C.may_hear heard said }
+        ensures ok { IfOk result (λ status. IfSome (C.remaining input.old) (λ script.
+            WritesOutput M.turns self.old.stream.interpreter.machine
+            (W.contents output.old) (W.contents output.new) script status
+            self.new.stream.interpreter.machine)) }
+        ensures whole { OnOk result (IsAtEnd (C.remaining input.new)) }
+        ensures short { OnOk result (IfSome (C.remaining input.old) (λ script. length script ≤ 16777216)) }
+        ensures said { OnOk result (C.said output.new ≡ W.contents output.new) }
+        ensures served { IfErr result (λ e. e ≡ RunFault.Read →
+            Served M.turns self.old.stream.interpreter.machine
+            (C.remaining input.old) (C.remaining input.new)
+            (W.contents output.old) (W.contents output.new)
+            self.new.stream.interpreter.machine) }
+        ensures cause { IfErr result (λ e. e ≡ RunFault.Read → C.is_deaf input.new
+            ⊎ (Outgrows 16777216 (C.heard input.old) (C.heard input.new)
+            × CountsPast 16777216 (C.counted input.old) (C.counted input.new))) }
+        ensures write_cause { IfErr result (λ e. e ≡ RunFault.Write → W.has_failed output.new) }
+        ensures memory_cause { IfErr result (λ e. e ≡ RunFault.Memory →
+            HearsMidLine (C.remaining input.old) (C.remaining input.new)
+            (C.heard input.old) (C.heard input.new)) }
+        ensures err { OnErr result (IfSome (C.remaining input.old) (λ script.
+            WritesFirst M.turns self.old.stream.interpreter.machine
+            (W.contents output.old) (W.contents output.new) script
+            self.new.stream.interpreter.machine)) }
+    {
+        'hearing: while self.turn(alloc, input, output)? {}
+        let status = self.close(alloc, input, output)?;
+        Ok(status)
+    }
+
+    /// Its machine.
+    pub fn into_machine(self) -> M
+        ensures { result ≡ self.stream.interpreter.machine }
+    {
+        let Intake {
+            stream,
+            chunk: _,
+            room: _,
+        } = self;
+        stream.into_machine()
     }
 }

@@ -66,7 +66,7 @@ impl<M: Machine> Interpreter<M> {
             LinesPass M.turns self.old self.new
             (W.contents output.old) (W.contents output.new) (line.now ∷ [])) }
         ensures err { OnErr result (
-            LinesCut M.turns self.old
+            LinesCut M.turns self.old self.new.machine
             (W.contents output.old) (W.contents output.new) (line.now ∷ [])) }
         ensures cause { OnErr result (W.has_failed output.new) }
     {
@@ -85,10 +85,23 @@ impl<M: Machine> Interpreter<M> {
         ensures ok { OnOk result (LinesPass M.turns self.old self.new
             (W.contents output.old) (W.contents output.new) []) }
         ensures empty { OnOk result (self.new.pending ≡ []) }
-        ensures err { OnErr result (LinesCut M.turns self.old
+        ensures err { OnErr result (LinesCut M.turns self.old self.new.machine
             (W.contents output.old) (W.contents output.new) []) }
         ensures cause { OnErr result (W.has_failed output.new) }
     {
         self.sink.finish(output)
+    }
+
+    /// Its machine. What waits is not written.
+    pub fn into_machine(self) -> M
+        ensures { result ≡ self.machine }
+    {
+        let Interpreter {
+            machine,
+            number: _,
+            status: _,
+            sink: _,
+        } = self;
+        machine
     }
 }

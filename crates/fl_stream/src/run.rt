@@ -1,23 +1,20 @@
 //! A whole run.
-ghost use Rattle.std.specs.Prelude.{◌≡◌, ◌≤◌, ◌⊎◌, ℕ, List, Option, IfErr, IfOk, IfSome, OnErr, OnOk, [], length, vec_len};
+ghost use Rattle.std.specs.Prelude.{◌≡◌, ◌≤◌, ◌⊎◌, ℕ, List, Option, None, IfErr, IfOk, IfSome, OnErr, OnOk, [], length, vec_len};
 ghost use Rattle.std.specs.Io.KnownBytes.{IsAtEnd};
-ghost use Rattle.fl_stream.specs.Served.{Answered, Outgrows, Served};
+ghost use Rattle.fl_stream.specs.Served.{Answered, CountsPast, MayLackRoom, Outgrows, Served};
 ghost use Rattle.fl_stream.specs.Output.{WritesFirst, WritesOutput};
 
 use crate::conversation::Conversation;
 use crate::fault::RunFault;
 use crate::intake::Intake;
 use crate::machine::Machine;
-use crate::stream::Stream;
+use crate::stream::{AT_ONCE, Stream};
 use fl_sink::writer::Writer;
 use std::alloc::{AllocGlobal, Global};
 use std::io::{Read, Write};
 
 /// The most bytes of a script.
 pub const MOST_BYTES: usize = 16_777_216;
-
-/// The bytes that one read asks for.
-const CHUNK: usize = 65_536;
 
 // A function of its own, so that no proof of the loop sees the numeral unfold.
 fn zeros(alloc: Global, count: usize) -> Result<Vec<u8>, RunFault>
@@ -36,40 +33,51 @@ fn zeros(alloc: Global, count: usize) -> Result<Vec<u8>, RunFault>
 /// At a fault a front of the answers to the first lines is written: `Read` only where hearing fails or the script is
 /// longer; `Write` where a write fails or takes no bytes, or sending fails; `Memory` where there is no room for the 64 KiB
 /// that are heard at once, or for a line that has not ended.
+///
+/// The machine is given back as it is after the lines that were begun: by these and no others it came from the one that was
+/// handed in.
 pub fn converse<M: Machine + Drop, C: Conversation<W>, W: Writer>(
     alloc: Global,
     machine: M,
     input: &mut C,
     output: &mut W,
-) -> Result<u8, RunFault>
+) -> (M, Result<u8, RunFault>)
     requires unheard { IfSome (C.heard input.old) (λ bytes. bytes ≡ []) }
     requires fresh { C.hearings input.old ≡ 0 }
     requires said { C.said output.old ≡ W.contents output.old }
-    requires due { (heard : List ℕ) (said : Option (List ℕ)) →
-        Answered M.turns machine heard (W.contents output.old) said → C.may_hear heard said }
-    ensures ok { IfOk result (λ status. IfSome (C.remaining input.old) (λ script.
+    requires due { (heard : List ℕ) (said : Option (List ℕ)) (mid : M) →
+        Answered M.turns machine heard (W.contents output.old) said mid → C.may_hear heard said }
+    ensures ok { IfOk result.1 (λ status. IfSome (C.remaining input.old) (λ script.
         WritesOutput M.turns machine
-        (W.contents output.old) (W.contents output.new) script status)) }
-    ensures whole { OnOk result (IsAtEnd (C.remaining input.new)) }
-    ensures short { OnOk result (IfSome (C.remaining input.old) (λ script. length script ≤ 16777216)) }
-    ensures said { OnOk result (C.said output.new ≡ W.contents output.new) }
-    ensures served { IfErr result (λ e. e ≡ RunFault.Read → Served M.turns machine
+        (W.contents output.old) (W.contents output.new) script status result.0)) }
+    ensures whole { OnOk result.1 (IsAtEnd (C.remaining input.new)) }
+    ensures short { OnOk result.1 (IfSome (C.remaining input.old) (λ script. length script ≤ 16777216)) }
+    ensures said { OnOk result.1 (C.said output.new ≡ W.contents output.new) }
+    ensures served { IfErr result.1 (λ e. e ≡ RunFault.Read → Served M.turns machine
         (C.remaining input.old) (C.remaining input.new)
-        (W.contents output.old) (W.contents output.new)) }
-    ensures cause { IfErr result (λ e. e ≡ RunFault.Read →
-        C.is_deaf input.new ⊎ Outgrows 16777216 (C.heard input.old) (C.heard input.new)) }
-    ensures write_cause { IfErr result (λ e. e ≡ RunFault.Write → W.has_failed output.new) }
-    ensures err { OnErr result (IfSome (C.remaining input.old) (λ script.
-        WritesFirst M.turns machine (W.contents output.old) (W.contents output.new) script)) }
+        (W.contents output.old) (W.contents output.new) result.0) }
+    ensures cause { IfErr result.1 (λ e. e ≡ RunFault.Read → C.is_deaf input.new
+        ⊎ (Outgrows 16777216 (C.heard input.old) (C.heard input.new)
+        × CountsPast 16777216 (C.counted input.old) (C.counted input.new))) }
+    ensures write_cause { IfErr result.1 (λ e. e ≡ RunFault.Write → W.has_failed output.new) }
+    ensures memory_cause { IfErr result.1 (λ e. e ≡ RunFault.Memory →
+        MayLackRoom (C.remaining input.old) (C.remaining input.new)
+        (C.heard input.old) (C.heard input.new)) }
+    ensures err { OnErr result.1 (IfSome (C.remaining input.old) (λ script.
+        WritesFirst M.turns machine
+        (W.contents output.old) (W.contents output.new) script result.0)) }
 {
+    let chunk = match zeros(alloc, AT_ONCE) {
+        Ok(chunk) => chunk,
+        Err(fault) => return (machine, Err(fault)),
+    };
     let mut intake = Intake {
         stream: Stream::new(alloc, machine),
-        chunk: zeros(alloc, CHUNK)?,
+        chunk,
         room: MOST_BYTES,
     };
-    'hearing: while intake.turn(alloc, input, output)? {}
-    let status = intake.close(alloc, input, output)?;
-    Ok(status)
+    let result = intake.hear_all(alloc, input, output);
+    (intake.into_machine(), result)
 }
 
 /// Reads a script of at most 16,777,216 bytes, by at most 16,777,217 reads, and writes what the machine answers to its lines.
@@ -86,19 +94,22 @@ pub fn run<RT: AllocGlobal, M: Machine + Drop, R: Read, W: Write>(
     machine: M,
     input: &mut R,
     output: &mut W,
-) -> Result<u8, RunFault>
-    ensures ok { IfOk result (λ status. IfSome (R.remaining input.old) (λ script.
+) -> (M, Result<u8, RunFault>)
+    ensures ok { IfOk result.1 (λ status. IfSome (R.remaining input.old) (λ script.
         WritesOutput M.turns machine
-        (W.contents output.old) (W.contents output.new) script status)) }
-    ensures whole { OnOk result (IsAtEnd (R.remaining input.new)) }
-    ensures short { OnOk result (IfSome (R.remaining input.old) (λ script. length script ≤ 16777216)) }
+        (W.contents output.old) (W.contents output.new) script status result.0)) }
+    ensures whole { OnOk result.1 (IsAtEnd (R.remaining input.new)) }
+    ensures short { OnOk result.1 (IfSome (R.remaining input.old) (λ script. length script ≤ 16777216)) }
 
     // Any read may fail, so that all lines that have ended are answered before each.
-    ensures served { IfErr result (λ e. e ≡ RunFault.Read → Served M.turns machine
+    ensures served { IfErr result.1 (λ e. e ≡ RunFault.Read → Served M.turns machine
         (R.remaining input.old) (R.remaining input.new)
-        (W.contents output.old) (W.contents output.new)) }
-    ensures err { OnErr result (IfSome (R.remaining input.old) (λ script.
-        WritesFirst M.turns machine (W.contents output.old) (W.contents output.new) script)) }
+        (W.contents output.old) (W.contents output.new) result.0) }
+    ensures memory_cause { IfErr result.1 (λ e. e ≡ RunFault.Memory →
+        MayLackRoom (R.remaining input.old) (R.remaining input.new) None None) }
+    ensures err { OnErr result.1 (IfSome (R.remaining input.old) (λ script.
+        WritesFirst M.turns machine
+        (W.contents output.old) (W.contents output.new) script result.0)) }
 {
     converse(rt.alloc(), machine, input, output)
 }

@@ -1,5 +1,5 @@
 //! A text is cut at its first line feed.
-ghost use Rattle.std.specs.Prelude.{◌≡◌, ◌<◌, ◌∷◌, ◌++◌, ◌==◌, MatchOption, IfSome, length, position};
+ghost use Rattle.std.specs.Prelude.{◌≡◌, ◌<◌, ◌≤◌, ◌∷◌, ◌++◌, ◌==◌, MatchOption, IfSome, length, position};
 ghost use Rattle.std.specs.Str.Lines.{strip_carriage_return};
 ghost use Rattle.fl_stream.specs.Served.{HasNoFeed};
 
@@ -25,6 +25,7 @@ pub fn cut_line(text: &[u8]) -> Option<(&[u8], &[u8])>
     ensures cut { MatchOption result (HasNoFeed text.now) (λ r. text.now ≡ r.0.now ++ 10 ∷ r.1.now) }
     ensures first { IfSome result (λ r. HasNoFeed r.0.now) }
     ensures shorter { IfSome result (λ r. length r.1.now < length text.now) }
+    ensures within { IfSome result (λ r. length r.0.now ≤ length text.now) }
 {
     match line_feed_at(text) {
         None => None,

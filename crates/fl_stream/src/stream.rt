@@ -1,7 +1,7 @@
 //! Bytes are taken as they come: each line is answered once it has ended.
-ghost use Rattle.std.specs.Prelude.{◌≡◌, ◌≢◌, ◌≤◌, ◌+◌, ◌∷◌, ◌++◌, [], IfErr, IfOk, OnErr, OnOk, length};
+ghost use Rattle.std.specs.Prelude.{◌≡◌, ◌≢◌, ◌<◌, ◌≤◌, ◌+◌, ◌∷◌, ◌++◌, [], IfErr, IfOk, OnErr, OnOk, length};
 ghost use Rattle.std.specs.Str.Lines.{lines};
-ghost use Rattle.fl_stream.specs.Served.{HasNoFeed};
+ghost use Rattle.fl_stream.specs.Served.{EndsMidLine, HasNoFeed};
 ghost use Rattle.fl_stream.specs.parts.Interpreter.{LinesCut, LinesPass};
 ghost use Rattle.fl_stream.specs.parts.Stream.{BytesPass, EndPasses, BytesCut, EndCuts, fresh_stream};
 
@@ -14,7 +14,10 @@ use fl_sink::writer::Writer;
 use std::alloc::Global;
 use std::marker::Model;
 
-/// An interpreter, and the line that has not ended yet.
+/// The most bytes that are taken at once.
+pub const AT_ONCE: usize = 65_536;
+
+/// An interpreter, and the line that has not ended yet, with room behind it for all that is taken at once.
 #[derive(Drop)]
 pub struct Stream<M> {
     interpreter: Interpreter<M>,
@@ -22,6 +25,8 @@ pub struct Stream<M> {
 }
 
 impl<M> Model for Stream<M> {
+    ghost use Rattle.std.specs.Prelude.{◌+◌, ◌<◌, ◌≤◌};
+    ghost use Rattle.std.specs.Vec.{vec_len, vec_capacity};
     ghost use Rattle.fl_stream.specs.parts.Stream.{StreamState, coded_stream};
 
     ghost Value = { StreamState M };
@@ -29,6 +34,8 @@ impl<M> Model for Stream<M> {
     ghost coded = { coded_stream M.code };
 
     ghost view = { λ s. record { interpreter = s.interpreter; held = s.held.items } };
+
+    ghost invariant = { λ s. 0 < vec_len s.held → vec_len s.held + 65536 ≤ vec_capacity s.held };
 }
 
 impl<M: Machine> Stream<M> {
@@ -42,45 +49,67 @@ impl<M: Machine> Stream<M> {
         }
     }
 
-    // Answers the line that ends with these bytes and a line feed. It is copied only where some of it came before.
+    // Answers the line that ends with these bytes and a line feed. It is copied only where some of it came before, behind which
+    // there is room.
     fn end_line<W: Writer>(
         &mut self,
         alloc: Global,
         line: &[u8],
         output: &mut W,
-    ) -> Result<(), RunFault>
+    ) -> Result<(), WriteFault>
         requires number { self.old.interpreter.number ≤ 16777217 }
         requires part { HasNoFeed self.old.held }
         requires line { HasNoFeed line.now }
+        requires short { length line.now ≤ 65536 }
         ensures ok { OnOk result (
             BytesPass M.turns self.old self.new
             (W.contents output.old) (W.contents output.new) (line.now ++ 10 ∷ [])) }
         ensures number { OnOk result (self.new.interpreter.number ≡ self.old.interpreter.number + 1) }
         ensures part { OnOk result (self.new.held ≡ []) }
-        ensures kind { IfErr result (λ e. e ≢ RunFault.Read) }
-        ensures write_cause { IfErr result (λ e. e ≡ RunFault.Write → W.has_failed output.new) }
+        ensures cause { OnErr result (W.has_failed output.new) }
         ensures err { OnErr result (
-            BytesCut M.turns self.old
+            BytesCut M.turns self.old self.new.interpreter.machine
             (W.contents output.old) (W.contents output.new) (line.now ++ 10 ∷ [])) }
     {
         if self.held.is_empty() {
-            self.interpreter
-                .answer(alloc, without_return(line), output)?;
+            return self.interpreter.answer(alloc, without_return(line), output);
+        }
+        let Ok(()) = self.held.extend_from_slice(line) else {
+            unreachable!("there is room");
+        };
+        let answered = self
+            .interpreter
+            .answer(alloc, without_return(&self.held), output);
+        self.held.clear();
+        answered
+    }
+
+    // Keeps a part of a line that has not ended, with room behind it for all that is taken at once.
+    fn hold(&mut self, part: &[u8]) -> Result<(), RunFault>
+        requires short { length part.now ≤ 65536 }
+        ensures ok { OnOk result (
+            self.new ≡ record self.old { held = self.old.held ++ part.now }) }
+        ensures same { OnErr result (self.new ≡ self.old) }
+        ensures kind { IfErr result (λ e. e ≡ RunFault.Memory) }
+        ensures some { OnErr result (0 < length part.now) }
+    {
+        if part.is_empty() {
             return Ok(());
         }
-        if self.held.extend_from_slice(line).is_err() {
+        if self.held.reserve(part.len() + AT_ONCE).is_err() {
             return Err(RunFault::Memory);
         }
-        self.interpreter
-            .answer(alloc, without_return(&self.held), output)?;
-        self.held.clear();
+        let Ok(()) = self.held.extend_from_slice(part) else {
+            unreachable!("there is room");
+        };
         Ok(())
     }
 
     /// Answers the lines that end in these bytes, and keeps what follows the last of them. The answers may wait to be written.
     ///
-    /// `Write` where a write fails; `Memory` where there is no room for a part of a line. A front of what waited and of the
-    /// answers was written then, and the stream may not be used again. Each byte is looked at once, and copied at most once.
+    /// `Write` where a write fails; `Memory` where the bytes end in a line that has not ended and there is no room for it. A
+    /// front of what waited and of the answers was written then, and the stream may not be used again. Each byte is looked at
+    /// once, and copied at most once.
     pub fn take<W: Writer>(
         &mut self,
         alloc: Global,
@@ -89,6 +118,7 @@ impl<M: Machine> Stream<M> {
     ) -> Result<(), RunFault>
         requires number { self.old.interpreter.number + length bytes.now ≤ 16777217 }
         requires part { HasNoFeed self.old.held }
+        requires short { length bytes.now ≤ 65536 }
         ensures ok { OnOk result (
             BytesPass M.turns self.old self.new
             (W.contents output.old) (W.contents output.new) bytes.now) }
@@ -97,18 +127,17 @@ impl<M: Machine> Stream<M> {
         ensures part { OnOk result (HasNoFeed self.new.held) }
         ensures kind { IfErr result (λ e. e ≢ RunFault.Read) }
         ensures write_cause { IfErr result (λ e. e ≡ RunFault.Write → W.has_failed output.new) }
+        ensures memory_cause { IfErr result (λ e. e ≡ RunFault.Memory → EndsMidLine bytes.now) }
         ensures err { OnErr result (
-            BytesCut M.turns self.old (W.contents output.old) (W.contents output.new) bytes.now) }
+            BytesCut M.turns self.old self.new.interpreter.machine
+            (W.contents output.old) (W.contents output.new) bytes.now) }
     {
         let mut rest = bytes;
         while let Some((line, after)) = cut_line(rest) {
             self.end_line(alloc, line, output)?;
             rest = after;
         }
-        if self.held.extend_from_slice(rest).is_err() {
-            return Err(RunFault::Memory);
-        }
-        Ok(())
+        self.hold(rest)
     }
 
     /// Writes the answers that wait. The writer is not flushed. At a fault a front of them was written, and the stream may
@@ -119,7 +148,7 @@ impl<M: Machine> Stream<M> {
         ensures same { OnOk result (self.new.interpreter.number ≡ self.old.interpreter.number) }
         ensures held { self.new.held ≡ self.old.held }
         ensures empty { OnOk result (self.new.interpreter.pending ≡ []) }
-        ensures err { OnErr result (BytesCut M.turns self.old
+        ensures err { OnErr result (BytesCut M.turns self.old self.new.interpreter.machine
             (W.contents output.old) (W.contents output.new) []) }
         ensures cause { OnErr result (W.has_failed output.new) }
     {
@@ -132,7 +161,8 @@ impl<M: Machine> Stream<M> {
         requires part { HasNoFeed self.old.held }
         ensures ok { OnOk result (LinesPass M.turns self.old.interpreter self.new.interpreter
             (W.contents output.old) (W.contents output.new) (lines self.old.held)) }
-        ensures err { OnErr result (LinesCut M.turns self.old.interpreter
+        ensures err { OnErr result (LinesCut M.turns
+            self.old.interpreter self.new.interpreter.machine
             (W.contents output.old) (W.contents output.new) (lines self.old.held)) }
         ensures cause { OnErr result (W.has_failed output.new) }
     {
@@ -147,14 +177,25 @@ impl<M: Machine> Stream<M> {
     pub fn finish<W: Writer>(&mut self, alloc: Global, output: &mut W) -> Result<u8, WriteFault>
         requires number { self.old.interpreter.number ≤ 16777217 }
         requires part { HasNoFeed self.old.held }
-        ensures ok { IfOk result (λ status. EndPasses M.turns self.old
+        ensures ok { IfOk result (λ status. EndPasses M.turns self.old self.new.interpreter.machine
             (W.contents output.old) (W.contents output.new) status) }
-        ensures err { OnErr result (EndCuts M.turns self.old
+        ensures err { OnErr result (EndCuts M.turns self.old self.new.interpreter.machine
             (W.contents output.old) (W.contents output.new)) }
         ensures cause { OnErr result (W.has_failed output.new) }
     {
         self.answer_last(alloc, output)?;
         self.interpreter.write_answers(output)?;
         Ok(self.interpreter.status())
+    }
+
+    /// Its machine. A line that has not ended is not answered, and what waits is not written.
+    pub fn into_machine(self) -> M
+        ensures { result ≡ self.interpreter.machine }
+    {
+        let Stream {
+            interpreter,
+            held: _,
+        } = self;
+        interpreter.into_machine()
     }
 }

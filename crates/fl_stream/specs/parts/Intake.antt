@@ -2,7 +2,7 @@
 use Rattle.std.specs.Prelude.{◌≡◌, ◌+◌, ◌<◌, ◌≤◌, ◌⊎◌, [], ℕ, List, Option, length}
 use Rattle.std.specs.Io.KnownBytes.{Consumes, append_known}
 use Rattle.fl_stream.specs.Turns.{Turns}
-use Rattle.fl_stream.specs.Served.{HasNoFeed}
+use Rattle.fl_stream.specs.Served.{HasNoFeed, plus_known}
 use Rattle.fl_stream.specs.parts.Stream.{StreamState, BytesPass, BytesCut}
 
 -- all answers were sent, and so many more bytes have no more lines than there are numbers for
@@ -10,6 +10,12 @@ pub record IsReady {M : Type 0} (stream : StreamState M) (room : ℕ) : Type 0 w
   pub part : HasNoFeed stream.held
   pub number : stream.interpreter.number + room ≤ 16777217
   pub sent : stream.interpreter.pending ≡ []
+
+-- bytes were counted, for which there was room
+pub record CountsTo (old new : Option ℕ) (room less : ℕ) : Type 0 where
+  pub more : ℕ
+  pub counted : new ≡ plus_known old more
+  pub fits : more + less ≡ room
 
 -- bytes were read, for which there was room, and were taken
 pub record ReadingPasses {M : Type 0} (turns : Turns M) (remaining left heard grown before after : Option (List ℕ))
@@ -22,10 +28,10 @@ pub record ReadingPasses {M : Type 0} (turns : Turns M) (remaining left heard gr
 
 -- bytes were read, and taking them stopped
 pub record ReadingCuts {M : Type 0} (turns : Turns M) (remaining left before after : Option (List ℕ))
-    (old : StreamState M) : Type 0 where
+    (old : StreamState M) (end : M) : Type 0 where
   pub bytes : List ℕ
   pub consumed : Consumes remaining left bytes
-  pub stops : BytesCut turns old before after bytes
+  pub stops : BytesCut turns old end before after bytes
 
 -- nothing was written, and more than there is room for was read, or nothing
 pub record Overruns (remaining left before after : Option (List ℕ)) (room : ℕ) : Type 0 where

@@ -28,10 +28,9 @@ pub record LinesPass {M : Type 0} (turns : Turns M) (old new : InterpreterState 
   pub passed : Passes before after old.pending (texts outputs) new.pending
 
 -- these lines were answered, and a front of their text written
-pub record LinesCut {M : Type 0} (turns : Turns M) (old : InterpreterState M) (before after : Option (List ℕ))
-    (lines : List (List ℕ)) : Type 0 where
+pub record LinesCut {M : Type 0} (turns : Turns M) (old : InterpreterState M) (end : M)
+    (before after : Option (List ℕ)) (lines : List (List ℕ)) : Type 0 where
   pub outputs : List LineOutput
-  pub end : M
   pub run : Run turns old.number old.machine lines outputs end
   pub cut : Cuts before after old.pending (texts outputs)
 

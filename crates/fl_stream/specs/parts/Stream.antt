@@ -27,26 +27,25 @@ pub record BytesPass {M : Type 0} (turns : Turns M) (old new : StreamState M)
   pub proceeds : LinesPass turns old.interpreter new.interpreter before after seen
 
 -- some of the lines that ended in the bytes were answered, and a front of their text written
-pub record BytesCut {M : Type 0} (turns : Turns M) (old : StreamState M) (before after : Option (List ℕ))
-    (bytes : List ℕ) : Type 0 where
+pub record BytesCut {M : Type 0} (turns : Turns M) (old : StreamState M) (end : M)
+    (before after : Option (List ℕ)) (bytes : List ℕ) : Type 0 where
   pub seen : List (List ℕ)
   pub left : List ℕ
   pub split : (later : List ℕ) → lines (old.held ++ (bytes ++ later)) ≡ seen ++ lines (left ++ later)
-  pub halts : LinesCut turns old.interpreter before after seen
+  pub halts : LinesCut turns old.interpreter end before after seen
 
 -- the bytes are the end: all lines were answered and written, and this is the greatest status
-pub record EndPasses {M : Type 0} (turns : Turns M) (old : StreamState M) (before after : Option (List ℕ))
-    (status : ℕ) : Type 0 where
+pub record EndPasses {M : Type 0} (turns : Turns M) (old : StreamState M) (end : M)
+    (before after : Option (List ℕ)) (status : ℕ) : Type 0 where
   pub outputs : List LineOutput
-  pub end : M
   pub run : Run turns old.interpreter.number old.interpreter.machine (lines old.held) outputs end
   pub status_is : status ≡ max old.interpreter.status (worst outputs)
   pub written : Appends before after (old.interpreter.pending ++ texts outputs)
 
 -- the bytes are the end: all lines were answered, and a front of their text written
-pub record EndCuts {M : Type 0} (turns : Turns M) (old : StreamState M) (before after : Option (List ℕ))
-    : Type 0 where
-  pub halts : LinesCut turns old.interpreter before after (lines old.held)
+pub record EndCuts {M : Type 0} (turns : Turns M) (old : StreamState M) (end : M)
+    (before after : Option (List ℕ)) : Type 0 where
+  pub halts : LinesCut turns old.interpreter end before after (lines old.held)
 
 -- a state is stored as the pair of its fields
 abbrev pub coded_stream : {M : Type 0} → Coded M → Coded (StreamState M)

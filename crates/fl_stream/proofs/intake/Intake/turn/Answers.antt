@@ -1,4 +1,5 @@
-use Rattle.std.proofs.Common.{◌≡◌, ◌∙◌, [], length, arith, rules}
+use Rattle.std.proofs.Common.{◌≡◌, ◌∙◌, [], sym, length, arith, rules}
+use Rattle.std.proofs.lemmas.Result.{err_from_is_err_and}
 use Rattle.std.proofs.lemmas.List.{nil_from_length}
 use Rattle.std.proofs.KnownBytes.{Consumes-nil, Consumes-kept}
 use Rattle.fl_sink.specs.laws.Passing.{on_err_always}
@@ -15,6 +16,18 @@ pub returns-then-count-eq0-clause-reads : goal.returns-then-count-eq0-clause-rea
 returns-then-count-eq0-clause-reads g c =
     let zero : c.in-Ok.count ≡ 0 = search rules in
     reading_end _ _ _ (nil_from_length _ (omega (arith, zero, c.in-Ok.ensures.bound.1))) c.in-Ok.ensures.bytes.0 c.in-Ok.ensures.grows
+
+pub returns-in_err-take-clause-memory_cause : goal.returns-in_err-take-clause-memory_cause
+returns-in_err-take-clause-memory_cause g c =
+    let len : c.args.self.now.chunk.len ≡ length c.hear.new.chunk = search rules in
+    let same : c.deref.result.now ≡ c.hear.new.chunk = c.deref.ensures.value ∙ read_again c.hear.new.chunk _ len in
+    let fault = err_from_is_err_and c.from_residual.result c.from_residual.ensures.1 in
+    rw fault.1 (λ is_memory. record {
+      bytes = _;
+      consumed = c.in-Ok.ensures.bytes.0;
+      grown_by = c.in-Ok.ensures.grows;
+      ends = rw same at (c.in_err-take.ensures.memory_cause (sym fault.2 ∙ is_memory));
+    })
 
 pub returns-in_err-write_answers-clause-err : goal.returns-in_err-write_answers-clause-err
 returns-in_err-write_answers-clause-err g c =

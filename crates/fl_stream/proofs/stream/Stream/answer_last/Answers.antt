@@ -1,7 +1,14 @@
-use Rattle.std.proofs.Common.{◌≡◌, ◌<◌, length, rules}
+use Rattle.std.proofs.Common.{◌≡◌, ◌<◌, [], length, rules}
+use Rattle.std.proofs.lemmas.List.{nil_from_length}
 use Rattle.std.proofs.lemmas.Result.{on_ok_weaker, on_err_weaker}
+use Rattle.fl_stream.proofs.InterpreterLemmas.{lines_pass_none}
 use Rattle.fl_stream.proofs.SplitLemmas.{lines-last}
 use Rattle.fl_stream.proofs.stream.Stream.answer_last.Goals as goal
+
+pub returns-then-is_empty-clause-ok : goal.returns-then-is_empty-clause-ok
+returns-then-is_empty-clause-ok g c =
+    let empty : c.self.inside.held.items ≡ [] = nil_from_length _ (search rules) in
+    rw (← c.self.view_is, empty) (lines_pass_none _ _)
 
 pub returns-clause-ok : goal.returns-clause-ok
 returns-clause-ok g c =

@@ -1,0 +1,17 @@
+use Rattle.std.proofs.Common.{◌≡◌, ◌+◌, ◌≤◌, vec_len}
+use Rattle.fl_stream.specs.parts.Stream.{fresh_stream}
+use Rattle.fl_stream.specs.parts.Intake.{CountsTo, IsReady, ReadingPasses}
+use Rattle.fl_stream.proofs.intake.Intake.hear_all.Given as goal
+
+abbrev pub invariant-hearing : goal.invariant-hearing
+invariant-hearing g l = record {
+  reads : ReadingPasses g.M.Machine.turns (g.C.Conversation.remaining l.initial.input) (g.C.Conversation.remaining l.input) (g.C.Conversation.heard l.initial.input) (g.C.Conversation.heard l.input) (g.W.Writer.contents l.initial.output) (g.W.Writer.contents l.output) (fresh_stream l.fn.self.stream.interpreter.machine) l.self.stream 16777216 l.self.room;
+  ready : IsReady l.self.stream l.self.room;
+  chunk : vec_len l.self.chunk ≡ 65536;
+  said : g.C.Conversation.said l.output ≡ g.W.Writer.contents l.output;
+  counts : CountsTo (g.C.Conversation.counted l.initial.input) (g.C.Conversation.counted l.input) 16777216 l.self.room;
+  count : g.C.Conversation.hearings l.input + l.self.room ≤ 16777216;
+}
+
+abbrev pub decreases-hearing : goal.decreases-hearing
+decreases-hearing g l = l.self.room
