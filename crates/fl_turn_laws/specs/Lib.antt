@@ -1,4 +1,3 @@
-pub mod Answered
 pub mod Beginning
 pub mod Certain
 pub mod InMemory

@@ -1,21 +1,24 @@
-//! Laws of scripts. A run is that of a script over the keepers of some maker, as `fl_cluster::run::run` answers it.
+//! Laws of scripts. A run is that of a script over the keepers of some maker, as `fl_cluster::run::run` answers it: `Writes`,
+//! by which `run` says what it wrote, ends at the session that `run` gives back.
 ghost use Rattle.std.specs.Prelude.{◌≡◌, ◌≢◌, ◌++◌, ℕ, All, List, Option, None, Some, length, take};
 ghost use Rattle.fl_aliases.specs.declared.target.Target.{Target};
 ghost use Rattle.fl_calls.specs.Over.{openings_of};
 ghost use Rattle.fl_script.specs.Reading.{IsReading};
 ghost use Rattle.fl_script.specs.declared.line.Line.{Line};
 ghost use Rattle.fl_script.specs.declared.reading.Reading.TheVariants.{Means};
+ghost use Rattle.fl_stream.specs.Output.{Writes};
 ghost use Rattle.fl_stream.specs.Turns.{LineOutput, Run as Lines};
 ghost use Rattle.fl_system.specs.Runs.{IsReached};
-ghost use Rattle.fl_turn_laws.specs.Answered.{IsAnswered};
 ghost use Rattle.fl_turn_laws.specs.Beginning.{Begins};
 ghost use Rattle.fl_turn_laws.specs.Certain.{IsSure, OpenOneWay};
 ghost use Rattle.fl_turn_laws.specs.InMemory.{in_memory};
 ghost use Rattle.fl_turn_laws.specs.Leading.{Leads};
 ghost use Rattle.fl_turns.specs.Answer.{Answer, starved_line};
+ghost use Rattle.fl_turns.specs.Answered.{IsAnswered};
 ghost use Rattle.fl_turns.specs.Naming.{SetsAlias, made_by};
 ghost use Rattle.fl_turns.specs.Over.{SessionOver, TurnsOver, begun_over};
 ghost use Rattle.fl_turns.specs.Run.{Run};
+ghost use Rattle.fl_turns.specs.Script.{IsOneRunIfHonest};
 ghost use Rattle.fl_turns.specs.Session.{Session, begun};
 ghost use Rattle.fl_turns.specs.Turn.{Turn};
 ghost use Rattle.fl_world.specs.Headline.{IsSafeWorld};
@@ -29,8 +32,16 @@ use fl_world::laws::{law_headline, law_lasting};
 
 /// Where all keepers are honest, the lines of a script were answered, in each world that its nodes may be at the end, from the
 /// world without a node on, with what the keepers may hold that the maker makes from the start.
+///
+/// `text` says so of what `fl_cluster::run::run` and `converse` write, and of the session that they give back: its premise is
+/// what their clauses `ok`, `served` and `err` give (`Writes`), and its conclusion their clauses `one_run` and `first_run`.
 pub fn law_script<M: MakesKeepers>()
-    ensures { (maker : M) (lines : List (List ℕ)) (outputs : List LineOutput)
+    ensures text { (maker : M) (lines : List (List ℕ)) (text : List ℕ) (status : ℕ)
+        (end : SessionOver M.K M) →
+        Writes (TurnsOver M.K.is_honest M.K.may_hold M.finds M.refuses)
+        (begun_over maker) lines text status end →
+        IsOneRunIfHonest M.K.is_honest M.K.may_hold M.finds M.refuses maker lines text status end }
+    ensures answers { (maker : M) (lines : List (List ℕ)) (outputs : List LineOutput)
         (end : SessionOver M.K M) → Lines (TurnsOver M.K.is_honest M.K.may_hold M.finds M.refuses)
         1 (begun_over maker) lines outputs end →
         InEach M.K.is_honest M.K.may_hold end.cluster.world (λ w. IsAnswered
@@ -52,14 +63,18 @@ pub fn law_worlds<M: MakesKeepers>()
 /// The headline, and what lasts, of scripts: in each world that the nodes of a script may be after any of its lines, names are
 /// unique, what is published is saved, each open endpoint and each thing that was admitted is safe by all that is saved, whatever
 /// happens from then on, no yes is withdrawn, what is published grows by the node's own publications alone, and a tag is confined.
+///
+/// The end is the session that `fl_cluster::run::run` gives back, of which `Writes` is what it says.
 pub fn law_script_safe<M: MakesKeepers>()
-    ensures safe { (maker : M) (lines : List (List ℕ)) (outputs : List LineOutput)
-        (end : SessionOver M.K M) → Lines (TurnsOver M.K.is_honest M.K.may_hold M.finds M.refuses)
-        1 (begun_over maker) lines outputs end →
+    ensures safe { (maker : M) (lines : List (List ℕ)) (text : List ℕ) (status : ℕ)
+        (end : SessionOver M.K M) →
+        Writes (TurnsOver M.K.is_honest M.K.may_hold M.finds M.refuses)
+        (begun_over maker) lines text status end →
         InEach M.K.is_honest M.K.may_hold end.cluster.world IsSafeWorld }
-    ensures lasting { (maker : M) (lines : List (List ℕ)) (outputs : List LineOutput)
-        (end : SessionOver M.K M) → Lines (TurnsOver M.K.is_honest M.K.may_hold M.finds M.refuses)
-        1 (begun_over maker) lines outputs end →
+    ensures lasting { (maker : M) (lines : List (List ℕ)) (text : List ℕ) (status : ℕ)
+        (end : SessionOver M.K M) →
+        Writes (TurnsOver M.K.is_honest M.K.may_hold M.finds M.refuses)
+        (begun_over maker) lines text status end →
         InEach M.K.is_honest M.K.may_hold end.cluster.world IsLastingWorld }
 {
     law_headline();

@@ -5,3 +5,6 @@ pub mod Session
 pub mod Turn
 pub mod Run
 pub mod Over
+pub mod Answered
+pub mod Script
+pub mod laws

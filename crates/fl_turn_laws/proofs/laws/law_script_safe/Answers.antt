@@ -1,12 +1,12 @@
 use Rattle.fl_turns.specs.Session.{begun}
-use Rattle.fl_turn_laws.proofs.Chains.{script_answered}
+use Rattle.fl_turns.specs.laws.Chains.{script_answered}
 use Rattle.fl_turn_laws.proofs.Leads.{run_leads, is_reached}
 use Rattle.fl_turn_laws.proofs.laws.law_script_safe.Goals as goal
 
 pub returns-clause-safe : goal.returns-clause-safe
-returns-clause-safe g c = λ maker lines outputs end h.
+returns-clause-safe g c = λ maker lines text status end h.
     let all = script_answered g.M.K.Keeper.is_honest g.M.K.Keeper.may_hold g.M.MakesKeepers.finds g.M.MakesKeepers.refuses
-    maker lines outputs end h in
+    maker lines h.outputs end h.run in
     record {
       each = λ honest w is.
           let answered = all.each honest w is in
@@ -14,9 +14,9 @@ returns-clause-safe g c = λ maker lines outputs end h.
     }
 
 pub returns-clause-lasting : goal.returns-clause-lasting
-returns-clause-lasting g c = λ maker lines outputs end h.
+returns-clause-lasting g c = λ maker lines text status end h.
     let all = script_answered g.M.K.Keeper.is_honest g.M.K.Keeper.may_hold g.M.MakesKeepers.finds g.M.MakesKeepers.refuses
-    maker lines outputs end h in
+    maker lines h.outputs end h.run in
     record {
       each = λ honest w is.
           let answered = all.each honest w is in

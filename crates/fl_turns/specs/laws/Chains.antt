@@ -10,12 +10,12 @@ use Rattle.fl_nodes.specs.laws.Nothing.{none_is}
 use Rattle.fl_calls.specs.Entering.{Openings}
 use Rattle.fl_calls.specs.Over.{openings_of}
 use Rattle.fl_calls.specs.laws.Widening.{OpensMore, opens_more}
+use Rattle.fl_turns.specs.Answered.{IsAnswered}
 use Rattle.fl_turns.specs.Over.{SessionOver, begun_over, TurnsOver}
 use Rattle.fl_turns.specs.Run.{output_of, outputs_from}
 use Rattle.fl_turns.specs.Session.{Session, begun}
 use Rattle.fl_world.specs.Reached.{InEach}
-use Rattle.fl_turn_laws.specs.Answered.{IsAnswered}
-use Rattle.fl_turn_laws.proofs.Widening.{turn_too}
+use Rattle.fl_turns.specs.laws.Widening.{turn_too}
 
 module _ {K M : Type 0} (is_honest : K → Type 0) (may_hold : K → Held) (finds : M → ℕ → Kept → Type 0)
     (refuses : M → ℕ → Fault → Type 0) (start : M) where

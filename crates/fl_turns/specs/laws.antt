@@ -1,0 +1,4 @@
+-- Lemmas that proofs of the crates above cite.
+pub mod Widening
+pub mod Chains
+pub mod Scripts
