@@ -7,4 +7,4 @@ pub mod fault;
 pub mod options;
 mod response;
 pub mod run;
-mod session;
+pub mod session;

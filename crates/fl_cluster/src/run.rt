@@ -1,9 +1,10 @@
 //! A whole run.
-ghost use Rattle.std.specs.Prelude.{◌≡◌, ◌≤◌, ◌⊎◌, [], ℕ, List, Option, IfErr, IfOk, IfSome, OnErr, OnOk, length};
+ghost use Rattle.std.specs.Prelude.{◌≡◌, ◌≤◌, ◌⊎◌, [], ℕ, List, Option, None, IfErr, IfOk, IfSome, OnErr, OnOk, length};
 ghost use Rattle.std.specs.Io.KnownBytes.{IsAtEnd};
-ghost use Rattle.fl_stream.specs.Served.{Answered, Outgrows, Served};
+ghost use Rattle.fl_stream.specs.Served.{Answered, CountsPast, MayLackRoom, Outgrows, Served};
 ghost use Rattle.fl_stream.specs.Output.{WritesFirst, WritesOutput};
-ghost use Rattle.fl_turns.specs.Over.{TurnsOver, begun_over};
+ghost use Rattle.fl_turns.specs.Over.{SessionOver, TurnsOver, begun_over};
+ghost use Rattle.fl_turns.specs.Script.{RunsFirst, RunsScript};
 
 use crate::fault::RunFault;
 use crate::options::Options;
@@ -24,33 +25,47 @@ use std::io::{Read, Write};
 /// At a fault a front of the answers to the first lines is written: `Read` only where hearing fails or the script is
 /// longer; `Write` where a write fails or takes no bytes, or sending fails; `Memory` where there is no room for the 64 KiB
 /// that are heard at once, or for a line that has not ended. Want of memory in a line's own work is that line's answer.
+///
+/// The session is given back as the lines that were begun left it, at a fault too. Where its keepers are honest, the text is
+/// that of one run of the definitions (`one_run`), and at a fault a front of one's (`first_run`).
 pub fn converse<RT: AllocGlobal, C: Conversation<W>, W: Writer, M: MakesKeepers + Drop>(
     rt: &RT,
     input: &mut C,
     output: &mut W,
     keepers: M,
-) -> Result<u8, RunFault>
+) -> (Session<M>, Result<u8, RunFault>)
     requires unheard { IfSome (C.heard input.old) (λ bytes. bytes ≡ []) }
     requires fresh { C.hearings input.old ≡ 0 }
     requires said { C.said output.old ≡ W.contents output.old }
-    requires due { (heard : List ℕ) (said : Option (List ℕ)) →
+    requires due { (heard : List ℕ) (said : Option (List ℕ)) (mid : SessionOver M.K M) →
         Answered (TurnsOver M.K.is_honest M.K.may_hold M.finds M.refuses) (begun_over keepers)
-        heard (W.contents output.old) said → C.may_hear heard said }
-    ensures ok { IfOk result (λ status. IfSome (C.remaining input.old) (λ script.
+        heard (W.contents output.old) said mid → C.may_hear heard said }
+    ensures one_run { IfOk result.1 (λ status. IfSome (C.remaining input.old) (λ script.
+        RunsScript M.K.is_honest M.K.may_hold M.finds M.refuses keepers
+        (W.contents output.old) (W.contents output.new) script status result.0)) }
+    ensures first_run { OnErr result.1 (IfSome (C.remaining input.old) (λ script.
+        RunsFirst M.K.is_honest M.K.may_hold M.finds M.refuses keepers
+        (W.contents output.old) (W.contents output.new) script result.0)) }
+    ensures ok { IfOk result.1 (λ status. IfSome (C.remaining input.old) (λ script.
         WritesOutput (TurnsOver M.K.is_honest M.K.may_hold M.finds M.refuses) (begun_over keepers)
-        (W.contents output.old) (W.contents output.new) script status)) }
-    ensures whole { OnOk result (IsAtEnd (C.remaining input.new)) }
-    ensures short { OnOk result (IfSome (C.remaining input.old) (λ script. length script ≤ 16777216)) }
-    ensures said { OnOk result (C.said output.new ≡ W.contents output.new) }
-    ensures served { IfErr result (λ e. e ≡ RunFault.Read →
+        (W.contents output.old) (W.contents output.new) script status result.0)) }
+    ensures whole { OnOk result.1 (IsAtEnd (C.remaining input.new)) }
+    ensures short { OnOk result.1 (IfSome (C.remaining input.old) (λ script. length script ≤ 16777216)) }
+    ensures said { OnOk result.1 (C.said output.new ≡ W.contents output.new) }
+    ensures served { IfErr result.1 (λ e. e ≡ RunFault.Read →
         Served (TurnsOver M.K.is_honest M.K.may_hold M.finds M.refuses) (begun_over keepers)
-        (C.remaining input.old) (C.remaining input.new) (W.contents output.old) (W.contents output.new)) }
-    ensures cause { IfErr result (λ e. e ≡ RunFault.Read →
-        C.is_deaf input.new ⊎ Outgrows 16777216 (C.heard input.old) (C.heard input.new)) }
-    ensures write_cause { IfErr result (λ e. e ≡ RunFault.Write → W.has_failed output.new) }
-    ensures err { OnErr result (IfSome (C.remaining input.old) (λ script.
+        (C.remaining input.old) (C.remaining input.new)
+        (W.contents output.old) (W.contents output.new) result.0) }
+    ensures cause { IfErr result.1 (λ e. e ≡ RunFault.Read → C.is_deaf input.new
+        ⊎ (Outgrows 16777216 (C.heard input.old) (C.heard input.new)
+        × CountsPast 16777216 (C.counted input.old) (C.counted input.new))) }
+    ensures write_cause { IfErr result.1 (λ e. e ≡ RunFault.Write → W.has_failed output.new) }
+    ensures memory_cause { IfErr result.1 (λ e. e ≡ RunFault.Memory →
+        MayLackRoom (C.remaining input.old) (C.remaining input.new)
+        (C.heard input.old) (C.heard input.new)) }
+    ensures err { OnErr result.1 (IfSome (C.remaining input.old) (λ script.
         WritesFirst (TurnsOver M.K.is_honest M.K.may_hold M.finds M.refuses) (begun_over keepers)
-        (W.contents output.old) (W.contents output.new) script)) }
+        (W.contents output.old) (W.contents output.new) script result.0)) }
 {
     let alloc = rt.alloc();
     fl_stream::run::converse(alloc, Session::new(alloc, keepers), input, output)
@@ -64,27 +79,43 @@ pub fn converse<RT: AllocGlobal, C: Conversation<W>, W: Writer, M: MakesKeepers 
 /// At a fault a front of the answers to the first lines is written: `Read` where a read fails or the script is longer;
 /// `Write` where a write fails or takes no bytes, or a flush fails; `Memory` where there is no room for the 64 KiB that a
 /// read fills, or for a line that has not ended. Want of memory in a line's own work is that line's answer.
+///
+/// The session is given back as the lines that were begun left it, at a fault too. Where its keepers are honest, the text is
+/// that of one run of the definitions (`one_run`), and at a fault a front of one's (`first_run`).
 pub fn run<RT: AllocGlobal, R: Read, W: Write, M: MakesKeepers + Drop>(
     rt: &RT,
     input: &mut R,
     output: &mut W,
     options: Options,
     keepers: M,
-) -> Result<u8, RunFault>
+) -> (Session<M>, Result<u8, RunFault>)
     requires alone { options.workers ≡ 0 }
-    ensures ok { IfOk result (λ status. IfSome (R.remaining input.old) (λ script.
+
+    // Where the keepers are honest at the end, the text is that of one run of the definitions.
+    ensures one_run { IfOk result.1 (λ status. IfSome (R.remaining input.old) (λ script.
+        RunsScript M.K.is_honest M.K.may_hold M.finds M.refuses keepers
+        (W.contents output.old) (W.contents output.new) script status result.0)) }
+    ensures first_run { OnErr result.1 (IfSome (R.remaining input.old) (λ script.
+        RunsFirst M.K.is_honest M.K.may_hold M.finds M.refuses keepers
+        (W.contents output.old) (W.contents output.new) script result.0)) }
+
+    // Whatever the keepers are, the lines were answered one after another, up to the session at the end.
+    ensures ok { IfOk result.1 (λ status. IfSome (R.remaining input.old) (λ script.
         WritesOutput (TurnsOver M.K.is_honest M.K.may_hold M.finds M.refuses) (begun_over keepers)
-        (W.contents output.old) (W.contents output.new) script status)) }
-    ensures whole { OnOk result (IsAtEnd (R.remaining input.new)) }
-    ensures short { OnOk result (IfSome (R.remaining input.old) (λ script. length script ≤ 16777216)) }
+        (W.contents output.old) (W.contents output.new) script status result.0)) }
+    ensures whole { OnOk result.1 (IsAtEnd (R.remaining input.new)) }
+    ensures short { OnOk result.1 (IfSome (R.remaining input.old) (λ script. length script ≤ 16777216)) }
 
     // Any read may fail, so that all lines that have ended are answered before each.
-    ensures served { IfErr result (λ e. e ≡ RunFault.Read →
+    ensures served { IfErr result.1 (λ e. e ≡ RunFault.Read →
         Served (TurnsOver M.K.is_honest M.K.may_hold M.finds M.refuses) (begun_over keepers)
-        (R.remaining input.old) (R.remaining input.new) (W.contents output.old) (W.contents output.new)) }
-    ensures err { OnErr result (IfSome (R.remaining input.old) (λ script.
+        (R.remaining input.old) (R.remaining input.new)
+        (W.contents output.old) (W.contents output.new) result.0) }
+    ensures memory_cause { IfErr result.1 (λ e. e ≡ RunFault.Memory →
+        MayLackRoom (R.remaining input.old) (R.remaining input.new) None None) }
+    ensures err { OnErr result.1 (IfSome (R.remaining input.old) (λ script.
         WritesFirst (TurnsOver M.K.is_honest M.K.may_hold M.finds M.refuses) (begun_over keepers)
-        (W.contents output.old) (W.contents output.new) script)) }
+        (W.contents output.old) (W.contents output.new) script result.0)) }
 {
     converse(rt, input, output, keepers)
 }

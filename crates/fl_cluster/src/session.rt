@@ -48,7 +48,7 @@ fn settle(aliases: &mut Aliases, alias: Alias, is_new: bool, made: Option<Target
     }
 }
 
-/// The world of a script with who makes its keepers, and the aliases of what its lines made.
+/// The world of a script with who makes its keepers, and the aliases of what its lines made. A run gives it back.
 pub struct Session<M: MakesKeepers> {
     cluster: Cluster<M>,
     aliases: Aliases,
@@ -75,7 +75,7 @@ impl<M: MakesKeepers + Drop> Drop for Session<M> {
 
 impl<M: MakesKeepers> Session<M> {
     /// No node and no alias, before the first line. Takes no memory.
-    pub fn new(alloc: Global, keepers: M) -> Self
+    pub(crate) fn new(alloc: Global, keepers: M) -> Self
         ensures { result ≡ begun_over keepers }
     {
         Session {
@@ -84,7 +84,7 @@ impl<M: MakesKeepers> Session<M> {
         }
     }
 
-    /// Its world.
+    /// Its world, with who makes the keepers of its nodes.
     pub fn cluster(&self) -> &Cluster<M>
         ensures { result.now ≡ self.now.cluster }
     {
@@ -99,7 +99,7 @@ impl<M: MakesKeepers> Session<M> {
     }
 
     /// What is answered to the line. Where memory is wanted before anything is asked of the world, nothing changes.
-    pub fn respond(&mut self, alloc: Global, line: &[u8]) -> Response
+    pub(crate) fn respond(&mut self, alloc: Global, line: &[u8]) -> Response
         ensures { TurnOver M.K.is_honest M.K.may_hold M.finds M.refuses
             self.old line.now (shown self.new result) self.new }
     {

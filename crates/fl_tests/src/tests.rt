@@ -36,8 +36,8 @@ pub(crate) fn check_over<M: MakesKeepers + Drop>(
 ) -> Result<(), Fail> {
     let mut input = row.script;
     let mut output = Vec::new(rt.alloc());
-    let status = run(rt, &mut input, &mut output, Options::default(), keepers)?;
-    assert_eq!(rt; status, row.status);
+    let (_session, status) = run(rt, &mut input, &mut output, Options::default(), keepers);
+    assert_eq!(rt; status?, row.status);
     assert_eq!(rt; output.as_slice(), row.output);
     Ok(())
 }
@@ -48,7 +48,7 @@ fn run_on<R: Read, W: Write>(
     input: &mut R,
     output: &mut W,
 ) -> Result<u8, RunFault> {
-    run(rt, input, output, Options::default(), MemMaker)
+    run(rt, input, output, Options::default(), MemMaker).1
 }
 
 /// In pieces of any size the same is written. Where a read fails, a prefix of it is.
