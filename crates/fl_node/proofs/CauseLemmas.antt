@@ -1,5 +1,5 @@
 -- Why a node says that its keeper failed, over the calls that an opening goes through.
-use Rattle.std.proofs.Common.{◌≡◌, ◌⊎◌, inl, inr, ◌∙◌, refl, sym, ap, Bool, Ok, Err, Result}
+use Rattle.std.proofs.Common.{◌≡◌, ◌⊎◌, inl, inr, ◌∙◌, refl, sym, ap, ℕ, Bool, Ok, Err, Result}
 use Rattle.std.specs.Prelude.{IfErr, IsTrue}
 use Rattle.fl_store.specs.Kept.{Kept, with_batch}
 use Rattle.fl_store.specs.Keeping.{Held, Follows}
@@ -13,33 +13,48 @@ use Rattle.fl_system.specs.State.{NodeState, ops_of}
 use Rattle.fl_system.specs.Saves.{Saves}
 use Rattle.fl_node.specs.Causes.{KeeperFails, IsStored, LoadsBadRow}
 
-module _ {K T : Type 0} (bad : K → Type 0) (may_hold : K → Held) (state : State) (keeper : K) (broken : Bool)
-    (honest : Type 0) (r : Result T Fault) where
+module _ {K T : Type 0} (number_of : K → ℕ) (is_honest : K → Type 0) (may_hold : K → Held) (bad : K → Type 0)
+    (state : State) (keeper : K) (broken : Bool) (honest : Type 0) (r : Result T Fault) where
+  abbrev Bad : Type 0
+  Bad = LoadsBadRow number_of is_honest may_hold bad state keeper
+
   -- the keeper that the node had was loaded
-  pub loads_own : IfErr r (KeeperFails broken honest (bad keeper))
-      → IfErr r (KeeperFails broken honest (LoadsBadRow bad may_hold state keeper))
-  loads_own = by r
+  pub loads_own : (honest → is_honest keeper) → IfErr r (KeeperFails broken honest (bad keeper))
+      → IfErr r (KeeperFails broken honest Bad)
+  loads_own trusts = by r
     where
-      by : (r : Result T Fault) → IfErr r (KeeperFails broken honest (bad keeper))
-          → IfErr r (KeeperFails broken honest (LoadsBadRow bad may_hold state keeper))
+      by : (r : Result T Fault) → IfErr r (KeeperFails broken honest (bad keeper)) → IfErr r (KeeperFails broken honest Bad)
       by (Ok x) h = tt
       by (Err fault) h = λ failed. elim (h failed) [
         | inl is ↦ inl is
-        | inr row ↦ inr (λ is. record { loaded = keeper; bad = row is; left = inl refl })
+        | inr row ↦ inr (λ is. record {
+            loaded = keeper;
+            bad = row is;
+            honest = trusts is;
+            was_honest = trusts is;
+            number = refl;
+            left = inl refl;
+          })
       ]
 
   -- or that after the saving
-  pub loads_stored : (mid : K) → (honest → IsStored state (may_hold keeper) (may_hold mid))
-      → IfErr r (KeeperFails broken honest (bad mid))
-      → IfErr r (KeeperFails broken honest (LoadsBadRow bad may_hold state keeper))
-  loads_stored mid stored = by r
+  pub loads_stored : (mid : K) → number_of mid ≡ number_of keeper
+      → (honest → is_honest mid × is_honest keeper × IsStored state (may_hold keeper) (may_hold mid))
+      → IfErr r (KeeperFails broken honest (bad mid)) → IfErr r (KeeperFails broken honest Bad)
+  loads_stored mid number stored = by r
     where
-      by : (r : Result T Fault) → IfErr r (KeeperFails broken honest (bad mid))
-          → IfErr r (KeeperFails broken honest (LoadsBadRow bad may_hold state keeper))
+      by : (r : Result T Fault) → IfErr r (KeeperFails broken honest (bad mid)) → IfErr r (KeeperFails broken honest Bad)
       by (Ok x) h = tt
       by (Err fault) h = λ failed. elim (h failed) [
         | inl is ↦ inl is
-        | inr row ↦ inr (λ is. record { loaded = mid; bad = row is; left = inr (stored is) })
+        | inr row ↦ inr (λ is. record {
+            loaded = mid;
+            bad = row is;
+            honest = (stored is).0;
+            was_honest = (stored is).1;
+            number = number;
+            left = inr (stored is).2;
+          })
       ]
 
 stored_of : (n : NodeState) (batch : Batch) (k : Kept) (n' : NodeState) (k' : Kept) → n.state ≡ Running (Unsaved batch)

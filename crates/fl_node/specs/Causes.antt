@@ -1,5 +1,5 @@
 -- Why a node says that its keeper failed.
-use Rattle.std.specs.Prelude.{◌≡◌, ◌⊎◌, Bool, IsTrue}
+use Rattle.std.specs.Prelude.{◌≡◌, ◌⊎◌, ℕ, Bool, IsTrue}
 use Rattle.fl_store.specs.Kept.{with_batch}
 use Rattle.fl_store.specs.Keeping.{Held, Follows}
 use Rattle.fl_system.specs.declared.answer.Fault.{Fault}
@@ -20,9 +20,13 @@ IsStored state old new =
     (batch : Batch) × (state ≡ Running (Unsaved batch))
     × Follows (λ k k'. k' ≡ with_batch k (ops_of batch)) old new
 
--- a keeper with a bad row: the one that the node had, or that after what was to be saved was saved
-pub record LoadsBadRow {K : Type 0} (has_bad_row : K → Type 0) (may_hold : K → Held) (state : State)
-    (keeper : K) : Type 0 where
+-- A keeper with a bad row, of the same number: the one that the node had, or that after what was to be
+-- saved was saved. Both are honest.
+pub record LoadsBadRow {K : Type 0} (number_of : K → ℕ) (is_honest : K → Type 0)
+    (may_hold : K → Held) (has_bad_row : K → Type 0) (state : State) (keeper : K) : Type 0 where
   pub loaded : K
   pub bad : has_bad_row loaded
+  pub honest : is_honest loaded
+  pub was_honest : is_honest keeper
+  pub number : number_of loaded ≡ number_of keeper
   pub left : (loaded ≡ keeper) ⊎ IsStored state (may_hold keeper) (may_hold loaded)

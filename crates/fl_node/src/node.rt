@@ -338,6 +338,7 @@ impl<K: Keeper> Node<K> {
     ///   keeper has those, or those with what was to be saved.
     pub fn save(&mut self) -> Result<(), Fault>
         ensures number { self.new.node.number ≡ self.old.node.number }
+        ensures keeper { K.number self.new.keeper ≡ K.number self.old.keeper }
         ensures cause { result ≡ Err Fault.KeeperFailed → IsTrue (K.is_broken self.new.keeper) }
         ensures saves { K.is_honest self.new.keeper → K.is_honest self.old.keeper
             × Follows (λ k k'. Saves self.old.node k result self.new.node k')
@@ -409,8 +410,8 @@ impl<K: Keeper> Node<K> {
     pub fn come_back(&mut self, alloc: Global, keeps: bool) -> Result<u32, Fault>
         ensures number { self.new.node.number ≡ self.old.node.number }
         ensures cause { let node = self.old.node in
-            let bad = LoadsBadRow K.has_bad_row K.may_hold node.state self.old.keeper in
-            IfErr result
+            let bad = LoadsBadRow K.number K.is_honest K.may_hold K.has_bad_row
+            node.state self.old.keeper in IfErr result
             (KeeperFails (K.is_broken self.new.keeper) (K.is_honest self.new.keeper) bad) }
         ensures broken { (¬ IsRunning self.old.node.state) → IsTrue (K.is_broken self.old.keeper)
             → K.number self.old.keeper ≡ self.old.node.number → result ≡ Err Fault.KeeperFailed }
@@ -434,7 +435,7 @@ impl<K: Keeper> Node<K> {
     pub fn restart(self, alloc: Global, keeps: bool) -> (Node<K>, Result<u32, Fault>)
         ensures number { result.0.node.number ≡ self.node.number }
         ensures cause { let state = self.node.state in let left = result.0.keeper in
-            let bad = LoadsBadRow K.has_bad_row K.may_hold state self.keeper in
+            let bad = LoadsBadRow K.number K.is_honest K.may_hold K.has_bad_row state self.keeper in
             IfErr result.1 (KeeperFails (K.is_broken left) (K.is_honest left) bad) }
         ensures broken { (¬ IsRunning self.node.state) → IsTrue (K.is_broken self.keeper)
             → K.number self.keeper ≡ self.node.number → result.1 ≡ Err Fault.KeeperFailed }
