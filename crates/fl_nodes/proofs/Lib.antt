@@ -2,6 +2,7 @@ pub mod Lifting
 pub mod Entries
 pub mod Highs
 pub mod CallLemmas
+pub mod FailLemmas
 pub mod JobLemmas
 pub mod TellLemmas
 pub mod DeliverLemmas

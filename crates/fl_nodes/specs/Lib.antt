@@ -1,5 +1,6 @@
 pub mod Over
 pub mod Goes
+pub mod Failing
 pub mod Texts
 pub mod Whole
 pub mod Joining

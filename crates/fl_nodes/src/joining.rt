@@ -10,8 +10,10 @@ ghost use Rattle.fl_system.specs.declared.reply.Reply.TheVariants as replies;
 ghost use Rattle.fl_system.specs.Joins.{IsClashAt, Reopening};
 ghost use Rattle.fl_system.specs.Waiting.{IsRunning};
 ghost use Rattle.fl_system.specs.World.{World};
+ghost use Rattle.fl_node.specs.Causes.{KeeperFails};
 ghost use Rattle.fl_node.specs.Over.{NodeOver};
 ghost use Rattle.fl_nodes.specs.Goes.{Goes};
+ghost use Rattle.fl_nodes.specs.Failing.{FailsAt};
 ghost use Rattle.fl_nodes.specs.Joining.{DoesJoin, DoesNotJoin, GivesBack, TakesIn, spare};
 ghost use Rattle.fl_nodes.specs.Joining.{ReturnsOver, TakesOver};
 ghost use Rattle.fl_nodes.specs.parts.Joined.{AreNodes, IsStrayWith};
@@ -98,7 +100,7 @@ impl<K: Keeper> Nodes<K> {
     /// - `WrongNode`: a node of this number is there, or the keeper is another node's.
     /// - `Clash`: something else is saved under one of its names, of which this is the least.
     /// - `Impostor`: an operation of this name, the least, is saved, though not by the node whose number it has.
-    /// - As `Node::open`; `Memory` too where there was no room for one more node.
+    /// - As `Node::open`, and `KeeperFailed` from nothing else; `Memory` too where there was no room for one more node.
     ///
     /// That all that is saved here is saved by the node whose number it has, if that is there, is not looked at again: it is so in
     /// each world that a run leads to. A refused joining may have raised the boot, but where the number is a node's. Costs what the
@@ -113,6 +115,8 @@ impl<K: Keeper> Nodes<K> {
             GivesBack K.is_honest K.may_hold self.old keeper self.new e.1 (DoesNotJoin number e.0)) }
         ensures there { (n : NodeOver K) → map.get self.old.nodes number ≡ Some n
             → result ≡ Err (Fault.WrongNode, keeper) }
+        ensures cause { let bad = K.has_bad_row keeper in
+            IfErr result (λ e. KeeperFails (K.is_broken e.1) (K.is_honest e.1) bad e.0) }
         ensures same { OnErr result (self.new ≡ self.old) }
     {
         if self.has(number) {
@@ -137,6 +141,8 @@ impl<K: Keeper> Nodes<K> {
         ensures reopens { GivesBack K.is_honest K.may_hold self.old keeper self.new result.1
             (λ w k w' k'. Reopening w number k result.0 w') }
         ensures given { result.1 ≡ spare (map.get self.old.nodes number) keeper }
+        ensures cause { result.0 ≡ Reply.Refused Fault.KeeperFailed
+            → FailsAt K.is_broken K.is_honest (λ n. K.has_bad_row keeper) self.old self.new number }
     {
         let Some(node) = self.all.get_mut(&number) else {
             return (Reply::NoSuch, keeper);
@@ -169,6 +175,10 @@ impl<K: Keeper> Nodes<K> {
         ensures stopped { (n : NodeOver K) → map.get self.old.nodes number ≡ Some n
             → (¬ IsRunning n.node.state) → (made : K) × FnOnceReturnsAtMut F.FnOnce make n.keeper tt made
             × Goes K.is_honest K.may_hold self.old self.new (ReturnsOver K.may_hold made number result) }
+        ensures cause { result ≡ Reply.Refused Fault.KeeperFailed
+            → FailsAt K.is_broken K.is_honest (λ n. (made : K)
+            × FnOnceReturnsAtMut F.FnOnce make n.keeper tt made × K.has_bad_row made)
+            self.old self.new number }
     {
         let Some(node) = self.all.get_mut(&number) else {
             return Reply::NoSuch;

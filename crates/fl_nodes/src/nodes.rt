@@ -6,6 +6,7 @@ ghost use Rattle.fl_system.specs.declared.event.Event.TheVariants as event;
 ghost use Rattle.fl_system.specs.WorldSteps.{Step};
 ghost use Rattle.fl_nodes.specs.Over.{empty_over};
 ghost use Rattle.fl_nodes.specs.Goes.{Goes};
+ghost use Rattle.fl_nodes.specs.Failing.{FailsAt, IsBrokenAt, LoadsBadRowOf};
 ghost use Rattle.fl_nodes.specs.Texts.{TextAt};
 ghost use Rattle.fl_nodes.specs.Whole.{IsWhole};
 ghost use Rattle.fl_nodes.specs.parts.There.{IsNoSuch, IsThere};
@@ -132,10 +133,12 @@ impl<K: Keeper> Nodes<K> {
     }
 
     /// Saves what is to be saved at the node, as `Node::save` has it, and answers `Done`, or why not: `NoSuch` where the node is
-    /// not there.
+    /// not there, and `KeeperFailed` only where its keeper is broken then.
     pub fn save(&mut self, number: NodeNumber) -> Reply
-        ensures { Goes K.is_honest K.may_hold self.old self.new
+        ensures goes { Goes K.is_honest K.may_hold self.old self.new
             (λ w w'. Step w (event.Save number) result w') }
+        ensures cause { result ≡ Reply.Refused Fault.KeeperFailed
+            → IsBrokenAt K.is_broken self.new number }
     {
         let Some(node) = self.all.get_mut(&number) else {
             return Reply::NoSuch;
@@ -182,10 +185,14 @@ impl<K: Keeper> Nodes<K> {
         answer
     }
 
-    /// Restarts the node, as `Node::restart` has it, and answers its boot, or why not.
+    /// Restarts the node, as `Node::restart` has it, and answers its boot, or why not: `KeeperFailed` only where its keeper is
+    /// broken then, or loads a bad row.
     pub fn restart(&mut self, alloc: Global, number: NodeNumber, keeps: bool) -> Reply
-        ensures { Goes K.is_honest K.may_hold self.old self.new
+        ensures goes { Goes K.is_honest K.may_hold self.old self.new
             (λ w w'. Step w (event.Restart number keeps) result w') }
+        ensures cause { let bad = LoadsBadRowOf K.number K.is_honest K.may_hold K.has_bad_row in
+            result ≡ Reply.Refused Fault.KeeperFailed
+            → FailsAt K.is_broken K.is_honest bad self.old self.new number }
     {
         let Some(node) = self.all.get_mut(&number) else {
             return Reply::NoSuch;

@@ -10,9 +10,11 @@ ghost use Rattle.fl_system.specs.Runs.{Run};
 ghost use Rattle.fl_system.specs.Waiting.{IsRunning};
 ghost use Rattle.fl_system.specs.WorldSteps.{Step};
 ghost use Rattle.fl_world_laws.specs.Places.{IsNameRefusal};
+ghost use Rattle.fl_node.specs.Causes.{KeeperFails};
 ghost use Rattle.fl_node.specs.Over.{NodeOver};
 ghost use Rattle.fl_nodes.specs.Over.{empty_over};
 ghost use Rattle.fl_nodes.specs.Goes.{Goes};
+ghost use Rattle.fl_nodes.specs.Failing.{FailsAt, IsBrokenAt, LoadsBadRowOf};
 ghost use Rattle.fl_nodes.specs.Joining.{GivesBack, IsRefused, TakesIn};
 ghost use Rattle.fl_nodes.specs.Joining.{ReturnsOver, TakesOver};
 ghost use Rattle.fl_nodes.specs.Texts.{TextAt};
@@ -130,6 +132,8 @@ impl<K: Keeper> World<K> {
             (λ w k w'. Joins w number k (replies.Booted boot) w')) }
         ensures refused { IfErr result (λ e. GivesBack K.is_honest K.may_hold self.old keeper self.new e.1
             (IsRefused number e.0)) }
+        ensures cause { let bad = K.has_bad_row keeper in
+            IfErr result (λ e. KeeperFails (K.is_broken e.1) (K.is_honest e.1) bad e.0) }
         ensures same { OnErr result (self.new ≡ self.old) }
     {
         law_names();
@@ -156,6 +160,10 @@ impl<K: Keeper> World<K> {
         ensures stopped { (n : NodeOver K) → map.get self.old.nodes number ≡ Some n
             → (¬ IsRunning n.node.state) → (made : K) × FnOnceReturnsAtMut F.FnOnce make n.keeper tt made
             × Goes K.is_honest K.may_hold self.old self.new (ReturnsOver K.may_hold made number result) }
+        ensures cause { result ≡ replies.Refused Fault.KeeperFailed
+            → FailsAt K.is_broken K.is_honest (λ n. (made : K)
+            × FnOnceReturnsAtMut F.FnOnce make n.keeper tt made × K.has_bad_row made)
+            self.old self.new number }
     {
         self.nodes.reopen_with(alloc, number, make)
     }
@@ -171,8 +179,10 @@ impl<K: Keeper> World<K> {
 
     /// Saves what is to be saved at the node, as `Nodes::save` has it.
     pub fn save(&mut self, number: NodeNumber) -> Reply
-        ensures { Goes K.is_honest K.may_hold self.old self.new
+        ensures goes { Goes K.is_honest K.may_hold self.old self.new
             (λ w w'. Step w (event.Save number) result w') }
+        ensures cause { result ≡ replies.Refused Fault.KeeperFailed
+            → IsBrokenAt K.is_broken self.new number }
     {
         self.nodes.save(number)
     }
@@ -195,8 +205,11 @@ impl<K: Keeper> World<K> {
 
     /// Restarts the node, as `Nodes::restart` has it.
     pub fn restart(&mut self, alloc: Global, number: NodeNumber, keeps: bool) -> Reply
-        ensures { Goes K.is_honest K.may_hold self.old self.new
+        ensures goes { Goes K.is_honest K.may_hold self.old self.new
             (λ w w'. Step w (event.Restart number keeps) result w') }
+        ensures cause { let bad = LoadsBadRowOf K.number K.is_honest K.may_hold K.has_bad_row in
+            result ≡ replies.Refused Fault.KeeperFailed
+            → FailsAt K.is_broken K.is_honest bad self.old self.new number }
     {
         self.nodes.restart(alloc, number, keeps)
     }

@@ -3,6 +3,8 @@ use Rattle.fl_gossip.specs.Meeting.{FindsLeast}
 use Rattle.fl_system.specs.Joins.{IsClashAt}
 use Rattle.fl_nodes.specs.Joining.{DoesNotJoin, GivesBack}
 use Rattle.fl_nodes.specs.parts.Joined.{IsStrayWith}
+use Rattle.fl_node.specs.Causes.{KeeperFails}
+use Rattle.fl_nodes.proofs.FailLemmas.{no_room, not_failed}
 use Rattle.fl_nodes.proofs.Newcomers.{handed_on, is_not_there, is_there, refused_clash, refused_memory, refused_opening, refused_stray, refused_there, some_none, takes_in}
 use Rattle.fl_nodes.proofs.nodes.Nodes.join.Goals as goal
 
@@ -61,3 +63,13 @@ returns-clause-there g c n at = absurd (some_none n (sym at ∙ is_not_there _ _
 
 pub returns-in-Some-stray-clause-there : goal.returns-in-Some-stray-clause-there
 returns-in-Some-stray-clause-there g c n at = absurd (some_none n (sym at ∙ is_not_there _ _ c.has.ensures.there c.if-has.false))
+
+pub returns-in_err-node-clause-cause : goal.returns-in_err-node-clause-cause
+returns-in_err-node-clause-cause g c =
+    handed_on c.from_residual.result (λ e. KeeperFails (g.K.Keeper.is_broken e.1) (g.K.Keeper.is_honest e.1) (g.K.Keeper.has_bad_row c.args.keeper) e.0) c.in_err-node.field-0.0
+    c.from_residual.ensures.1 c.in_err-node.ensures.cause
+
+pub returns-in_err-take_in-clause-cause : goal.returns-in_err-take_in-clause-cause
+returns-in_err-take_in-clause-cause g c =
+    handed_on c.from_residual-in_err-take_in.result (λ e. KeeperFails (g.K.Keeper.is_broken e.1) (g.K.Keeper.is_honest e.1) (g.K.Keeper.has_bad_row c.args.keeper) e.0) c.in_err-take_in.field-0.0
+    c.from_residual-in_err-take_in.ensures.1 (not_failed _ (no_room _ c.in_err-take_in.ensures.fault))

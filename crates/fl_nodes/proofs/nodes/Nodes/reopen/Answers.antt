@@ -4,6 +4,7 @@ use Rattle.fl_node.specs.Over.{NodeOver}
 use Rattle.fl_nodes.specs.parts.Highest.{IsUpTo}
 use Rattle.fl_nodes.proofs.Entries.{held, changed, unchanged}
 use Rattle.fl_nodes.proofs.JoinLemmas.{not_there, spare_none, reopened, is_spare}
+use Rattle.fl_nodes.proofs.FailLemmas.{no_refusal_missing, fails_as}
 use Rattle.fl_nodes.proofs.Highs.{changed_up}
 use Rattle.fl_nodes.proofs.nodes.Nodes.reopen.Goals as goal
 
@@ -31,6 +32,17 @@ returns-clause-given g c =
     (sym (held c.self.inside.all.entries c.self.inside.all.entries c.self.inside.sent.items c.self.inside.audit.items c.args.self.now c.self.view_is c.args.number) ∙ sym c.in-Some.ensures.value)
     (changed c.self.inside.all.entries _ c.self.inside.sent.items c.self.inside.audit.items c.args.self.now c.self.view_is c.args.number c.in-Some.node.now c.reopen_over-result.new.self (sym c.in-Some.ensures.value) (c.get_mut.follows.holds c.reopen_over-result.new.self).0)
     _ c.reopen_over-result.ensures.running c.reopen_over-result.ensures.given c.reopen_over-result.ensures.stopped
+
+pub returns-in_default-clause-cause : goal.returns-in_default-clause-cause
+returns-in_default-clause-cause g c failed = absurd (no_refusal_missing _ failed)
+
+pub returns-clause-cause : goal.returns-clause-cause
+returns-clause-cause g c =
+    fails_as g.K.Keeper.is_broken c.args.self.now _ c.args.number c.reopen_over-result.new.self
+    (changed c.self.inside.all.entries _ c.self.inside.sent.items c.self.inside.audit.items c.args.self.now c.self.view_is c.args.number c.in-Some.node.now c.reopen_over-result.new.self (sym c.in-Some.ensures.value) (c.get_mut.follows.holds c.reopen_over-result.new.self).0)
+    g.K.Keeper.is_honest (λ n. g.K.Keeper.has_bad_row c.args.keeper) c.in-Some.node.now
+    (sym (held c.self.inside.all.entries c.self.inside.all.entries c.self.inside.sent.items c.self.inside.audit.items c.args.self.now c.self.view_is c.args.number) ∙ sym c.in-Some.ensures.value)
+    _ _ c.opened.ensures c.reopen_over-result.ensures.cause
 
 pub invariant_of-self-2 : goal.invariant_of-self-2
 invariant_of-self-2 g c =

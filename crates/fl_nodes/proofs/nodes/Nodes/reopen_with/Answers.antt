@@ -1,9 +1,11 @@
 use Rattle.std.proofs.Common.{◌∙◌, sym, ap, ℕ, subst, refl}
 use Rattle.std.specs.BTreeMap.{BTreeMap}
+use Rattle.std.specs.Fn.{FnOnceReturnsAtMut}
 use Rattle.fl_node.specs.Over.{NodeOver}
 use Rattle.fl_nodes.specs.parts.Highest.{IsUpTo}
 use Rattle.fl_nodes.proofs.Entries.{held, changed, unchanged}
 use Rattle.fl_nodes.proofs.JoinLemmas.{none_there, when_running, when_stopped}
+use Rattle.fl_nodes.proofs.FailLemmas.{no_refusal_missing, fails_over}
 use Rattle.fl_nodes.proofs.Highs.{changed_up}
 use Rattle.fl_nodes.proofs.nodes.Nodes.reopen_with.Goals as goal
 
@@ -39,6 +41,17 @@ returns-clause-stopped g c n at stops =
     (sym (held c.self.inside.all.entries c.self.inside.all.entries c.self.inside.sent.items c.self.inside.audit.items c.args.self.now c.self.view_is c.args.number) ∙ sym c.in-Some.ensures.value)
     (changed c.self.inside.all.entries _ c.self.inside.sent.items c.self.inside.audit.items c.args.self.now c.self.view_is c.args.number c.in-Some.node.now c.reopen_with-result.new.self (sym c.in-Some.ensures.value) (c.get_mut.follows.holds c.reopen_with-result.new.self).0)
     n at stops _ c.requires.trusted _ c.reopen_with-result.ensures.stopped _ c.opened.ensures
+
+pub returns-in_default-clause-cause : goal.returns-in_default-clause-cause
+returns-in_default-clause-cause g c failed = absurd (no_refusal_missing _ failed)
+
+pub returns-clause-cause : goal.returns-clause-cause
+returns-clause-cause g c =
+    fails_over g.K.Keeper.is_broken c.args.self.now _ c.args.number c.reopen_with-result.new.self
+    (changed c.self.inside.all.entries _ c.self.inside.sent.items c.self.inside.audit.items c.args.self.now c.self.view_is c.args.number c.in-Some.node.now c.reopen_with-result.new.self (sym c.in-Some.ensures.value) (c.get_mut.follows.holds c.reopen_with-result.new.self).0)
+    g.K.Keeper.is_honest _ c.in-Some.node.now
+    (sym (held c.self.inside.all.entries c.self.inside.all.entries c.self.inside.sent.items c.self.inside.audit.items c.args.self.now c.self.view_is c.args.number) ∙ sym c.in-Some.ensures.value)
+    (λ k made. FnOnceReturnsAtMut g.F.FnOnce c.args.make k tt made) g.K.Keeper.has_bad_row (λ made gives row. (made, gives, row)) _ _ c.opened.ensures c.reopen_with-result.ensures.cause
 
 pub invariant_of-self-2 : goal.invariant_of-self-2
 invariant_of-self-2 g c =

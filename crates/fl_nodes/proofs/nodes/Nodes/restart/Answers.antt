@@ -5,18 +5,20 @@ use Rattle.fl_node.specs.Over.{NodeOver}
 use Rattle.fl_nodes.specs.parts.Highest.{IsUpTo}
 use Rattle.fl_nodes.proofs.Entries.{held, changed, unchanged}
 use Rattle.fl_nodes.proofs.CallLemmas.{no_such_left, booted, not_booted}
+use Rattle.fl_nodes.specs.Failing.{LoadsBadRowOf}
+use Rattle.fl_nodes.proofs.FailLemmas.{no_refusal_missing, no_refusal_booted, same_fault, fails_at}
 use Rattle.fl_nodes.proofs.Highs.{changed_up}
 use Rattle.fl_nodes.proofs.nodes.Nodes.restart.Goals as goal
 use Rattle.fl_nodes.proofs.nodes.Nodes.restart.Goals.{in-Ok, in-Err}
 
-pub returns-in_default : goal.returns-in_default
-returns-in_default g c =
+pub returns-in_default-clause-goes : goal.returns-in_default-clause-goes
+returns-in_default-clause-goes g c =
     no_such_left g.K.Keeper.is_honest g.K.Keeper.may_hold c.args.self.now _ (event.Restart c.args.number c.args.keeps)
     (unchanged c.self.inside.all.entries _ c.self.inside.sent.items c.self.inside.audit.items c.args.self.now c.self.view_is (ap (λ (t : BTreeMap ℕ (NodeOver g.row.K.Denot)). t.entries) c.get_mut.follows.holds-at-none))
     (sym (held c.self.inside.all.entries c.self.inside.all.entries c.self.inside.sent.items c.self.inside.audit.items c.args.self.now c.self.view_is c.args.number) ∙ sym c.in_default.ensures.value)
 
-pub returns : goal.returns
-returns g c = elim c.match-come_back.branch [
+pub returns-clause-goes : goal.returns-clause-goes
+returns-clause-goes g c = elim c.match-come_back.branch [
   | in-Ok w ↦ rw w.answer-is (booted g.K.Keeper.is_honest g.K.Keeper.may_hold c.args.self.now _ c.args.number c.in-Some.node.now c.come_back.new.self
       (sym (held c.self.inside.all.entries c.self.inside.all.entries c.self.inside.sent.items c.self.inside.audit.items c.args.self.now c.self.view_is c.args.number) ∙ sym c.in-Some.ensures.value)
       (changed c.self.inside.all.entries _ c.self.inside.sent.items c.self.inside.audit.items c.args.self.now c.self.view_is c.args.number c.in-Some.node.now c.come_back.new.self (sym c.in-Some.ensures.value) (c.get_mut.follows.holds c.come_back.new.self).0)
@@ -25,6 +27,19 @@ returns g c = elim c.match-come_back.branch [
       (sym (held c.self.inside.all.entries c.self.inside.all.entries c.self.inside.sent.items c.self.inside.audit.items c.args.self.now c.self.view_is c.args.number) ∙ sym c.in-Some.ensures.value)
       (changed c.self.inside.all.entries _ c.self.inside.sent.items c.self.inside.audit.items c.args.self.now c.self.view_is c.args.number c.in-Some.node.now c.come_back.new.self (sym c.in-Some.ensures.value) (c.get_mut.follows.holds c.come_back.new.self).0)
       c.args.keeps _ w.in-Err.ensures.restarts)
+]
+
+pub returns-in_default-clause-cause : goal.returns-in_default-clause-cause
+returns-in_default-clause-cause g c failed = absurd (no_refusal_missing _ failed)
+
+pub returns-clause-cause : goal.returns-clause-cause
+returns-clause-cause g c = elim c.match-come_back.branch [
+  | in-Ok w ↦ rw w.answer-is (λ failed. absurd (no_refusal_booted _ _ failed))
+  | in-Err w ↦ rw w.answer-is (λ failed. fails_at g.K.Keeper.is_broken c.args.self.now _ c.args.number c.come_back.new.self
+      (changed c.self.inside.all.entries _ c.self.inside.sent.items c.self.inside.audit.items c.args.self.now c.self.view_is c.args.number c.in-Some.node.now c.come_back.new.self (sym c.in-Some.ensures.value) (c.get_mut.follows.holds c.come_back.new.self).0)
+      g.K.Keeper.is_honest (LoadsBadRowOf g.K.Keeper.number g.K.Keeper.is_honest g.K.Keeper.may_hold g.K.Keeper.has_bad_row) c.in-Some.node.now
+      (sym (held c.self.inside.all.entries c.self.inside.all.entries c.self.inside.sent.items c.self.inside.audit.items c.args.self.now c.self.view_is c.args.number) ∙ sym c.in-Some.ensures.value)
+      (w.in-Err.ensures.cause (same_fault _ _ failed)))
 ]
 
 pub invariant_of-self-2 : goal.invariant_of-self-2

@@ -1,22 +1,23 @@
-use Rattle.std.proofs.Common.{◌∙◌, sym, ap, ℕ, subst}
+use Rattle.std.proofs.Common.{◌∙◌, sym, ap, ℕ, subst, Err}
 use Rattle.std.specs.BTreeMap.{BTreeMap}
 use Rattle.fl_system.specs.declared.event.Event.TheVariants as event
 use Rattle.fl_node.specs.Over.{NodeOver}
 use Rattle.fl_nodes.specs.parts.Highest.{IsUpTo}
 use Rattle.fl_nodes.proofs.Entries.{held, changed, unchanged}
 use Rattle.fl_nodes.proofs.CallLemmas.{no_such_left, saved, not_saved}
+use Rattle.fl_nodes.proofs.FailLemmas.{no_refusal_missing, no_refusal_done, same_fault, broken_at}
 use Rattle.fl_nodes.proofs.Highs.{changed_up}
 use Rattle.fl_nodes.proofs.nodes.Nodes.save.Goals as goal
 use Rattle.fl_nodes.proofs.nodes.Nodes.save.Goals.{in-Ok, in-Err}
 
-pub returns-in_default : goal.returns-in_default
-returns-in_default g c =
+pub returns-in_default-clause-goes : goal.returns-in_default-clause-goes
+returns-in_default-clause-goes g c =
     no_such_left g.K.Keeper.is_honest g.K.Keeper.may_hold c.args.self.now _ (event.Save c.args.number)
     (unchanged c.self.inside.all.entries _ c.self.inside.sent.items c.self.inside.audit.items c.args.self.now c.self.view_is (ap (λ (t : BTreeMap ℕ (NodeOver g.row.K.Denot)). t.entries) c.get_mut.follows.holds-at-none))
     (sym (held c.self.inside.all.entries c.self.inside.all.entries c.self.inside.sent.items c.self.inside.audit.items c.args.self.now c.self.view_is c.args.number) ∙ sym c.in_default.ensures.value)
 
-pub returns : goal.returns
-returns g c = elim c.match-save.branch [
+pub returns-clause-goes : goal.returns-clause-goes
+returns-clause-goes g c = elim c.match-save.branch [
   | in-Ok w ↦ rw w.answer-is (saved g.K.Keeper.is_honest g.K.Keeper.may_hold c.args.self.now _ c.args.number c.in-Some.node.now c.save.new.self
       (sym (held c.self.inside.all.entries c.self.inside.all.entries c.self.inside.sent.items c.self.inside.audit.items c.args.self.now c.self.view_is c.args.number) ∙ sym c.in-Some.ensures.value)
       (changed c.self.inside.all.entries _ c.self.inside.sent.items c.self.inside.audit.items c.args.self.now c.self.view_is c.args.number c.in-Some.node.now c.save.new.self (sym c.in-Some.ensures.value) (c.get_mut.follows.holds c.save.new.self).0)
@@ -25,6 +26,17 @@ returns g c = elim c.match-save.branch [
       (sym (held c.self.inside.all.entries c.self.inside.all.entries c.self.inside.sent.items c.self.inside.audit.items c.args.self.now c.self.view_is c.args.number) ∙ sym c.in-Some.ensures.value)
       (changed c.self.inside.all.entries _ c.self.inside.sent.items c.self.inside.audit.items c.args.self.now c.self.view_is c.args.number c.in-Some.node.now c.save.new.self (sym c.in-Some.ensures.value) (c.get_mut.follows.holds c.save.new.self).0)
       _ w.in-Err.ensures.saves)
+]
+
+pub returns-in_default-clause-cause : goal.returns-in_default-clause-cause
+returns-in_default-clause-cause g c failed = absurd (no_refusal_missing _ failed)
+
+pub returns-clause-cause : goal.returns-clause-cause
+returns-clause-cause g c = elim c.match-save.branch [
+  | in-Ok w ↦ rw w.answer-is (λ failed. absurd (no_refusal_done _ failed))
+  | in-Err w ↦ rw w.answer-is (λ failed. broken_at g.K.Keeper.is_broken c.args.self.now _ c.args.number c.save.new.self
+      (changed c.self.inside.all.entries _ c.self.inside.sent.items c.self.inside.audit.items c.args.self.now c.self.view_is c.args.number c.in-Some.node.now c.save.new.self (sym c.in-Some.ensures.value) (c.get_mut.follows.holds c.save.new.self).0)
+      (w.in-Err.ensures.cause (ap Err (same_fault _ _ failed))))
 ]
 
 pub invariant_of-self-2 : goal.invariant_of-self-2

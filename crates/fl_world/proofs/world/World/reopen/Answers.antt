@@ -17,3 +17,6 @@ returns-clause-running g c = rw (← c.self.view_is) c.reopen_with.ensures.runni
 
 pub returns-clause-stopped : goal.returns-clause-stopped
 returns-clause-stopped g c = rw (← c.self.view_is) c.reopen_with.ensures.stopped
+
+pub returns-clause-cause : goal.returns-clause-cause
+returns-clause-cause g c = rw (← c.self.view_is) c.reopen_with.ensures.cause

@@ -13,7 +13,7 @@ returns-in-Job g c =
 pub returns-in-Save : goal.returns-in-Save
 returns-in-Save g c =
     subst (λ e. Goes g.K.Keeper.is_honest g.K.Keeper.may_hold c.args.self.now c.save.new.self (λ w w'. Step w e c.save.result w'))
-    (sym c.in-Save.is) c.save.ensures
+    (sym c.in-Save.is) c.save.ensures.goes
 
 pub returns-in-Publish : goal.returns-in-Publish
 returns-in-Publish g c =
@@ -28,7 +28,7 @@ returns-in-Cancel g c =
 pub returns-in-Restart : goal.returns-in-Restart
 returns-in-Restart g c =
     subst (λ e. Goes g.K.Keeper.is_honest g.K.Keeper.may_hold c.args.self.now c.restart.new.self (λ w w'. Step w e c.restart.result w'))
-    (sym c.in-Restart.is) c.restart.ensures
+    (sym c.in-Restart.is) c.restart.ensures.goes
 
 pub returns-in-Tell : goal.returns-in-Tell
 returns-in-Tell g c =
