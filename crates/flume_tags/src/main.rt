@@ -5,8 +5,7 @@ mod watched;
 
 use crate::watched::Watched;
 use fl_cluster::fault::RunFault;
-use fl_cluster::options::Options;
-use fl_cluster::run::run;
+use fl_cluster::run::converse;
 use fl_dir_maker::maker::DirMaker;
 use fl_makers::maker::MakesKeepers;
 use fl_makers::mem::MemMaker;
@@ -24,7 +23,7 @@ const FAULT: u8 = 3;
 fn answered_over<M: MakesKeepers + Drop>(rt: &HostRuntime, keepers: M) -> Result<u8, RunFault> {
     let mut input = Watched::new(rt.reader());
     let mut output = io::writer(rt);
-    let result = run(rt, &mut input, &mut output, Options::default(), keepers);
+    let (_session, result) = converse(rt, &mut input, &mut output, keepers);
     if result == Err(RunFault::Read) && !input.has_failed() {
         let _ = eprintln!(rt; "flume-tags: the script is longer than 16777216 bytes");
     }

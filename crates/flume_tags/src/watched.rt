@@ -1,25 +1,31 @@
-//! A reader that is watched, so that a script that is too long can be told from a read that failed.
-ghost use Rattle.std.specs.Prelude.{◌≡◌, OnErr, OnOk, false, true};
-ghost use Rattle.std.specs.Io.{ReadsAtMost};
-ghost use Rattle.std.specs.Io.KnownBytes.{ReadConsumes};
+//! A reader that is watched: its reads and its bytes are counted, and a script that is too long is told from a read that failed.
+ghost use Rattle.std.specs.Prelude.{◌≡◌, ◌+◌, ◌*◌, ◌≤◌, None, Some, OnErr, OnOk, IfOk, false, true, ⊤};
 
-use std::io::{Read, Result};
+use fl_stream::conversation::Conversation;
+use std::io::{Read, Result, Write};
 
-/// A reader, and whether a read of it failed.
+/// A reader, how often it was read, how many bytes it gave, and whether a read of it failed.
 #[derive(Drop)]
 pub(crate) struct Watched<R> {
     reader: R,
+    hearings: u64,
+    heard: u64,
     has_failed: bool,
+    ghost few: { hearings ≤ 16777217 },
+    ghost most: { heard ≤ 65536 * hearings },
 }
 
 impl<R> Watched<R> {
-    /// A reader of which no read failed yet.
+    /// A reader that was not read yet.
     pub(crate) fn new(reader: R) -> Watched<R>
-        ensures reader { result.reader ≡ reader }
+        ensures unread { result.hearings ≡ 0 }
         ensures fresh { result.has_failed ≡ false }
+        ensures none { result.heard ≡ 0 }
     {
         Watched {
             reader,
+            hearings: 0,
+            heard: 0,
             has_failed: false,
         }
     }
@@ -32,19 +38,33 @@ impl<R> Watched<R> {
     }
 }
 
-impl<R: Read> Read for Watched<R> {
+/// What is written is said by a flush. What was read is not kept, but counted.
+impl<R: Read, W: Write> Conversation<W> for Watched<R> {
     ghost remaining = { λ it. R.remaining it.reader };
 
-    fn read(&mut self, buf: &mut [u8]) -> Result<usize>
-        ensures bound { ReadsAtMost result buf.new }
-        ensures bytes { ReadConsumes (R.remaining self.old.reader) (R.remaining self.new.reader) result buf.new }
-        ensures failed { OnErr result (self.new.has_failed ≡ true) }
-        ensures given { OnOk result (self.new.has_failed ≡ self.old.has_failed) }
-    {
-        let read = self.reader.read(buf);
-        if read.is_err() {
-            self.has_failed = true;
+    ghost heard = { λ _. None };
+
+    ghost counted = { λ it. Some it.heard };
+
+    ghost hearings = { λ it. it.hearings };
+
+    ghost is_deaf = { λ it. it.has_failed ≡ true };
+
+    ghost said = { W.contents };
+
+    ghost may_hear = { λ _ _. ⊤ };
+
+    fn hear(&mut self, _output: &W, chunk: &mut [u8]) -> Result<usize> {
+        self.hearings += 1;
+        let read = self.reader.read(chunk);
+        match &read {
+            Ok(count) => self.heard += *count as u64,
+            Err(_) => self.has_failed = true,
         }
         read
+    }
+
+    fn send(&self, output: &mut W) -> Result<()> {
+        output.flush()
     }
 }
