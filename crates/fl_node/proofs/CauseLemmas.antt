@@ -28,13 +28,13 @@ module _ {K T : Type 0} (number_of : K → ℕ) (is_honest : K → Type 0) (may_
       by (Err fault) h = λ failed. elim (h failed) [
         | inl is ↦ inl is
         | inr row ↦ inr (λ is. record {
-            loaded = keeper;
-            bad = row is;
-            honest = trusts is;
-            was_honest = trusts is;
-            number = refl;
-            left = inl refl;
-          })
+          loaded = keeper;
+          bad = row is;
+          honest = trusts is;
+          was_honest = trusts is;
+          number = refl;
+          left = inl refl;
+        })
       ]
 
   -- or that after the saving
@@ -48,13 +48,13 @@ module _ {K T : Type 0} (number_of : K → ℕ) (is_honest : K → Type 0) (may_
       by (Err fault) h = λ failed. elim (h failed) [
         | inl is ↦ inl is
         | inr row ↦ inr (λ is. record {
-            loaded = mid;
-            bad = row is;
-            honest = (stored is).0;
-            was_honest = (stored is).1;
-            number = number;
-            left = inr (stored is).2;
-          })
+          loaded = mid;
+          bad = row is;
+          honest = (stored is).0;
+          was_honest = (stored is).1;
+          number = number;
+          left = inr (stored is).2;
+        })
       ]
 
 stored_of : (n : NodeState) (batch : Batch) (k : Kept) (n' : NodeState) (k' : Kept) → n.state ≡ Running (Unsaved batch)

@@ -65,7 +65,7 @@ module _ {K : Type 0} (is_broken : K → Bool) (old new : WorldOver K) (number :
     fails_over Makes row leads (Ok boot) r is cause e = absurd (cc)
     fails_over Makes row leads (Err fault) r is cause e =
         let made = cause (same_fault fault faults.KeeperFailed (cc)) in
-        fails_at (elim made.2 [ | inl b ↦ inl b | inr h ↦ inr (λ honest. leads made.0 made.1 (h honest)) ])
+        fails_at (elim made.2 [ inl b ↦ inl b | inr h ↦ inr (λ honest. leads made.0 made.1 (h honest)) ])
 
 -- where no node is opened for another cause, no keeper fails
 pub not_failed : {broken : Bool} {honest bad : Type 0} (fault : Fault) → (fault ≡ faults.KeeperFailed → ⊥)

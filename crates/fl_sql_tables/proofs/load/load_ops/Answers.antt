@@ -149,9 +149,9 @@ returns-then-is_err-clause-refuses g c clean =
     let ready = c.requires.serving (clean_before old mid _ c.rows.invariant.survives before) in
     let same : IsUnchanged old new = unchanged_then old mid new (c.rows.invariant.same before) (c.in-Ok-Found.ensures.same late) in
     let given = given_more g.S.Store c.rows.rows.conn.now c.next_op.new.rows.conn.now c.rows.ops (insert c.rows.ops c.in-Ok-Found.op)
-        c.rows._count c.in-Ok-Found.op (c.rows.invariant.given before) (rw c.in-Ok-Found.field-0-is at (c.in-Ok-Found.ensures.ok late)) refl in
+    c.rows._count c.in-Ok-Found.op (c.rows.invariant.given before) (rw c.in-Ok-Found.field-0-is at (c.in-Ok-Found.ensures.ok late)) refl in
     let many = has_rows g.S.Store old c.next_op.new.rows.conn.now c.next_op.new.rows.conn.now (insert c.rows.ops c.in-Ok-Found.op)
-        (c.rows._count + 1) ready.schema same given in
+    (c.rows._count + 1) ready.schema same given in
     (omega (arith, many), (let same : IsUnchanged old new = same in search rules))
 
 pub returns-clause-refuses : goal.returns-clause-refuses
