@@ -1,19 +1,30 @@
 -- Calls one after another, and how a node is opened.
-use Rattle.std.proofs.Common.{◌≡◌, ℕ, refl, sym, subst, Option, Some, None, Result, Ok, Err, IfOk, IfErr, OnErr}
+use Rattle.std.proofs.Common.{◌≡◌, ◌≢◌, ◌⊎◌, inl, inr, ℕ, Bool, refl, sym, subst, Option, Some, None, Result, Ok, Err, IfOk, IfErr, OnErr, IsTrue}
 use Rattle.std.specs.FinMap as map
 use Rattle.fl_store.specs.Kept.{Kept}
 use Rattle.fl_store.specs.Keeping.{Held}
 use Rattle.fl_system.specs.declared.answer.Fault.{Fault}
+use Rattle.fl_system.specs.declared.answer.Fault.TheVariants as faults
 use Rattle.fl_system.specs.declared.reply.Reply.TheVariants.{Booted, Refused}
 use Rattle.fl_system.specs.Joins.{Joins}
 use Rattle.fl_system.specs.World.{World, KeptNode}
 use Rattle.fl_system.specs.WorldSteps.{IsAt}
+use Rattle.fl_node.specs.Causes.{KeeperFails}
 use Rattle.fl_node.specs.Over.{NodeOver}
 use Rattle.fl_nodes.specs.Over.{WorldOver}
 use Rattle.fl_nodes.specs.Goes.{MayBeNode, MayBe, AreHonest, Goes}
 use Rattle.fl_nodes.specs.Joining.{TakesIn, GivesBack, IsRefused}
 use Rattle.fl_calls.specs.Entering.{Enters, is_there, joins, is_refused}
-use Rattle.fl_calls.specs.Over.{none_made, not_joined, openings_of}
+use Rattle.fl_calls.specs.Over.{without_keeper, not_joined, openings_of}
+
+-- a keeper failed, or it is something else
+failed_or_not : (fault : Fault) → (fault ≡ faults.KeeperFailed) ⊎ (fault ≢ faults.KeeperFailed)
+failed_or_not faults.KeeperFailed = inl refl
+failed_or_not (faults.Refused refusal) = inr (λ e. cc)
+failed_or_not (faults.Clash name) = inr (λ e. cc)
+failed_or_not (faults.Impostor name) = inr (λ e. cc)
+failed_or_not faults.WrongNode = inr (λ e. cc)
+failed_or_not faults.Stopped = inr (λ e. cc)
 
 module _ {K : Type 0} (is_honest : K → Type 0) (may_hold : K → Held) where
   pub goes_then : (old mid new : WorldOver K) (s t u : World → World → Type 0)
@@ -76,7 +87,7 @@ module _ {K : Type 0} (is_honest : K → Type 0) (may_hold : K → Held) where
     -- no keeper was made
     pub unmade : (over : WorldOver K) (number : ℕ) (fault : Fault) → map.get over.nodes number ≡ None → refuses number fault
         → Goes is_honest may_hold over over (λ w w'. Enters (openings_of is_honest may_hold finds refuses) w number (Err fault) w')
-    unmade over number fault none why = stays over _ (λ w is. is_refused (not_there over w number none is) (none_made why))
+    unmade over number fault none why = stays over _ (λ w is. is_refused (not_there over w number none is) (without_keeper why))
 
     -- a keeper was made, and its node joined
     pub joined : (old new : WorldOver K) (number boot : ℕ) (keeper : K) → map.get old.nodes number ≡ None
@@ -94,19 +105,19 @@ module _ {K : Type 0} (is_honest : K → Type 0) (may_hold : K → Held) where
           );
     }
 
-    -- a keeper was made, and its node did not join
-    pub not_taken : (old new : WorldOver K) (number : ℕ) (fault : Fault) (keeper given : K) → map.get old.nodes number ≡ None
-        → (is_honest keeper → (k : Kept) → may_hold keeper k → finds number k)
+    -- a keeper was made that did not fail, and its node did not join
+    pub not_taken : (old new : WorldOver K) (number : ℕ) (fault : Fault) (keeper given : K) → fault ≢ faults.KeeperFailed
+        → map.get old.nodes number ≡ None → (is_honest keeper → (k : Kept) → may_hold keeper k → finds number k)
         → GivesBack is_honest may_hold old keeper new given (IsRefused number fault) → new ≡ old
         → Goes is_honest may_hold old new (λ w w'. Enters (openings_of is_honest may_hold finds refuses) w number (Err fault) w')
-    not_taken old new number fault keeper given none made gives same =
+    not_taken old new number fault keeper given other none made gives same =
         subst (λ x. Goes is_honest may_hold old x (λ w w'. Enters (openings_of is_honest may_hold finds refuses) w number (Err fault) w')) (sym same)
         (record {
           honest = λ all. all;
           comes = λ all after is. (
             after,
             is,
-            is_refused (not_there old after number none is) (not_joined given (λ trusted.
+            is_refused (not_there old after number none is) (not_joined given other (λ trusted.
                 let all' = subst (AreHonest is_honest) (sym same) all in
                 let is' = subst (λ x. MayBe may_hold x after) (sym same) is in
                 let before = gives.comes all' trusted.honest after trusted.kept is' trusted.held in (
@@ -117,17 +128,33 @@ module _ {K : Type 0} (is_honest : K → Type 0) (may_hold : K → Held) where
           );
         })
 
-    pub joins_or_not : (old new : WorldOver K) (number : ℕ) (keeper : K) (joined_ : Result ℕ (Fault × K))
-        (result : Result (Unit {0}) Fault) → map.get old.nodes number ≡ None
+    -- the keeper failed, so that the maker refuses the node
+    pub failed : (old new : WorldOver K) (number : ℕ) → map.get old.nodes number ≡ None → refuses number faults.KeeperFailed
+        → new ≡ old
+        → Goes is_honest may_hold old new (λ w w'. Enters (openings_of is_honest may_hold finds refuses) w number (Err faults.KeeperFailed) w')
+    failed old new number none why same =
+        subst (λ x. Goes is_honest may_hold old x (λ w w'. Enters (openings_of is_honest may_hold finds refuses) w number (Err faults.KeeperFailed) w')) (sym same)
+        (unmade old number faults.KeeperFailed none why)
+
+    pub joins_or_not : (is_broken : K → Bool) (bad : Type 0) (old new : WorldOver K) (number : ℕ) (keeper : K)
+        (joined_ : Result ℕ (Fault × K)) (result : Result (Unit {0}) Fault) → map.get old.nodes number ≡ None
         → (is_honest keeper → (k : Kept) → may_hold keeper k → finds number k)
+        → ((left : K) → IsTrue (is_broken left) ⊎ (is_honest left → bad) → refuses number faults.KeeperFailed)
         → IfOk joined_ (λ boot. result ≡ Ok tt) → IfErr joined_ (λ e. result ≡ Err e.0)
         → IfOk joined_ (λ boot. TakesIn is_honest may_hold old keeper new (λ w k w'. Joins w number k (Booted boot) w'))
         → IfErr joined_ (λ e. GivesBack is_honest may_hold old keeper new e.1 (IsRefused number e.0))
-        → OnErr joined_ (new ≡ old)
+        → IfErr joined_ (λ e. KeeperFails (is_broken e.1) (is_honest e.1) bad e.0) → OnErr joined_ (new ≡ old)
         → Goes is_honest may_hold old new (λ w w'. Enters (openings_of is_honest may_hold finds refuses) w number result w')
-    joins_or_not old new number keeper (Ok boot) result none made ok err takes gives same =
+    joins_or_not is_broken bad old new number keeper (Ok boot) result none made fails ok err takes gives cause same =
         subst (λ r. Goes is_honest may_hold old new (λ w w'. Enters (openings_of is_honest may_hold finds refuses) w number r w')) (sym ok)
         (joined old new number boot keeper none made takes)
-    joins_or_not old new number keeper (Err e) result none made ok err takes gives same =
+    joins_or_not is_broken bad old new number keeper (Err e) result none made fails ok err takes gives cause same =
         subst (λ r. Goes is_honest may_hold old new (λ w w'. Enters (openings_of is_honest may_hold finds refuses) w number r w')) (sym err)
-        (not_taken old new number e.0 keeper e.1 none made gives same)
+        (by_fault (failed_or_not e.0))
+      where
+        by_fault : (e.0 ≡ faults.KeeperFailed) ⊎ (e.0 ≢ faults.KeeperFailed)
+            → Goes is_honest may_hold old new (λ w w'. Enters (openings_of is_honest may_hold finds refuses) w number (Err e.0) w')
+        by_fault (inl is) =
+            subst (λ f. Goes is_honest may_hold old new (λ w w'. Enters (openings_of is_honest may_hold finds refuses) w number (Err f) w')) (sym is)
+            (failed old new number none (fails e.1 (cause is)) same)
+        by_fault (inr other) = not_taken old new number e.0 keeper e.1 other none made gives same

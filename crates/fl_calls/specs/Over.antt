@@ -1,9 +1,10 @@
 -- A world over keepers, with who makes them, and what a call does to the world that they may be.
-use Rattle.std.specs.Prelude.{ℕ, refl}
+use Rattle.std.specs.Prelude.{◌≢◌, ℕ, refl}
 use Rattle.std.specs.Coded.{Coded, code_by, coded×}
 use Rattle.fl_store.specs.Kept.{Kept}
 use Rattle.fl_store.specs.Keeping.{Held}
 use Rattle.fl_system.specs.declared.answer.Fault.{Fault}
+use Rattle.fl_system.specs.declared.answer.Fault.TheVariants.{KeeperFailed}
 use Rattle.fl_system.specs.declared.reply.Reply.TheVariants.{Refused}
 use Rattle.fl_system.specs.Joins.{Joins}
 use Rattle.fl_system.specs.World.{World}
@@ -33,12 +34,14 @@ pub record Trusts {K : Type 0} (is_honest : K → Type 0) (may_hold : K → Held
   pub kept : Kept
   pub held : may_hold keeper kept
 
--- Why a node is not opened: no keeper was made, or one was and did not join, as it should if it may be trusted.
+-- Why a node is not opened: for its keeper's sake, since none was made, or the one that was failed; or
+-- one was made that did not fail, and did not join, as it should if it may be trusted.
 pub data NotOpened {K : Type 0} (is_honest : K → Type 0) (may_hold : K → Held)
     (finds : ℕ → Kept → Type 0) (refuses : ℕ → Fault → Type 0)
     (w : World) (number : ℕ) (fault : Fault) : Type 0 where
-  none_made : refuses number fault → NotOpened is_honest may_hold finds refuses w number fault
-  not_joined : (keeper : K)
+  without_keeper : refuses number fault
+      → NotOpened is_honest may_hold finds refuses w number fault
+  not_joined : (keeper : K) → fault ≢ KeeperFailed
       → (Trusts is_honest may_hold keeper
       → (k : Kept) × finds number k × Joins w number k (Refused fault) w)
       → NotOpened is_honest may_hold finds refuses w number fault

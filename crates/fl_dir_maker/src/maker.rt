@@ -50,7 +50,11 @@ impl<'a> MakesKeepers for DirMaker<'a> {
     // what is on a disk is not known, but for whose it is
     ghost finds = { λ _ number k. k.number ≡ number };
 
+    ghost unmade = { λ _ _ fault. IsKeeperFault fault };
+
     ghost refuses = { λ _ _ fault. IsKeeperFault fault };
+
+    ghost told = { λ _ _ _ why. why };
 
     /// The keeper over the node's file, which is made if it is missing.
     ///

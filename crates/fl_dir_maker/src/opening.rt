@@ -1,5 +1,5 @@
 //! Opening a keeper over a file.
-ghost use Rattle.std.specs.Prelude.{◌≡◌, ℕ, List, IfOk};
+ghost use Rattle.std.specs.Prelude.{◌≡◌, false, ℕ, List, IfOk};
 ghost use Rattle.fl_dir_maker.specs.NodeFile.{node_file};
 
 use crate::fault::{Cause, of_database, of_files, of_keeper, of_system};
@@ -25,14 +25,16 @@ fn connect(rt: &HostRuntime, path: &str) -> Result<Connection<FileStore<File>>, 
     }
 }
 
-/// The keeper of this node over its file in some directory, which is made if it is missing.
+/// The keeper of this node over its file in some directory, which is made if it is missing. It is not
+/// broken.
 pub fn open(
     rt: &HostRuntime,
     path: &str,
     number: NodeNumber,
 ) -> Result<SqlKeeper<FileStore<File>>, Cause>
     requires { (dir : List ℕ) × (path.now ≡ node_file dir number) }
-    ensures { IfOk result (λ keeper. keeper.number ≡ number) }
+    ensures number { IfOk result (λ keeper. keeper.number ≡ number) }
+    ensures fresh { IfOk result (λ keeper. keeper.is_broken ≡ false) }
 {
     let conn = connect(rt, path)?;
     match SqlKeeper::open(rt.alloc(), conn, number) {

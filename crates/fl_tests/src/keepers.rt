@@ -1,8 +1,9 @@
 //! Makers whose keepers are not made, are another node's, or break.
-ghost use Rattle.std.specs.Prelude.{◌≡◌, Contains};
+ghost use Rattle.std.specs.Prelude.{◌≡◌, ◌⊎◌, Contains};
+ghost use Rattle.std.proofs.Common.{inr};
 ghost use Rattle.fl_jobs.specs.declared.answer.Refusal.TheVariants.{Memory};
 ghost use Rattle.fl_makers.specs.Making.{nothing_kept};
-ghost use Rattle.fl_system.specs.declared.answer.Fault.TheVariants.{Refused};
+ghost use Rattle.fl_system.specs.declared.answer.Fault.TheVariants.{KeeperFailed, Refused};
 
 use fl_jobs::answer::Refusal;
 use fl_labels::name::NodeNumber;
@@ -22,7 +23,12 @@ impl MakesKeepers for RefusingMaker<'_> {
 
     ghost finds = { λ _ number k. k ≡ nothing_kept number };
 
-    ghost refuses = { λ maker number fault. Contains maker.refusals.now (number, fault) };
+    ghost unmade = { λ maker number fault. Contains maker.refusals.now (number, fault) };
+
+    ghost refuses = { λ maker number fault. (fault ≡ KeeperFailed)
+        ⊎ Contains maker.refusals.now (number, fault) };
+
+    ghost told = { λ _ _ _ why. inr why };
 
     fn make(&mut self, alloc: Global, number: NodeNumber) -> Result<MemKeeper, Fault> {
         if let [(node, fault), rest @ ..] = self.refusals {
@@ -46,7 +52,11 @@ impl MakesKeepers for OneNodeMaker {
 
     ghost finds = { λ maker _ k. k ≡ nothing_kept maker.node };
 
-    ghost refuses = { λ _ _ _. ⊥ };
+    ghost unmade = { λ _ _ _. ⊥ };
+
+    ghost refuses = { λ _ _ fault. fault ≡ KeeperFailed };
+
+    ghost told = { λ _ _ _ none. absurd none };
 
     fn make(&mut self, alloc: Global, number: NodeNumber) -> Result<MemKeeper, Fault> {
         Ok(MemKeeper::new(alloc, self.node))
@@ -64,7 +74,11 @@ impl MakesKeepers for BreakingMaker {
 
     ghost finds = { λ _ number k. k ≡ nothing_kept number };
 
-    ghost refuses = { λ _ _ _. ⊥ };
+    ghost unmade = { λ _ _ _. ⊥ };
+
+    ghost refuses = { λ _ _ fault. fault ≡ KeeperFailed };
+
+    ghost told = { λ _ _ _ none. absurd none };
 
     fn make(&mut self, alloc: Global, number: NodeNumber) -> Result<MemKeeper, Fault> {
         let mut keeper = MemKeeper::new(alloc, number);
@@ -86,7 +100,11 @@ impl MakesKeepers for BootedMaker {
 
     ghost finds = { λ maker number k. k ≡ record (nothing_kept number) { boot = maker.boot } };
 
-    ghost refuses = { λ _ _ fault. fault ≡ Refused Memory };
+    ghost unmade = { λ _ _ fault. fault ≡ Refused Memory };
+
+    ghost refuses = { λ _ _ fault. (fault ≡ KeeperFailed) ⊎ (fault ≡ Refused Memory) };
+
+    ghost told = { λ _ _ _ why. inr why };
 
     fn make(&mut self, alloc: Global, number: NodeNumber) -> Result<MemKeeper, Fault> {
         match MemKeeper::with(alloc, number, self.boot, &[]) {

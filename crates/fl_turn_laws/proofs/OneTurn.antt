@@ -48,7 +48,7 @@ use Rattle.fl_calls.specs.Entering.{Openings, Enters, is_there, joins, is_refuse
 use Rattle.fl_calls.specs.Completing.{begins, starved, Finishes, given_up, not_saved, saved, Completes, at_once, in_steps}
 use Rattle.fl_calls.specs.Calls as calls
 use Rattle.fl_calls.specs.Calls.{Says, said_of, counted, Spells, Delivers, BeginsToTake, Tells, Unites, ChecksAt}
-use Rattle.fl_calls.specs.Over.{NotOpened, none_made, not_joined, openings_of}
+use Rattle.fl_calls.specs.Over.{NotOpened, without_keeper, not_joined, openings_of}
 use Rattle.fl_turns.specs.Answer.{Answer, said}
 use Rattle.fl_turns.specs.Naming.{made_by, renamed}
 use Rattle.fl_turns.specs.Run.{Run}
@@ -325,8 +325,8 @@ module _ (one_spelling : (f g : Format) (a b : Packet) → HasPacket f a → Has
 
     would_not : (w : World) (number : ℕ) (fault : Fault) → NotOpened is_honest may_hold finds refuses w number fault
         → IsSureReply (Refused fault) → WouldNotJoin w number fault
-    would_not w number fault (none_made why) sure = absurd (no_keeper fault (certain.fails number fault why) sure)
-    would_not w number fault (not_joined keeper over) sure =
+    would_not w number fault (without_keeper why) sure = absurd (no_keeper fault (certain.fails number fault why) sure)
+    would_not w number fault (not_joined keeper other over) sure =
         let k = over (certain.trusted keeper) in
         record { kept = k.0; found = k.1; refused = k.2 }
 

@@ -7,7 +7,7 @@ use Rattle.fl_system.specs.declared.answer.Fault.{Fault}
 use Rattle.fl_system.specs.World.{World}
 use Rattle.fl_calls.specs.Answer.{Answer}
 use Rattle.fl_calls.specs.Entering.{Openings, Enters, is_there, joins, is_refused, OnceOpen, shut, opened}
-use Rattle.fl_calls.specs.Over.{none_made, not_joined, openings_of}
+use Rattle.fl_calls.specs.Over.{without_keeper, not_joined, openings_of}
 
 -- the second ones find and refuse no less
 pub record OpensMore (less more : Openings) : Type 0 where
@@ -26,9 +26,9 @@ opens_more {K} is_honest may_hold finds finds' refuses refuses' f r =
     refuses_more : (w : World) (number : ℕ) (fault : Fault)
         → (openings_of is_honest may_hold finds' refuses').refuses w number fault
         → (openings_of is_honest may_hold finds refuses).refuses w number fault
-    refuses_more w number fault (none_made why) = none_made (r number fault why)
-    refuses_more w number fault (not_joined keeper over) =
-        not_joined keeper (λ trusted. let k = over trusted in (k.0, f number k.0 k.1, k.2))
+    refuses_more w number fault (without_keeper why) = without_keeper (r number fault why)
+    refuses_more w number fault (not_joined keeper other over) =
+        not_joined keeper other (λ trusted. let k = over trusted in (k.0, f number k.0 k.1, k.2))
 
 module _ (less more : Openings) (wider : OpensMore less more) where
   pub enters_more : (w w' : World) (number : ℕ) (result : Result (Unit {0}) Fault)

@@ -6,8 +6,9 @@ pub returns-in-Ok : goal.returns-in-Ok
 returns-in-Ok g c =
     opens_as g.M.K.Keeper.is_honest g.M.K.Keeper.may_hold g.M.MakesKeepers.finds g.M.MakesKeepers.refuses _ _ _ _ _ _ _
     c.self.view_is
-    (joins_or_not g.M.K.Keeper.is_honest g.M.K.Keeper.may_hold _ _ _ _ _ c.in-Ok.keeper _ _ (rw (← c.self.view_is) at c.requires.absent)
-    (rw c.in-Ok.is at c.make.ensures.made) c.outcome.ensures.ok c.outcome.ensures.err c.join.ensures.joins c.join.ensures.refused
+    (joins_or_not g.M.K.Keeper.is_honest g.M.K.Keeper.may_hold _ _ g.M.K.Keeper.is_broken _ _ _ _ c.in-Ok.keeper _ _
+    (rw (← c.self.view_is) at c.requires.absent) (rw c.in-Ok.is at c.make.ensures.made) (rw c.in-Ok.is at c.make.ensures.fails)
+    c.outcome.ensures.ok c.outcome.ensures.err c.join.ensures.joins c.join.ensures.refused c.join.ensures.cause
     c.join.ensures.same)
     c.make.ensures.same_finds c.make.ensures.same_refuses
 
@@ -16,5 +17,5 @@ returns-in-Err g c =
     opens_as g.M.K.Keeper.is_honest g.M.K.Keeper.may_hold g.M.MakesKeepers.finds g.M.MakesKeepers.refuses _ _ _ _ _ _ _
     c.self.view_is
     (unmade g.M.K.Keeper.is_honest g.M.K.Keeper.may_hold _ _ _ _ _ (rw (← c.self.view_is) at c.requires.absent)
-    (rw c.in-Err.is at c.make.ensures.why))
+    (g.M.MakesKeepers.told _ _ _ (rw c.in-Err.is at c.make.ensures.why)))
     c.make.ensures.same_finds c.make.ensures.same_refuses
