@@ -49,7 +49,7 @@ pub(crate) fn act_alone<V: View>(
     act: Act,
 ) -> Result<Sequel, Refusal>
     ensures acts { Acts (Listed (V.list view.old)) pid process.old act result process.new }
-    ensures same { V.list view.new ≡ V.list view.old }
+    ensures same { view.new ≡ view.old }
 {
     let Holding::Idle(owned) = &mut process.owned else {
         return Err(Refusal::Busy);

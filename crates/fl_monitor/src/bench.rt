@@ -131,7 +131,7 @@ impl Bench {
         act: Act,
     ) -> Result<Outcome, Refusal>
         ensures does { Does (Listed (V.list view.old)) self.old (By pid act) result self.new }
-        ensures same { V.list view.new ≡ V.list view.old }
+        ensures same { view.new ≡ view.old }
     {
         match self.processes.act(alloc, view, pid, act)? {
             Sequel::Answer(outcome) => Ok(outcome),
@@ -181,7 +181,7 @@ impl Bench {
         job: Job,
     ) -> Result<Outcome, Refusal>
         ensures does { Does (Listed (V.list view.old)) self.old job result self.new }
-        ensures same { V.list view.new ≡ V.list view.old }
+        ensures same { view.new ≡ view.old }
     {
         match job {
             Job::Proc => self.bear(Ok(Process::new(alloc))),

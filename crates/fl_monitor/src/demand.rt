@@ -42,7 +42,7 @@ pub enum Demand<'a, 'b> {
 // Why the owner of these capabilities does not meet the demand, or none where that does.
 fn first_refusal<V: View>(view: &mut V, owned: &CapSet, demand: Demand<'_, '_>) -> Option<Refusal>
     ensures refuses { demanded demand.entry (InEffect (Listed (V.list view.old)) (In owned.now)) result }
-    ensures same { V.list view.new ≡ V.list view.old }
+    ensures same { view.new ≡ view.old }
 {
     let mut holder = Holder {
         view,
@@ -75,7 +75,7 @@ pub(crate) fn check<V: View>(
     demand: Demand<'_, '_>,
 ) -> Result<(), Refusal>
     ensures checked { CheckedBy (V.list view.old) owned.now (demanded demand.entry) result }
-    ensures same { V.list view.new ≡ V.list view.old }
+    ensures same { view.new ≡ view.old }
 {
     match first_refusal(view, owned, demand) {
         None => Ok(()),

@@ -31,7 +31,7 @@ impl<'a, V: View> Judge<'a, V> {
             (λ E. endpoints_check E (sets_of self.old.labels) self.old.endpoints.now) result }
         ensures ok { OnOk result (owned.new ≡ set.remove owned.old cap) }
         ensures err { OnErr result (owned.new ≡ owned.old) }
-        ensures same { V.list self.new.view.now ≡ V.list self.old.view.now }
+        ensures same { self.new.view.now ≡ self.old.view.now }
         ensures view { self.new.view.ghost_name ≡ self.old.view.ghost_name }
     {
         owned.remove_if(
@@ -40,7 +40,7 @@ impl<'a, V: View> Judge<'a, V> {
             |judge, rest|
                 ensures checked { CheckedBy (V.list judge.old.view.now) rest.now
                     (λ E. endpoints_check E (sets_of judge.old.labels) judge.old.endpoints.now) result }
-                ensures same { V.list judge.new.view.now ≡ V.list judge.old.view.now }
+                ensures same { judge.new.view.now ≡ judge.old.view.now }
                 ensures view { judge.new.view.ghost_name ≡ judge.old.view.ghost_name }
             {
                 let demand = Demand::Endpoints(judge.labels, judge.endpoints);
@@ -61,7 +61,7 @@ pub(crate) fn drop_cap<V: View>(
 ) -> Result<Outcome, Refusal>
     ensures drops { Drops (Listed (V.list view.old)) (sets_of labels.entry) endpoints.now owned.old cap
         result owned.new }
-    ensures same { V.list view.new ≡ V.list view.old }
+    ensures same { view.new ≡ view.old }
 {
     if !owned.caps().contains(cap) {
         return Err(Refusal::NotOwned(cap));

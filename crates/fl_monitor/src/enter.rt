@@ -29,7 +29,7 @@ pub(crate) fn enter<V: View>(
     secret: Secret,
 ) -> Result<Outcome, Refusal>
     ensures enters { Enters (Listed (V.list view.old)) owned.old login secret result owned.new }
-    ensures same { V.list view.new ≡ V.list view.old }
+    ensures same { view.new ≡ view.old }
 {
     let Some((cap, digest)) = view.login(login) else {
         return Err(Refusal::NoLogin(login));

@@ -41,16 +41,16 @@ fn seek(caps: &[Cap], place: usize, cap: Cap) -> Result<usize, usize>
 
 impl<'a, V: View> Has for Holder<'a, V> {
     ghost use Rattle.std.specs.Prelude.{◌≡◌, refl};
-    ghost use Rattle.std.proofs.Common.{◌∙◌};
+    ghost use Rattle.std.proofs.Common.{◌∙◌, ap};
     ghost use Rattle.fl_labels.specs.SetBy.{In};
     ghost use Rattle.fl_ops.specs.Registry.{InEffect, Listed};
     ghost use Rattle.fl_monitor.specs.parts.Holder.{same_effective};
 
     ghost effective = { λ h. InEffect (Listed (V.list h.view.now)) (In h.owned.now) };
 
-    // the same reference to a view of the same list, and the same owner
+    // the same reference to the same view, and the same owner
     ghost keeps = { λ a b. (b.view.ghost_name ≡ a.view.ghost_name)
-        × ((V.list b.view.now ≡ V.list a.view.now) × (b.owned.now ≡ a.owned.now)) };
+        × ((b.view.now ≡ a.view.now) × (b.owned.now ≡ a.owned.now)) };
 
     fn has(&mut self, cap: Cap) -> bool {
         let caps = self.owned.as_slice();
@@ -70,5 +70,5 @@ impl<'a, V: View> Has for Holder<'a, V> {
 
     ghost keeps_on = { λ a b c p q. (q.0 ∙ p.0, (q.1.0 ∙ p.1.0, q.1.1 ∙ p.1.1)) };
 
-    ghost keeps_effective = { λ a b p. same_effective _ _ _ _ p.1.0 p.1.1 };
+    ghost keeps_effective = { λ a b p. same_effective _ _ _ _ (ap (λ v. V.list v) p.1.0) p.1.1 };
 }

@@ -35,7 +35,7 @@ fn open<V: View>(
     ensures mails { let registry = Listed (V.list view.old) in
         (pid : Pid) → Mails registry owned.now pid (sets_of process.entry) mailbox.old
         (Open mode given) result mailbox.new }
-    ensures same { V.list view.new ≡ V.list view.old }
+    ensures same { view.new ≡ view.old }
 {
     let Some(labels) = given.labels() else {
         return Err(Refusal::LabelTooLong);
@@ -64,7 +64,7 @@ fn tune<V: View>(
     ensures mails { let registry = Listed (V.list view.old) in
         (pid : Pid) → Mails registry owned.now pid (sets_of process.entry) mailbox.old
         (Tune endpoint given) result mailbox.new }
-    ensures same { V.list view.new ≡ V.list view.old }
+    ensures same { view.new ≡ view.old }
 {
     let Some(labels) = given.labels() else {
         return Err(Refusal::LabelTooLong);
@@ -135,7 +135,7 @@ fn send<V: View>(
     ensures mails { let registry = Listed (V.list view.old) in
         (process : Labels) → Mails registry owned.now route.sender process mailbox.now
         (Send route.from route.receiver route.to message) result mailbox.now }
-    ensures same { V.list view.new ≡ V.list view.old }
+    ensures same { view.new ≡ view.old }
 {
     let Some(opened) = mailbox.endpoints.get(route.from) else {
         return Err(Refusal::NoEndpoint(route.from));
@@ -173,7 +173,7 @@ pub(crate) fn do_mail<V: View>(
 ) -> Result<Outcome, Refusal>
     ensures mails { let registry = Listed (V.list view.old) in
         Mails registry owned.now pid (sets_of process.entry) mailbox.old mail result mailbox.new }
-    ensures same { V.list view.new ≡ V.list view.old }
+    ensures same { view.new ≡ view.old }
 {
     match mail {
         Mail::Open(mode, given) => open(view, owned, process, mailbox, mode, given),

@@ -86,7 +86,7 @@ impl Processes {
         act: Act,
     ) -> Result<Sequel, Refusal>
         ensures acts { ActsAt (Listed (V.list view.old)) self.old pid act result self.new }
-        ensures same { V.list view.new ≡ V.list view.old }
+        ensures same { view.new ≡ view.old }
     {
         let Some(process) = self.all.get_mut(&pid) else {
             return Err(Refusal::NoProcess(pid));

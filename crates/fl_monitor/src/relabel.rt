@@ -60,7 +60,7 @@ pub(crate) fn relabel<V: View>(
 ) -> Result<Outcome, Refusal>
     ensures relabels { let registry = Listed (V.list view.old) in
         Relabels registry owned.now endpoints.now labels.old side label result labels.new }
-    ensures same { V.list view.new ≡ V.list view.old }
+    ensures same { view.new ≡ view.old }
 {
     let Ok(label) = label else {
         return Err(Refusal::LabelTooLong);

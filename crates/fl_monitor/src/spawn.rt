@@ -36,7 +36,7 @@ pub(crate) fn spawn<V: View>(
     caps: CapSet,
 ) -> Result<Sequel, Refusal>
     ensures spawns { Spawns (InEffect (Listed (V.list view.old)) (In owned.now)) labels.now caps result }
-    ensures same { V.list view.new ≡ V.list view.old }
+    ensures same { view.new ≡ view.old }
 {
     check(view, owned, Demand::Grant(&caps))?;
     Ok(Sequel::Birth(child_with(alloc, labels, caps)))

@@ -4,7 +4,7 @@ use fl_labels::cap::Cap;
 use fl_labels::cap_set::CapSet;
 use fl_labels::name::Name;
 
-/// A list of operations, which questions do not change. No question takes memory.
+/// A list of operations. Questions leave the view as it was, and take no memory.
 pub trait View {
     ghost use Rattle.std.specs.Prelude.{◌≡◌, List, length};
     ghost use Rattle.fl_labels.specs.Found.{Tells};
@@ -23,15 +23,15 @@ pub trait View {
     /// Whether the owner of these capabilities has this one in effect.
     fn effective(&mut self, owned: &CapSet, cap: Cap) -> bool
         ensures answer { Tells result (InEffect (Listed (list self.old)) (In owned.now) cap) }
-        ensures same { list self.new ≡ list self.old };
+        ensures same { self.new ≡ self.old };
 
     /// Whether the capability is reached from the root.
     fn reaches(&mut self, root: Cap, cap: Cap) -> bool
         ensures answer { Tells result (Reach (Listed (list self.old)) (From root) cap) }
-        ensures same { list self.new ≡ list self.old };
+        ensures same { self.new ≡ self.old };
 
     /// The least login of this name, as its capability and the digest of its secret, or none.
     fn login(&mut self, name: Name) -> Option<(Cap, Digest)>
         ensures answer { FindsLogin (Listed (list self.old)) name result }
-        ensures same { list self.new ≡ list self.old };
+        ensures same { self.new ≡ self.old };
 }

@@ -1,7 +1,6 @@
 use Rattle.std.proofs.Common.{◌≡◌}
 use Rattle.std.proofs.lemmas.Result.{err_from_is_err_and}
 use Rattle.fl_system.specs.Arrives.{Arrives}
-use Rattle.fl_node.proofs.NodeLemmas.{same_registry}
 use Rattle.fl_node.proofs.Sounds.{asks_on}
 use Rattle.fl_node.proofs.Alone.{arrives_alone, not_arrived_alone}
 use Rattle.fl_node.proofs.node.Node.arrive.Goals as goal
@@ -13,7 +12,7 @@ returns-in_err-running-clause-arrives g c =
     rw (p.1, p.2, ← c.self.view_is) (Arrives.stopped c.in_err-running.ensures.err)
 
 pub invariant_of-self : goal.invariant_of-self
-invariant_of-self g c = asks_on c.self.inside.state (same_registry _ _ c.job.ensures.same) c.self.invariant
+invariant_of-self g c = asks_on c.self.inside.state c.job.ensures.same c.self.invariant
 
 pub returns-clause-arrives : goal.returns-clause-arrives
 returns-clause-arrives g c = elim c.match-job.branch [

@@ -1,6 +1,5 @@
 use Rattle.std.proofs.Common.{◌≡◌, ◌∙◌, length, subst}
 use Rattle.fl_system.specs.Jobs.{Jobs}
-use Rattle.fl_node.proofs.NodeLemmas.{same_registry}
 use Rattle.fl_node.proofs.Sounds.{looks_on}
 use Rattle.fl_node.proofs.Alone.{refused_alone, replied_alone, sent_alone, orders_alone}
 use Rattle.fl_node.proofs.node.Node.job.Goals as goal
@@ -9,16 +8,16 @@ pub returns-in-Err-clause-job : goal.returns-in-Err-clause-job
 returns-in-Err-clause-job g c = rw (← c.self.view_is) (Jobs.stopped c.in-Err.ensures.err)
 
 pub invariant_of-self : goal.invariant_of-self
-invariant_of-self g c = looks_on c.self.inside.state (c.len.ensures ∙ c.self.inside.published.ok.0) (same_registry _ _ c.in-Ok-Reply.ensures.same) c.self.invariant
+invariant_of-self g c = looks_on c.self.inside.state (c.len.ensures ∙ c.self.inside.published.ok.0) c.in-Ok-Reply.ensures.same c.self.invariant
 
 pub invariant_of-self-in-Ok-Out : goal.invariant_of-self-in-Ok-Out
-invariant_of-self-in-Ok-Out g c = looks_on c.self.inside.state (c.len.ensures ∙ c.self.inside.published.ok.0) (same_registry _ _ c.in-Ok-Out.ensures.same) c.self.invariant
+invariant_of-self-in-Ok-Out g c = looks_on c.self.inside.state (c.len.ensures ∙ c.self.inside.published.ok.0) c.in-Ok-Out.ensures.same c.self.invariant
 
 pub invariant_of-self-in-Ok-Order : goal.invariant_of-self-in-Ok-Order
-invariant_of-self-in-Ok-Order g c = looks_on c.self.inside.state (c.len.ensures ∙ c.self.inside.published.ok.0) (same_registry _ _ c.in-Ok-Order.ensures.same) c.self.invariant
+invariant_of-self-in-Ok-Order g c = looks_on c.self.inside.state (c.len.ensures ∙ c.self.inside.published.ok.0) c.in-Ok-Order.ensures.same c.self.invariant
 
 pub invariant_of-self-in-Err-job : goal.invariant_of-self-in-Err-job
-invariant_of-self-in-Err-job g c = looks_on c.self.inside.state (c.len.ensures ∙ c.self.inside.published.ok.0) (same_registry _ _ c.in-Err-job.ensures.same) c.self.invariant
+invariant_of-self-in-Err-job g c = looks_on c.self.inside.state (c.len.ensures ∙ c.self.inside.published.ok.0) c.in-Err-job.ensures.same c.self.invariant
 
 pub returns-in-Ok-Reply-clause-job : goal.returns-in-Ok-Reply-clause-job
 returns-in-Ok-Reply-clause-job g c =
