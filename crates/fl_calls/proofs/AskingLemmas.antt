@@ -10,7 +10,7 @@ use Rattle.fl_ops.specs.OpLaws.{op_total, op_exact}
 use Rattle.fl_ops.specs.OpOrder.{op_cmp}
 use Rattle.fl_ops.specs.declared.op.Op.{Op}
 use Rattle.fl_opset.specs.laws.Unions.{union_comm}
-use Rattle.fl_store.specs.Keeping.{Held}
+use Rattle.fl_store.specs.Custody.{Custody}
 use Rattle.fl_system.specs.declared.answer.Fault.{Fault}
 use Rattle.fl_system.specs.declared.reply.Reply.TheVariants.{Refused}
 use Rattle.fl_system.specs.declared.state.State.{State}
@@ -68,22 +68,22 @@ both_added none one two first second start with_first with_both =
     with_both ∙ ap (λ s. set.union s second) (with_first ∙ ap (λ s. set.union s first) start
     ∙ union_comm op_total op_exact set.empty first ∙ sym (none_added first set.empty (len-empty op_cmp)))
 
-module _ {K : Type 0} (is_honest : K → Type 0) (may_hold : K → Held) (over : WorldOver K) where
+module _ {K : Type 0} (custody : Custody K) (over : WorldOver K) where
   -- ---- what one node has published
 
   pub tells_running : (number : ℕ) (n : NodeOver K) → Some n ≡ map.get over.nodes number → IsRunning n.node.state
-      → (w : World) (s : KeptNode) → MayBe may_hold over w → IsAt w number s → Tells w number (text (registry_of (map.get over.nodes number))) w
+      → (w : World) (s : KeptNode) → MayBe custody over w → IsAt w number s → Tells w number (text (registry_of (map.get over.nodes number))) w
   tells_running number n at running w s is _ =
-      let stands = there is_honest may_hold over w number n (sym at) is in
+      let stands = there custody over w number n (sym at) is in
       subst (λ ops. Tells w number (text ops) w) (sym (ap registry_of (sym at) ∙ lends n.node.state (set.of_list n.node.published) running))
       (subst (λ (m : NodeState). Tells w number (text (set.of_list m.published)) w) stands.same
       (Tells.running stands.at (subst (λ (m : NodeState). IsRunning m.state) (sym stands.same) running)))
 
   pub tells_stopped : (number : ℕ) (n : NodeOver K) (fault : Fault) (r : Response) → Some n ≡ map.get over.nodes number
       → NotRunning n.node.state fault → r ≡ response.Reply (Refused fault)
-      → (w : World) (s : KeptNode) → MayBe may_hold over w → IsAt w number s → Tells w number (shown over r) w
+      → (w : World) (s : KeptNode) → MayBe custody over w → IsAt w number s → Tells w number (shown over r) w
   tells_stopped number n fault r at stopped e w s is _ =
-      let stands = there is_honest may_hold over w number n (sym at) is in
+      let stands = there custody over w number n (sym at) is in
       subst (λ r. Tells w number (shown over r) w) (sym e)
       (Tells.stopped stands.at (subst (λ (m : NodeState). NotRunning m.state fault) (sym stands.same) stopped))
 
@@ -92,11 +92,11 @@ module _ {K : Type 0} (is_honest : K → Type 0) (may_hold : K → Held) (over :
   pub unites_running : (first second : ℕ) (n m : NodeOver K) (here there_is all : SetBy op_cmp)
       → Some n ≡ map.get over.nodes first → Some m ≡ map.get over.nodes second → IsRunning n.node.state → IsRunning m.node.state
       → here ≡ set.of_list n.node.published → there_is ≡ set.of_list m.node.published → all ≡ set.union here there_is
-      → (w : World) (s t : KeptNode) → MayBe may_hold over w → IsAt w first s → IsAt w second t
+      → (w : World) (s t : KeptNode) → MayBe custody over w → IsAt w first s → IsAt w second t
       → Unites w first second (text all) w
   unites_running first second n m here there_is all at at' running running' e e' both w s t is _ _ =
-      let stands = there is_honest may_hold over w first n (sym at) is in
-      let stands' = there is_honest may_hold over w second m (sym at') is in
+      let stands = there custody over w first n (sym at) is in
+      let stands' = there custody over w second m (sym at') is in
       let texts : all ≡ set.union (set.of_list stands.s.node.published) (set.of_list stands'.s.node.published) =
       both ∙ ap (λ ops. set.union ops there_is) (e ∙ ap (λ (x : NodeState). set.of_list x.published) (sym stands.same))
       ∙ ap (λ ops. set.union (set.of_list stands.s.node.published) ops) (e' ∙ ap (λ (x : NodeState). set.of_list x.published) (sym stands'.same)) in
@@ -113,11 +113,11 @@ module _ {K : Type 0} (is_honest : K → Type 0) (may_hold : K → Held) (over :
       → Some n ≡ map.get over.nodes first → Some m ≡ map.get over.nodes second → IsRunning n.node.state → IsRunning m.node.state
       → here ≡ set.of_list n.node.published → there_is ≡ set.of_list m.node.published → (0 < set.len here) ⊎ (0 < set.len there_is)
       → r ≡ response.Reply starved
-      → (w : World) (s t : KeptNode) → MayBe may_hold over w → IsAt w first s → IsAt w second t
+      → (w : World) (s t : KeptNode) → MayBe custody over w → IsAt w first s → IsAt w second t
       → Unites w first second (shown over r) w
   unites_starved first second n m here there_is r at at' running running' e e' some is_starved w s t is _ _ =
-      let stands = there is_honest may_hold over w first n (sym at) is in
-      let stands' = there is_honest may_hold over w second m (sym at') is in
+      let stands = there custody over w first n (sym at) is in
+      let stands' = there custody over w second m (sym at') is in
       let published : (0 < length stands.s.node.published) ⊎ (0 < length stands'.s.node.published) = elim some [
         | inl h ↦ inl (some_published n.node stands.s.node here stands.same e h)
         | inr h ↦ inr (some_published m.node stands'.s.node there_is stands'.same e' h)
@@ -129,10 +129,10 @@ module _ {K : Type 0} (is_honest : K → Type 0) (may_hold : K → Held) (over :
   pub unites_stopped : (first second number : ℕ) (n : NodeOver K) (fault : Fault) (r : Response)
       → (number ≡ first) ⊎ (number ≡ second) → Some n ≡ map.get over.nodes number
       → NotRunning n.node.state fault → r ≡ response.Reply (Refused fault)
-      → (w : World) (s t : KeptNode) → MayBe may_hold over w → IsAt w first s → IsAt w second t
+      → (w : World) (s t : KeptNode) → MayBe custody over w → IsAt w first s → IsAt w second t
       → Unites w first second (shown over r) w
   unites_stopped first second number n fault r which at stopped e w s t is _ _ =
-      let stands = there is_honest may_hold over w number n (sym at) is in
+      let stands = there custody over w number n (sym at) is in
       subst (λ r. Unites w first second (shown over r) w) (sym e)
       (Unites.stopped which stands.at (subst (λ (m : NodeState). NotRunning m.state fault) (sym stands.same) stopped))
 
@@ -140,30 +140,30 @@ module _ {K : Type 0} (is_honest : K → Type 0) (may_hold : K → Held) (over :
 
   pub checks_bad : (number : ℕ) (bytes : List ℕ) (fault : ReadFault) (place at : ℕ)
       → IsBadOrMemoryAfter (packet_head bytes) (packet_kept bytes) (packet_fields bytes) fault → fault ≡ BadPacket place → place ≡ at
-      → (w : World) (s : KeptNode) → MayBe may_hold over w → IsAt w number s → ChecksAt w number bytes (bad_packet at) w
+      → (w : World) (s : KeptNode) → MayBe custody over w → IsAt w number s → ChecksAt w number bytes (bad_packet at) w
   checks_bad number bytes fault place at bad is same w s _ _ =
       subst (λ at. ChecksAt w number bytes (bad_packet at) w) same
       (ChecksAt.no_packet (subst (IsBadOrMemoryAfter (packet_head bytes) (packet_kept bytes) (packet_fields bytes)) is bad))
 
   pub checks_starved : (number : ℕ) (bytes : List ℕ) (fault : ReadFault) (r : Response)
       → IsBadOrMemoryAfter (packet_head bytes) (packet_kept bytes) (packet_fields bytes) fault → fault ≡ Memory → r ≡ response.Reply starved
-      → (w : World) (s : KeptNode) → MayBe may_hold over w → IsAt w number s → ChecksAt w number bytes (shown over r) w
+      → (w : World) (s : KeptNode) → MayBe custody over w → IsAt w number s → ChecksAt w number bytes (shown over r) w
   checks_starved number bytes fault r bad is e w s _ _ =
       let wants = subst (IsBadOrMemoryAfter (packet_head bytes) (packet_kept bytes) (packet_fields bytes)) is bad in
       subst (λ r. ChecksAt w number bytes (shown over r) w) (sym e) (ChecksAt.no_room wants.0 wants.1)
 
   pub checks_tells : (number : ℕ) (bytes : List ℕ) (n : NodeOver K) (packet : Packet) (count : ℕ) (check : Check)
       → Some n ≡ map.get over.nodes number → Spells bytes packet → Checks n.node packet (Ok count) → check ≡ counted packet count
-      → (w : World) (s : KeptNode) → MayBe may_hold over w → IsAt w number s → ChecksAt w number bytes (checked check) w
+      → (w : World) (s : KeptNode) → MayBe custody over w → IsAt w number s → ChecksAt w number bytes (checked check) w
   checks_tells number bytes n packet count check at spelled checks e w s is _ =
-      let stands = there is_honest may_hold over w number n (sym at) is in
+      let stands = there custody over w number n (sym at) is in
       subst (λ check. ChecksAt w number bytes (checked check) w) (sym e)
       (ChecksAt.tells stands.at spelled (subst (λ m. Checks m packet (Ok count)) (sym stands.same) checks))
 
   pub checks_refuses : (number : ℕ) (bytes : List ℕ) (n : NodeOver K) (packet : Packet) (fault : Fault) (r : Response)
       → Some n ≡ map.get over.nodes number → Spells bytes packet → Checks n.node packet (Err fault) → r ≡ response.Reply (Refused fault)
-      → (w : World) (s : KeptNode) → MayBe may_hold over w → IsAt w number s → ChecksAt w number bytes (shown over r) w
+      → (w : World) (s : KeptNode) → MayBe custody over w → IsAt w number s → ChecksAt w number bytes (shown over r) w
   checks_refuses number bytes n packet fault r at spelled checks e w s is _ =
-      let stands = there is_honest may_hold over w number n (sym at) is in
+      let stands = there custody over w number n (sym at) is in
       subst (λ r. ChecksAt w number bytes (shown over r) w) (sym e)
       (ChecksAt.refuses stands.at spelled (subst (λ m. Checks m packet (Err fault)) (sym stands.same) checks))

@@ -6,8 +6,9 @@ use Rattle.std.specs.List.{slice_get, flat_map}
 use Rattle.std.specs.FinMap.{nat_cmp-IsAntisymmetric}
 use Rattle.std.specs.Ordering.{nat_cmp, eq_by_cmp}
 use Rattle.fl_mailbox.specs.laws.Tables.{get_put}
+use Rattle.fl_store.specs.Custody.{Custody}
 use Rattle.fl_store.specs.Kept.{Kept}
-use Rattle.fl_store.specs.Keeping.{Held}
+use Rattle.fl_makers.specs.Making.{Making}
 use Rattle.fl_wire.specs.declared.packet.Packet.{Packet}
 use Rattle.fl_wire.specs.declared.packet.Packet.TheVariants as packets
 use Rattle.fl_labels.specs.SetBy as set
@@ -122,14 +123,13 @@ entered_still openings w number other result w' stands (is_there at) = stands
 entered_still openings w number other result w' stands (joins none found step) = joined_still w number other _ _ w' stands step
 entered_still openings w number other result w' stands (is_refused none why) = stands
 
-module _ {K M : Type 0} (is_honest : K → Type 0) (may_hold : K → Held) (finds : M → ℕ → Kept → Type 0)
-    (refuses : M → ℕ → Fault → Type 0) where
+module _ {K M : Type 0} (custody : Custody K) (making : Making M) where
   -- the node was opened, or was there, and then this is told of it
   pub once_told : (old mid : ClusterOver K M) (number : ℕ) (result : Result (Unit {0}) Fault) (u : Unit {0})
       (does : World → Answer → World → Type 0) (answer : Answer) → result ≡ Ok u
-      → GoesOn is_honest may_hold finds refuses old mid (λ openings w w'. Enters openings w number result w')
-      → ((w : World) (s : KeptNode) → MayBe may_hold mid.world w → IsAt w number s → does w answer w)
-      → GoesOn is_honest may_hold finds refuses old mid (λ openings w w'. OnceOpen openings w number does answer w')
+      → GoesOn custody making old mid (λ openings w w'. Enters openings w number result w')
+      → ((w : World) (s : KeptNode) → MayBe custody mid.world w → IsAt w number s → does w answer w)
+      → GoesOn custody making old mid (λ openings w w'. OnceOpen openings w number does answer w')
   once_told old mid number result u does answer ok enters tells = record {
     goes = record {
       honest = enters.goes.honest;
@@ -139,7 +139,7 @@ module _ {K M : Type 0} (is_honest : K → Type 0) (may_hold : K → Held) (find
             before.0,
             before.1,
             opened
-                (subst (λ r. Enters (openings_of is_honest may_hold (finds old.maker) (refuses old.maker)) before.0 number r after) ok before.2)
+                (subst (λ r. Enters (openings_of custody making old.maker) before.0 number r after) ok before.2)
                 (tells after stands.s is stands.at),
           );
     };
@@ -150,10 +150,10 @@ module _ {K M : Type 0} (is_honest : K → Type 0) (may_hold : K → Held) (find
   -- both nodes were opened, or were there, and then this is told of them
   pub both_told : (old mid new : ClusterOver K M) (first second : ℕ) (one other : Result (Unit {0}) Fault) (u v : Unit {0})
       (does : World → Answer → World → Type 0) (answer : Answer) → one ≡ Ok u → other ≡ Ok v
-      → GoesOn is_honest may_hold finds refuses old mid (λ openings w w'. Enters openings w first one w')
-      → GoesOn is_honest may_hold finds refuses mid new (λ openings w w'. Enters openings w second other w')
-      → ((w : World) (s t : KeptNode) → MayBe may_hold new.world w → IsAt w first s → IsAt w second t → does w answer w)
-      → GoesOn is_honest may_hold finds refuses old new
+      → GoesOn custody making old mid (λ openings w w'. Enters openings w first one w')
+      → GoesOn custody making mid new (λ openings w w'. Enters openings w second other w')
+      → ((w : World) (s t : KeptNode) → MayBe custody new.world w → IsAt w first s → IsAt w second t → does w answer w)
+      → GoesOn custody making old new
       (λ openings w w'. OnceOpen openings w first (λ x. OnceOpen openings x second does) answer w')
   both_told old mid new first second one other u v does answer ok then_ok enters then_ tells = record {
     goes = record {
@@ -167,10 +167,10 @@ module _ {K M : Type 0} (is_honest : K → Type 0) (may_hold : K → Held) (find
             before.0,
             before.1,
             opened
-                (subst (λ r. Enters (openings_of is_honest may_hold (finds old.maker) (refuses old.maker)) before.0 first r between.0) ok before.2)
-                (opened (enters_more _ _ (opens_more is_honest may_hold (finds old.maker) (finds mid.maker) (refuses old.maker) (refuses mid.maker)
+                (subst (λ r. Enters (openings_of custody making old.maker) before.0 first r between.0) ok before.2)
+                (opened (enters_more _ _ (opens_more custody making old.maker mid.maker
                 enters.finds_less enters.refuses_less) between.0 after second (Ok tt)
-                (subst (λ r. Enters (openings_of is_honest may_hold (finds mid.maker) (refuses mid.maker)) between.0 second r after) then_ok between.2))
+                (subst (λ r. Enters (openings_of custody making mid.maker) between.0 second r after) then_ok between.2))
                 (tells after here.s there.s is here.at there.at)),
           );
     };
@@ -181,90 +181,90 @@ module _ {K M : Type 0} (is_honest : K → Type 0) (may_hold : K → Held) (find
   -- the node was opened, or was there, and this is told of it
   pub told : (old mid : ClusterOver K M) (here : WorldOver K) (maker : M) (number : ℕ) (result : Result (Unit {0}) Fault) (u : Unit {0})
       (does : World → Answer → World → Type 0) (r tale : Response) → record { world = here; maker = maker } ≡ mid → result ≡ Ok u → r ≡ tale
-      → GoesOn is_honest may_hold finds refuses old mid (λ openings w w'. Enters openings w number result w')
-      → ((w : World) (s : KeptNode) → MayBe may_hold here w → IsAt w number s → does w (shown here tale) w)
-      → GoesOn is_honest may_hold finds refuses old mid (λ openings w w'. OnceOpen openings w number does (shown mid.world r) w')
+      → GoesOn custody making old mid (λ openings w w'. Enters openings w number result w')
+      → ((w : World) (s : KeptNode) → MayBe custody here w → IsAt w number s → does w (shown here tale) w)
+      → GoesOn custody making old mid (λ openings w w'. OnceOpen openings w number does (shown mid.world r) w')
   told old mid here maker number result u does r tale is ok same enters tells =
       once_told old mid number result u does (shown mid.world r) ok enters
       (λ w s may at. subst (λ a. does w a w) (ap (λ x. shown here x) (sym same) ∙ ap (λ (c : ClusterOver K M). shown c.world r) is)
-      (tells w s (subst (λ (c : ClusterOver K M). MayBe may_hold c.world w) (sym is) may) at))
+      (tells w s (subst (λ (c : ClusterOver K M). MayBe custody c.world w) (sym is) may) at))
 
   -- it was not opened
   pub told_why : (old mid : ClusterOver K M) (number : ℕ) (result : Result (Unit {0}) Fault) (fault : Fault)
       (does : World → Answer → World → Type 0) (r why : Response) → result ≡ Err fault → r ≡ why → why ≡ response.Reply (Refused fault)
-      → GoesOn is_honest may_hold finds refuses old mid (λ openings w w'. Enters openings w number result w')
-      → GoesOn is_honest may_hold finds refuses old mid (λ openings w w'. OnceOpen openings w number does (shown mid.world r) w')
+      → GoesOn custody making old mid (λ openings w w'. Enters openings w number result w')
+      → GoesOn custody making old mid (λ openings w w'. OnceOpen openings w number does (shown mid.world r) w')
   told_why old mid number result fault does r why err same is enters =
-      subst (λ a. GoesOn is_honest may_hold finds refuses old mid (λ openings w w'. OnceOpen openings w number does a w'))
-      (ap (λ x. shown mid.world x) (sym (same ∙ is))) (once_shut is_honest may_hold finds refuses old mid number result fault does err enters)
+      subst (λ a. GoesOn custody making old mid (λ openings w w'. OnceOpen openings w number does a w'))
+      (ap (λ x. shown mid.world x) (sym (same ∙ is))) (once_shut custody making old mid number result fault does err enters)
 
   -- the same of two nodes
   pub told_both : (old mid new : ClusterOver K M) (here : WorldOver K) (maker : M) (first second : ℕ) (one other : Result (Unit {0}) Fault)
       (u v : Unit {0}) (does : World → Answer → World → Type 0) (r tale : Response) → record { world = here; maker = maker } ≡ new → one ≡ Ok u
       → other ≡ Ok v → r ≡ tale
-      → GoesOn is_honest may_hold finds refuses old mid (λ openings w w'. Enters openings w first one w')
-      → GoesOn is_honest may_hold finds refuses mid new (λ openings w w'. Enters openings w second other w')
-      → ((w : World) (s t : KeptNode) → MayBe may_hold here w → IsAt w first s → IsAt w second t → does w (shown here tale) w)
-      → GoesOn is_honest may_hold finds refuses old new
+      → GoesOn custody making old mid (λ openings w w'. Enters openings w first one w')
+      → GoesOn custody making mid new (λ openings w w'. Enters openings w second other w')
+      → ((w : World) (s t : KeptNode) → MayBe custody here w → IsAt w first s → IsAt w second t → does w (shown here tale) w)
+      → GoesOn custody making old new
       (λ openings w w'. OnceOpen openings w first (λ x. OnceOpen openings x second does) (shown new.world r) w')
   told_both old mid new here maker first second one other u v does r tale is ok then_ok same enters then_ tells =
       both_told old mid new first second one other u v does (shown new.world r) ok then_ok enters then_
       (λ w s t may at at2. subst (λ a. does w a w) (ap (λ x. shown here x) (sym same) ∙ ap (λ (c : ClusterOver K M). shown c.world r) is)
-      (tells w s t (subst (λ (c : ClusterOver K M). MayBe may_hold c.world w) (sym is) may) at at2))
+      (tells w s t (subst (λ (c : ClusterOver K M). MayBe custody c.world w) (sym is) may) at at2))
 
   -- the first was opened, or was there, and the second was not opened
   pub told_why_second : (old mid new : ClusterOver K M) (first second : ℕ) (one other : Result (Unit {0}) Fault) (u : Unit {0}) (fault : Fault)
       (does : World → Answer → World → Type 0) (r why : Response) → one ≡ Ok u → other ≡ Err fault → r ≡ why
       → why ≡ response.Reply (Refused fault)
-      → GoesOn is_honest may_hold finds refuses old mid (λ openings w w'. Enters openings w first one w')
-      → GoesOn is_honest may_hold finds refuses mid new (λ openings w w'. Enters openings w second other w')
-      → GoesOn is_honest may_hold finds refuses old new
+      → GoesOn custody making old mid (λ openings w w'. Enters openings w first one w')
+      → GoesOn custody making mid new (λ openings w w'. Enters openings w second other w')
+      → GoesOn custody making old new
       (λ openings w w'. OnceOpen openings w first (λ x. OnceOpen openings x second does) (shown new.world r) w')
   told_why_second old mid new first second one other u fault does r why ok err same is enters then_ =
-      both_open is_honest may_hold finds refuses old mid new first second one u does (shown new.world r) ok enters
+      both_open custody making old mid new first second one u does (shown new.world r) ok enters
       (told_why mid new second other fault does r why err same is then_)
 
   -- the first was not opened
   pub told_why_first : (old mid : ClusterOver K M) (first second : ℕ) (result : Result (Unit {0}) Fault) (fault : Fault)
       (does : World → Answer → World → Type 0) (why : Response) → result ≡ Err fault → why ≡ response.Reply (Refused fault)
-      → GoesOn is_honest may_hold finds refuses old mid (λ openings w w'. Enters openings w first result w')
-      → GoesOn is_honest may_hold finds refuses old mid
+      → GoesOn custody making old mid (λ openings w w'. Enters openings w first result w')
+      → GoesOn custody making old mid
       (λ openings w w'. OnceOpen openings w first (λ x. OnceOpen openings x second does) (shown mid.world why) w')
   told_why_first old mid first second result fault does why err is enters =
-      subst (λ a. GoesOn is_honest may_hold finds refuses old mid
+      subst (λ a. GoesOn custody making old mid
       (λ openings w w'. OnceOpen openings w first (λ x. OnceOpen openings x second does) a w')) (ap (λ x. shown mid.world x) (sym is))
-      (goes_on_as is_honest may_hold finds refuses old mid (λ openings w w'. Enters openings w first result w')
+      (goes_on_as custody making old mid (λ openings w w'. Enters openings w first result w')
       (λ openings w w'. OnceOpen openings w first (λ x. OnceOpen openings x second does) (replied (Refused fault)) w')
       (λ openings w w' may entered. shut (subst (λ r. Enters openings w first r w') err entered)) enters)
 
   -- the packet was not sent, and nothing changes
   pub not_delivered : (old : ClusterOver K M) (number packet : ℕ) → item_at old.world.packets packet ≡ None
-      → GoesOn is_honest may_hold finds refuses old old (λ openings w w'. Delivers openings w number packet unknown w')
+      → GoesOn custody making old old (λ openings w w'. Delivers openings w number packet unknown w')
   not_delivered old number packet none =
-      rests is_honest may_hold finds refuses old (λ openings w w'. Delivers openings w number packet unknown w')
+      rests custody making old (λ openings w w'. Delivers openings w number packet unknown w')
       (λ openings w may. Delivers.not_sent (ap (λ l. item_at l packet) may.packets ∙ none))
 
   pub not_taken : (old : ClusterOver K M) (number packet : ℕ) → item_at old.world.packets packet ≡ None
-      → GoesOn is_honest may_hold finds refuses old old (λ openings w w'. BeginsToTake openings w number packet unknown w')
+      → GoesOn custody making old old (λ openings w w'. BeginsToTake openings w number packet unknown w')
   not_taken old number packet none =
-      rests is_honest may_hold finds refuses old (λ openings w w'. BeginsToTake openings w number packet unknown w')
+      rests custody making old (λ openings w w'. BeginsToTake openings w number packet unknown w')
       (λ openings w may. BeginsToTake.not_sent (ap (λ l. item_at l packet) may.packets ∙ none))
 
   -- nor is one begun to be taken that is not one of operations
   pub no_ops : (old : ClusterOver K M) (number packet : ℕ) (sent : AnySent) (b : Bool) → item_at old.world.packets packet ≡ Some sent
       → b ≡ brings_ops sent.packet → b ≡ false
-      → GoesOn is_honest may_hold finds refuses old old (λ openings w w'. BeginsToTake openings w number packet unknown w')
+      → GoesOn custody making old old (λ openings w w'. BeginsToTake openings w number packet unknown w')
   no_ops old number packet sent b at is other =
-      rests is_honest may_hold finds refuses old (λ openings w w'. BeginsToTake openings w number packet unknown w')
+      rests custody making old (λ openings w w'. BeginsToTake openings w number packet unknown w')
       (λ openings w may. BeginsToTake.no_ops (ap (λ l. item_at l packet) may.packets ∙ at) (sym is ∙ other))
 
   delivers_once : (old new : ClusterOver K M) (number packet : ℕ) (sent : AnySent) (answer : Answer)
       → item_at old.world.packets packet ≡ Some sent
-      → GoesOn is_honest may_hold finds refuses old new (λ openings w w'. OnceOpen openings w number
+      → GoesOn custody making old new (λ openings w w'. OnceOpen openings w number
       (λ v. Says (said_of sent.packet) (Completes v (event.Deliver packet number))) answer w')
-      → GoesOn is_honest may_hold finds refuses old new (λ openings w w'. Delivers openings w number packet answer w')
+      → GoesOn custody making old new (λ openings w w'. Delivers openings w number packet answer w')
   delivers_once old new number packet sent answer at once =
-      goes_on_as is_honest may_hold finds refuses old new (λ openings w w'. OnceOpen openings w number
+      goes_on_as custody making old new (λ openings w w'. OnceOpen openings w number
       (λ v. Says (said_of sent.packet) (Completes v (event.Deliver packet number))) answer w')
       (λ openings w w'. Delivers openings w number packet answer w')
       (λ openings w w' may o. Delivers.comes (ap (λ l. item_at l packet) may.packets ∙ at) o) once
@@ -274,36 +274,36 @@ module _ {K M : Type 0} (is_honest : K → Type 0) (may_hold : K → Held) (find
       (u : Unit {0}) (sent : AnySent) (b : Bool) (e : Event) (reply : Reply) (r : Response) → record { world = here; maker = maker } ≡ mid
       → result ≡ Ok u → item_at old.world.packets packet ≡ Some sent → b ≡ is_message sent.packet → e ≡ event.Deliver packet number
       → r ≡ coming b reply
-      → GoesOn is_honest may_hold finds refuses old mid (λ openings w w'. Enters openings w number result w')
-      → Goes is_honest may_hold here new (λ w w'. Completes w e reply w')
-      → GoesOn is_honest may_hold finds refuses old (record { world = new; maker = maker })
+      → GoesOn custody making old mid (λ openings w w'. Enters openings w number result w')
+      → Goes custody here new (λ w w'. Completes w e reply w')
+      → GoesOn custody making old (record { world = new; maker = maker })
       (λ openings w w'. Delivers openings w number packet (shown new r) w')
   delivered old mid here new maker number packet result u sent b e reply r is ok at message arrival said enters goes =
       let says : shown new r ≡ said_of sent.packet reply =
       ap (λ x. shown new x) (said ∙ ap (λ m. coming m reply) message) ∙ comes_as new sent.packet reply in
       delivers_once old (record { world = new; maker = maker }) number packet sent (shown new r) at
-      (once_open is_honest may_hold finds refuses old mid here new maker number result u
+      (once_open custody making old mid here new maker number result u
       (λ v. Says (said_of sent.packet) (Completes v (event.Deliver packet number))) (shown new r) is ok enters
-      (goes_as is_honest may_hold here new (λ w w'. Completes w e reply w')
+      (goes_as custody here new (λ w w'. Completes w e reply w')
       (λ w w'. Says (said_of sent.packet) (Completes w (event.Deliver packet number)) (shown new r) w')
       (λ w w' done. (reply, says, subst (λ f. Completes w f reply w') arrival done)) goes))
 
   -- the node was not opened
   pub not_come : (old mid : ClusterOver K M) (number packet : ℕ) (result : Result (Unit {0}) Fault) (fault : Fault) (sent : AnySent)
       (why : Response) → result ≡ Err fault → item_at old.world.packets packet ≡ Some sent → why ≡ response.Reply (Refused fault)
-      → GoesOn is_honest may_hold finds refuses old mid (λ openings w w'. Enters openings w number result w')
-      → GoesOn is_honest may_hold finds refuses old mid (λ openings w w'. Delivers openings w number packet (shown mid.world why) w')
+      → GoesOn custody making old mid (λ openings w w'. Enters openings w number result w')
+      → GoesOn custody making old mid (λ openings w w'. Delivers openings w number packet (shown mid.world why) w')
   not_come old mid number packet result fault sent why err at is enters =
       delivers_once old mid number packet sent (shown mid.world why) at
       (told_why old mid number result fault (λ v. Says (said_of sent.packet) (Completes v (event.Deliver packet number))) why why err refl is enters)
 
   takes_once : (old new : ClusterOver K M) (number packet : ℕ) (sent : AnySent) (answer : Answer)
       → item_at old.world.packets packet ≡ Some sent → brings_ops sent.packet ≡ true
-      → GoesOn is_honest may_hold finds refuses old new (λ openings w w'. OnceOpen openings w number
+      → GoesOn custody making old new (λ openings w w'. OnceOpen openings w number
       (λ v. Says replied (Step v (event.Deliver packet number))) answer w')
-      → GoesOn is_honest may_hold finds refuses old new (λ openings w w'. BeginsToTake openings w number packet answer w')
+      → GoesOn custody making old new (λ openings w w'. BeginsToTake openings w number packet answer w')
   takes_once old new number packet sent answer at ops once =
-      goes_on_as is_honest may_hold finds refuses old new (λ openings w w'. OnceOpen openings w number
+      goes_on_as custody making old new (λ openings w w'. OnceOpen openings w number
       (λ v. Says replied (Step v (event.Deliver packet number))) answer w')
       (λ openings w w'. BeginsToTake openings w number packet answer w')
       (λ openings w w' may o. BeginsToTake.comes (ap (λ l. item_at l packet) may.packets ∙ at) ops o) once
@@ -313,23 +313,23 @@ module _ {K M : Type 0} (is_honest : K → Type 0) (may_hold : K → Held) (find
       (u : Unit {0}) (sent : AnySent) (b : Bool) (e : Event) (reply : Reply) → record { world = here; maker = maker } ≡ mid
       → result ≡ Ok u → item_at old.world.packets packet ≡ Some sent → b ≡ brings_ops sent.packet → b ≡ true
       → e ≡ event.Deliver packet number
-      → GoesOn is_honest may_hold finds refuses old mid (λ openings w w'. Enters openings w number result w')
-      → Goes is_honest may_hold here new (λ w w'. Step w e reply w')
-      → GoesOn is_honest may_hold finds refuses old (record { world = new; maker = maker })
+      → GoesOn custody making old mid (λ openings w w'. Enters openings w number result w')
+      → Goes custody here new (λ w w'. Step w e reply w')
+      → GoesOn custody making old (record { world = new; maker = maker })
       (λ openings w w'. BeginsToTake openings w number packet (replied reply) w')
   taken old mid here new maker number packet result u sent b e reply is ok at ops brings arrival enters goes =
       takes_once old (record { world = new; maker = maker }) number packet sent (replied reply) at (sym ops ∙ brings)
-      (once_open is_honest may_hold finds refuses old mid here new maker number result u
+      (once_open custody making old mid here new maker number result u
       (λ v. Says replied (Step v (event.Deliver packet number))) (replied reply) is ok enters
-      (goes_as is_honest may_hold here new (λ w w'. Step w e reply w')
+      (goes_as custody here new (λ w w'. Step w e reply w')
       (λ w w'. Says replied (Step w (event.Deliver packet number)) (replied reply) w')
       (λ w w' done. (reply, refl, subst (λ f. Step w f reply w') arrival done)) goes))
 
   pub not_begun : (old mid : ClusterOver K M) (number packet : ℕ) (result : Result (Unit {0}) Fault) (fault : Fault) (sent : AnySent)
       (b : Bool) (why : Response) → result ≡ Err fault → item_at old.world.packets packet ≡ Some sent → b ≡ brings_ops sent.packet → b ≡ true
       → why ≡ response.Reply (Refused fault)
-      → GoesOn is_honest may_hold finds refuses old mid (λ openings w w'. Enters openings w number result w')
-      → GoesOn is_honest may_hold finds refuses old mid (λ openings w w'. BeginsToTake openings w number packet (shown mid.world why) w')
+      → GoesOn custody making old mid (λ openings w w'. Enters openings w number result w')
+      → GoesOn custody making old mid (λ openings w w'. BeginsToTake openings w number packet (shown mid.world why) w')
   not_begun old mid number packet result fault sent b why err at ops brings is enters =
       takes_once old mid number packet sent (shown mid.world why) at (sym ops ∙ brings)
       (told_why old mid number result fault (λ v. Says replied (Step v (event.Deliver packet number))) why why err refl is enters)

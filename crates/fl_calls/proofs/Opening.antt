@@ -1,8 +1,9 @@
 -- What is done once a node is open.
 use Rattle.std.proofs.Common.{◌≡◌, ℕ, sym, subst, Some, Result, Ok, Err}
 use Rattle.std.specs.FinMap as map
+use Rattle.fl_store.specs.Custody.{Custody}
 use Rattle.fl_store.specs.Kept.{Kept}
-use Rattle.fl_store.specs.Keeping.{Held}
+use Rattle.fl_makers.specs.Making.{Making}
 use Rattle.fl_system.specs.declared.answer.Fault.{Fault}
 use Rattle.fl_system.specs.declared.reply.Reply.TheVariants.{Refused}
 use Rattle.fl_system.specs.World.{World}
@@ -15,11 +16,10 @@ use Rattle.fl_calls.specs.Over.{ClusterOver, openings_of, GoesOn}
 use Rattle.fl_calls.specs.laws.Widening.{opens_more, once_open_more}
 use Rattle.fl_calls.proofs.Going.{goes_then, entered}
 
-module _ {K M : Type 0} (is_honest : K → Type 0) (may_hold : K → Held) (finds : M → ℕ → Kept → Type 0)
-    (refuses : M → ℕ → Fault → Type 0) where
+module _ {K M : Type 0} (custody : Custody K) (making : Making M) where
   pub goes_on_as : (old new : ClusterOver K M) (s t : Openings → World → World → Type 0)
-      → ((openings : Openings) (w w' : World) → MayBe may_hold old.world w → s openings w w' → t openings w w')
-      → GoesOn is_honest may_hold finds refuses old new s → GoesOn is_honest may_hold finds refuses old new t
+      → ((openings : Openings) (w w' : World) → MayBe custody old.world w → s openings w w' → t openings w w')
+      → GoesOn custody making old new s → GoesOn custody making old new t
   goes_on_as old new s t leads goes = record {
     goes = record {
       honest = goes.goes.honest;
@@ -33,8 +33,8 @@ module _ {K M : Type 0} (is_honest : K → Type 0) (may_hold : K → Held) (find
 
   -- nothing changes
   pub rests : (old : ClusterOver K M) (s : Openings → World → World → Type 0)
-      → ((openings : Openings) (w : World) → MayBe may_hold old.world w → s openings w w)
-      → GoesOn is_honest may_hold finds refuses old old s
+      → ((openings : Openings) (w : World) → MayBe custody old.world w → s openings w w)
+      → GoesOn custody making old old s
   rests old s leads = record {
     goes = record { honest = λ all. all; comes = λ all after is. (after, is, leads _ after is) };
     finds_less = λ number k found. found;
@@ -45,18 +45,18 @@ module _ {K M : Type 0} (is_honest : K → Type 0) (may_hold : K → Held) (find
   pub once_open : (old mid : ClusterOver K M) (here new : WorldOver K) (maker : M) (number : ℕ)
       (result : Result (Unit {0}) Fault) (u : Unit {0}) (does : World → Answer → World → Type 0) (answer : Answer)
       → record { world = here; maker = maker } ≡ mid → result ≡ Ok u
-      → GoesOn is_honest may_hold finds refuses old mid (λ openings w w'. Enters openings w number result w')
-      → Goes is_honest may_hold here new (λ w w'. does w answer w')
-      → GoesOn is_honest may_hold finds refuses old (record { world = new; maker = maker })
+      → GoesOn custody making old mid (λ openings w w'. Enters openings w number result w')
+      → Goes custody here new (λ w w'. does w answer w')
+      → GoesOn custody making old (record { world = new; maker = maker })
       (λ openings w w'. OnceOpen openings w number does answer w')
   once_open old mid here new maker number result u does answer is ok enters goes =
-      let first = subst (λ m. GoesOn is_honest may_hold finds refuses old m (λ openings w w'. Enters openings w number result w')) (sym is) enters in
+      let first = subst (λ m. GoesOn custody making old m (λ openings w w'. Enters openings w number result w')) (sym is) enters in
       record {
-        goes = goes_then is_honest may_hold old.world here new
-            (λ w w'. Enters (openings_of is_honest may_hold (finds old.maker) (refuses old.maker)) w number result w')
+        goes = goes_then custody old.world here new
+            (λ w w'. Enters (openings_of custody making old.maker) w number result w')
             (λ w w'. does w answer w')
-            (λ w w'. OnceOpen (openings_of is_honest may_hold (finds old.maker) (refuses old.maker)) w number does answer w')
-            (λ w v w' entered done. opened (subst (λ r. Enters (openings_of is_honest may_hold (finds old.maker) (refuses old.maker)) w number r v) ok entered) done) first.goes goes;
+            (λ w w'. OnceOpen (openings_of custody making old.maker) w number does answer w')
+            (λ w v w' entered done. opened (subst (λ r. Enters (openings_of custody making old.maker) w number r v) ok entered) done) first.goes goes;
         finds_less = first.finds_less;
         refuses_less = first.refuses_less;
       }
@@ -64,31 +64,30 @@ module _ {K M : Type 0} (is_honest : K → Type 0) (may_hold : K → Held) (find
   -- the node was not opened
   pub once_shut : (old mid : ClusterOver K M) (number : ℕ) (result : Result (Unit {0}) Fault) (fault : Fault)
       (does : World → Answer → World → Type 0) → result ≡ Err fault
-      → GoesOn is_honest may_hold finds refuses old mid (λ openings w w'. Enters openings w number result w')
-      → GoesOn is_honest may_hold finds refuses old mid
+      → GoesOn custody making old mid (λ openings w w'. Enters openings w number result w')
+      → GoesOn custody making old mid
       (λ openings w w'. OnceOpen openings w number does (replied (Refused fault)) w')
   once_shut old mid number result fault does err enters =
       goes_on_as old mid (λ openings w w'. Enters openings w number result w')
       (λ openings w w'. OnceOpen openings w number does (replied (Refused fault)) w')
       (λ openings w w' is entered. shut (subst (λ r. Enters openings w number r w') err entered)) enters
 
-module _ {K M : Type 0} (is_honest : K → Type 0) (may_hold : K → Held) (finds : M → ℕ → Kept → Type 0)
-    (refuses : M → ℕ → Fault → Type 0) where
+module _ {K M : Type 0} (custody : Custody K) (making : Making M) where
   -- once the first node is open, the second one is opened
   pub both_open : (old mid new : ClusterOver K M) (first second : ℕ) (result : Result (Unit {0}) Fault) (u : Unit {0})
       (does : World → Answer → World → Type 0) (answer : Answer) → result ≡ Ok u
-      → GoesOn is_honest may_hold finds refuses old mid (λ openings w w'. Enters openings w first result w')
-      → GoesOn is_honest may_hold finds refuses mid new (λ openings w w'. OnceOpen openings w second does answer w')
-      → GoesOn is_honest may_hold finds refuses old new
+      → GoesOn custody making old mid (λ openings w w'. Enters openings w first result w')
+      → GoesOn custody making mid new (λ openings w w'. OnceOpen openings w second does answer w')
+      → GoesOn custody making old new
       (λ openings w w'. OnceOpen openings w first (λ v. OnceOpen openings v second does) answer w')
   both_open old mid new first second result u does answer ok enters then_ = record {
-    goes = goes_then is_honest may_hold old.world mid.world new.world
-        (λ w w'. Enters (openings_of is_honest may_hold (finds old.maker) (refuses old.maker)) w first result w')
-        (λ w w'. OnceOpen (openings_of is_honest may_hold (finds mid.maker) (refuses mid.maker)) w second does answer w')
-        (λ w w'. OnceOpen (openings_of is_honest may_hold (finds old.maker) (refuses old.maker)) w first
-        (λ v. OnceOpen (openings_of is_honest may_hold (finds old.maker) (refuses old.maker)) v second does) answer w')
-        (λ w v w' entered done. opened (subst (λ r. Enters (openings_of is_honest may_hold (finds old.maker) (refuses old.maker)) w first r v) ok entered)
-        (once_open_more _ _ (opens_more is_honest may_hold (finds old.maker) (finds mid.maker) (refuses old.maker) (refuses mid.maker)
+    goes = goes_then custody old.world mid.world new.world
+        (λ w w'. Enters (openings_of custody making old.maker) w first result w')
+        (λ w w'. OnceOpen (openings_of custody making mid.maker) w second does answer w')
+        (λ w w'. OnceOpen (openings_of custody making old.maker) w first
+        (λ v. OnceOpen (openings_of custody making old.maker) v second does) answer w')
+        (λ w v w' entered done. opened (subst (λ r. Enters (openings_of custody making old.maker) w first r v) ok entered)
+        (once_open_more _ _ (opens_more custody making old.maker mid.maker
         enters.finds_less enters.refuses_less) v w' second does does answer (λ _ _ _ h. h) done)) enters.goes then_.goes;
     finds_less = λ n k found. enters.finds_less n k (then_.finds_less n k found);
     refuses_less = λ n fault why. enters.refuses_less n fault (then_.refuses_less n fault why);
@@ -97,21 +96,21 @@ module _ {K M : Type 0} (is_honest : K → Type 0) (may_hold : K → Held) (find
   -- a keeper is asked for, and the world goes on
   pub opens_as : (old : ClusterOver K M) (here new : WorldOver K) (maker maker' : M) (number : ℕ)
       (result : Result (Unit {0}) Fault) → record { world = here; maker = maker } ≡ old
-      → Goes is_honest may_hold here new (λ w w'. Enters (openings_of is_honest may_hold (finds maker) (refuses maker)) w number result w')
-      → ((n : ℕ) (k : Kept) → finds maker' n k → finds maker n k)
-      → ((n : ℕ) (fault : Fault) → refuses maker' n fault → refuses maker n fault)
-      → GoesOn is_honest may_hold finds refuses old (record { world = new; maker = maker' })
+      → Goes custody here new (λ w w'. Enters (openings_of custody making maker) w number result w')
+      → ((n : ℕ) (k : Kept) → making.finds maker' n k → making.finds maker n k)
+      → ((n : ℕ) (fault : Fault) → making.refuses maker' n fault → making.refuses maker n fault)
+      → GoesOn custody making old (record { world = new; maker = maker' })
       (λ openings w w'. Enters openings w number result w')
   opens_as old here new maker maker' number result is goes same_finds same_refuses =
-      subst (λ o. GoesOn is_honest may_hold finds refuses o (record { world = new; maker = maker' })
+      subst (λ o. GoesOn custody making o (record { world = new; maker = maker' })
       (λ openings w w'. Enters openings w number result w')) is
       (record { goes = goes; finds_less = same_finds; refuses_less = same_refuses })
 
   -- a node that is there is not opened
   pub entered_as : (old : ClusterOver K M) (number : ℕ) (n : NodeOver K) → map.get old.world.nodes number ≡ Some n
-      → GoesOn is_honest may_hold finds refuses old old (λ openings w w'. Enters openings w number (Ok tt) w')
+      → GoesOn custody making old old (λ openings w w'. Enters openings w number (Ok tt) w')
   entered_as old number n at = record {
-    goes = entered is_honest may_hold (finds old.maker) (refuses old.maker) old.world number n at;
+    goes = entered custody making old.maker old.world number n at;
     finds_less = λ q k found. found;
     refuses_less = λ q fault why. why;
   }

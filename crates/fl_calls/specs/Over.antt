@@ -1,8 +1,9 @@
 -- A world over keepers, with who makes them, and what a call does to the world that they may be.
 use Rattle.std.specs.Prelude.{◌≢◌, ℕ, refl}
 use Rattle.std.specs.Coded.{Coded, code_by, coded×}
+use Rattle.fl_store.specs.Custody.{Custody}
 use Rattle.fl_store.specs.Kept.{Kept}
-use Rattle.fl_store.specs.Keeping.{Held}
+use Rattle.fl_makers.specs.Making.{Making}
 use Rattle.fl_system.specs.declared.answer.Fault.{Fault}
 use Rattle.fl_system.specs.declared.answer.Fault.TheVariants.{KeeperFailed}
 use Rattle.fl_system.specs.declared.reply.Reply.TheVariants.{Refused}
@@ -29,35 +30,34 @@ coded_cluster_over {K} {M} keeper maker =
     (λ _. refl)
 
 -- an honest keeper, and something that it may hold
-pub record Trusts {K : Type 0} (is_honest : K → Type 0) (may_hold : K → Held) (keeper : K) : Type 0 where
-  pub honest : is_honest keeper
+pub record Trusts {K : Type 0} (custody : Custody K) (keeper : K) : Type 0 where
+  pub honest : custody.is_honest keeper
   pub kept : Kept
-  pub held : may_hold keeper kept
+  pub held : custody.may_hold keeper kept
 
 -- Why a node is not opened: for its keeper's sake, since none was made, or the one that was failed; or
 -- one was made that did not fail, and did not join, as it should if it may be trusted.
-pub data NotOpened {K : Type 0} (is_honest : K → Type 0) (may_hold : K → Held)
-    (finds : ℕ → Kept → Type 0) (refuses : ℕ → Fault → Type 0)
+pub data NotOpened {K M : Type 0} (custody : Custody K) (making : Making M) (maker : M)
     (w : World) (number : ℕ) (fault : Fault) : Type 0 where
-  without_keeper : refuses number fault
-      → NotOpened is_honest may_hold finds refuses w number fault
+  without_keeper : making.refuses maker number fault
+      → NotOpened custody making maker w number fault
   not_joined : (keeper : K) → fault ≢ KeeperFailed
-      → (Trusts is_honest may_hold keeper
-      → (k : Kept) × finds number k × Joins w number k (Refused fault) w)
-      → NotOpened is_honest may_hold finds refuses w number fault
+      → (Trusts custody keeper
+      → (k : Kept) × making.finds maker number k × Joins w number k (Refused fault) w)
+      → NotOpened custody making maker w number fault
 
-abbrev pub openings_of : {K : Type 0} → (K → Type 0) → (K → Held) → (ℕ → Kept → Type 0)
-    → (ℕ → Fault → Type 0) → Openings
-openings_of is_honest may_hold finds refuses =
-    record { finds = finds; refuses = NotOpened is_honest may_hold finds refuses }
+-- what a maker's keepers may hold, and why a node is not opened
+abbrev pub openings_of : {K M : Type 0} → Custody K → Making M → M → Openings
+openings_of custody making maker =
+    record { finds = making.finds maker; refuses = NotOpened custody making maker }
 
 -- Where all keepers are honest they were before, and each world that it may be now comes by this step from one that it might
 -- have been before, with the openings of the maker before; and the maker makes nothing that it did not make before.
-pub record GoesOn {K M : Type 0} (is_honest : K → Type 0) (may_hold : K → Held)
-    (finds : M → ℕ → Kept → Type 0) (refuses : M → ℕ → Fault → Type 0)
+pub record GoesOn {K M : Type 0} (custody : Custody K) (making : Making M)
     (old new : ClusterOver K M) (step : Openings → World → World → Type 0) : Type 0 where
-  pub goes : Goes is_honest may_hold old.world new.world
-      (step (openings_of is_honest may_hold (finds old.maker) (refuses old.maker)))
-  pub finds_less : (number : ℕ) (k : Kept) → finds new.maker number k → finds old.maker number k
-  pub refuses_less : (number : ℕ) (fault : Fault) → refuses new.maker number fault
-      → refuses old.maker number fault
+  pub goes : Goes custody old.world new.world
+      (step (openings_of custody making old.maker))
+  pub finds_less : (number : ℕ) (k : Kept) → making.finds new.maker number k
+      → making.finds old.maker number k
+  pub refuses_less : (number : ℕ) (fault : Fault) → making.refuses new.maker number fault
+      → making.refuses old.maker number fault

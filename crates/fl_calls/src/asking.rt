@@ -36,7 +36,7 @@ fn starved() -> Response
 
 /// Has the text of the node of this number be written, where it is there. `Stopped` of a stopped one.
 pub fn tell<K: Keeper>(world: &World<K>, number: NodeNumber) -> Response
-    ensures { (w : AnyWorld) (s : KeptNode) → MayBe K.may_hold world.now w → IsAt w number s
+    ensures { (w : AnyWorld) (s : KeptNode) → MayBe K.custody world.now w → IsAt w number s
         → Tells w number (shown world.now result) w }
 {
     let Some(node) = world.node(number) else {
@@ -78,7 +78,7 @@ pub fn unite<K: Keeper>(
     first: NodeNumber,
     second: NodeNumber,
 ) -> Response
-    ensures { (w : AnyWorld) (s t : KeptNode) → MayBe K.may_hold world.now w → IsAt w first s
+    ensures { (w : AnyWorld) (s t : KeptNode) → MayBe K.custody world.now w → IsAt w first s
         → IsAt w second t → Unites w first second (shown world.now result) w }
 {
     let (Some(one), Some(other)) = (world.node(first), world.node(second)) else {
@@ -117,7 +117,7 @@ pub fn check<K: Keeper>(
     number: NodeNumber,
     bytes: &[u8],
 ) -> Response
-    ensures { (w : AnyWorld) (s : KeptNode) → MayBe K.may_hold world.now w → IsAt w number s
+    ensures { (w : AnyWorld) (s : KeptNode) → MayBe K.custody world.now w → IsAt w number s
         → ChecksAt w number bytes.now (shown world.now result) w }
 {
     let Some(node) = world.node(number) else {

@@ -149,7 +149,7 @@ impl<M: MakesKeepers> Cluster<M> {
     fn open(&mut self, alloc: Global, number: NodeNumber) -> Result<(), Fault>
         requires known { 0 < number }
         requires absent { map.get self.old.world.nodes number ≡ None }
-        ensures { GoesOn M.K.is_honest M.K.may_hold M.finds M.refuses self.old self.new
+        ensures { GoesOn M.K.custody M.making self.old self.new
             (λ openings w w'. Enters openings w number result w') }
     {
         match self.maker.make(alloc, number) {
@@ -161,7 +161,7 @@ impl<M: MakesKeepers> Cluster<M> {
     // Opens the node of this number where it is not there. An error leaves the world.
     fn enter(&mut self, alloc: Global, number: NodeNumber) -> Result<(), Fault>
         requires { 0 < number }
-        ensures { GoesOn M.K.is_honest M.K.may_hold M.finds M.refuses self.old self.new
+        ensures { GoesOn M.K.custody M.making self.old self.new
             (λ openings w w'. Enters openings w number result w') }
     {
         match self.world.node(number) {
@@ -177,7 +177,7 @@ impl<M: MakesKeepers> Cluster<M> {
     pub fn ask(&mut self, alloc: Global, event: Event) -> Response
         requires far { LooksFar event }
         requires known { 0 < node_of event }
-        ensures { GoesOn M.K.is_honest M.K.may_hold M.finds M.refuses self.old self.new
+        ensures { GoesOn M.K.custody M.making self.old self.new
             (λ openings w w'. Asks openings w event (shown self.new.world result) w') }
     {
         match self.enter(alloc, number_of(&event)) {
@@ -191,7 +191,7 @@ impl<M: MakesKeepers> Cluster<M> {
     pub fn begin(&mut self, alloc: Global, event: Event) -> Response
         requires far { LooksFar event }
         requires known { 0 < node_of event }
-        ensures { GoesOn M.K.is_honest M.K.may_hold M.finds M.refuses self.old self.new
+        ensures { GoesOn M.K.custody M.making self.old self.new
             (λ openings w w'. AsksToBegin openings w event (shown self.new.world result) w') }
     {
         match self.enter(alloc, number_of(&event)) {
@@ -213,7 +213,7 @@ impl<M: MakesKeepers> Cluster<M> {
     /// opened.
     pub fn deliver(&mut self, alloc: Global, number: NodeNumber, packet: u32) -> Response
         requires { 0 < number }
-        ensures { GoesOn M.K.is_honest M.K.may_hold M.finds M.refuses self.old self.new
+        ensures { GoesOn M.K.custody M.making self.old self.new
             (λ openings w w'. Delivers openings w number packet (shown self.new.world result) w') }
     {
         let Some(sent) = self.packet(packet) else {
@@ -234,7 +234,7 @@ impl<M: MakesKeepers> Cluster<M> {
     /// no node is opened.
     pub fn begin_to_take(&mut self, alloc: Global, number: NodeNumber, packet: u32) -> Response
         requires { 0 < number }
-        ensures { GoesOn M.K.is_honest M.K.may_hold M.finds M.refuses self.old self.new
+        ensures { GoesOn M.K.custody M.making self.old self.new
             (λ openings w w'. BeginsToTake openings w number packet (shown self.new.world result) w') }
     {
         let Some(sent) = self.packet(packet) else {
@@ -252,7 +252,7 @@ impl<M: MakesKeepers> Cluster<M> {
     /// Has the text of the node be written, which is opened where it is not there. `Stopped` of a stopped one.
     pub fn text(&mut self, alloc: Global, number: NodeNumber) -> Response
         requires { 0 < number }
-        ensures { GoesOn M.K.is_honest M.K.may_hold M.finds M.refuses self.old self.new
+        ensures { GoesOn M.K.custody M.making self.old self.new
             (λ openings w w'. AsksForText openings w number (shown self.new.world result) w') }
     {
         match self.enter(alloc, number) {
@@ -266,7 +266,7 @@ impl<M: MakesKeepers> Cluster<M> {
     pub fn union(&mut self, alloc: Global, first: NodeNumber, second: NodeNumber) -> Response
         requires first { 0 < first }
         requires second { 0 < second }
-        ensures { GoesOn M.K.is_honest M.K.may_hold M.finds M.refuses self.old self.new
+        ensures { GoesOn M.K.custody M.making self.old self.new
             (λ openings w w'. AsksForUnion openings w first second (shown self.new.world result) w') }
     {
         match self.enter(alloc, first) {
@@ -282,7 +282,7 @@ impl<M: MakesKeepers> Cluster<M> {
     /// none, and else as `Node::check` has it.
     pub fn check(&mut self, alloc: Global, number: NodeNumber, bytes: &[u8]) -> Response
         requires { 0 < number }
-        ensures { GoesOn M.K.is_honest M.K.may_hold M.finds M.refuses self.old self.new
+        ensures { GoesOn M.K.custody M.making self.old self.new
             (λ openings w w'. AsksToCheck openings w number bytes.now (shown self.new.world result) w') }
     {
         match self.enter(alloc, number) {
@@ -293,7 +293,7 @@ impl<M: MakesKeepers> Cluster<M> {
 
     /// How much was admitted.
     pub fn audit(&self) -> Response
-        ensures { (w : AnyWorld) → MayBe M.K.may_hold self.now.world w
+        ensures { (w : AnyWorld) → MayBe M.K.custody self.now.world w
             → AsksForAudit w (shown self.now.world result) w }
     {
         Response::Admitted(self.world.audit().len() as u64)

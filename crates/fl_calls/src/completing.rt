@@ -49,7 +49,7 @@ fn is_starved(reply: &Reply) -> bool
 
 // Saves what is to be saved at the node, and publishes it. Where saving wants memory, it is given up.
 fn finish<K: Keeper>(alloc: Global, world: &mut World<K>, number: NodeNumber) -> Reply
-    ensures { Goes K.is_honest K.may_hold world.old world.new (λ w w'. Finishes w number result w') }
+    ensures { Goes K.custody world.old world.new (λ w w'. Finishes w number result w') }
 {
     let reply = world.save(number);
     if is_done(&reply) {
@@ -65,7 +65,7 @@ fn finish<K: Keeper>(alloc: Global, world: &mut World<K>, number: NodeNumber) ->
 #[inline(always)]
 pub fn complete<K: Keeper>(alloc: Global, world: &mut World<K>, event: Event) -> Reply
     requires { LooksFar event }
-    ensures { Goes K.is_honest K.may_hold world.old world.new (λ w w'. Completes w event result w') }
+    ensures { Goes K.custody world.old world.new (λ w w'. Completes w event result w') }
 {
     let number = number_of(&event);
     let reply = world.step(alloc, event);

@@ -3,9 +3,10 @@ use Rattle.std.proofs.Common.{◌≡◌, ◌∙◌, refl, sym, ap, subst, ℕ, t
 use Rattle.fl_aliases.specs.Table.{Table}
 use Rattle.fl_aliases.specs.declared.target.Target.{Target}
 use Rattle.fl_sink.specs.Sink.{Passes, Cuts}
+use Rattle.fl_store.specs.Custody.{Custody}
 use Rattle.fl_store.specs.Kept.{Kept}
-use Rattle.fl_store.specs.Keeping.{Held}
 use Rattle.fl_stream.specs.Turns.{AnswerPasses, AnswerCuts}
+use Rattle.fl_makers.specs.Making.{Making}
 use Rattle.fl_script.specs.Reading.{IsReading, ReadingTakesMemory, makes}
 use Rattle.fl_script.specs.laws.NamedLines.{named_takes}
 use Rattle.fl_script.specs.declared.line.Line.{Line}
@@ -38,11 +39,10 @@ none_listed : {openings : Openings} {old : Session} {l : Line} {table : Table} {
     → AnswersLine openings old l (listed table) w → ⊥
 none_listed made lists = absurd (cc)
 
-module _ {K M : Type 0} (is_honest : K → Type 0) (may_hold : K → Held) (finds : M → ℕ → Kept → Type 0)
-    (refuses : M → ℕ → Fault → Type 0) where
+module _ {K M : Type 0} (custody : Custody K) (making : Making M) where
   goes_on_as : (old new : ClusterOver K M) (s t : Openings → World → World → Type 0)
       → ((openings : Openings) (w w' : World) → s openings w w' → t openings w w')
-      → GoesOn is_honest may_hold finds refuses old new s → GoesOn is_honest may_hold finds refuses old new t
+      → GoesOn custody making old new s → GoesOn custody making old new t
   goes_on_as old new s t leads on = record {
     goes = record {
       honest = on.goes.honest;
@@ -56,8 +56,8 @@ module _ {K M : Type 0} (is_honest : K → Type 0) (may_hold : K → Held) (find
 
   -- nothing changes
   stays : (over : ClusterOver K M) (step : Openings → World → World → Type 0)
-      → ((openings : Openings) (w : World) → MayBe may_hold over.world w → step openings w w)
-      → GoesOn is_honest may_hold finds refuses over over step
+      → ((openings : Openings) (w : World) → MayBe custody over.world w → step openings w w)
+      → GoesOn custody making over over step
   stays over step h = record {
     goes = record { honest = λ all. all; comes = λ all after is. (after, is, h _ after is) };
     finds_less = λ number k found. found;
@@ -65,32 +65,32 @@ module _ {K M : Type 0} (is_honest : K → Type 0) (may_hold : K → Held) (find
   }
 
   pub responds_asked : (old new : ClusterOver K M) (node : ℕ) (request : Request) (said : Said)
-      → GoesOn is_honest may_hold finds refuses old new
+      → GoesOn custody making old new
       (λ openings w w'. AsksNode openings w node request (shown_of new.world said) w')
-      → RespondsTo is_honest may_hold finds refuses old (line.Node node request) (response.Said said) new
+      → RespondsTo custody making old (line.Node node request) (response.Said said) new
   responds_asked old new node request said on =
       goes_on_as old new _ _ (λ openings w w' h aliases. asks h) on
 
   pub responds_united : (old new : ClusterOver K M) (first second : ℕ) (said : Said)
-      → GoesOn is_honest may_hold finds refuses old new
+      → GoesOn custody making old new
       (λ openings w w'. AsksForUnion openings w first second (shown_of new.world said) w')
-      → RespondsTo is_honest may_hold finds refuses old (line.Union first second) (response.Said said) new
+      → RespondsTo custody making old (line.Union first second) (response.Said said) new
   responds_united old new first second said on =
       goes_on_as old new _ _ (λ openings w w' h aliases. unites h) on
 
   pub responds_counted : (over : ClusterOver K M) (said : Said)
-      → ((w : World) → MayBe may_hold over.world w → AsksForAudit w (shown_of over.world said) w)
-      → RespondsTo is_honest may_hold finds refuses over line.Audit (response.Said said) over
+      → ((w : World) → MayBe custody over.world w → AsksForAudit w (shown_of over.world said) w)
+      → RespondsTo custody making over line.Audit (response.Said said) over
   responds_counted over said h = stays over _ (λ openings w is aliases. counts (h w is))
 
   pub responds_listed : (over : ClusterOver K M)
-      → RespondsTo is_honest may_hold finds refuses over line.Aliases response.Aliases over
+      → RespondsTo custody making over line.Aliases response.Aliases over
   responds_listed over = stays over _ (λ openings w is aliases. lists)
 
   -- without an alias all aliases stay
   pub names_none : (old new : SessionOver K M) (l : Line) (r : Response) → new.aliases ≡ old.aliases
-      → RespondsTo is_honest may_hold finds refuses old.cluster l r new.cluster
-      → Names is_honest may_hold finds refuses old l None r new
+      → RespondsTo custody making old.cluster l r new.cluster
+      → Names custody making old l None r new
   names_none old new l r same on =
       goes_on_as old.cluster new.cluster _ _
       (λ openings w w' h. record {
@@ -110,8 +110,8 @@ module _ {K M : Type 0} (is_honest : K → Type 0) (may_hold : K → Held) (find
   -- the alias stands for what the line made
   pub names_some : (old new : SessionOver K M) (l : Line) (alias : List ℕ) (r : Response) (made : Option Target)
       → makes l ≡ true → new.aliases ≡ renamed old.aliases (Some alias) made → made ≡ made_said r
-      → RespondsTo is_honest may_hold finds refuses old.cluster l r new.cluster
-      → Names is_honest may_hold finds refuses old l (Some alias) r new
+      → RespondsTo custody making old.cluster l r new.cluster
+      → Names custody making old l (Some alias) r new
   names_some old new l alias r made makes_it is same on =
       goes_on_as old.cluster new.cluster _ _
       (λ openings w w' h. record {
@@ -120,23 +120,23 @@ module _ {K M : Type 0} (is_honest : K → Type 0) (may_hold : K → Held) (find
       }) on
 
   pub turns_quiet : (over : SessionOver K M) (bytes : List ℕ) → IsReading over.aliases bytes reading.Quiet
-      → TurnOver is_honest may_hold finds refuses over bytes silence over
+      → TurnOver custody making over bytes silence over
   turns_quiet over bytes says =
       stays over.cluster _ (λ openings w is. inl (record { reading = reading.Quiet; says = says; answered = (refl, refl) }))
 
   pub turns_bad : (over : SessionOver K M) (bytes : List ℕ) → IsReading over.aliases bytes reading.Bad
-      → TurnOver is_honest may_hold finds refuses over bytes bad_line over
+      → TurnOver custody making over bytes bad_line over
   turns_bad over bytes says =
       stays over.cluster _ (λ openings w is. inl (record { reading = reading.Bad; says = says; answered = (refl, refl) }))
 
   pub turns_starved : (over : SessionOver K M) (bytes : List ℕ) → ReadingTakesMemory bytes
-      → TurnOver is_honest may_hold finds refuses over bytes starved_line over
+      → TurnOver custody making over bytes starved_line over
   turns_starved over bytes takes =
       stays over.cluster _ (λ openings w is. inr (record { takes = takes; answered = refl; unchanged = refl }))
 
   pub turns_named : (old new : SessionOver K M) (bytes : List ℕ) (l : Line) (alias : Option (List ℕ)) (r : Response)
-      → IsReading old.aliases bytes (reading.Means l alias) → Names is_honest may_hold finds refuses old l alias r new
-      → TurnOver is_honest may_hold finds refuses old bytes (shown new r) new
+      → IsReading old.aliases bytes (reading.Means l alias) → Names custody making old l alias r new
+      → TurnOver custody making old bytes (shown new r) new
   turns_named old new bytes l alias r says on =
       goes_on_as old.cluster new.cluster _ _
       (λ openings w w' h. inl (record { reading = reading.Means l alias; says = says; answered = h })) on
@@ -144,8 +144,8 @@ module _ {K M : Type 0} (is_honest : K → Type 0) (may_hold : K → Held) (find
   -- a line with an alias takes memory to read
   pub turns_placed : (old new : SessionOver K M) (bytes : List ℕ) (l : Line) (alias : List ℕ) (r : Response)
       → IsReading old.aliases bytes (reading.Means l (Some alias))
-      → NamesOrStarves is_honest may_hold finds refuses old l (Some alias) r new
-      → TurnOver is_honest may_hold finds refuses old bytes (shown new r) new
+      → NamesOrStarves custody making old l (Some alias) r new
+      → TurnOver custody making old bytes (shown new r) new
   turns_placed old new bytes l alias r says (inl on) = turns_named old new bytes l (Some alias) r says on
   turns_placed old new bytes l alias r says (inr h) =
       rw (h.0, h.1) (turns_starved old bytes (named_takes says))
@@ -153,9 +153,9 @@ module _ {K M : Type 0} (is_honest : K → Type 0) (may_hold : K → Held) (find
   -- the response's text passed, and its status was told
   pub passes_answer : {before after : Option (List ℕ)} {pending rest : List ℕ} (number : ℕ) (old new : SessionOver K M)
       (line : List ℕ) (r : Response) (status : ℕ) → status ≡ status_said r
-      → TurnOver is_honest may_hold finds refuses old line (shown new r) new
+      → TurnOver custody making old line (shown new r) new
       → Passes before after pending (text_of number (shown new r)) rest
-      → AnswerPasses (TurnsOver is_honest may_hold finds refuses) number old line status new before after pending rest
+      → AnswerPasses (TurnsOver custody making) number old line status new before after pending rest
   passes_answer number old new line r status is turn passed = record {
     text = text_of number (shown new r);
     turn = record {
@@ -169,9 +169,9 @@ module _ {K M : Type 0} (is_honest : K → Type 0) (may_hold : K → Held) (find
   -- a front of the answer's text was written
   pub cuts_answer : {before after : Option (List ℕ)} {pending : List ℕ} (number : ℕ) (old new : SessionOver K M)
       (line : List ℕ) (answer : Answer)
-      → TurnOver is_honest may_hold finds refuses old line answer new
+      → TurnOver custody making old line answer new
       → Cuts before after pending (text_of number answer)
-      → AnswerCuts (TurnsOver is_honest may_hold finds refuses) number old line new before after pending
+      → AnswerCuts (TurnsOver custody making) number old line new before after pending
   cuts_answer number old new line answer turn cut = record {
     output = output_of number answer;
     turn = record { answer = answer; turn = turn; output_is = refl };

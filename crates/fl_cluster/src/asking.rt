@@ -41,7 +41,7 @@ fn respond_for<M: MakesKeepers>(
     request: Request,
 ) -> Said
     requires { 0 < node }
-    ensures { GoesOn M.K.is_honest M.K.may_hold M.finds M.refuses cluster.old cluster.new
+    ensures { GoesOn M.K.custody M.making cluster.old cluster.new
         (λ openings w w'. AsksNode openings w node request (shown cluster.new.world result) w') }
 {
     match request {
@@ -65,7 +65,7 @@ fn respond_for<M: MakesKeepers>(
 #[inline(always)]
 pub fn respond_to<M: MakesKeepers>(alloc: Global, cluster: &mut Cluster<M>, line: Line) -> Response
     requires { All (λ node. 0 < node) (nodes_of line) }
-    ensures { RespondsTo M.K.is_honest M.K.may_hold M.finds M.refuses
+    ensures { RespondsTo M.K.custody M.making
         cluster.old line result cluster.new }
 {
     match line {

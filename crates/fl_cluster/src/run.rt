@@ -38,22 +38,22 @@ pub fn converse<RT: AllocGlobal, C: Conversation<W>, W: Writer, M: MakesKeepers 
     requires fresh { C.hearings input.old ≡ 0 }
     requires said { C.said output.old ≡ W.contents output.old }
     requires due { (heard : List ℕ) (said : Option (List ℕ)) (mid : SessionOver M.K M) →
-        Answered (TurnsOver M.K.is_honest M.K.may_hold M.finds M.refuses) (begun_over keepers)
+        Answered (TurnsOver M.K.custody M.making) (begun_over keepers)
         heard (W.contents output.old) said mid → C.may_hear heard said }
     ensures one_run { IfOk result.1 (λ status. IfSome (C.remaining input.old) (λ script.
-        RunsScript M.K.is_honest M.K.may_hold M.finds M.refuses keepers
+        RunsScript M.K.custody M.making keepers
         (W.contents output.old) (W.contents output.new) script status result.0)) }
     ensures first_run { OnErr result.1 (IfSome (C.remaining input.old) (λ script.
-        RunsFirst M.K.is_honest M.K.may_hold M.finds M.refuses keepers
+        RunsFirst M.K.custody M.making keepers
         (W.contents output.old) (W.contents output.new) script result.0)) }
     ensures ok { IfOk result.1 (λ status. IfSome (C.remaining input.old) (λ script.
-        WritesOutput (TurnsOver M.K.is_honest M.K.may_hold M.finds M.refuses) (begun_over keepers)
+        WritesOutput (TurnsOver M.K.custody M.making) (begun_over keepers)
         (W.contents output.old) (W.contents output.new) script status result.0)) }
     ensures whole { OnOk result.1 (IsAtEnd (C.remaining input.new)) }
     ensures short { OnOk result.1 (IfSome (C.remaining input.old) (λ script. length script ≤ 16777216)) }
     ensures said { OnOk result.1 (C.said output.new ≡ W.contents output.new) }
     ensures served { IfErr result.1 (λ e. e ≡ RunFault.Read →
-        Served (TurnsOver M.K.is_honest M.K.may_hold M.finds M.refuses) (begun_over keepers)
+        Served (TurnsOver M.K.custody M.making) (begun_over keepers)
         (C.remaining input.old) (C.remaining input.new)
         (W.contents output.old) (W.contents output.new) result.0) }
     ensures cause { IfErr result.1 (λ e. e ≡ RunFault.Read → C.is_deaf input.new
@@ -64,7 +64,7 @@ pub fn converse<RT: AllocGlobal, C: Conversation<W>, W: Writer, M: MakesKeepers 
         MayLackRoom (C.remaining input.old) (C.remaining input.new)
         (C.heard input.old) (C.heard input.new)) }
     ensures err { OnErr result.1 (IfSome (C.remaining input.old) (λ script.
-        WritesFirst (TurnsOver M.K.is_honest M.K.may_hold M.finds M.refuses) (begun_over keepers)
+        WritesFirst (TurnsOver M.K.custody M.making) (begun_over keepers)
         (W.contents output.old) (W.contents output.new) script result.0)) }
 {
     let alloc = rt.alloc();
@@ -93,28 +93,28 @@ pub fn run<RT: AllocGlobal, R: Read, W: Write, M: MakesKeepers + Drop>(
 
     // Where the keepers are honest at the end, the text is that of one run of the definitions.
     ensures one_run { IfOk result.1 (λ status. IfSome (R.remaining input.old) (λ script.
-        RunsScript M.K.is_honest M.K.may_hold M.finds M.refuses keepers
+        RunsScript M.K.custody M.making keepers
         (W.contents output.old) (W.contents output.new) script status result.0)) }
     ensures first_run { OnErr result.1 (IfSome (R.remaining input.old) (λ script.
-        RunsFirst M.K.is_honest M.K.may_hold M.finds M.refuses keepers
+        RunsFirst M.K.custody M.making keepers
         (W.contents output.old) (W.contents output.new) script result.0)) }
 
     // Whatever the keepers are, the lines were answered one after another, up to the session at the end.
     ensures ok { IfOk result.1 (λ status. IfSome (R.remaining input.old) (λ script.
-        WritesOutput (TurnsOver M.K.is_honest M.K.may_hold M.finds M.refuses) (begun_over keepers)
+        WritesOutput (TurnsOver M.K.custody M.making) (begun_over keepers)
         (W.contents output.old) (W.contents output.new) script status result.0)) }
     ensures whole { OnOk result.1 (IsAtEnd (R.remaining input.new)) }
     ensures short { OnOk result.1 (IfSome (R.remaining input.old) (λ script. length script ≤ 16777216)) }
 
     // Any read may fail, so that all lines that have ended are answered before each.
     ensures served { IfErr result.1 (λ e. e ≡ RunFault.Read →
-        Served (TurnsOver M.K.is_honest M.K.may_hold M.finds M.refuses) (begun_over keepers)
+        Served (TurnsOver M.K.custody M.making) (begun_over keepers)
         (R.remaining input.old) (R.remaining input.new)
         (W.contents output.old) (W.contents output.new) result.0) }
     ensures memory_cause { IfErr result.1 (λ e. e ≡ RunFault.Memory →
         MayLackRoom (R.remaining input.old) (R.remaining input.new) None None) }
     ensures err { OnErr result.1 (IfSome (R.remaining input.old) (λ script.
-        WritesFirst (TurnsOver M.K.is_honest M.K.may_hold M.finds M.refuses) (begun_over keepers)
+        WritesFirst (TurnsOver M.K.custody M.making) (begun_over keepers)
         (W.contents output.old) (W.contents output.new) script result.0)) }
 {
     converse(rt, input, output, keepers)

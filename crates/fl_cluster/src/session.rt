@@ -100,7 +100,7 @@ impl<M: MakesKeepers> Session<M> {
 
     /// What is answered to the line. Where memory is wanted before anything is asked of the world, nothing changes.
     pub(crate) fn respond(&mut self, alloc: Global, line: &[u8]) -> Response
-        ensures { TurnOver M.K.is_honest M.K.may_hold M.finds M.refuses
+        ensures { TurnOver M.K.custody M.making
             self.old line.now (shown self.new result) self.new }
     {
         match read_line(alloc, &self.aliases, line) {
@@ -113,7 +113,7 @@ impl<M: MakesKeepers> Session<M> {
     fn answer_reading(&mut self, alloc: Global, reading: Reading) -> Response
         requires { (bytes : List ℕ) × IsReading self.old.aliases bytes reading }
         ensures { (bytes : List ℕ) → IsReading self.old.aliases bytes reading
-            → TurnOver M.K.is_honest M.K.may_hold M.finds M.refuses
+            → TurnOver M.K.custody M.making
             self.old bytes (shown self.new result) self.new }
     {
         match reading {
@@ -129,7 +129,7 @@ impl<M: MakesKeepers> Session<M> {
     // Answers the line, which has no alias.
     fn answer(&mut self, alloc: Global, line: Line) -> Response
         requires nodes { All (λ node. 0 < node) (nodes_of line) }
-        ensures { Names M.K.is_honest M.K.may_hold M.finds M.refuses
+        ensures { Names M.K.custody M.making
             self.old line None result self.new }
     {
         respond_to(alloc, &mut self.cluster, line)
@@ -141,7 +141,7 @@ impl<M: MakesKeepers> Session<M> {
         requires nodes { All (λ node. 0 < node) (nodes_of line) }
         requires makes { makes line ≡ true }
         requires room { length self.old.aliases < 1024 }
-        ensures { NamesOrStarves M.K.is_honest M.K.may_hold M.finds M.refuses
+        ensures { NamesOrStarves M.K.custody M.making
             self.old line (Some alias) result self.new }
     {
         let Ok(is_new) = self.aliases.place(alias, UNMADE) else {
@@ -157,7 +157,7 @@ impl<M: MakesKeepers> Session<M> {
 impl<M: MakesKeepers> Machine for Session<M> {
     ghost use Rattle.fl_turns.specs.Over.{TurnsOver};
 
-    ghost turns = { TurnsOver M.K.is_honest M.K.may_hold M.finds M.refuses };
+    ghost turns = { TurnsOver M.K.custody M.making };
 
     fn answer<W: Writer>(
         &mut self,

@@ -48,11 +48,11 @@ impl<'a> MakesKeepers for DirMaker<'a> {
     type K = SqlKeeper<FileStore<File>>;
 
     // what is on a disk is not known, but for whose it is
-    ghost finds = { λ _ number k. k.number ≡ number };
-
-    ghost unmade = { λ _ _ fault. IsKeeperFault fault };
-
-    ghost refuses = { λ _ _ fault. IsKeeperFault fault };
+    ghost making = { record {
+      finds = λ maker number k. k.number ≡ number;
+      unmade = λ maker number fault. IsKeeperFault fault;
+      refuses = λ maker number fault. IsKeeperFault fault;
+    } };
 
     ghost told = { λ _ _ _ why. why };
 

@@ -1,4 +1,4 @@
--- What a new keeper holds, and why none could be made.
+-- What is promised of a maker of keepers, and of those that are made.
 use Rattle.std.specs.Prelude.{◌≡◌, ◌⊎◌, ℕ}
 use Rattle.fl_labels.specs.SetBy as set
 use Rattle.fl_store.specs.Kept.{Kept}
@@ -14,3 +14,12 @@ nothing_kept number = record { number = number; boot = 0; saved = set.empty }
 abbrev pub IsKeeperFault : Fault → Type 0
 IsKeeperFault fault =
     (fault ≡ Refused Memory) ⊎ ((fault ≡ KeeperFailed) ⊎ (fault ≡ WrongNode))
+
+-- what is promised of a maker, in one word
+pub record Making (M : Type 0) : Type 1 where
+  -- what a keeper made for the node of this number may hold, from this maker on
+  pub finds : M → ℕ → Kept → Type 0
+  -- why none may be made for it
+  pub unmade : M → ℕ → Fault → Type 0
+  -- why it may not be opened for its keeper's sake: none is made, or the one that is made fails
+  pub refuses : M → ℕ → Fault → Type 0

@@ -1,7 +1,5 @@
 //! A maker of keepers in memory.
-ghost use Rattle.std.specs.Prelude.{◌≡◌};
-ghost use Rattle.fl_system.specs.declared.answer.Fault.TheVariants.{KeeperFailed};
-ghost use Rattle.fl_makers.specs.Making.{nothing_kept};
+ghost use Rattle.fl_makers.specs.MemMaking.{mem_making};
 
 use crate::maker::MakesKeepers;
 use fl_labels::name::NodeNumber;
@@ -16,12 +14,7 @@ pub struct MemMaker;
 impl MakesKeepers for MemMaker {
     type K = MemKeeper;
 
-    ghost finds = { λ _ number k. k ≡ nothing_kept number };
-
-    ghost unmade = { λ _ _ _. ⊥ };
-
-    // one breaks only where it is told to, but the contract of a keeper does not say so
-    ghost refuses = { λ _ _ fault. fault ≡ KeeperFailed };
+    ghost making = { mem_making };
 
     ghost told = { λ _ _ _ none. absurd none };
 

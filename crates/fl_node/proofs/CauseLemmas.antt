@@ -1,6 +1,7 @@
 -- Why a node says that its keeper failed, over the calls that an opening goes through.
-use Rattle.std.proofs.Common.{◌≡◌, ◌⊎◌, inl, inr, ◌∙◌, refl, sym, ap, ℕ, Bool, Ok, Err, Result}
-use Rattle.std.specs.Prelude.{IfErr, IsTrue}
+use Rattle.std.proofs.Common.{◌≡◌, ◌⊎◌, inl, inr, ◌∙◌, refl, sym, ap, ℕ, Ok, Err, Result}
+use Rattle.std.specs.Prelude.{IfErr}
+use Rattle.fl_store.specs.Custody.{Custody}
 use Rattle.fl_store.specs.Kept.{Kept, with_batch}
 use Rattle.fl_store.specs.Keeping.{Held, Follows}
 use Rattle.fl_system.specs.declared.answer.Fault.{Fault}
@@ -13,17 +14,17 @@ use Rattle.fl_system.specs.State.{NodeState, ops_of}
 use Rattle.fl_system.specs.Saves.{Saves}
 use Rattle.fl_node.specs.Causes.{KeeperFails, IsStored, LoadsBadRow}
 
-module _ {K T : Type 0} (number_of : K → ℕ) (is_honest : K → Type 0) (may_hold : K → Held) (bad : K → Type 0)
-    (state : State) (keeper : K) (broken : Bool) (honest : Type 0) (r : Result T Fault) where
+module _ {K T : Type 0} (custody : Custody K) (state : State) (keeper : K) (broken : Type 0)
+    (honest : Type 0) (r : Result T Fault) where
   abbrev Bad : Type 0
-  Bad = LoadsBadRow number_of is_honest may_hold bad state keeper
+  Bad = LoadsBadRow custody state keeper
 
   -- the keeper that the node had was loaded
-  pub loads_own : (honest → is_honest keeper) → IfErr r (KeeperFails broken honest (bad keeper))
+  pub loads_own : (honest → custody.is_honest keeper) → IfErr r (KeeperFails broken honest (custody.has_bad_row keeper))
       → IfErr r (KeeperFails broken honest Bad)
   loads_own trusts = by r
     where
-      by : (r : Result T Fault) → IfErr r (KeeperFails broken honest (bad keeper)) → IfErr r (KeeperFails broken honest Bad)
+      by : (r : Result T Fault) → IfErr r (KeeperFails broken honest (custody.has_bad_row keeper)) → IfErr r (KeeperFails broken honest Bad)
       by (Ok x) h = tt
       by (Err fault) h = λ failed. elim (h failed) [
         | inl is ↦ inl is
@@ -38,12 +39,12 @@ module _ {K T : Type 0} (number_of : K → ℕ) (is_honest : K → Type 0) (may_
       ]
 
   -- or that after the saving
-  pub loads_stored : (mid : K) → number_of mid ≡ number_of keeper
-      → (honest → is_honest mid × is_honest keeper × IsStored state (may_hold keeper) (may_hold mid))
-      → IfErr r (KeeperFails broken honest (bad mid)) → IfErr r (KeeperFails broken honest Bad)
+  pub loads_stored : (mid : K) → custody.number mid ≡ custody.number keeper
+      → (honest → custody.is_honest mid × custody.is_honest keeper × IsStored state (custody.may_hold keeper) (custody.may_hold mid))
+      → IfErr r (KeeperFails broken honest (custody.has_bad_row mid)) → IfErr r (KeeperFails broken honest Bad)
   loads_stored mid number stored = by r
     where
-      by : (r : Result T Fault) → IfErr r (KeeperFails broken honest (bad mid)) → IfErr r (KeeperFails broken honest Bad)
+      by : (r : Result T Fault) → IfErr r (KeeperFails broken honest (custody.has_bad_row mid)) → IfErr r (KeeperFails broken honest Bad)
       by (Ok x) h = tt
       by (Err fault) h = λ failed. elim (h failed) [
         | inl is ↦ inl is
@@ -73,8 +74,8 @@ stored_then n batch n' old new is h =
 
 -- the keeper that came back was loaded
 pub with_made : {K T : Type 0} (bad : K → Type 0) (gives : K
-    → Type 0) (broken : Bool) (honest : Type 0) (r : Result T Fault) (made : K) → gives made
+    → Type 0) (broken honest : Type 0) (r : Result T Fault) (made : K) → gives made
     → IfErr r (KeeperFails broken honest (bad made))
-    → IfErr r (λ fault. fault ≡ KeeperFailed → (made : K) × gives made × (IsTrue broken ⊎ (honest → bad made)))
+    → IfErr r (λ fault. fault ≡ KeeperFailed → (made : K) × gives made × (broken ⊎ (honest → bad made)))
 with_made bad gives broken honest (Ok x) made given h = tt
 with_made bad gives broken honest (Err fault) made given h = λ failed. (made, given, h failed)

@@ -40,12 +40,23 @@ module _ (old new : Held) where
 pub other_node : {old : Held} {number own : ℕ} → ((k : Kept) → old k → k.number ≡ own) → own ≢ number → Follows (IsNotFound number WrongNode) old old
 other_node numbered differs after is = (after, is, record { same = refl; fails = FailsToFind.other (λ e. differs (sym (numbered after is) ∙ e)) })
 
-pub load_failed : (broken : Bool) (failed : ℕ) (bad : Type 0) (f : KeeperFault) → LoadFails broken failed bad f → shown_as f ≡ KeeperFailed → IsTrue broken ⊎ bad
-load_failed broken failed bad Memory h is = absurd (cc)
-load_failed broken failed bad Broken h is = inl h.0
-load_failed broken failed bad BadRow h is = inr h
-load_failed broken failed bad IsOther h is = absurd h
-load_failed broken failed bad NamesSpent h is = absurd h
+-- what is told as a failure broke it, or a row is bad
+pub load_failed : (broken : Bool) (failed : ℕ) (bad Why : Type 0) (f : KeeperFault) → (f ≡ Broken → Why)
+    → LoadFails broken failed bad f → shown_as f ≡ KeeperFailed → Why ⊎ bad
+load_failed broken failed bad Why Memory why h is = absurd (cc)
+load_failed broken failed bad Why Broken why h is = inl (why refl)
+load_failed broken failed bad Why BadRow why h is = inr h
+load_failed broken failed bad Why IsOther why h is = absurd h
+load_failed broken failed bad Why NamesSpent why h is = absurd h
+
+-- what is told as a failure broke it
+pub boot_broke : (broken : Bool) (failed : ℕ) (f : KeeperFault) → BootFails broken failed f
+    → shown_as f ≡ KeeperFailed → f ≡ Broken
+boot_broke broken failed Memory h is = absurd (cc)
+boot_broke broken failed Broken h is = refl
+boot_broke broken failed BadRow h is = absurd h
+boot_broke broken failed IsOther h is = absurd h
+boot_broke broken failed NamesSpent h is = absurd (cc)
 
 pub boot_failed : (broken : Bool) (failed : ℕ) (f : KeeperFault) → BootFails broken failed f → shown_as f ≡ KeeperFailed → IsTrue broken
 boot_failed broken failed Memory h is = absurd (cc)

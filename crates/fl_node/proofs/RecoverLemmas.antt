@@ -15,8 +15,9 @@ use Rattle.fl_labels.specs.SetBy.{SetBy, members, of_list, contains, same_set, c
 use Rattle.fl_ops.specs.declared.op.Op.{Op}
 use Rattle.fl_ops.specs.OpOrder.{op_cmp}
 use Rattle.fl_ops.specs.OpLaws.{op_total, op_exact}
+use Rattle.fl_store.specs.Custody.{Custody}
 use Rattle.fl_store.specs.Kept.{Kept, with_ops}
-use Rattle.fl_store.specs.Keeping.{Held, Follows}
+use Rattle.fl_store.specs.Keeping.{Follows}
 use Rattle.fl_system.specs.declared.answer.Fault.{Fault}
 use Rattle.fl_system.specs.declared.state.Batch.{Batch}
 use Rattle.fl_system.specs.declared.state.Pending.TheVariants.{Nothing, Unsaved, Due}
@@ -92,11 +93,11 @@ is_stopped (Running pending) fault h = absurd h
 is_stopped (Stopped doubt) fault h = refl
 
 -- over another keeper
-pub reopens_over : {K : Type 0} (is_honest : K → Type 0) (may_hold : K → Held) (made keeper left : K) (n : NodeState) (result : Result ℕ Fault) (n' : NodeState)
+pub reopens_over : {K : Type 0} (custody : Custody K) (made keeper left : K) (n : NodeState) (result : Result ℕ Fault) (n' : NodeState)
     → made ≡ keeper → n.state ≡ Stopped (doubt_of n.state)
-    → (is_honest left → is_honest made × Follows (λ k k'. OpensAgain n (doubt_of n.state) k result n' k') (may_hold made) (may_hold left))
-    → is_honest left → is_honest keeper × Follows (λ k k'. Reopens n k result n' k') (may_hold keeper) (may_hold left)
-reopens_over is_honest may_hold made keeper left n result n' same stopped h honest =
+    → (custody.is_honest left → custody.is_honest made × Follows (λ k k'. OpensAgain n (doubt_of n.state) k result n' k') (custody.may_hold made) (custody.may_hold left))
+    → custody.is_honest left → custody.is_honest keeper × Follows (λ k k'. Reopens n k result n' k') (custody.may_hold keeper) (custody.may_hold left)
+reopens_over custody made keeper left n result n' same stopped h honest =
     let held = h honest in
-    subst (λ x. is_honest x × Follows (λ k k'. Reopens n k result n' k') (may_hold x) (may_hold left)) same
+    subst (λ x. custody.is_honest x × Follows (λ k k'. Reopens n k result n' k') (custody.may_hold x) (custody.may_hold left)) same
     (held.0, λ after is. let b = held.1 after is in (b.0, b.1, Reopens.reopens stopped b.2))

@@ -40,8 +40,8 @@ module _ {honest honest' : Type 0} {held held' : Held} {number boot : ℕ} {save
     indexed = h.indexed;
     once = subst HasNamesOnce (sym saved_is) (once-more (ops_of batch) saved h.fresh h.once);
     fresh = tt;
-    kept = λ is_honest k is.
-        let s = step is_honest in
+    kept = λ trusted k is.
+        let s = step trusted in
         let b = s.1 k is in
         b.2 ∙ ap (λ (x : Kept). with_batch x (ops_of batch)) (h.kept s.0 b.0 b.1) ∙ (λ i. record { number = number; boot = boot; saved = (sym saved_is) i });
   }
@@ -56,8 +56,8 @@ module _ {honest honest' : Type 0} {held held' : Held} {number boot : ℕ} {save
     indexed = h.indexed;
     once = subst HasNamesOnce (sym saved_is) h.once;
     fresh = subst (IsFresh (Running pending)) (sym saved_is) h.fresh;
-    kept = λ is_honest k is.
-        let s = step is_honest in
+    kept = λ trusted k is.
+        let s = step trusted in
         let b = s.1 k is in
         b.2 ∙ h.kept s.0 b.0 b.1 ∙ (λ i. record { number = number; boot = boot; saved = (sym saved_is) i });
   }

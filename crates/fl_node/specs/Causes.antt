@@ -1,5 +1,6 @@
 -- Why a node says that its keeper failed.
-use Rattle.std.specs.Prelude.{◌≡◌, ◌⊎◌, ℕ, Bool, IsTrue}
+use Rattle.std.specs.Prelude.{◌≡◌, ◌⊎◌}
+use Rattle.fl_store.specs.Custody.{Custody}
 use Rattle.fl_store.specs.Kept.{with_batch}
 use Rattle.fl_store.specs.Keeping.{Held, Follows}
 use Rattle.fl_system.specs.declared.answer.Fault.{Fault}
@@ -10,9 +11,10 @@ use Rattle.fl_system.specs.declared.state.State.{State}
 use Rattle.fl_system.specs.declared.state.State.TheVariants.{Running}
 use Rattle.fl_system.specs.State.{ops_of}
 
--- where it says so the keeper is broken, or, as far as it is honest, one of its rows is bad
-abbrev pub KeeperFails : Bool → Type 0 → Type 0 → Fault → Type 0
-KeeperFails broken honest bad fault = fault ≡ KeeperFailed → IsTrue broken ⊎ (honest → bad)
+-- where it says so the keeper is broken, for this cause, or, as far as it is honest, one of its rows is
+-- bad
+abbrev pub KeeperFails : Type 0 → Type 0 → Type 0 → Fault → Type 0
+KeeperFails broken honest bad fault = fault ≡ KeeperFailed → broken ⊎ (honest → bad)
 
 -- what was to be saved is kept too
 abbrev pub IsStored : State → Held → Held → Type 0
@@ -22,11 +24,11 @@ IsStored state old new =
 
 -- A keeper with a bad row, of the same number: the one that the node had, or that after what was to be
 -- saved was saved. Both are honest.
-pub record LoadsBadRow {K : Type 0} (number_of : K → ℕ) (is_honest : K → Type 0)
-    (may_hold : K → Held) (has_bad_row : K → Type 0) (state : State) (keeper : K) : Type 0 where
+pub record LoadsBadRow {K : Type 0} (custody : Custody K) (state : State) (keeper : K) : Type 0 where
   pub loaded : K
-  pub bad : has_bad_row loaded
-  pub honest : is_honest loaded
-  pub was_honest : is_honest keeper
-  pub number : number_of loaded ≡ number_of keeper
-  pub left : (loaded ≡ keeper) ⊎ IsStored state (may_hold keeper) (may_hold loaded)
+  pub bad : custody.has_bad_row loaded
+  pub honest : custody.is_honest loaded
+  pub was_honest : custody.is_honest keeper
+  pub number : custody.number loaded ≡ custody.number keeper
+  pub left : (loaded ≡ keeper)
+      ⊎ IsStored state (custody.may_hold keeper) (custody.may_hold loaded)

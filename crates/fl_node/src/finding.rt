@@ -1,6 +1,8 @@
 // What an opening finds at a keeper, and makes of it.
-ghost use Rattle.std.specs.Prelude.{◌≡◌, ◌<◌, IsTrue, Err, IfOk, IfErr};
+ghost use Rattle.std.specs.Prelude.{◌≡◌, ◌⊎◌, ◌<◌, IsTrue, Err, IfOk, IfErr};
 ghost use Rattle.fl_labels.specs.SetBy as set;
+ghost use Rattle.fl_store.specs.Breaking.{IsLeftBroken};
+ghost use Rattle.fl_store.specs.Call.{Load, Boot};
 ghost use Rattle.fl_store.specs.Kept.{HasNamesOnce};
 ghost use Rattle.fl_node.specs.Causes.{KeeperFails};
 ghost use Rattle.fl_node.specs.parts.Finding.{Finds, Raises, shown_as};
@@ -28,16 +30,21 @@ fn shown(fault: KeeperFault) -> Fault
 
 /// The saved operations, where the keeper is this node's.
 pub fn find<K: Keeper>(alloc: Global, keeper: &mut K, number: NodeNumber) -> Result<OpSet, Fault>
-    ensures number { K.number keeper.new ≡ K.number keeper.old }
-    ensures own { IfOk result (λ saved. K.number keeper.old ≡ number) }
-    ensures cause { let bad = K.has_bad_row keeper.old in
-        IfErr result (KeeperFails (K.is_broken keeper.new) (K.is_honest keeper.new) bad) }
-    ensures broken { IsTrue (K.is_broken keeper.old) → K.number keeper.old ≡ number
+    ensures number { K.custody.number keeper.new ≡ K.custody.number keeper.old }
+    ensures own { IfOk result (λ saved. K.custody.number keeper.old ≡ number) }
+    ensures cause { let broken = IsLeftBroken K.custody keeper.old keeper.new in
+        let bad = K.custody.has_bad_row keeper.old in
+        IfErr result (KeeperFails broken (K.custody.is_honest keeper.new) bad) }
+    ensures sound { IfOk result (λ saved. ¬ IsTrue (K.custody.is_broken keeper.new)) }
+    ensures loads { IfOk result (λ saved. K.custody.is_honest keeper.new
+        → K.custody.becomes Load keeper.old keeper.new) }
+    ensures broken { IsTrue (K.custody.is_broken keeper.old) → K.custody.number keeper.old ≡ number
         → result ≡ Err Fault.KeeperFailed }
-    ensures whole { IfOk result (λ saved. K.is_honest keeper.new → ¬ K.has_bad_row keeper.old) }
+    ensures whole { IfOk result (λ saved. K.custody.is_honest keeper.new
+        → ¬ K.custody.has_bad_row keeper.old) }
     ensures names { IfOk result HasNamesOnce }
-    ensures held { K.is_honest keeper.new → K.is_honest keeper.old
-        × Finds number (K.may_hold keeper.old) (K.may_hold keeper.new) result }
+    ensures held { K.custody.is_honest keeper.new → K.custody.is_honest keeper.old
+        × Finds number (K.custody.may_hold keeper.old) (K.custody.may_hold keeper.new) result }
 {
     if keeper.number() != number {
         return Err(Fault::WrongNode);
@@ -50,12 +57,14 @@ pub fn find<K: Keeper>(alloc: Global, keeper: &mut K, number: NodeNumber) -> Res
 
 /// The next boot.
 pub fn raise<K: Keeper>(keeper: &mut K) -> Result<u32, Fault>
-    ensures number { K.number keeper.new ≡ K.number keeper.old }
-    ensures cause { let honest = K.is_honest keeper.new in
-        IfErr result (KeeperFails (K.is_broken keeper.new) honest ⊥) }
+    ensures number { K.custody.number keeper.new ≡ K.custody.number keeper.old }
+    ensures cause { IfErr result (λ fault. fault ≡ Fault.KeeperFailed
+        → IsTrue (K.custody.is_broken keeper.new)) }
+    ensures broke { K.custody.is_honest keeper.new → result ≡ Err Fault.KeeperFailed
+        → IsTrue (K.custody.is_broken keeper.old) ⊎ K.custody.breaks Boot keeper.old keeper.new }
     ensures positive { IfOk result (λ boot. 0 < boot) }
-    ensures held { K.is_honest keeper.new → K.is_honest keeper.old
-        × Raises (K.may_hold keeper.old) (K.may_hold keeper.new) result }
+    ensures held { K.custody.is_honest keeper.new → K.custody.is_honest keeper.old
+        × Raises (K.custody.may_hold keeper.old) (K.custody.may_hold keeper.new) result }
 {
     match keeper.boot() {
         Ok(boot) => Ok(boot),

@@ -61,14 +61,14 @@ pub fn add_batch(saved: &mut OpSet, batch: &Batch) -> Result<(), AllocError>
 /// Saves a batch of new names. An error leaves the set.
 pub fn keep<K: Keeper>(keeper: &mut K, saved: &mut OpSet, batch: &Batch) -> Result<(), Unkept>
     requires new { AreNew (ops_of batch.now) saved.old }
-    requires kept { K.is_honest keeper.old → (k : Kept) → K.may_hold keeper.old k
+    requires kept { K.custody.is_honest keeper.old → (k : Kept) → K.custody.may_hold keeper.old k
         → k.saved ≡ saved.old }
     ensures ok { OnOk result (saved.new ≡ with_ops saved.old (ops_of batch.now)) }
     ensures err { OnErr result (saved.new ≡ saved.old) }
-    ensures broken { result ≡ Err Unkept.Broken → IsTrue (K.is_broken keeper.new) }
-    ensures number { K.number keeper.new ≡ K.number keeper.old }
-    ensures held { K.is_honest keeper.new → K.is_honest keeper.old
-        × Keeps (ops_of batch.now) (K.may_hold keeper.old) (K.may_hold keeper.new) result }
+    ensures broken { result ≡ Err Unkept.Broken → IsTrue (K.custody.is_broken keeper.new) }
+    ensures number { K.custody.number keeper.new ≡ K.custody.number keeper.old }
+    ensures held { K.custody.is_honest keeper.new → K.custody.is_honest keeper.old
+        × Keeps (ops_of batch.now) (K.custody.may_hold keeper.old) (K.custody.may_hold keeper.new) result }
 {
     let Ok(()) = add_batch(saved, batch) else {
         return Err(Unkept::Memory);

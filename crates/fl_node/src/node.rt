@@ -5,6 +5,7 @@ ghost use Rattle.std.specs.Option.{option_copied};
 ghost use Rattle.fl_labels.specs.SetBy as set;
 ghost use Rattle.fl_opset.specs.RegistryText.{registry_text};
 ghost use Rattle.fl_sink.specs.Sink.{Writes};
+ghost use Rattle.fl_store.specs.Breaking.{IsLeftBroken};
 ghost use Rattle.fl_store.specs.Kept.{HasNamesOnce};
 ghost use Rattle.fl_store.specs.Keeping.{Follows};
 ghost use Rattle.fl_bench.specs.Process.{owned_by};
@@ -80,7 +81,7 @@ impl<K: Keeper> Model for Node<K> {
       keeper = a.keeper;
     } };
 
-    ghost invariant = { λ a. IsSound (K.is_honest a.keeper) (K.may_hold a.keeper)
+    ghost invariant = { λ a. IsSound (K.custody.is_honest a.keeper) (K.custody.may_hold a.keeper)
         a.number a.boot a.saved a.published.items a.seen a.state a.index };
 }
 
@@ -114,18 +115,18 @@ impl<K: Keeper> Node<K> {
     pub fn open(alloc: Global, mut keeper: K, number: NodeNumber) -> Result<Node<K>, (Fault, K)>
         requires { 0 < number }
         ensures number { IfOk result (λ node. node.node.number ≡ number) }
-        ensures ok { IfOk result (λ node. K.is_honest node.keeper → K.is_honest keeper
+        ensures ok { IfOk result (λ node. K.custody.is_honest node.keeper → K.custody.is_honest keeper
             × Follows (λ k k'. Opens 1 (IsOf number) k (Ok node.node) k')
-            (K.may_hold keeper) (K.may_hold node.keeper)) }
-        ensures cause { let bad = K.has_bad_row keeper in
-            IfErr result (λ e. KeeperFails (K.is_broken e.1) (K.is_honest e.1) bad e.0) }
-        ensures broken { IfErr result (λ e. IsTrue (K.is_broken keeper) → K.number keeper ≡ number
+            (K.custody.may_hold keeper) (K.custody.may_hold node.keeper)) }
+        ensures cause { let bad = K.custody.has_bad_row keeper in IfErr result (λ e.
+            KeeperFails (IsLeftBroken K.custody keeper e.1) (K.custody.is_honest e.1) bad e.0) }
+        ensures broken { IfErr result (λ e. IsTrue (K.custody.is_broken keeper) → K.custody.number keeper ≡ number
             → e.0 ≡ Fault.KeeperFailed) }
-        ensures sound { IfOk result (λ node. ¬ IsTrue (K.is_broken keeper)) }
-        ensures whole { IfOk result (λ node. K.is_honest node.keeper → ¬ K.has_bad_row keeper) }
-        ensures err { IfErr result (λ e. K.is_honest e.1 → K.is_honest keeper
+        ensures sound { IfOk result (λ node. ¬ IsTrue (K.custody.is_broken keeper)) }
+        ensures whole { IfOk result (λ node. K.custody.is_honest node.keeper → ¬ K.custody.has_bad_row keeper) }
+        ensures err { IfErr result (λ e. K.custody.is_honest e.1 → K.custody.is_honest keeper
             × Follows (λ k k'. Opens 1 (IsOf number) k (Err e.0) k')
-            (K.may_hold keeper) (K.may_hold e.1)) }
+            (K.custody.may_hold keeper) (K.custody.may_hold e.1)) }
     {
         let saved = match find(alloc, &mut keeper, number) {
             Ok(saved) => saved,
@@ -338,11 +339,11 @@ impl<K: Keeper> Node<K> {
     ///   keeper has those, or those with what was to be saved.
     pub fn save(&mut self) -> Result<(), Fault>
         ensures number { self.new.node.number ≡ self.old.node.number }
-        ensures keeper { K.number self.new.keeper ≡ K.number self.old.keeper }
-        ensures cause { result ≡ Err Fault.KeeperFailed → IsTrue (K.is_broken self.new.keeper) }
-        ensures saves { K.is_honest self.new.keeper → K.is_honest self.old.keeper
+        ensures keeper { K.custody.number self.new.keeper ≡ K.custody.number self.old.keeper }
+        ensures cause { result ≡ Err Fault.KeeperFailed → IsTrue (K.custody.is_broken self.new.keeper) }
+        ensures saves { K.custody.is_honest self.new.keeper → K.custody.is_honest self.old.keeper
             × Follows (λ k k'. Saves self.old.node k result self.new.node k')
-            (K.may_hold self.old.keeper) (K.may_hold self.new.keeper) }
+            (K.custody.may_hold self.old.keeper) (K.custody.may_hold self.new.keeper) }
     {
         let batch = unsaved(&self.state)?;
         match keep(&mut self.keeper, &mut self.saved, batch) {
@@ -361,16 +362,17 @@ impl<K: Keeper> Node<K> {
     // Opens the node again over its keeper, or leaves it stopped.
     fn open_again(&mut self, alloc: Global) -> Result<u32, Fault>
         ensures number { self.new.node.number ≡ self.old.node.number }
-        ensures cause { let bad = K.has_bad_row self.old.keeper in IfErr result
-            (KeeperFails (K.is_broken self.new.keeper) (K.is_honest self.new.keeper) bad) }
-        ensures broken { IsTrue (K.is_broken self.old.keeper)
-            → K.number self.old.keeper ≡ self.old.node.number → result ≡ Err Fault.KeeperFailed }
+        ensures cause { let bad = K.custody.has_bad_row self.old.keeper in IfErr result
+            (KeeperFails (IsTrue (K.custody.is_broken self.new.keeper))
+            (K.custody.is_honest self.new.keeper) bad) }
+        ensures broken { IsTrue (K.custody.is_broken self.old.keeper)
+            → K.custody.number self.old.keeper ≡ self.old.node.number → result ≡ Err Fault.KeeperFailed }
         ensures whole { IfOk result
-            (λ boot. K.is_honest self.new.keeper → ¬ K.has_bad_row self.old.keeper) }
-        ensures opens { K.is_honest self.new.keeper → K.is_honest self.old.keeper
+            (λ boot. K.custody.is_honest self.new.keeper → ¬ K.custody.has_bad_row self.old.keeper) }
+        ensures opens { K.custody.is_honest self.new.keeper → K.custody.is_honest self.old.keeper
             × Follows (λ k k'. OpensAgain self.old.node (doubt_of self.old.node.state) k
             result self.new.node k')
-            (K.may_hold self.old.keeper) (K.may_hold self.new.keeper) }
+            (K.custody.may_hold self.old.keeper) (K.custody.may_hold self.new.keeper) }
     {
         let doubt = doubt(&self.state);
         let saved = &self.saved;
@@ -410,14 +412,14 @@ impl<K: Keeper> Node<K> {
     pub fn come_back(&mut self, alloc: Global, keeps: bool) -> Result<u32, Fault>
         ensures number { self.new.node.number ≡ self.old.node.number }
         ensures cause { let node = self.old.node in
-            let bad = LoadsBadRow K.number K.is_honest K.may_hold K.has_bad_row
-            node.state self.old.keeper in IfErr result
-            (KeeperFails (K.is_broken self.new.keeper) (K.is_honest self.new.keeper) bad) }
-        ensures broken { (¬ IsRunning self.old.node.state) → IsTrue (K.is_broken self.old.keeper)
-            → K.number self.old.keeper ≡ self.old.node.number → result ≡ Err Fault.KeeperFailed }
-        ensures restarts { K.is_honest self.new.keeper → K.is_honest self.old.keeper
+            let bad = LoadsBadRow K.custody node.state self.old.keeper in IfErr result
+            (KeeperFails (IsTrue (K.custody.is_broken self.new.keeper))
+            (K.custody.is_honest self.new.keeper) bad) }
+        ensures broken { (¬ IsRunning self.old.node.state) → IsTrue (K.custody.is_broken self.old.keeper)
+            → K.custody.number self.old.keeper ≡ self.old.node.number → result ≡ Err Fault.KeeperFailed }
+        ensures restarts { K.custody.is_honest self.new.keeper → K.custody.is_honest self.old.keeper
             × Follows (λ k k'. Restarts self.old.node k keeps result self.new.node k')
-            (K.may_hold self.old.keeper) (K.may_hold self.new.keeper) }
+            (K.custody.may_hold self.old.keeper) (K.custody.may_hold self.new.keeper) }
     {
         if !keeps {
             return self.open_again(alloc);
@@ -435,13 +437,14 @@ impl<K: Keeper> Node<K> {
     pub fn restart(self, alloc: Global, keeps: bool) -> (Node<K>, Result<u32, Fault>)
         ensures number { result.0.node.number ≡ self.node.number }
         ensures cause { let state = self.node.state in let left = result.0.keeper in
-            let bad = LoadsBadRow K.number K.is_honest K.may_hold K.has_bad_row state self.keeper in
-            IfErr result.1 (KeeperFails (K.is_broken left) (K.is_honest left) bad) }
-        ensures broken { (¬ IsRunning self.node.state) → IsTrue (K.is_broken self.keeper)
-            → K.number self.keeper ≡ self.node.number → result.1 ≡ Err Fault.KeeperFailed }
-        ensures restarts { K.is_honest result.0.keeper → K.is_honest self.keeper
+            let bad = LoadsBadRow K.custody state self.keeper in
+            IfErr result.1 (KeeperFails (IsTrue (K.custody.is_broken left))
+            (K.custody.is_honest left) bad) }
+        ensures broken { (¬ IsRunning self.node.state) → IsTrue (K.custody.is_broken self.keeper)
+            → K.custody.number self.keeper ≡ self.node.number → result.1 ≡ Err Fault.KeeperFailed }
+        ensures restarts { K.custody.is_honest result.0.keeper → K.custody.is_honest self.keeper
             × Follows (λ k k'. Restarts self.node k keeps result.1 result.0.node k')
-            (K.may_hold self.keeper) (K.may_hold result.0.keeper) }
+            (K.custody.may_hold self.keeper) (K.custody.may_hold result.0.keeper) }
     {
         let mut node = self;
         let result = node.come_back(alloc, keeps);
@@ -455,14 +458,15 @@ impl<K: Keeper> Node<K> {
             × (result.0 ≡ Err (Fault.Refused Refusal.Busy)) × (result.1 ≡ keeper) }
         ensures given { (¬ IsRunning self.old.node.state) → result.1 ≡ self.old.keeper }
         ensures stopped { (¬ IsRunning self.old.node.state)
-            → K.is_honest self.new.keeper → K.is_honest keeper
+            → K.custody.is_honest self.new.keeper → K.custody.is_honest keeper
             × Follows (λ k k'. Reopens self.old.node k result.0 self.new.node k')
-            (K.may_hold keeper) (K.may_hold self.new.keeper) }
+            (K.custody.may_hold keeper) (K.custody.may_hold self.new.keeper) }
         ensures number { self.new.node.number ≡ self.old.node.number }
-        ensures cause { let bad = K.has_bad_row keeper in let left = self.new.keeper in
-            IfErr result.0 (KeeperFails (K.is_broken left) (K.is_honest left) bad) }
-        ensures broken { (¬ IsRunning self.old.node.state) → IsTrue (K.is_broken keeper)
-            → K.number keeper ≡ self.old.node.number → result.0 ≡ Err Fault.KeeperFailed }
+        ensures cause { let bad = K.custody.has_bad_row keeper in let left = self.new.keeper in
+            IfErr result.0 (KeeperFails (IsTrue (K.custody.is_broken left))
+            (K.custody.is_honest left) bad) }
+        ensures broken { (¬ IsRunning self.old.node.state) → IsTrue (K.custody.is_broken keeper)
+            → K.custody.number keeper ≡ self.old.node.number → result.0 ≡ Err Fault.KeeperFailed }
     {
         let Err(_) = running(&self.state) else {
             return (Err(Fault::Refused(Refusal::Busy)), keeper);
@@ -480,17 +484,17 @@ impl<K: Keeper> Node<K> {
             → (self.new ≡ self.old) × (result ≡ Err (Fault.Refused Refusal.Busy)) }
         ensures stopped { (¬ IsRunning self.old.node.state)
             → (made : K) × FnOnceReturnsAtMut F.FnOnce make self.old.keeper tt made
-            × (K.is_honest self.new.keeper → K.is_honest made
+            × (K.custody.is_honest self.new.keeper → K.custody.is_honest made
             × Follows (λ k k'. Reopens self.old.node k result self.new.node k')
-            (K.may_hold made) (K.may_hold self.new.keeper)) }
+            (K.custody.may_hold made) (K.custody.may_hold self.new.keeper)) }
         ensures number { self.new.node.number ≡ self.old.node.number }
         ensures cause { let left = self.new.keeper in
             IfErr result (λ fault. fault ≡ Fault.KeeperFailed
             → (made : K) × FnOnceReturnsAtMut F.FnOnce make self.old.keeper tt made
-            × (IsTrue (K.is_broken left) ⊎ (K.is_honest left → K.has_bad_row made))) }
+            × (IsTrue (K.custody.is_broken left) ⊎ (K.custody.is_honest left → K.custody.has_bad_row made))) }
         ensures broken { (¬ IsRunning self.old.node.state)
             → (made : K) × FnOnceReturnsAtMut F.FnOnce make self.old.keeper tt made
-            × (IsTrue (K.is_broken made) → K.number made ≡ self.old.node.number
+            × (IsTrue (K.custody.is_broken made) → K.custody.number made ≡ self.old.node.number
             → result ≡ Err Fault.KeeperFailed) }
     {
         let Err(_) = running(&self.state) else {
@@ -509,15 +513,15 @@ impl<K: Keeper> Node<K> {
             → (result.0 ≡ self) × (result.1 ≡ Err (Fault.Refused Refusal.Busy)) }
         ensures stopped { (IsRunning self.node.state → ⊥)
             → (made : K) × F.post make self.keeper made
-            × (K.is_honest result.0.keeper → K.is_honest made
+            × (K.custody.is_honest result.0.keeper → K.custody.is_honest made
             × Follows (λ k k'. Reopens self.node k result.1 result.0.node k')
-            (K.may_hold made) (K.may_hold result.0.keeper)) }
+            (K.custody.may_hold made) (K.custody.may_hold result.0.keeper)) }
         ensures cause { let left = result.0.keeper in
             IfErr result.1 (λ fault. fault ≡ Fault.KeeperFailed
             → (made : K) × F.post make self.keeper made
-            × (IsTrue (K.is_broken left) ⊎ (K.is_honest left → K.has_bad_row made))) }
+            × (IsTrue (K.custody.is_broken left) ⊎ (K.custody.is_honest left → K.custody.has_bad_row made))) }
         ensures broken { (¬ IsRunning self.node.state) → (made : K) × F.post make self.keeper made
-            × (IsTrue (K.is_broken made) → K.number made ≡ self.node.number
+            × (IsTrue (K.custody.is_broken made) → K.custody.number made ≡ self.node.number
             → result.1 ≡ Err Fault.KeeperFailed) }
     {
         let Err(_) = running(&self.state) else {

@@ -70,25 +70,26 @@ pub fn recover<K: Keeper>(
 ) -> Result<Recovered, Fault>
     ensures ok { let was : Kept = record { number = number; boot = boot; saved = saved.now } in
         let own = IsOwn was (option_copied doubt.entry) in
-        IfOk result (λ r. K.is_honest keeper.new → K.is_honest keeper.old
+        IfOk result (λ r. K.custody.is_honest keeper.new → K.custody.is_honest keeper.old
         × Follows (λ k k'. Opens 1 own k
         (Ok (starting 1 number r.boot r.saved r.published.items)) k')
-        (K.may_hold keeper.old) (K.may_hold keeper.new)) }
-    ensures kept { IfOk result (λ r. K.is_honest keeper.new → (k : Kept) → K.may_hold keeper.new k
+        (K.custody.may_hold keeper.old) (K.custody.may_hold keeper.new)) }
+    ensures kept { IfOk result (λ r. K.custody.is_honest keeper.new → (k : Kept) → K.custody.may_hold keeper.new k
         → k ≡ record { number = number; boot = r.boot; saved = r.saved }) }
     ensures index { IfOk result (λ r. r.index ≡ set.of_list r.published.items) }
     ensures names { IfOk result (λ r. HasNamesOnce r.saved) }
     ensures positive { IfOk result (λ r. 0 < r.boot) }
     ensures err { let was : Kept = record { number = number; boot = boot; saved = saved.now } in
         let own = IsOwn was (option_copied doubt.entry) in
-        IfErr result (λ fault. K.is_honest keeper.new → K.is_honest keeper.old
+        IfErr result (λ fault. K.custody.is_honest keeper.new → K.custody.is_honest keeper.old
         × Follows (λ k k'. Opens 1 own k (Err fault) k')
-        (K.may_hold keeper.old) (K.may_hold keeper.new)) }
-    ensures cause { let bad = K.has_bad_row keeper.old in
-        IfErr result (KeeperFails (K.is_broken keeper.new) (K.is_honest keeper.new) bad) }
-    ensures broken { IsTrue (K.is_broken keeper.old) → K.number keeper.old ≡ number
+        (K.custody.may_hold keeper.old) (K.custody.may_hold keeper.new)) }
+    ensures cause { let bad = K.custody.has_bad_row keeper.old in
+        let broken = IsTrue (K.custody.is_broken keeper.new) in
+        IfErr result (KeeperFails broken (K.custody.is_honest keeper.new) bad) }
+    ensures broken { IsTrue (K.custody.is_broken keeper.old) → K.custody.number keeper.old ≡ number
         → result ≡ Err Fault.KeeperFailed }
-    ensures whole { IfOk result (λ r. K.is_honest keeper.new → ¬ K.has_bad_row keeper.old) }
+    ensures whole { IfOk result (λ r. K.custody.is_honest keeper.new → ¬ K.custody.has_bad_row keeper.old) }
 {
     let found = match find(alloc, keeper, number) {
         Ok(found) => found,

@@ -1,8 +1,9 @@
 -- Why a call says that a keeper failed, from the node to the nodes.
-use Rattle.std.proofs.Common.{◌≡◌, ◌⊎◌, inl, inr, ℕ, Bool, sym, ap, subst, [], Option, Some, Result, Ok, Err}
+use Rattle.std.proofs.Common.{◌≡◌, ◌⊎◌, inl, inr, ℕ, sym, ap, subst, [], Option, Some, Result, Ok, Err}
 use Rattle.std.specs.Prelude.{IfErr, IsTrue}
 use Rattle.std.specs.FinMap as map
 use Rattle.fl_jobs.specs.declared.answer.Refusal.TheVariants.{Memory}
+use Rattle.fl_store.specs.Custody.{Custody}
 use Rattle.fl_node.specs.Causes.{KeeperFails}
 use Rattle.fl_node.specs.Over.{NodeOver}
 use Rattle.fl_system.specs.declared.answer.Fault.{Fault}
@@ -34,24 +35,23 @@ pub opening_failed : (outcome : Result ℕ Fault) (r : Reply) (fault : Fault) �
 opening_failed (Ok boot) r fault is e = absurd (cc)
 opening_failed (Err other) r fault is e = cc
 
-module _ {K : Type 0} (is_broken : K → Bool) (old new : WorldOver K) (number : ℕ) (y : NodeOver K)
+module _ {K : Type 0} (custody : Custody K) (old new : WorldOver K) (number : ℕ) (y : NodeOver K)
     (is_new : new ≡ over_went old number y [] []) where
   there : map.get new.nodes number ≡ Some y
   there = subst (λ (w : WorldOver K). map.get w.nodes number ≡ Some y) (sym is_new) (here old.nodes number y)
 
-  pub broken_at : IsTrue (is_broken y.keeper) → IsBrokenAt is_broken new number
+  pub broken_at : IsTrue (custody.is_broken y.keeper) → IsBrokenAt custody new number
   broken_at is = record { node = y; there = there; broken = is }
 
-  module _ (is_honest : K → Type 0) (bad : NodeOver K → Type 0) (x : NodeOver K)
-      (stood : map.get old.nodes number ≡ Some x) where
-    pub fails_at : IsTrue (is_broken y.keeper) ⊎ (is_honest y.keeper → bad x)
-        → FailsAt is_broken is_honest bad old new number
+  module _ (bad : NodeOver K → Type 0) (x : NodeOver K) (stood : map.get old.nodes number ≡ Some x) where
+    pub fails_at : IsTrue (custody.is_broken y.keeper) ⊎ (custody.is_honest y.keeper → bad x)
+        → FailsAt custody bad old new number
     fails_at fails = record { was = x; node = y; stood = stood; there = there; fails = fails }
 
     -- why an opening failed
     pub fails_as : (outcome : Result ℕ Fault) (r : Reply) → r ≡ opened_reply outcome
-        → IfErr outcome (KeeperFails (is_broken y.keeper) (is_honest y.keeper) (bad x))
-        → r ≡ reply.Refused faults.KeeperFailed → FailsAt is_broken is_honest bad old new number
+        → IfErr outcome (KeeperFails (IsTrue (custody.is_broken y.keeper)) (custody.is_honest y.keeper) (bad x))
+        → r ≡ reply.Refused faults.KeeperFailed → FailsAt custody bad old new number
     fails_as (Ok boot) r is cause e = absurd (cc)
     fails_as (Err fault) r is cause e = fails_at (cause (same_fault fault faults.KeeperFailed (cc)))
 
@@ -60,15 +60,15 @@ module _ {K : Type 0} (is_broken : K → Bool) (old new : WorldOver K) (number :
         → ((made : K) → Makes x.keeper made → row made → bad x) → (outcome : Result ℕ Fault) (r : Reply)
         → r ≡ opened_reply outcome
         → IfErr outcome (λ fault. fault ≡ faults.KeeperFailed
-        → (made : K) × Makes x.keeper made × (IsTrue (is_broken y.keeper) ⊎ (is_honest y.keeper → row made)))
-        → r ≡ reply.Refused faults.KeeperFailed → FailsAt is_broken is_honest bad old new number
+        → (made : K) × Makes x.keeper made × (IsTrue (custody.is_broken y.keeper) ⊎ (custody.is_honest y.keeper → row made)))
+        → r ≡ reply.Refused faults.KeeperFailed → FailsAt custody bad old new number
     fails_over Makes row leads (Ok boot) r is cause e = absurd (cc)
     fails_over Makes row leads (Err fault) r is cause e =
         let made = cause (same_fault fault faults.KeeperFailed (cc)) in
         fails_at (elim made.2 [ inl b ↦ inl b | inr h ↦ inr (λ honest. leads made.0 made.1 (h honest)) ])
 
 -- where no node is opened for another cause, no keeper fails
-pub not_failed : {broken : Bool} {honest bad : Type 0} (fault : Fault) → (fault ≡ faults.KeeperFailed → ⊥)
+pub not_failed : {broken honest bad : Type 0} (fault : Fault) → (fault ≡ faults.KeeperFailed → ⊥)
     → KeeperFails broken honest bad fault
 not_failed fault other failed = absurd (other failed)
 

@@ -8,8 +8,8 @@ use Rattle.std.specs.FinMap.{nat_cmp-IsAntisymmetric}
 use Rattle.std.specs.Map.{lookup, set_value}
 use Rattle.std.specs.Ordering.{nat_cmp}
 use Rattle.fl_mailbox.specs.laws.Tables.{put_same, put_through}
+use Rattle.fl_store.specs.Custody.{Custody}
 use Rattle.fl_store.specs.Kept.{Kept}
-use Rattle.fl_store.specs.Keeping.{Held}
 use Rattle.fl_message.specs.declared.message.Data.{Data}
 use Rattle.fl_jobs.specs.declared.job.Job.{Job}
 use Rattle.fl_jobs.specs.declared.job.Job.TheVariants.{Proc, By, Member, Arrive}
@@ -58,7 +58,7 @@ job_at w number upto count n n' k job result sent admitted e (Works.sends {d} h)
     (went w number n' k (sent_message number n d ∷ []) (entries n job (answers.Out d)))) (sym e) (JobAt.sends h)
 job_at w number upto count n n' k job result sent admitted e (Works.no_room look seen noted) = JobAt.no_room look seen noted
 
-module _ {K : Type 0} (is_honest : K → Type 0) (may_hold : K → Held) (es fs : List (ℕ × NodeOver K)) (packets : List Sent)
+module _ {K : Type 0} (custody : Custody K) (es fs : List (ℕ × NodeOver K)) (packets : List Sent)
     (audit : List Admission) (old : WorldOver K) (is : of_entries es packets audit ≡ old) (number desk upto : ℕ) (job : Job)
     (x y : NodeOver K) (there : lookup (is_at (nat_cmp number)) es ≡ Some x) (left : fs ≡ set_value (is_at (nat_cmp number)) es y) where
   at_old : map.get old.nodes number ≡ Some x
@@ -66,12 +66,12 @@ module _ {K : Type 0} (is_honest : K → Type 0) (may_hold : K → Held) (es fs 
 
   -- what the job names is not there, and the node is left
   pub no_such_job : y ≡ x → IsNoSuch x.node desk job
-      → Goes is_honest may_hold old (of_entries fs packets audit) (λ w w'. Step w (event.Job number desk upto job) reply.NoSuch w')
+      → Goes custody old (of_entries fs packets audit) (λ w w'. Step w (event.Job number desk upto job) reply.NoSuch w')
   no_such_job same none =
-      subst (λ n. Goes is_honest may_hold old n (λ w w'. Step w (event.Job number desk upto job) reply.NoSuch w')) (sym unchanged)
-      (stays is_honest may_hold old _ (λ w may_be. by_cause w (node_there is_honest may_hold old w number x at_old may_be) none))
+      subst (λ n. Goes custody old n (λ w w'. Step w (event.Job number desk upto job) reply.NoSuch w')) (sym unchanged)
+      (stays custody old _ (λ w may_be. by_cause w (node_there custody old w number x at_old may_be) none))
     where
-      by_cause : (w : World) → StandsAs is_honest may_hold x (map.get w.nodes number) → IsNoSuch x.node desk job
+      by_cause : (w : World) → StandsAs custody x (map.get w.nodes number) → IsNoSuch x.node desk job
           → Step w (event.Job number desk upto job) reply.NoSuch w
       by_cause w s (IsNoSuch.no_desk h) = Step.no_desk s.there h
       by_cause w s (IsNoSuch.no_job h) = Step.no_such_job h
@@ -89,9 +89,9 @@ module _ {K : Type 0} (is_honest : K → Type 0) (may_hold : K → Held) (es fs 
   -- the job is done at the node
   pub worked : (result : Reply) (packets_after : List Sent) (audit_after : List Admission) → y.keeper ≡ x.keeper → IsThere x.node desk job
       → Worked number x.node 1 upto job result y.node packets packets_after audit audit_after
-      → Goes is_honest may_hold old (of_entries fs packets_after audit_after) (λ w w'. Step w (event.Job number desk upto job) result w')
+      → Goes custody old (of_entries fs packets_after audit_after) (λ w w'. Step w (event.Job number desk upto job) result w')
   worked result packets_after audit_after same given work =
-      lifts_kept is_honest may_hold old number x y work.sent work.admitted at_old (of_entries fs packets_after audit_after) _ is_new same
+      lifts_kept custody old number x y work.sent work.admitted at_old (of_entries fs packets_after audit_after) _ is_new same
       (λ w k at may_be. Step.job at given.asked
       (subst (λ d. JobAt w number (with_kept x.node k) d upto job result (went w number y.node k work.sent work.admitted)) (sym given.first)
       (job_at w number upto (length packets) x.node y.node k job result work.sent work.admitted

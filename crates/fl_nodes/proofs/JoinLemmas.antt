@@ -6,8 +6,9 @@ use Rattle.std.specs.FinMap as map
 use Rattle.std.specs.FinMap.{nat_cmp-IsAntisymmetric}
 use Rattle.fl_mailbox.specs.laws.Tables.{put_same}
 use Rattle.fl_jobs.specs.declared.answer.Refusal.TheVariants.{Busy}
+use Rattle.fl_store.specs.Custody.{Custody}
 use Rattle.fl_store.specs.Kept.{Kept}
-use Rattle.fl_store.specs.Keeping.{Held, Follows}
+use Rattle.fl_store.specs.Keeping.{Follows}
 use Rattle.fl_system.specs.declared.answer.Fault.{Fault}
 use Rattle.fl_system.specs.declared.answer.Fault.TheVariants as faults
 use Rattle.fl_system.specs.declared.reply.Reply.{Reply}
@@ -41,13 +42,13 @@ spare_none o keeper none = subst (λ o. keeper ≡ spare o keeper) (sym none) re
 pub none_there : {A P : Type 0} (o : Option A) → o ≡ None → (n : A) → o ≡ Some n → P
 none_there o none n some = absurd (cc)
 
-module _ {K : Type 0} (is_honest : K → Type 0) (may_hold : K → Held) where
+module _ {K : Type 0} (custody : Custody K) where
   pub not_there : (old new : WorldOver K) (number : ℕ) (keeper : K) → new ≡ old → map.get old.nodes number ≡ None
-      → GivesBack is_honest may_hold old keeper new keeper (λ w k w' k'. Reopening w number k reply.NoSuch w')
+      → GivesBack custody old keeper new keeper (λ w k w' k'. Reopening w number k reply.NoSuch w')
   not_there old new number keeper same none =
-      subst (λ n. GivesBack is_honest may_hold old keeper n keeper (λ w k w' k'. Reopening w number k reply.NoSuch w')) (sym same) (record {
+      subst (λ n. GivesBack custody old keeper n keeper (λ w k w' k'. Reopening w number k reply.NoSuch w')) (sym same) (record {
         honest = λ all given. (all, given);
-        comes = λ all given after k' is held. (after, k', is, held, Reopening.no_node (no_node is_honest may_hold old after number none is));
+        comes = λ all given after k' is held. (after, k', is, held, Reopening.no_node (no_node custody old after number none is));
       })
 
   module _ (old new : WorldOver K) (number : ℕ) (x y : NodeOver K) (there : map.get old.nodes number ≡ Some x)
@@ -63,26 +64,26 @@ module _ {K : Type 0} (is_honest : K → Type 0) (may_hold : K → Held) where
         })
 
     -- over what was made of its keeper
-    pub returns_over : (made : K) (outcome : Result ℕ Fault) → ¬ IsRunning x.node.state → TakesOver is_honest may_hold x.keeper made
-        → (is_honest y.keeper → is_honest made × Follows (λ k k'. Reopens x.node k outcome y.node k') (may_hold made) (may_hold y.keeper))
-        → (result : Reply) → result ≡ opened_reply outcome → Goes is_honest may_hold old new (ReturnsOver may_hold made number result)
+    pub returns_over : (made : K) (outcome : Result ℕ Fault) → ¬ IsRunning x.node.state → TakesOver custody x.keeper made
+        → (custody.is_honest y.keeper → custody.is_honest made × Follows (λ k k'. Reopens x.node k outcome y.node k') (custody.may_hold made) (custody.may_hold y.keeper))
+        → (result : Reply) → result ≡ opened_reply outcome → Goes custody old new (ReturnsOver custody made number result)
     returns_over made outcome stops takes opens result e =
-        subst (λ r. Goes is_honest may_hold old new (ReturnsOver may_hold made number r)) (sym e)
-        (subst (λ n. Goes is_honest may_hold old n (ReturnsOver may_hold made number (opened_reply outcome))) (sym is_new) (record {
+        subst (λ r. Goes custody old new (ReturnsOver custody made number r)) (sym e)
+        (subst (λ n. Goes custody old n (ReturnsOver custody made number (opened_reply outcome))) (sym is_new) (record {
           honest = λ all.
-              honest_before is_honest may_hold old number x y [] [] there (λ _. takes.honest (opens (all number y (here old.nodes number y))).0) all;
+              honest_before custody old number x y [] [] there (λ _. takes.honest (opens (all number y (here old.nodes number y))).0) all;
           comes = λ all after is.
-              let s = node_there is_honest may_hold (over_went old number y [] []) after number y (here old.nodes number y) is in
+              let s = node_there custody (over_went old number y [] []) after number y (here old.nodes number y) is in
               let trusted = opens (all number y (here old.nodes number y)) in
               let b = trusted.1 s.kept s.held in
               let was = takes.held trusted.0 b.0 b.1 in
-              let before = world_before is_honest may_hold old number x y [] [] there after was.0 in (
+              let before = world_before custody old number x y [] [] there after was.0 in (
                 before,
-                may_be_before is_honest may_hold old number x y [] [] there after was.0 is was.1,
+                may_be_before custody old number x y [] [] there after was.0 is was.1,
                 record {
                   kept = b.0;
                   held = b.1;
-                  returns = subst (Reopening before number b.0 (opened_reply outcome)) (goes_to is_honest may_hold old number x y [] [] there after was.0 s.kept is s.there)
+                  returns = subst (Reopening before number b.0 (opened_reply outcome)) (goes_to custody old number x y [] [] there after was.0 s.kept is s.there)
                       (reopening before number x.node y.node was.0 b.0 s.kept outcome (here after.nodes number (with_kept x.node was.0)) stops b.2);
                 },
               );
@@ -101,12 +102,12 @@ module _ {K : Type 0} (is_honest : K → Type 0) (may_hold : K → Held) where
 
     pub when_stopped : (n : NodeOver K) → map.get old.nodes number ≡ Some n → ¬ IsRunning n.node.state → (Makes : K → K → Type 0)
         → ((m : NodeOver K) (made : K) → map.get old.nodes number ≡ Some m → ¬ IsRunning m.node.state → Makes m.keeper made
-        → TakesOver is_honest may_hold m.keeper made)
+        → TakesOver custody m.keeper made)
         → (outcome : Result ℕ Fault)
         → (¬ IsRunning x.node.state → (made : K) × Makes x.keeper made
-        × (is_honest y.keeper → is_honest made × Follows (λ k k'. Reopens x.node k outcome y.node k') (may_hold made) (may_hold y.keeper)))
+        × (custody.is_honest y.keeper → custody.is_honest made × Follows (λ k k'. Reopens x.node k outcome y.node k') (custody.may_hold made) (custody.may_hold y.keeper)))
         → (result : Reply) → result ≡ opened_reply outcome
-        → (made : K) × Makes n.keeper made × Goes is_honest may_hold old new (ReturnsOver may_hold made number result)
+        → (made : K) × Makes n.keeper made × Goes custody old new (ReturnsOver custody made number result)
     when_stopped n at stops Makes trusts outcome opens result e =
         let same = same_node n at in
         let stopped : ¬ IsRunning x.node.state = λ runs. stops (subst (λ (m : NodeOver K). IsRunning m.node.state) same runs) in
@@ -120,10 +121,10 @@ module _ {K : Type 0} (is_honest : K → Type 0) (may_hold : K → Held) where
       (is_new : new ≡ over_went old number y [] []) (outcome : Result ℕ Fault)
       (running : IsRunning x.node.state → (y ≡ x) × (outcome ≡ Err (faults.Refused Busy)) × (given ≡ keeper))
       (handed : ¬ IsRunning x.node.state → given ≡ x.keeper)
-      (stopped : ¬ IsRunning x.node.state → is_honest y.keeper
-      → is_honest keeper × Follows (λ k k'. Reopens x.node k outcome y.node k') (may_hold keeper) (may_hold y.keeper)) where
+      (stopped : ¬ IsRunning x.node.state → custody.is_honest y.keeper
+      → custody.is_honest keeper × Follows (λ k k'. Reopens x.node k outcome y.node k') (custody.may_hold keeper) (custody.may_hold y.keeper)) where
     abbrev Reopened : WorldOver K → K → Result ℕ Fault → Type 0
-    Reopened now left result = GivesBack is_honest may_hold old keeper now left (λ w k w' k'. Reopening w number k (opened_reply result) w')
+    Reopened now left result = GivesBack custody old keeper now left (λ w k w' k'. Reopening w number k (opened_reply result) w')
 
     by_running : IsRunning x.node.state → Reopened new given outcome
     by_running runs =
@@ -132,31 +133,31 @@ module _ {K : Type 0} (is_honest : K → Type 0) (may_hold : K → Held) where
         (subst (λ left. Reopened old left outcome) (sym h.2)
         (subst (λ result. Reopened old keeper result) (sym h.1) (record {
           honest = λ all left. (all, left);
-          comes = λ all left after k' is held. (after, k', is, held, Reopening.running (node_there is_honest may_hold old after number x there is).there runs);
+          comes = λ all left after k' is held. (after, k', is, held, Reopening.running (node_there custody old after number x there is).there runs);
         })))
 
     by_stopped : ¬ IsRunning x.node.state → Reopened new given outcome
     by_stopped stops = subst (λ n. Reopened n given outcome) (sym is_new) (record {
       honest = λ all left. (
-        honest_before is_honest may_hold old number x y [] [] there (λ _. subst is_honest (handed stops) left) all,
+        honest_before custody old number x y [] [] there (λ _. subst custody.is_honest (handed stops) left) all,
         (stopped stops (all number y (here old.nodes number y))).0,
       );
       comes = λ all left after k' is held.
-          let s = node_there is_honest may_hold (over_went old number y [] []) after number y (here old.nodes number y) is in
+          let s = node_there custody (over_went old number y [] []) after number y (here old.nodes number y) is in
           let b = (stopped stops (all number y (here old.nodes number y))).1 s.kept s.held in
-          let before = world_before is_honest may_hold old number x y [] [] there after k' in (
+          let before = world_before custody old number x y [] [] there after k' in (
             before,
             b.0,
-            may_be_before is_honest may_hold old number x y [] [] there after k' is (subst (λ q. may_hold q k') (handed stops) held),
+            may_be_before custody old number x y [] [] there after k' is (subst (λ q. custody.may_hold q k') (handed stops) held),
             b.1,
-            subst (Reopening before number b.0 (opened_reply outcome)) (goes_to is_honest may_hold old number x y [] [] there after k' s.kept is s.there)
+            subst (Reopening before number b.0 (opened_reply outcome)) (goes_to custody old number x y [] [] there after k' s.kept is s.there)
                 (reopening before number x.node y.node k' b.0 s.kept outcome (here after.nodes number (with_kept x.node k')) stops b.2),
           );
     })
 
     pub reopened : (result : Reply) → result ≡ opened_reply outcome
-        → GivesBack is_honest may_hold old keeper new given (λ w k w' k'. Reopening w number k result w')
-    reopened result e = subst (λ r. GivesBack is_honest may_hold old keeper new given (λ w k w' k'. Reopening w number k r w')) (sym e) (by_state x.node.state refl)
+        → GivesBack custody old keeper new given (λ w k w' k'. Reopening w number k result w')
+    reopened result e = subst (λ r. GivesBack custody old keeper new given (λ w k w' k'. Reopening w number k r w')) (sym e) (by_state x.node.state refl)
       where
         by_state : (s : State) → x.node.state ≡ s → Reopened new given outcome
         by_state (Running pending) e = by_running (subst IsRunning (sym e) tt)

@@ -6,8 +6,9 @@ use Rattle.std.specs.FinMap.{nat_cmp-IsAntisymmetric}
 use Rattle.std.specs.Ordering.{nat_cmp, eq_by_cmp}
 use Rattle.std.proofs.lemmas.Cmp.{nat_cmp_total}
 use Rattle.fl_mailbox.specs.laws.Tables.{get_put, put_over, put_same}
+use Rattle.fl_store.specs.Custody.{Custody}
 use Rattle.fl_store.specs.Kept.{Kept}
-use Rattle.fl_store.specs.Keeping.{Held, Follows}
+use Rattle.fl_store.specs.Keeping.{Follows}
 use Rattle.fl_system.specs.declared.admission.Admission.{Admission}
 use Rattle.fl_system.specs.declared.sent.Sent.{Sent}
 use Rattle.fl_system.specs.State.{NodeState}
@@ -44,44 +45,44 @@ same_number q number e = nat_cmp-IsAntisymmetric q number ((Equal-is (nat_cmp q 
 some_same : {X : Type 0} {x y : X} → ◌≡◌ {A = Option X} (Some x) (Some y) → x ≡ y
 some_same h = cc
 
-module _ {K : Type 0} (is_honest : K → Type 0) (may_hold : K → Held) where
+module _ {K : Type 0} (custody : Custody K) where
   -- nothing changes
-  pub stays : (over : WorldOver K) (step : World → World → Type 0) → ((w : World) → MayBe may_hold over w → step w w)
-      → Goes is_honest may_hold over over step
+  pub stays : (over : WorldOver K) (step : World → World → Type 0) → ((w : World) → MayBe custody over w → step w w)
+      → Goes custody over over step
   stays over step h = record { honest = λ all. all; comes = λ all after is. (after, is, h after is) }
 
   -- what is not there is in no world that it may be
-  none_there : (o : Option KeptNode) → MayBeNode may_hold None o → o ≡ None
+  none_there : (o : Option KeptNode) → MayBeNode custody.may_hold None o → o ≡ None
   none_there None h = refl
   none_there (Some s) h = absurd h
 
-  pub no_node : (over : WorldOver K) (w : World) (number : ℕ) → map.get over.nodes number ≡ None → MayBe may_hold over w
+  pub no_node : (over : WorldOver K) (w : World) (number : ℕ) → map.get over.nodes number ≡ None → MayBe custody over w
       → map.get w.nodes number ≡ None
-  no_node over w number none is = none_there _ (subst (λ o. MayBeNode may_hold o (map.get w.nodes number)) none (is.nodes number))
+  no_node over w number none is = none_there _ (subst (λ o. MayBeNode custody.may_hold o (map.get w.nodes number)) none (is.nodes number))
 
   -- the node that stands there
   pub record StandsAs (n : NodeOver K) (o : Option KeptNode) : Type 0 where
     pub kept : Kept
     pub there : o ≡ Some (with_kept n.node kept)
-    pub held : may_hold n.keeper kept
+    pub held : custody.may_hold n.keeper kept
 
-  stands : (n : NodeOver K) (o : Option KeptNode) → MayBeNode may_hold (Some n) o → StandsAs n o
+  stands : (n : NodeOver K) (o : Option KeptNode) → MayBeNode custody.may_hold (Some n) o → StandsAs n o
   stands n None h = absurd h
   stands n (Some s) h = record { kept = s.kept; there = λ i. Some (with_kept (h.0 i) s.kept); held = h.1 }
 
   pub node_there : (over : WorldOver K) (w : World) (number : ℕ) (n : NodeOver K) → map.get over.nodes number ≡ Some n
-      → MayBe may_hold over w → StandsAs n (map.get w.nodes number)
-  node_there over w number n there is = stands n _ (subst (λ o. MayBeNode may_hold o (map.get w.nodes number)) there (is.nodes number))
+      → MayBe custody over w → StandsAs n (map.get w.nodes number)
+  node_there over w number n there is = stands n _ (subst (λ o. MayBeNode custody.may_hold o (map.get w.nodes number)) there (is.nodes number))
 
   module _ (old : WorldOver K) (number : ℕ) (x y : NodeOver K) (sent : List Sent) (admitted : List Admission)
       (there : map.get old.nodes number ≡ Some x) where
-    pub honest_before : (is_honest y.keeper → is_honest x.keeper) → AreHonest is_honest (over_went old number y sent admitted) → AreHonest is_honest old
+    pub honest_before : (custody.is_honest y.keeper → custody.is_honest x.keeper) → AreHonest custody (over_went old number y sent admitted) → AreHonest custody old
     honest_before back all q n at = by_place (eq_by_cmp nat_cmp q number) refl
       where
-        by_place : (b : Bool) → eq_by_cmp nat_cmp q number ≡ b → is_honest n.keeper
+        by_place : (b : Bool) → eq_by_cmp nat_cmp q number ≡ b → custody.is_honest n.keeper
         by_place true e =
             let same : x ≡ n = some_same (sym there ∙ ap (map.get old.nodes) (sym (same_number q number e)) ∙ at) in
-            subst (λ (m : NodeOver K). is_honest m.keeper) same (back (all number y (here old.nodes number y)))
+            subst (λ (m : NodeOver K). custody.is_honest m.keeper) same (back (all number y (here old.nodes number y)))
         by_place false e = all q n (at_other old.nodes number q y e ∙ at)
 
     -- the world before the call, where this was kept of the node
@@ -93,27 +94,27 @@ module _ {K : Type 0} (is_honest : K → Type 0) (may_hold : K → Held) where
       audit = old.audit;
     }
 
-    before_at : (after : World) (k : Kept) → MayBe may_hold (over_went old number y sent admitted) after → may_hold x.keeper k
-        → (q : ℕ) → MayBeNode may_hold (map.get old.nodes q) (map.get (map.insert after.nodes number (with_kept x.node k)) q)
+    before_at : (after : World) (k : Kept) → MayBe custody (over_went old number y sent admitted) after → custody.may_hold x.keeper k
+        → (q : ℕ) → MayBeNode custody.may_hold (map.get old.nodes q) (map.get (map.insert after.nodes number (with_kept x.node k)) q)
     before_at after k is held q = by_place (eq_by_cmp nat_cmp q number) refl
       where
         by_place : (b : Bool) → eq_by_cmp nat_cmp q number ≡ b
-            → MayBeNode may_hold (map.get old.nodes q) (map.get (map.insert after.nodes number (with_kept x.node k)) q)
+            → MayBeNode custody.may_hold (map.get old.nodes q) (map.get (map.insert after.nodes number (with_kept x.node k)) q)
         by_place true e =
             let at : q ≡ number = same_number q number e in
-            subst (λ p. MayBeNode may_hold (map.get old.nodes p) (map.get (map.insert after.nodes number (with_kept x.node k)) p)) (sym at)
-            (subst (λ o. MayBeNode may_hold o (map.get (map.insert after.nodes number (with_kept x.node k)) number)) (sym there)
-            (subst (λ o. MayBeNode may_hold (Some x) o) (sym (here after.nodes number (with_kept x.node k))) (refl, held)))
+            subst (λ p. MayBeNode custody.may_hold (map.get old.nodes p) (map.get (map.insert after.nodes number (with_kept x.node k)) p)) (sym at)
+            (subst (λ o. MayBeNode custody.may_hold o (map.get (map.insert after.nodes number (with_kept x.node k)) number)) (sym there)
+            (subst (λ o. MayBeNode custody.may_hold (Some x) o) (sym (here after.nodes number (with_kept x.node k))) (refl, held)))
         by_place false e =
-            subst (λ o. MayBeNode may_hold (map.get old.nodes q) o) (sym (at_other after.nodes number q (with_kept x.node k) e))
-            (subst (λ o. MayBeNode may_hold o (map.get after.nodes q)) (at_other old.nodes number q y e) (is.nodes q))
+            subst (λ o. MayBeNode custody.may_hold (map.get old.nodes q) o) (sym (at_other after.nodes number q (with_kept x.node k) e))
+            (subst (λ o. MayBeNode custody.may_hold o (map.get after.nodes q)) (at_other old.nodes number q y e) (is.nodes q))
 
-    pub may_be_before : (after : World) (k : Kept) → MayBe may_hold (over_went old number y sent admitted) after → may_hold x.keeper k
-        → MayBe may_hold old (world_before after k)
+    pub may_be_before : (after : World) (k : Kept) → MayBe custody (over_went old number y sent admitted) after → custody.may_hold x.keeper k
+        → MayBe custody old (world_before after k)
     may_be_before after k is held = record { desks = refl; nodes = before_at after k is held; packets = refl; audit = refl }
 
     -- that world goes on to the one after the call
-    pub goes_to : (after : World) (k k' : Kept) → MayBe may_hold (over_went old number y sent admitted) after
+    pub goes_to : (after : World) (k k' : Kept) → MayBe custody (over_went old number y sent admitted) after
         → map.get after.nodes number ≡ Some (with_kept y.node k')
         → went (world_before after k) number y.node k' sent admitted ≡ after
     goes_to after k k' is at =
@@ -130,11 +131,11 @@ module _ {K : Type 0} (is_honest : K → Type 0) (may_hold : K → Held) where
     -- a call of a node, by what it leaves of the node and of what is kept
     pub lifts : (new : WorldOver K) (leaves : Kept → Kept → Type 0) (step : World → World → Type 0)
         → new ≡ over_went old number y sent admitted
-        → (is_honest y.keeper → is_honest x.keeper × Follows leaves (may_hold x.keeper) (may_hold y.keeper))
-        → ((w : World) (k k' : Kept) → IsAt w number (with_kept x.node k) → MayBe may_hold old w → leaves k k'
+        → (custody.is_honest y.keeper → custody.is_honest x.keeper × Follows leaves (custody.may_hold x.keeper) (custody.may_hold y.keeper))
+        → ((w : World) (k k' : Kept) → IsAt w number (with_kept x.node k) → MayBe custody old w → leaves k k'
         → step w (went w number y.node k' sent admitted))
-        → Goes is_honest may_hold old new step
-    lifts new leaves step is_new call steps = subst (λ n. Goes is_honest may_hold old n step) (sym is_new) (record {
+        → Goes custody old new step
+    lifts new leaves step is_new call steps = subst (λ n. Goes custody old n step) (sym is_new) (record {
       honest = honest_before (λ honest. (call honest).0);
       comes = λ all after is.
           let s = node_there (over_went old number y sent admitted) after number y (here old.nodes number y) is in
@@ -149,9 +150,9 @@ module _ {K : Type 0} (is_honest : K → Type 0) (may_hold : K → Held) where
     -- a call that leaves the keeper
     pub lifts_kept : (new : WorldOver K) (step : World → World → Type 0) → new ≡ over_went old number y sent admitted
         → y.keeper ≡ x.keeper
-        → ((w : World) (k : Kept) → IsAt w number (with_kept x.node k) → MayBe may_hold old w
+        → ((w : World) (k : Kept) → IsAt w number (with_kept x.node k) → MayBe custody old w
         → step w (went w number y.node k sent admitted))
-        → Goes is_honest may_hold old new step
+        → Goes custody old new step
     lifts_kept new step is_new same steps = lifts new (λ k k'. k' ≡ k) step is_new
-        (λ honest. (subst is_honest same honest, λ k held. (k, subst (λ keeper. may_hold keeper k) same held, refl)))
+        (λ honest. (subst custody.is_honest same honest, λ k held. (k, subst (λ keeper. custody.may_hold keeper k) same held, refl)))
         (λ w k k' at is e. subst (λ after. step w (went w number y.node after sent admitted)) (sym e) (steps w k at is))

@@ -14,8 +14,9 @@ use Rattle.fl_labels.specs.SetBy.{In}
 use Rattle.fl_labels.specs.declared.name.Name.{Name}
 use Rattle.fl_gossip.specs.Meeting.{IsLeastOf}
 use Rattle.fl_jobs.specs.declared.answer.Refusal.TheVariants.{Memory}
+use Rattle.fl_store.specs.Custody.{Custody}
 use Rattle.fl_store.specs.Kept.{Kept, HasNamesOnce, raised}
-use Rattle.fl_store.specs.Keeping.{Held, Follows}
+use Rattle.fl_store.specs.Keeping.{Follows}
 use Rattle.fl_system.specs.declared.admission.Admission.{Admission}
 use Rattle.fl_system.specs.declared.sent.Sent.{Sent}
 use Rattle.fl_system.specs.declared.answer.Fault.{Fault}
@@ -63,21 +64,21 @@ left_by number k k' fault (Opens.refused cause left) = left_as number k k' fault
 least_name : (P : Name → Type 0) (name : Name) → IsLeastOf P name → IsLeastName P name
 least_name P name h = record { holds = h.holds; least = h.least }
 
-is_node : {K : Type 0} (may_hold : K → Held) (a : Option (NodeOver K)) (b : Option KeptNode) → MayBeNode may_hold a b → MayBeNode (λ keeper k. Unit {0}) a b
-is_node may_hold None None h = tt
-is_node may_hold (Some n) (Some s) h = (h.0, tt)
-is_node may_hold None (Some s) h = absurd h
-is_node may_hold (Some n) None h = absurd h
+is_node : {K : Type 0} (custody : Custody K) (a : Option (NodeOver K)) (b : Option KeptNode) → MayBeNode custody.may_hold a b → MayBeNode (λ keeper k. Unit {0}) a b
+is_node custody None None h = tt
+is_node custody (Some n) (Some s) h = (h.0, tt)
+is_node custody None (Some s) h = absurd h
+is_node custody (Some n) None h = absurd h
 
-module _ {K : Type 0} (is_honest : K → Type 0) (may_hold : K → Held) where
-  are_nodes : (over : WorldOver K) (w : World) → MayBe may_hold over w → AreNodes over w
-  are_nodes over w is number = is_node may_hold _ _ (is.nodes number)
+module _ {K : Type 0} (custody : Custody K) where
+  are_nodes : (over : WorldOver K) (w : World) → MayBe custody over w → AreNodes over w
+  are_nodes over w is number = is_node custody _ _ (is.nodes number)
 
   -- the number is a node's
   pub refused_there : (old new : WorldOver K) (number : ℕ) (keeper : K) (x : NodeOver K) → new ≡ old → map.get old.nodes number ≡ Some x
-      → GivesBack is_honest may_hold old keeper new keeper (DoesNotJoin number faults.WrongNode)
+      → GivesBack custody old keeper new keeper (DoesNotJoin number faults.WrongNode)
   refused_there old new number keeper x same there =
-      subst (λ n. GivesBack is_honest may_hold old keeper n keeper (DoesNotJoin number faults.WrongNode)) (sym same) (record {
+      subst (λ n. GivesBack custody old keeper n keeper (DoesNotJoin number faults.WrongNode)) (sym same) (record {
         honest = λ all left. (all, left);
         comes = λ all left after k' is held. (
           after,
@@ -86,7 +87,7 @@ module _ {K : Type 0} (is_honest : K → Type 0) (may_hold : K → Held) where
           held,
           λ known. record {
             same = refl;
-            joins = Joins.there (node_there is_honest may_hold old after number x there is).there;
+            joins = Joins.there (node_there custody old after number x there is).there;
             left = inl refl;
           },
         );
@@ -95,10 +96,10 @@ module _ {K : Type 0} (is_honest : K → Type 0) (may_hold : K → Held) where
   module _ (old : WorldOver K) (desks : old.desks ≡ 1) (number : ℕ) (keeper : K) (none : map.get old.nodes number ≡ None) where
     -- the opening is refused
     pub refused_opening : (new : WorldOver K) → new ≡ old → (given : K) (fault : Fault)
-        → (is_honest given → is_honest keeper × Follows (λ k k'. Opens 1 (IsOf number) k (Err fault) k') (may_hold keeper) (may_hold given))
-        → GivesBack is_honest may_hold old keeper new given (DoesNotJoin number fault)
+        → (custody.is_honest given → custody.is_honest keeper × Follows (λ k k'. Opens 1 (IsOf number) k (Err fault) k') (custody.may_hold keeper) (custody.may_hold given))
+        → GivesBack custody old keeper new given (DoesNotJoin number fault)
     refused_opening new same given fault call =
-        subst (λ n. GivesBack is_honest may_hold old keeper n given (DoesNotJoin number fault)) (sym same) (record {
+        subst (λ n. GivesBack custody old keeper n given (DoesNotJoin number fault)) (sym same) (record {
           honest = λ all left. (all, (call left).0);
           comes = λ all left after k' is held.
               let b = (call left).1 k' held in (
@@ -108,7 +109,7 @@ module _ {K : Type 0} (is_honest : K → Type 0) (may_hold : K → Held) where
                 b.1,
                 λ known. record {
                   same = refl;
-                  joins = Joins.not_opened (no_node is_honest may_hold old after number none is)
+                  joins = Joins.not_opened (no_node custody old after number none is)
                       (subst (λ d. Opens d (IsOf number) b.0 (Err fault) k') (sym (is.desks ∙ desks)) b.2);
                   left = left_by number b.0 k' fault b.2;
                 },
@@ -116,11 +117,11 @@ module _ {K : Type 0} (is_honest : K → Type 0) (may_hold : K → Held) where
         })
 
     module _ (y : NodeOver K)
-        (opens : is_honest y.keeper → is_honest keeper × Follows (λ k k'. Opens 1 (IsOf number) k (Ok y.node) k') (may_hold keeper) (may_hold y.keeper)) where
+        (opens : custody.is_honest y.keeper → custody.is_honest keeper × Follows (λ k k'. Opens 1 (IsOf number) k (Ok y.node) k') (custody.may_hold keeper) (custody.may_hold y.keeper)) where
       -- it was opened, and refused then
       refused_after : (fault : Fault)
-          → ((w : World) (k k' : Kept) → MayBe may_hold old w → map.get w.nodes number ≡ None → IsOpening number k y.node k' → HasNoStray w → IsRefused number fault w k w k')
-          → GivesBack is_honest may_hold old keeper old y.keeper (DoesNotJoin number fault)
+          → ((w : World) (k k' : Kept) → MayBe custody old w → map.get w.nodes number ≡ None → IsOpening number k y.node k' → HasNoStray w → IsRefused number fault w k w k')
+          → GivesBack custody old keeper old y.keeper (DoesNotJoin number fault)
       refused_after fault refuses = record {
         honest = λ all left. (all, (opens left).0);
         comes = λ all left after k' is held.
@@ -129,16 +130,16 @@ module _ {K : Type 0} (is_honest : K → Type 0) (may_hold : K → Held) where
               b.0,
               is,
               b.1,
-              refuses after b.0 k' is (no_node is_honest may_hold old after number none is) (opening_of number b.0 y.node k' b.2),
+              refuses after b.0 k' is (no_node custody old after number none is) (opening_of number b.0 y.node k' b.2),
             );
       }
 
       pub refused_clash : (new : WorldOver K) → new ≡ old → (given : K) → given ≡ y.keeper → (name : Name)
           → ((w : World) → AreNodes old w → IsLeastOf (IsClashAt w y.node.saved) name)
-          → GivesBack is_honest may_hold old keeper new given (DoesNotJoin number (faults.Clash name))
+          → GivesBack custody old keeper new given (DoesNotJoin number (faults.Clash name))
       refused_clash new same given is_given name least =
-          subst (λ n. GivesBack is_honest may_hold old keeper n given (DoesNotJoin number (faults.Clash name))) (sym same)
-          (subst (λ g. GivesBack is_honest may_hold old keeper old g (DoesNotJoin number (faults.Clash name))) (sym is_given)
+          subst (λ n. GivesBack custody old keeper n given (DoesNotJoin number (faults.Clash name))) (sym same)
+          (subst (λ g. GivesBack custody old keeper old g (DoesNotJoin number (faults.Clash name))) (sym is_given)
           (refused_after (faults.Clash name) (λ w k k' is absent o known. record {
             same = refl;
             joins = Joins.clash absent o.own (subst (λ n. IsLeastName (IsClashAt w n.saved) name) o.node_is
@@ -147,11 +148,11 @@ module _ {K : Type 0} (is_honest : K → Type 0) (may_hold : K → Held) where
           })))
 
       pub refused_memory : (new : WorldOver K) → new ≡ old → (given : K) → given ≡ y.keeper → (fault : Fault) → fault ≡ faults.Refused Memory
-          → GivesBack is_honest may_hold old keeper new given (DoesNotJoin number fault)
+          → GivesBack custody old keeper new given (DoesNotJoin number fault)
       refused_memory new same given is_given fault is_fault =
-          subst (λ n. GivesBack is_honest may_hold old keeper n given (DoesNotJoin number fault)) (sym same)
-          (subst (λ g. GivesBack is_honest may_hold old keeper old g (DoesNotJoin number fault)) (sym is_given)
-          (subst (λ f. GivesBack is_honest may_hold old keeper old y.keeper (DoesNotJoin number f)) (sym is_fault)
+          subst (λ n. GivesBack custody old keeper n given (DoesNotJoin number fault)) (sym same)
+          (subst (λ g. GivesBack custody old keeper old g (DoesNotJoin number fault)) (sym is_given)
+          (subst (λ f. GivesBack custody old keeper old y.keeper (DoesNotJoin number f)) (sym is_fault)
           (refused_after (faults.Refused Memory) (λ w k k' is absent o known. record {
             same = refl;
             joins = Joins.not_opened absent (Opens.refused {left = k'} FailsToOpen.no_room (inr o.up));
@@ -237,10 +238,10 @@ module _ {K : Type 0} (is_honest : K → Type 0) (may_hold : K → Held) where
 
         pub refused_stray : (new : WorldOver K) → new ≡ old → (given : K) → given ≡ y.keeper → (name : Name)
             → ((w : World) → AreNodes old w → IsLeastOf (IsStrayWith w number y.node.saved) name)
-            → GivesBack is_honest may_hold old keeper new given (DoesNotJoin number (faults.Impostor name))
+            → GivesBack custody old keeper new given (DoesNotJoin number (faults.Impostor name))
         refused_stray new same given is_given name least =
-            subst (λ n. GivesBack is_honest may_hold old keeper n given (DoesNotJoin number (faults.Impostor name))) (sym same)
-            (subst (λ g. GivesBack is_honest may_hold old keeper old g (DoesNotJoin number (faults.Impostor name))) (sym is_given)
+            subst (λ n. GivesBack custody old keeper n given (DoesNotJoin number (faults.Impostor name))) (sym same)
+            (subst (λ g. GivesBack custody old keeper old g (DoesNotJoin number (faults.Impostor name))) (sym is_given)
             (refused_after (faults.Impostor name) (λ w k k' is absent o known. record {
               same = refl;
               joins = Joins.impostor absent o.own (clear_of w k k' (are_nodes old w is) o)
@@ -267,20 +268,20 @@ module _ {K : Type 0} (is_honest : K → Type 0) (may_hold : K → Held) where
         others : (m : map.FinMap nat_cmp KeptNode) (q : ℕ) → eq_by_cmp nat_cmp q number ≡ false → map.get (map.remove m number) q ≡ map.get m q
         others m q e = map.get-remove nat_cmp_total m number q ∙ ap (λ b. cond b None (map.get m q)) e
 
-        nodes_before : (after : World) → MayBe may_hold (over_with old number y) after → (q : ℕ)
-            → MayBeNode may_hold (map.get old.nodes q) (map.get (map.remove after.nodes number) q)
+        nodes_before : (after : World) → MayBe custody (over_with old number y) after → (q : ℕ)
+            → MayBeNode custody.may_hold (map.get old.nodes q) (map.get (map.remove after.nodes number) q)
         nodes_before after is q = by_place (eq_by_cmp nat_cmp q number) refl
           where
-            by_place : (b : Bool) → eq_by_cmp nat_cmp q number ≡ b → MayBeNode may_hold (map.get old.nodes q) (map.get (map.remove after.nodes number) q)
+            by_place : (b : Bool) → eq_by_cmp nat_cmp q number ≡ b → MayBeNode custody.may_hold (map.get old.nodes q) (map.get (map.remove after.nodes number) q)
             by_place true e =
-                subst (λ p. MayBeNode may_hold (map.get old.nodes p) (map.get (map.remove after.nodes number) p)) (sym (same_number q number e))
-                (subst (λ o. MayBeNode may_hold o (map.get (map.remove after.nodes number) number)) (sym none)
-                (subst (λ o. MayBeNode may_hold None o) (sym (gone after.nodes)) tt))
+                subst (λ p. MayBeNode custody.may_hold (map.get old.nodes p) (map.get (map.remove after.nodes number) p)) (sym (same_number q number e))
+                (subst (λ o. MayBeNode custody.may_hold o (map.get (map.remove after.nodes number) number)) (sym none)
+                (subst (λ o. MayBeNode custody.may_hold None o) (sym (gone after.nodes)) tt))
             by_place false e =
-                subst (λ o. MayBeNode may_hold (map.get old.nodes q) o) (sym (others after.nodes q e))
-                (subst (λ o. MayBeNode may_hold o (map.get after.nodes q)) (at_other old.nodes number q y e) (is.nodes q))
+                subst (λ o. MayBeNode custody.may_hold (map.get old.nodes q) o) (sym (others after.nodes q e))
+                (subst (λ o. MayBeNode custody.may_hold o (map.get after.nodes q)) (at_other old.nodes number q y e) (is.nodes q))
 
-        may_be_without : (after : World) → MayBe may_hold (over_with old number y) after → MayBe may_hold old (without after)
+        may_be_without : (after : World) → MayBe custody (over_with old number y) after → MayBe custody old (without after)
         may_be_without after is = record { desks = refl; nodes = nodes_before after is; packets = refl; audit = refl }
 
         put_back : (m : map.FinMap nat_cmp KeptNode) (s : KeptNode) → map.get m number ≡ Some s → map.insert (map.remove m number) number s ≡ m
@@ -292,7 +293,7 @@ module _ {K : Type 0} (is_honest : K → Type 0) (may_hold : K → Held) where
                 (here (map.remove m number) number s ∙ sym at)
             by_place q false e = at_other (map.remove m number) number q s e ∙ others m q e
 
-        goes_on : (after : World) (k k' : Kept) → MayBe may_hold (over_with old number y) after → IsOpening number k y.node k'
+        goes_on : (after : World) (k k' : Kept) → MayBe custody (over_with old number y) after → IsOpening number k y.node k'
             → map.get after.nodes number ≡ Some (with_kept y.node k') → joined (without after) number k ≡ after
         goes_on after k k' is o at =
             let s : KeptNode = record { node = opened old.desks k; kept = raised k } in
@@ -303,10 +304,10 @@ module _ {K : Type 0} (is_honest : K → Type 0) (may_hold : K → Held) where
             let audit : old.audit ++ [] ≡ after.audit = append-nil old.audit ∙ sym is.audit in
             λ i. record { desks = sym is.desks i; nodes = nodes i; packets = packets i; audit = audit i }
 
-        honest_without : AreHonest is_honest (over_with old number y) → AreHonest is_honest old
+        honest_without : AreHonest custody (over_with old number y) → AreHonest custody old
         honest_without all q n at = by_place (eq_by_cmp nat_cmp q number) refl
           where
-            by_place : (b : Bool) → eq_by_cmp nat_cmp q number ≡ b → is_honest n.keeper
+            by_place : (b : Bool) → eq_by_cmp nat_cmp q number ≡ b → custody.is_honest n.keeper
             by_place true e = absurd (none_some (sym none ∙ ap (map.get old.nodes) (sym (same_number q number e)) ∙ at))
               where
                 none_some : ◌≡◌ {A = Option (NodeOver K)} None (Some n) → ⊥
@@ -315,12 +316,12 @@ module _ {K : Type 0} (is_honest : K → Type 0) (may_hold : K → Held) where
 
         pub takes_in : (new : WorldOver K) → new ≡ over_with old number y → (boot : ℕ) → boot ≡ y.node.boot → HasNamesOnce y.node.saved
             → ((w : World) → AreNodes old w → (name : Name) → ¬ IsStrayWith w number y.node.saved name)
-            → TakesIn is_honest may_hold old keeper new (DoesJoin number boot)
+            → TakesIn custody old keeper new (DoesJoin number boot)
         takes_in new is_new boot is_boot names strays =
-            subst (λ n. TakesIn is_honest may_hold old keeper n (DoesJoin number boot)) (sym is_new) (record {
+            subst (λ n. TakesIn custody old keeper n (DoesJoin number boot)) (sym is_new) (record {
               honest = λ all. (honest_without all, (opens (all number y (here old.nodes number y))).0);
               comes = λ all after is.
-                  let s = node_there is_honest may_hold (over_with old number y) after number y (here old.nodes number y) is in
+                  let s = node_there custody (over_with old number y) after number y (here old.nodes number y) is in
                   let b = (opens (all number y (here old.nodes number y))).1 s.kept s.held in
                   let o = opening_of number b.0 y.node s.kept b.2 in
                   let before = without after in

@@ -1,8 +1,8 @@
 -- What a node tells, and how it is sent.
 use Rattle.std.proofs.Common.{◌≡◌, ◌++◌, ◌∙◌, refl, sym, ap, subst, ℕ, suc, List, length, Some, inl, inr}
 use Rattle.std.specs.FinMap as map
+use Rattle.fl_store.specs.Custody.{Custody}
 use Rattle.fl_store.specs.Kept.{Kept}
-use Rattle.fl_store.specs.Keeping.{Held}
 use Rattle.fl_wire.specs.declared.packet.Packet.{Packet}
 use Rattle.fl_jobs.specs.declared.answer.Refusal.TheVariants.{Memory}
 use Rattle.fl_system.specs.declared.answer.Fault.{Fault}
@@ -40,7 +40,7 @@ sends_none number told packets packets_after same =
 
 -- ---- as a step of the world
 
-module _ {K : Type 0} (is_honest : K → Type 0) (may_hold : K → Held) (old : WorldOver K) (number : ℕ) (x : NodeOver K)
+module _ {K : Type 0} (custody : Custody K) (old : WorldOver K) (number : ℕ) (x : NodeOver K)
     (there : map.get old.nodes number ≡ Some x) where
   -- the world before more was sent
   abbrev before_more : World → World
@@ -50,18 +50,18 @@ module _ {K : Type 0} (is_honest : K → Type 0) (may_hold : K → Held) (old : 
       → record (before_more after) { packets = old.packets ++ sent } ≡ after
   more_is sent after is = λ i. record { desks = after.desks; nodes = after.nodes; packets = (sym is) i; audit = after.audit }
 
-  may_be_before : (sent : List Sent) (after : World) → MayBe may_hold (record old { packets = old.packets ++ sent }) after
-      → MayBe may_hold old (before_more after)
+  may_be_before : (sent : List Sent) (after : World) → MayBe custody (record old { packets = old.packets ++ sent }) after
+      → MayBe custody old (before_more after)
   may_be_before sent after is = record { desks = is.desks; nodes = is.nodes; packets = refl; audit = is.audit }
 
   -- nothing but packets is new
   more : (new : WorldOver K) (sent : List Sent) (step : World → World → Type 0) → new ≡ record old { packets = old.packets ++ sent }
-      → ((w : World) (k : Kept) → IsAt w number (with_kept x.node k) → MayBe may_hold old w → step w (record w { packets = w.packets ++ sent }))
-      → Goes is_honest may_hold old new step
-  more new sent step is_new steps = subst (λ n. Goes is_honest may_hold old n step) (sym is_new) (record {
+      → ((w : World) (k : Kept) → IsAt w number (with_kept x.node k) → MayBe custody old w → step w (record w { packets = w.packets ++ sent }))
+      → Goes custody old new step
+  more new sent step is_new steps = subst (λ n. Goes custody old n step) (sym is_new) (record {
     honest = λ all. all;
     comes = λ all after is.
-        let s = node_there is_honest may_hold old (before_more after) number x there (may_be_before sent after is) in (
+        let s = node_there custody old (before_more after) number x there (may_be_before sent after is) in (
           before_more after,
           may_be_before sent after is,
           subst (step (before_more after)) (more_is sent after is.packets)
@@ -71,17 +71,17 @@ module _ {K : Type 0} (is_honest : K → Type 0) (may_hold : K → Held) (old : 
 
   -- the node is as it was
   pub kept_so : (new : WorldOver K) (step : World → World → Type 0) → new ≡ old
-      → ((w : World) (k : Kept) → IsAt w number (with_kept x.node k) → MayBe may_hold old w → step w w)
-      → Goes is_honest may_hold old new step
-  kept_so new step same steps = subst (λ n. Goes is_honest may_hold old n step) (sym same) (stays is_honest may_hold old step
-      (λ w is. let s = node_there is_honest may_hold old w number x there is in steps w s.kept s.there is))
+      → ((w : World) (k : Kept) → IsAt w number (with_kept x.node k) → MayBe custody old w → step w w)
+      → Goes custody old new step
+  kept_so new step same steps = subst (λ n. Goes custody old n step) (sym same) (stays custody old step
+      (λ w is. let s = node_there custody old w number x there is in steps w s.kept s.there is))
 
   pub tells : (e : Event) (new : WorldOver K) (told : List Packet) (packets packets_after : List Sent) (result : Reply) → packets ≡ old.packets
       → new ≡ record old { packets = packets_after } → Sends number told packets result packets_after
-      → ((w : World) (k : Kept) → IsAt w number (with_kept x.node k) → MayBe may_hold old w → Step w e (reply.Refused (faults.Refused Memory)) w)
-      → ((w : World) (k : Kept) → IsAt w number (with_kept x.node k) → MayBe may_hold old w
+      → ((w : World) (k : Kept) → IsAt w number (with_kept x.node k) → MayBe custody old w → Step w e (reply.Refused (faults.Refused Memory)) w)
+      → ((w : World) (k : Kept) → IsAt w number (with_kept x.node k) → MayBe custody old w
       → Step w e (reply.Sent (next_packet w) (length told)) (has_told w number told))
-      → Goes is_honest may_hold old new (λ w w'. Step w e result w')
+      → Goes custody old new (λ w w'. Step w e result w')
   tells e new told packets packets_after result same is_new Sends.no_room stay go =
       kept_so new _ (is_new ∙ (λ i. record { desks = old.desks; nodes = old.nodes; packets = same i; audit = old.audit })) stay
   tells e new told packets packets_after result same is_new Sends.sends stay go =
@@ -90,10 +90,10 @@ module _ {K : Type 0} (is_honest : K → Type 0) (may_hold : K → Held) (old : 
       (λ w k at is. subst (λ c. Step w e (reply.Sent (suc c) (length told)) (has_told w number told)) (ap length (is.packets ∙ sym same)) (go w k at is))
 
   pub tells_nothing : (e : Event) (new : WorldOver K) (fault : Fault) → new ≡ old → TellsNothing x.node.state fault
-      → (NotRunning x.node.state fault → (w : World) (k : Kept) → IsAt w number (with_kept x.node k) → MayBe may_hold old w → Step w e (reply.Refused fault) w)
-      → (IsRunning x.node.state → (w : World) (k : Kept) → IsAt w number (with_kept x.node k) → MayBe may_hold old w
+      → (NotRunning x.node.state fault → (w : World) (k : Kept) → IsAt w number (with_kept x.node k) → MayBe custody old w → Step w e (reply.Refused fault) w)
+      → (IsRunning x.node.state → (w : World) (k : Kept) → IsAt w number (with_kept x.node k) → MayBe custody old w
       → Step w e (reply.Refused (faults.Refused Memory)) w)
-      → Goes is_honest may_hold old new (λ w w'. Step w e (reply.Refused fault) w')
+      → Goes custody old new (λ w w'. Step w e (reply.Refused fault) w')
   tells_nothing e new fault same (inl h) stopped no_room = kept_so new _ same (stopped h)
   tells_nothing e new fault same (inr h) stopped no_room =
-      subst (λ f. Goes is_honest may_hold old new (λ w w'. Step w e (reply.Refused f) w')) (sym h.1) (kept_so new _ same (no_room h.0))
+      subst (λ f. Goes custody old new (λ w w'. Step w e (reply.Refused f) w')) (sym h.1) (kept_so new _ same (no_room h.0))

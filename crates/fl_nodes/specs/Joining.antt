@@ -3,8 +3,8 @@ use Rattle.std.specs.Prelude.{◌≡◌, ◌⊎◌, ℕ}
 use Rattle.std.specs.declared.option.Option.{Option}
 use Rattle.std.specs.declared.option.Option.TheVariants.{None, Some}
 use Rattle.fl_labels.specs.declared.name.Name.{Name}
+use Rattle.fl_store.specs.Custody.{Custody}
 use Rattle.fl_store.specs.Kept.{Kept, raised}
-use Rattle.fl_store.specs.Keeping.{Held}
 use Rattle.fl_system.specs.declared.answer.Fault.{Fault}
 use Rattle.fl_system.specs.declared.answer.Fault.TheVariants as faults
 use Rattle.fl_system.specs.declared.reply.Reply.{Reply}
@@ -19,24 +19,24 @@ use Rattle.fl_nodes.specs.Goes.{MayBe, AreHonest}
 
 -- The keeper is taken into the world. Where all keepers are honest, they and this one were before, and each world that it
 -- may be now comes by this step from one that it might have been, over something that the keeper might have held.
-pub record TakesIn {K : Type 0} (is_honest : K → Type 0) (may_hold : K → Held)
+pub record TakesIn {K : Type 0} (custody : Custody K)
     (old : WorldOver K) (keeper : K) (new : WorldOver K) (step : World → Kept → World → Type 0) : Type 0 where
-  pub honest : AreHonest is_honest new → AreHonest is_honest old × is_honest keeper
-  pub comes : AreHonest is_honest new → (after : World) → MayBe may_hold new after
-      → (before : World) × (k : Kept) × MayBe may_hold old before × may_hold keeper k
+  pub honest : AreHonest custody new → AreHonest custody old × custody.is_honest keeper
+  pub comes : AreHonest custody new → (after : World) → MayBe custody new after
+      → (before : World) × (k : Kept) × MayBe custody old before × custody.may_hold keeper k
       × step before k after
 
 -- A keeper is handed in, and one is given back. Where all keepers and the one given back are honest, they and the one handed
 -- in were before, and each world that it may be now, with what the one given back may hold, comes by this step from a world
 -- that it might have been, with something that the one handed in might have held.
-pub record GivesBack {K : Type 0} (is_honest : K → Type 0) (may_hold : K → Held)
+pub record GivesBack {K : Type 0} (custody : Custody K)
     (old : WorldOver K) (keeper : K) (new : WorldOver K) (given : K)
     (step : World → Kept → World → Kept → Type 0) : Type 0 where
-  pub honest : AreHonest is_honest new → is_honest given
-      → AreHonest is_honest old × is_honest keeper
-  pub comes : AreHonest is_honest new → is_honest given → (after : World) (k' : Kept)
-      → MayBe may_hold new after → may_hold given k'
-      → (before : World) × (k : Kept) × MayBe may_hold old before × may_hold keeper k
+  pub honest : AreHonest custody new → custody.is_honest given
+      → AreHonest custody old × custody.is_honest keeper
+  pub comes : AreHonest custody new → custody.is_honest given → (after : World) (k' : Kept)
+      → MayBe custody new after → custody.may_hold given k'
+      → (before : World) × (k : Kept) × MayBe custody old before × custody.may_hold keeper k
       × step before k after k'
 
 -- what a refused joining leaves of what was kept: its boot may have been raised, and was if it was opened
@@ -77,12 +77,12 @@ spare (Some n) other = spare_of n.keeper other n.node.state
 
 -- A keeper that is opened in the place of another is trusted no further than that: where it is honest that was honest too, and
 -- where something may be found of it something might have been found of that.
-pub record TakesOver {K : Type 0} (is_honest : K → Type 0) (may_hold : K → Held) (was made : K) : Type 0 where
-  pub honest : is_honest made → is_honest was
-  pub held : is_honest made → (k : Kept) → may_hold made k → (before : Kept) × may_hold was before
+pub record TakesOver {K : Type 0} (custody : Custody K) (was made : K) : Type 0 where
+  pub honest : custody.is_honest made → custody.is_honest was
+  pub held : custody.is_honest made → (k : Kept) → custody.may_hold made k → (before : Kept) × custody.may_hold was before
 
 -- the node of this number is opened again over something that this keeper might have held
-pub record ReturnsOver {K : Type 0} (may_hold : K → Held) (made : K) (number : ℕ) (reply : Reply) (w w' : World) : Type 0 where
+pub record ReturnsOver {K : Type 0} (custody : Custody K) (made : K) (number : ℕ) (reply : Reply) (w w' : World) : Type 0 where
   pub kept : Kept
-  pub held : may_hold made kept
+  pub held : custody.may_hold made kept
   pub returns : Reopening w number kept reply w'

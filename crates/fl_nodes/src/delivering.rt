@@ -31,7 +31,7 @@ impl<K: Keeper> Nodes<K> {
     ///
     /// Refused with `Memory` too where there is no room for the packets; then none is sent. Costs what `Node::summary` does.
     pub fn tell(&mut self, alloc: Global, number: NodeNumber) -> Reply
-        ensures { Goes K.is_honest K.may_hold self.old self.new
+        ensures { Goes K.custody self.old self.new
             (λ w w'. Step w (event.Tell number) result w') }
     {
         let Some(node) = self.all.get(&number) else {
@@ -54,7 +54,7 @@ impl<K: Keeper> Nodes<K> {
     /// nothing changes. Beside the node's own costs, a message is copied, with the labels of both its processes, and what its
     /// receiver owns where that has changed since it was noted last.
     pub fn deliver(&mut self, alloc: Global, packet: u64, number: NodeNumber) -> Reply
-        ensures { Goes K.is_honest K.may_hold self.old self.new
+        ensures { Goes K.custody self.old self.new
             (λ w w'. Step w (event.Deliver packet number) result w') }
     {
         let Some(node) = self.all.get_mut(&number) else {

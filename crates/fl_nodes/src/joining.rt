@@ -10,6 +10,7 @@ ghost use Rattle.fl_system.specs.declared.reply.Reply.TheVariants as replies;
 ghost use Rattle.fl_system.specs.Joins.{IsClashAt, Reopening};
 ghost use Rattle.fl_system.specs.Waiting.{IsRunning};
 ghost use Rattle.fl_system.specs.World.{World};
+ghost use Rattle.fl_store.specs.Breaking.{IsLeftBroken};
 ghost use Rattle.fl_node.specs.Causes.{KeeperFails};
 ghost use Rattle.fl_node.specs.Over.{NodeOver};
 ghost use Rattle.fl_nodes.specs.Goes.{Goes};
@@ -109,14 +110,14 @@ impl<K: Keeper> Nodes<K> {
     /// each of them, and one for each operation of the one that has the number of the other.
     pub fn join(&mut self, alloc: Global, number: NodeNumber, keeper: K) -> Result<u32, (Fault, K)>
         requires { 0 < number }
-        ensures joins { IfOk result (λ boot. TakesIn K.is_honest K.may_hold self.old keeper self.new
+        ensures joins { IfOk result (λ boot. TakesIn K.custody self.old keeper self.new
             (DoesJoin number boot)) }
         ensures refused { IfErr result (λ e.
-            GivesBack K.is_honest K.may_hold self.old keeper self.new e.1 (DoesNotJoin number e.0)) }
+            GivesBack K.custody self.old keeper self.new e.1 (DoesNotJoin number e.0)) }
         ensures there { (n : NodeOver K) → map.get self.old.nodes number ≡ Some n
             → result ≡ Err (Fault.WrongNode, keeper) }
-        ensures cause { let bad = K.has_bad_row keeper in
-            IfErr result (λ e. KeeperFails (K.is_broken e.1) (K.is_honest e.1) bad e.0) }
+        ensures cause { let bad = K.custody.has_bad_row keeper in IfErr result (λ e.
+            KeeperFails (IsLeftBroken K.custody keeper e.1) (K.custody.is_honest e.1) bad e.0) }
         ensures same { OnErr result (self.new ≡ self.old) }
     {
         if self.has(number) {
@@ -138,11 +139,11 @@ impl<K: Keeper> Nodes<K> {
     /// where it is not there, and `Busy` where it runs. Gives too the keeper that no node has then: the one that the stopped node
     /// had, or else the one that was handed in.
     pub fn reopen(&mut self, alloc: Global, number: NodeNumber, keeper: K) -> (Reply, K)
-        ensures reopens { GivesBack K.is_honest K.may_hold self.old keeper self.new result.1
+        ensures reopens { GivesBack K.custody self.old keeper self.new result.1
             (λ w k w' k'. Reopening w number k result.0 w') }
         ensures given { result.1 ≡ spare (map.get self.old.nodes number) keeper }
         ensures cause { result.0 ≡ Reply.Refused Fault.KeeperFailed
-            → FailsAt K.is_broken K.is_honest (λ n. K.has_bad_row keeper) self.old self.new number }
+            → FailsAt K.custody (λ n. K.custody.has_bad_row keeper) self.old self.new number }
     {
         let Some(node) = self.all.get_mut(&number) else {
             return (Reply::NoSuch, keeper);
@@ -167,17 +168,17 @@ impl<K: Keeper> Nodes<K> {
         requires callable { F.IsAlwaysCallable make }
         requires trusted { (n : NodeOver K) (made : K) → map.get self.old.nodes number ≡ Some n
             → (¬ IsRunning n.node.state) → FnOnceReturnsAtMut F.FnOnce make n.keeper tt made
-            → TakesOver K.is_honest K.may_hold n.keeper made }
+            → TakesOver K.custody n.keeper made }
         ensures absent { map.get self.old.nodes number ≡ None
             → (self.new ≡ self.old) × (result ≡ replies.NoSuch) }
         ensures running { (n : NodeOver K) → map.get self.old.nodes number ≡ Some n → IsRunning n.node.state
             → (self.new ≡ self.old) × (result ≡ replies.Refused (Fault.Refused Refusal.Busy)) }
         ensures stopped { (n : NodeOver K) → map.get self.old.nodes number ≡ Some n
             → (¬ IsRunning n.node.state) → (made : K) × FnOnceReturnsAtMut F.FnOnce make n.keeper tt made
-            × Goes K.is_honest K.may_hold self.old self.new (ReturnsOver K.may_hold made number result) }
+            × Goes K.custody self.old self.new (ReturnsOver K.custody made number result) }
         ensures cause { result ≡ Reply.Refused Fault.KeeperFailed
-            → FailsAt K.is_broken K.is_honest (λ n. (made : K)
-            × FnOnceReturnsAtMut F.FnOnce make n.keeper tt made × K.has_bad_row made)
+            → FailsAt K.custody (λ n. (made : K)
+            × FnOnceReturnsAtMut F.FnOnce make n.keeper tt made × K.custody.has_bad_row made)
             self.old self.new number }
     {
         let Some(node) = self.all.get_mut(&number) else {

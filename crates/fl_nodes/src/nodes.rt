@@ -135,10 +135,10 @@ impl<K: Keeper> Nodes<K> {
     /// Saves what is to be saved at the node, as `Node::save` has it, and answers `Done`, or why not: `NoSuch` where the node is
     /// not there, and `KeeperFailed` only where its keeper is broken then.
     pub fn save(&mut self, number: NodeNumber) -> Reply
-        ensures goes { Goes K.is_honest K.may_hold self.old self.new
+        ensures goes { Goes K.custody self.old self.new
             (λ w w'. Step w (event.Save number) result w') }
         ensures cause { result ≡ Reply.Refused Fault.KeeperFailed
-            → IsBrokenAt K.is_broken self.new number }
+            → IsBrokenAt K.custody self.new number }
     {
         let Some(node) = self.all.get_mut(&number) else {
             return Reply::NoSuch;
@@ -153,7 +153,7 @@ impl<K: Keeper> Nodes<K> {
 
     /// Gives up what is to be saved at the node, as `Node::cancel` has it, and answers `Done`, or why not. Takes no memory.
     pub fn cancel(&mut self, number: NodeNumber) -> Reply
-        ensures { Goes K.is_honest K.may_hold self.old self.new
+        ensures { Goes K.custody self.old self.new
             (λ w w'. Step w (event.Cancel number) result w') }
     {
         let Some(node) = self.all.get_mut(&number) else {
@@ -170,7 +170,7 @@ impl<K: Keeper> Nodes<K> {
     /// Publishes what is due at the node, as `Node::publish` has it, and answers the name of an order, or how many operations
     /// were received, or why not.
     pub fn publish(&mut self, alloc: Global, number: NodeNumber) -> Reply
-        ensures { Goes K.is_honest K.may_hold self.old self.new
+        ensures { Goes K.custody self.old self.new
             (λ w w'. Step w (event.Publish number) result w') }
     {
         let Some(node) = self.all.get_mut(&number) else {
@@ -188,11 +188,11 @@ impl<K: Keeper> Nodes<K> {
     /// Restarts the node, as `Node::restart` has it, and answers its boot, or why not: `KeeperFailed` only where its keeper is
     /// broken then, or loads a bad row.
     pub fn restart(&mut self, alloc: Global, number: NodeNumber, keeps: bool) -> Reply
-        ensures goes { Goes K.is_honest K.may_hold self.old self.new
+        ensures goes { Goes K.custody self.old self.new
             (λ w w'. Step w (event.Restart number keeps) result w') }
-        ensures cause { let bad = LoadsBadRowOf K.number K.is_honest K.may_hold K.has_bad_row in
+        ensures cause { let bad = LoadsBadRowOf K.custody in
             result ≡ Reply.Refused Fault.KeeperFailed
-            → FailsAt K.is_broken K.is_honest bad self.old self.new number }
+            → FailsAt K.custody bad self.old self.new number }
     {
         let Some(node) = self.all.get_mut(&number) else {
             return Reply::NoSuch;
@@ -212,7 +212,7 @@ impl<K: Keeper> Nodes<K> {
     /// labels of the process are copied, and what it owns where that has changed since it was noted last.
     pub fn job(&mut self, alloc: Global, number: NodeNumber, desk: u8, job: Job) -> Reply
         ensures { (upto : _) → IsWhole self.old number upto
-            → Goes K.is_honest K.may_hold self.old self.new
+            → Goes K.custody self.old self.new
             (λ w w'. Step w (event.Job number desk upto job) result w') }
     {
         let Some(node) = self.all.get_mut(&number) else {

@@ -131,21 +131,17 @@ impl<S: Alter> SqlKeeper<S> {
 }
 
 impl<S: Alter> Keeper for SqlKeeper<S> {
-    ghost number = { λ k. k.number };
-
-    ghost may_hold = { λ k. held_in k.number (state S.Store k.conn) };
-
-    ghost failed = { λ k. k.failures };
-
-    ghost is_broken = { λ k. k.is_broken };
-
-    ghost is_honest = { λ k. HasCleanDisk (state S.Store k.conn) };
-
-    ghost breaks = { SqlBreaks S.Store };
-
-    ghost wants = { SqlWants S.Store };
-
-    ghost has_bad_row = { λ k. HasBadRow ((state S.Store k.conn).now.trees 1) };
+    ghost custody = { record {
+      number = λ k. k.number;
+      may_hold = λ k. held_in k.number (state S.Store k.conn);
+      is_honest = λ k. HasCleanDisk (state S.Store k.conn);
+      failed = λ k. k.failures;
+      is_broken = λ k. k.is_broken;
+      has_bad_row = λ k. HasBadRow ((state S.Store k.conn).now.trees 1);
+      breaks = SqlBreaks S.Store;
+      wants = SqlWants S.Store;
+      becomes = λ call old new. Unit {0};
+    } };
 
     ghost holds = { λ k clean. something_held k.number
         (S.Store.recovers k.conn.store) (S.Store.survives k.conn.store clean) };

@@ -11,6 +11,7 @@ use Rattle.fl_store.specs.declared.health.Health.TheVariants.{Sound, BreaksAfter
 use Rattle.fl_store.specs.contracts.health.Health as health_row
 use Rattle.fl_store.specs.Kept.{Kept, coded_kept, with_ops, raised}
 use Rattle.fl_store.specs.Call.{Call, Load, Boot, Save}
+use Rattle.fl_store.specs.Custody.{Custody}
 
 pub record MemKept : Type 0 where
   pub kept : Kept
@@ -98,3 +99,17 @@ MemWants Load old new =
     (is_broken_at old.health ≡ false) × (0 < set.len old.kept.saved) × (new ≡ old)
 MemWants Boot old new = ⊥
 MemWants (Save ops) old new = IsTrue (adds_at old.health) × (0 < length ops) × (new ≡ old)
+
+-- whose it is, what it may hold, and when it fails: it is always honest, and no row of it is bad
+abbrev pub mem_custody : Custody MemKept
+mem_custody = record {
+  number = λ k. k.kept.number;
+  may_hold = λ keeper k. k ≡ keeper.kept;
+  is_honest = λ k. Unit {0};
+  failed = λ k. failed_at k.health;
+  is_broken = λ k. is_broken_at k.health;
+  has_bad_row = λ k. ⊥;
+  breaks = MemBreaks;
+  wants = MemWants;
+  becomes = MemBecomes;
+}

@@ -8,7 +8,7 @@ ghost use Rattle.fl_store.specs.Kept.{Kept, HasNamesOnce, AreNew, with_ops};
 ghost use Rattle.fl_store.specs.Keeping.{AfterSave, SaveFails};
 ghost use Rattle.fl_store.specs.MemKeeping.{MemKept, is_broken_at, failed_at, breaking};
 ghost use Rattle.fl_store.specs.MemKeeping.{health_after, saved_after, adds_at};
-ghost use Rattle.fl_store.specs.MemKeeping.{MemBecomes, MemBreaks, MemWants};
+ghost use Rattle.fl_store.specs.MemKeeping.{mem_custody};
 
 use crate::health::Health;
 use crate::keeper::{Keeper, KeeperFault};
@@ -161,23 +161,7 @@ impl MemKeeper {
 }
 
 impl Keeper for MemKeeper {
-    ghost number = { λ k. k.kept.number };
-
-    ghost may_hold = { λ keeper k. k ≡ keeper.kept };
-
-    ghost failed = { λ k. failed_at k.health };
-
-    ghost is_broken = { λ k. is_broken_at k.health };
-
-    ghost has_bad_row = { λ k. ⊥ };
-
-    ghost is_honest = { λ k. Unit {0} };
-
-    ghost breaks = { MemBreaks };
-
-    ghost wants = { MemWants };
-
-    ghost becomes = { MemBecomes };
+    ghost custody = { mem_custody };
 
     ghost holds = { λ keeper _. ∣ (keeper.kept, refl) ∣₁ };
 

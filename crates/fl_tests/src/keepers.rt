@@ -1,9 +1,8 @@
 //! Makers whose keepers are not made, are another node's, or break.
-ghost use Rattle.std.specs.Prelude.{◌≡◌, ◌⊎◌, Contains};
-ghost use Rattle.std.proofs.Common.{inr};
+ghost use Rattle.std.specs.Prelude.{◌≡◌, Contains};
 ghost use Rattle.fl_jobs.specs.declared.answer.Refusal.TheVariants.{Memory};
 ghost use Rattle.fl_makers.specs.Making.{nothing_kept};
-ghost use Rattle.fl_system.specs.declared.answer.Fault.TheVariants.{KeeperFailed, Refused};
+ghost use Rattle.fl_system.specs.declared.answer.Fault.TheVariants.{Refused};
 
 use fl_jobs::answer::Refusal;
 use fl_labels::name::NodeNumber;
@@ -21,14 +20,13 @@ pub struct RefusingMaker<'a> {
 impl MakesKeepers for RefusingMaker<'_> {
     type K = MemKeeper;
 
-    ghost finds = { λ _ number k. k ≡ nothing_kept number };
+    ghost making = { record {
+      finds = λ _ number k. k ≡ nothing_kept number;
+      unmade = λ maker number fault. Contains maker.refusals.now (number, fault);
+      refuses = λ maker number fault. Contains maker.refusals.now (number, fault);
+    } };
 
-    ghost unmade = { λ maker number fault. Contains maker.refusals.now (number, fault) };
-
-    ghost refuses = { λ maker number fault. (fault ≡ KeeperFailed)
-        ⊎ Contains maker.refusals.now (number, fault) };
-
-    ghost told = { λ _ _ _ why. inr why };
+    ghost told = { λ _ _ _ why. why };
 
     fn make(&mut self, alloc: Global, number: NodeNumber) -> Result<MemKeeper, Fault> {
         if let [(node, fault), rest @ ..] = self.refusals {
@@ -50,11 +48,11 @@ pub struct OneNodeMaker {
 impl MakesKeepers for OneNodeMaker {
     type K = MemKeeper;
 
-    ghost finds = { λ maker _ k. k ≡ nothing_kept maker.node };
-
-    ghost unmade = { λ _ _ _. ⊥ };
-
-    ghost refuses = { λ _ _ fault. fault ≡ KeeperFailed };
+    ghost making = { record {
+      finds = λ maker _ k. k ≡ nothing_kept maker.node;
+      unmade = λ _ _ _. ⊥;
+      refuses = λ _ _ _. ⊥;
+    } };
 
     ghost told = { λ _ _ _ none. absurd none };
 
@@ -72,11 +70,11 @@ pub struct BreakingMaker {
 impl MakesKeepers for BreakingMaker {
     type K = MemKeeper;
 
-    ghost finds = { λ _ number k. k ≡ nothing_kept number };
-
-    ghost unmade = { λ _ _ _. ⊥ };
-
-    ghost refuses = { λ _ _ fault. fault ≡ KeeperFailed };
+    ghost making = { record {
+      finds = λ _ number k. k ≡ nothing_kept number;
+      unmade = λ _ _ _. ⊥;
+      refuses = λ _ _ _. ⊥;
+    } };
 
     ghost told = { λ _ _ _ none. absurd none };
 
@@ -98,13 +96,13 @@ pub struct BootedMaker {
 impl MakesKeepers for BootedMaker {
     type K = MemKeeper;
 
-    ghost finds = { λ maker number k. k ≡ record (nothing_kept number) { boot = maker.boot } };
+    ghost making = { record {
+      finds = λ maker number k. k ≡ record (nothing_kept number) { boot = maker.boot };
+      unmade = λ _ _ fault. fault ≡ Refused Memory;
+      refuses = λ _ _ fault. fault ≡ Refused Memory;
+    } };
 
-    ghost unmade = { λ _ _ fault. fault ≡ Refused Memory };
-
-    ghost refuses = { λ _ _ fault. (fault ≡ KeeperFailed) ⊎ (fault ≡ Refused Memory) };
-
-    ghost told = { λ _ _ _ why. inr why };
+    ghost told = { λ _ _ _ why. why };
 
     fn make(&mut self, alloc: Global, number: NodeNumber) -> Result<MemKeeper, Fault> {
         match MemKeeper::with(alloc, number, self.boot, &[]) {

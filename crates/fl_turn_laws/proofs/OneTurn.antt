@@ -5,8 +5,8 @@ use Rattle.std.proofs.lemmas.List.Elements.{recursion_from_All}
 use Rattle.fl_bench.specs.laws.Puts.{none_some, same_found}
 use Rattle.fl_ops.specs.declared.format.Format.{Format}
 use Rattle.fl_ops.specs.Grammar.{first_fault}
+use Rattle.fl_store.specs.Custody.{Custody}
 use Rattle.fl_store.specs.Kept.{Kept}
-use Rattle.fl_store.specs.Keeping.{Held}
 use Rattle.fl_jobs.specs.declared.answer.Refusal.TheVariants.{Memory}
 use Rattle.fl_wire.specs.PacketBytes.{packet_bytes}
 use Rattle.fl_wire.specs.PacketFits.{HasPacket}
@@ -14,7 +14,7 @@ use Rattle.fl_wire.specs.PacketGrammar.{packet_fields, packet_fault}
 use Rattle.fl_wire.specs.declared.packet.Packet.{Packet}
 use Rattle.fl_wire.specs.declared.packet.Packet.TheVariants as packets
 use Rattle.fl_labels.specs.SetBy as set
-use Rattle.fl_makers.specs.Making.{IsKeeperFault}
+use Rattle.fl_makers.specs.Making.{Making, IsKeeperFault}
 use Rattle.fl_system.specs.declared.answer.Fault.{Fault}
 use Rattle.fl_system.specs.declared.answer.Fault.TheVariants as faults
 use Rattle.fl_system.specs.declared.event.Event.{Event}
@@ -307,15 +307,14 @@ module _ (one_spelling : (f g : Format) (a b : Packet) → HasPacket f a → Has
 
   -- ---- lines
 
-  module _ {K : Type 0} (is_honest : K → Type 0) (may_hold : K → Held) (finds : ℕ → Kept → Type 0)
-      (refuses : ℕ → Fault → Type 0) (certain : OpenOneWay is_honest may_hold finds refuses) where
+  module _ {K M : Type 0} (custody : Custody K) (making : Making M) (maker : M) (certain : OpenOneWay custody making maker) where
     o : Openings
-    o = openings_of is_honest may_hold finds refuses
+    o = openings_of custody making maker
 
     -- who is refused would not have joined
     record WouldNotJoin (w : World) (number : ℕ) (fault : Fault) : Type 0 where
       pub kept : Kept
-      pub found : finds number kept
+      pub found : making.finds maker number kept
       pub refused : Joins w number kept (Refused fault) w
 
     no_keeper : (fault : Fault) → IsKeeperFault fault → IsSureReply (Refused fault) → ⊥
@@ -323,7 +322,7 @@ module _ (one_spelling : (f g : Format) (a b : Packet) → HasPacket f a → Has
     no_keeper fault (inr (inl is)) sure = sure.ample.keeper (ap Refused is)
     no_keeper fault (inr (inr is)) sure = sure.ample.own (ap Refused is)
 
-    would_not : (w : World) (number : ℕ) (fault : Fault) → NotOpened is_honest may_hold finds refuses w number fault
+    would_not : (w : World) (number : ℕ) (fault : Fault) → NotOpened custody making maker w number fault
         → IsSureReply (Refused fault) → WouldNotJoin w number fault
     would_not w number fault (without_keeper why) sure = absurd (no_keeper fault (certain.fails number fault why) sure)
     would_not w number fault (not_joined keeper other over) sure =
@@ -335,7 +334,7 @@ module _ (one_spelling : (f g : Format) (a b : Packet) → HasPacket f a → Has
     SureEntry (Ok u) = Unit {0}
     SureEntry (Err fault) = IsSureReply (Refused fault)
 
-    both_join : (w : World) (number : ℕ) (k other : Kept) (r s : Reply) (a b : World) → finds number k → finds number other
+    both_join : (w : World) (number : ℕ) (k other : Kept) (r s : Reply) (a b : World) → making.finds maker number k → making.finds maker number other
         → Joins w number k r a → Joins w number other s b → IsSureReply r → IsSureReply s → (r ≡ s) × (a ≡ b)
     both_join w number k other r s a b found found' step step' p q =
         one_joining step (subst (λ x. Joins w number x s b) (certain.one_kept number other k found' found) step')
@@ -478,8 +477,8 @@ module _ (one_spelling : (f g : Format) (a b : Packet) → HasPacket f a → Has
         (λ i. first.0 i ∷ rest.0 i, rest.1)
 
     pub script_one : (lines : List (List ℕ)) (xs ys : List Answer) (m n : Session)
-        → Run (openings_of is_honest may_hold finds refuses) begun lines xs m
-        → Run (openings_of is_honest may_hold finds refuses) begun lines ys n → All IsSure xs → All IsSure ys
+        → Run (openings_of custody making maker) begun lines xs m
+        → Run (openings_of custody making maker) begun lines ys n → All IsSure xs → All IsSure ys
         → (xs ≡ ys) × (m ≡ n)
     unfolding o Fit
     script_one lines xs ys m n h k p q =
@@ -500,8 +499,8 @@ module _ (one_spelling : (f g : Format) (a b : Packet) → HasPacket f a → Has
         λ i. one.0 i ∷ rest i
 
     pub same_first : (first later other : List (List ℕ)) (xs ys : List Answer) (m n : Session)
-        → Run (openings_of is_honest may_hold finds refuses) begun (first ++ later) xs m
-        → Run (openings_of is_honest may_hold finds refuses) begun (first ++ other) ys n → All IsSure xs → All IsSure ys
+        → Run (openings_of custody making maker) begun (first ++ later) xs m
+        → Run (openings_of custody making maker) begun (first ++ other) ys n → All IsSure xs → All IsSure ys
         → take (length first) xs ≡ take (length first) ys
     unfolding o Fit
     same_first first later other xs ys m n h k p q =

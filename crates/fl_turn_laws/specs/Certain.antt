@@ -1,8 +1,8 @@
 -- When a script has one run.
 use Rattle.std.specs.Prelude.{◌≡◌, ℕ}
+use Rattle.fl_store.specs.Custody.{Custody}
 use Rattle.fl_store.specs.Kept.{Kept}
-use Rattle.fl_store.specs.Keeping.{Held}
-use Rattle.fl_makers.specs.Making.{IsKeeperFault}
+use Rattle.fl_makers.specs.Making.{Making, IsKeeperFault}
 use Rattle.fl_system.specs.declared.answer.Fault.{Fault}
 use Rattle.fl_system.specs.declared.reply.Reply.{Reply}
 use Rattle.fl_system.specs.declared.reply.Reply.TheVariants.{Refused}
@@ -24,8 +24,8 @@ IsSure answer = Unit {0}
 
 -- All keepers may be trusted, those that are made for a node hold one thing, and none is made only where memory is wanted, it
 -- fails, or is another node's.
-pub record OpenOneWay {K : Type 0} (is_honest : K → Type 0) (may_hold : K → Held)
-    (finds : ℕ → Kept → Type 0) (refuses : ℕ → Fault → Type 0) : Type 0 where
-  pub trusted : (keeper : K) → Trusts is_honest may_hold keeper
-  pub one_kept : (number : ℕ) (k other : Kept) → finds number k → finds number other → k ≡ other
-  pub fails : (number : ℕ) (fault : Fault) → refuses number fault → IsKeeperFault fault
+pub record OpenOneWay {K M : Type 0} (custody : Custody K)
+    (making : Making M) (maker : M) : Type 0 where
+  pub trusted : (keeper : K) → Trusts custody keeper
+  pub one_kept : (number : ℕ) (k other : Kept) → making.finds maker number k → making.finds maker number other → k ≡ other
+  pub fails : (number : ℕ) (fault : Fault) → making.refuses maker number fault → IsKeeperFault fault

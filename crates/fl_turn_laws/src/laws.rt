@@ -38,14 +38,14 @@ use fl_world::laws::{law_headline, law_lasting};
 pub fn law_script<M: MakesKeepers>()
     ensures text { (maker : M) (lines : List (List ℕ)) (text : List ℕ) (status : ℕ)
         (end : SessionOver M.K M) →
-        Writes (TurnsOver M.K.is_honest M.K.may_hold M.finds M.refuses)
+        Writes (TurnsOver M.K.custody M.making)
         (begun_over maker) lines text status end →
-        IsOneRunIfHonest M.K.is_honest M.K.may_hold M.finds M.refuses maker lines text status end }
+        IsOneRunIfHonest M.K.custody M.making maker lines text status end }
     ensures answers { (maker : M) (lines : List (List ℕ)) (outputs : List LineOutput)
-        (end : SessionOver M.K M) → Lines (TurnsOver M.K.is_honest M.K.may_hold M.finds M.refuses)
+        (end : SessionOver M.K M) → Lines (TurnsOver M.K.custody M.making)
         1 (begun_over maker) lines outputs end →
-        InEach M.K.is_honest M.K.may_hold end.cluster.world (λ w. IsAnswered
-        (openings_of M.K.is_honest M.K.may_hold (M.finds maker) (M.refuses maker))
+        InEach M.K.custody end.cluster.world (λ w. IsAnswered
+        (openings_of M.K.custody M.making maker)
         1 begun lines outputs (record { world = w; aliases = end.aliases })) }
 {}
 
@@ -53,10 +53,10 @@ pub fn law_script<M: MakesKeepers>()
 /// holds of scripts.
 pub fn law_worlds<M: MakesKeepers>()
     ensures turn { (maker : M) (old new : Session) (line : List ℕ) (answer : Answer) →
-        Turn (openings_of M.K.is_honest M.K.may_hold (M.finds maker) (M.refuses maker))
+        Turn (openings_of M.K.custody M.making maker)
         old line answer new → Leads old.world new.world }
     ensures script { (maker : M) (lines : List (List ℕ)) (answers : List Answer) (end : Session) →
-        Run (openings_of M.K.is_honest M.K.may_hold (M.finds maker) (M.refuses maker))
+        Run (openings_of M.K.custody M.making maker)
         begun lines answers end → IsReached end.world }
 {}
 
@@ -68,14 +68,14 @@ pub fn law_worlds<M: MakesKeepers>()
 pub fn law_script_safe<M: MakesKeepers>()
     ensures safe { (maker : M) (lines : List (List ℕ)) (text : List ℕ) (status : ℕ)
         (end : SessionOver M.K M) →
-        Writes (TurnsOver M.K.is_honest M.K.may_hold M.finds M.refuses)
+        Writes (TurnsOver M.K.custody M.making)
         (begun_over maker) lines text status end →
-        InEach M.K.is_honest M.K.may_hold end.cluster.world IsSafeWorld }
+        InEach M.K.custody end.cluster.world IsSafeWorld }
     ensures lasting { (maker : M) (lines : List (List ℕ)) (text : List ℕ) (status : ℕ)
         (end : SessionOver M.K M) →
-        Writes (TurnsOver M.K.is_honest M.K.may_hold M.finds M.refuses)
+        Writes (TurnsOver M.K.custody M.making)
         (begun_over maker) lines text status end →
-        InEach M.K.is_honest M.K.may_hold end.cluster.world IsLastingWorld }
+        InEach M.K.custody end.cluster.world IsLastingWorld }
 {
     law_headline();
     law_lasting();
@@ -85,16 +85,16 @@ pub fn law_script_safe<M: MakesKeepers>()
 /// something was wanting, the same whatever comes later.
 pub fn law_first_lines<M: MakesKeepers>()
     ensures begins { (maker : M) (first later : List (List ℕ)) (outputs : List LineOutput)
-        (end : SessionOver M.K M) → Lines (TurnsOver M.K.is_honest M.K.may_hold M.finds M.refuses)
+        (end : SessionOver M.K M) → Lines (TurnsOver M.K.custody M.making)
         1 (begun_over maker) (first ++ later) outputs end →
-        Begins (TurnsOver M.K.is_honest M.K.may_hold M.finds M.refuses)
+        Begins (TurnsOver M.K.custody M.making)
         1 (begun_over maker) first later outputs end }
     ensures same { (maker : M) (first later other : List (List ℕ)) (a b : List Answer)
         (m n : Session) →
-        OpenOneWay M.K.is_honest M.K.may_hold (M.finds maker) (M.refuses maker) →
-        Run (openings_of M.K.is_honest M.K.may_hold (M.finds maker) (M.refuses maker))
+        OpenOneWay M.K.custody M.making maker →
+        Run (openings_of M.K.custody M.making maker)
         begun (first ++ later) a m →
-        Run (openings_of M.K.is_honest M.K.may_hold (M.finds maker) (M.refuses maker))
+        Run (openings_of M.K.custody M.making maker)
         begun (first ++ other) b n → All IsSure a → All IsSure b →
         take (length first) a ≡ take (length first) b }
 {
@@ -105,10 +105,10 @@ pub fn law_first_lines<M: MakesKeepers>()
 /// or a keeper was wanting, a script has one run: the same answers, and the same nodes at the end.
 pub fn law_output<M: MakesKeepers>()
     ensures { (maker : M) (lines : List (List ℕ)) (a b : List Answer) (m n : Session) →
-        OpenOneWay M.K.is_honest M.K.may_hold (M.finds maker) (M.refuses maker) →
-        Run (openings_of M.K.is_honest M.K.may_hold (M.finds maker) (M.refuses maker))
+        OpenOneWay M.K.custody M.making maker →
+        Run (openings_of M.K.custody M.making maker)
         begun lines a m →
-        Run (openings_of M.K.is_honest M.K.may_hold (M.finds maker) (M.refuses maker))
+        Run (openings_of M.K.custody M.making maker)
         begun lines b n → All IsSure a → All IsSure b → (a ≡ b) × (m ≡ n) }
 {
     law_one_packet();
@@ -128,24 +128,24 @@ pub fn law_in_memory()
 /// where these aliases are set are answered alike, unless memory is wanted.
 pub fn law_aliases<M: MakesKeepers>()
     ensures kept { (maker : M) (old new : Session) (line : List ℕ) (answer : Answer) →
-        Turn (openings_of M.K.is_honest M.K.may_hold (M.finds maker) (M.refuses maker))
+        Turn (openings_of M.K.custody M.making maker)
         old line answer new → made_by answer ≡ None → new.aliases ≡ old.aliases }
     ensures unnamed { (maker : M) (old new : Session) (line : List ℕ) (said : Line)
         (answer : Answer) → IsReading old.aliases line (Means said None) →
-        Turn (openings_of M.K.is_honest M.K.may_hold (M.finds maker) (M.refuses maker))
+        Turn (openings_of M.K.custody M.making maker)
         old line answer new → new.aliases ≡ old.aliases }
     ensures set { (maker : M) (old new : Session) (line : List ℕ) (said : Line) (alias : List ℕ)
         (answer : Answer) (target : Target) →
         IsReading old.aliases line (Means said (Some alias)) →
-        Turn (openings_of M.K.is_honest M.K.may_hold (M.finds maker) (M.refuses maker))
+        Turn (openings_of M.K.custody M.making maker)
         old line answer new → made_by answer ≡ Some target →
         SetsAlias old.aliases alias target new.aliases }
     ensures alike { (maker : M) (old new : Session) (line other : List ℕ) (said : Line)
         (alias : Option (List ℕ)) (answer : Answer) →
         IsReading old.aliases line (Means said alias) →
         IsReading old.aliases other (Means said alias) → answer ≢ starved_line →
-        Turn (openings_of M.K.is_honest M.K.may_hold (M.finds maker) (M.refuses maker))
+        Turn (openings_of M.K.custody M.making maker)
         old line answer new →
-        Turn (openings_of M.K.is_honest M.K.may_hold (M.finds maker) (M.refuses maker))
+        Turn (openings_of M.K.custody M.making maker)
         old other answer new }
 {}

@@ -3,9 +3,10 @@ use Rattle.std.specs.Prelude.{◌≡◌, [], ℕ, List, refl}
 use Rattle.std.specs.Coded.{Coded, code_by, coded×, coded_ℕ, coded_list}
 use Rattle.fl_aliases.specs.Table.{Table}
 use Rattle.fl_aliases.specs.contracts.target.Target as targets_row
+use Rattle.fl_store.specs.Custody.{Custody}
 use Rattle.fl_store.specs.Kept.{Kept}
-use Rattle.fl_store.specs.Keeping.{Held}
 use Rattle.fl_stream.specs.Turns.{LineOutput}
+use Rattle.fl_makers.specs.Making.{Making}
 use Rattle.fl_system.specs.declared.answer.Fault.{Fault}
 use Rattle.fl_system.specs.World.{World}
 use Rattle.fl_calls.specs.Over.{ClusterOver, begun_over as begun_cluster, coded_cluster_over, GoesOn}
@@ -37,18 +38,17 @@ coded_session_over {K} {M} keeper maker =
 
 -- The line is answered so, with the openings of the maker before: in each world that there may be now, from one that there might
 -- have been before.
-abbrev pub TurnOver : {K M : Type 0} → (K → Type 0) → (K → Held) → (M → ℕ → Kept → Type 0)
-    → (M → ℕ → Fault → Type 0) → SessionOver K M → List ℕ → Answer → SessionOver K M → Type 0
-TurnOver is_honest may_hold finds refuses old line answer new =
-    GoesOn is_honest may_hold finds refuses old.cluster new.cluster
+abbrev pub TurnOver : {K M : Type 0} → Custody K → Making M → SessionOver K M → List ℕ → Answer → SessionOver K M → Type 0
+TurnOver custody making old line answer new =
+    GoesOn custody making old.cluster new.cluster
     (λ openings w w'. Turn openings (record { world = w; aliases = old.aliases }) line answer
     (record { world = w'; aliases = new.aliases }))
 
 -- the line of this number has an answer, with this text and status
-pub record TurnsOver {K M : Type 0} (is_honest : K → Type 0) (may_hold : K → Held)
-    (finds : M → ℕ → Kept → Type 0) (refuses : M → ℕ → Fault → Type 0) (number : ℕ)
+pub record TurnsOver {K M : Type 0} (custody : Custody K)
+    (making : Making M) (number : ℕ)
     (old : SessionOver K M) (line : List ℕ) (output : LineOutput) (new : SessionOver K M)
     : Type 0 where
   pub answer : Answer
-  pub turn : TurnOver is_honest may_hold finds refuses old line answer new
+  pub turn : TurnOver custody making old line answer new
   pub output_is : output ≡ output_of number answer

@@ -2,9 +2,10 @@
 use Rattle.std.specs.Prelude.{◌≡◌, ◌++◌, ℕ, List, Option}
 use Rattle.std.specs.Str.Lines.{lines}
 use Rattle.std.specs.Io.KnownBytes.{Appends}
+use Rattle.fl_store.specs.Custody.{Custody}
 use Rattle.fl_store.specs.Kept.{Kept}
-use Rattle.fl_store.specs.Keeping.{Held}
 use Rattle.fl_stream.specs.Turns.{LineOutput, texts, worst}
+use Rattle.fl_makers.specs.Making.{Making}
 use Rattle.fl_system.specs.declared.answer.Fault.{Fault}
 use Rattle.fl_world.specs.Reached.{InEach}
 use Rattle.fl_calls.specs.Entering.{Openings}
@@ -23,27 +24,26 @@ pub record IsOneRun (openings : Openings) (lines : List (List ℕ)) (text : List
 
 -- Where the keepers of this session are honest, in each world that its nodes may be, the text and the
 -- status are those of one run of the lines, with what the maker's keepers may hold from the start.
-abbrev pub IsOneRunIfHonest : {K M : Type 0} → (K → Type 0) → (K → Held)
-    → (M → ℕ → Kept → Type 0) → (M → ℕ → Fault → Type 0) → M → List (List ℕ) → List ℕ → ℕ
+abbrev pub IsOneRunIfHonest : {K M : Type 0} → Custody K → Making M → M → List (List ℕ) → List ℕ → ℕ
     → SessionOver K M → Type 0
-IsOneRunIfHonest is_honest may_hold finds refuses maker lines text status end =
-    InEach is_honest may_hold end.cluster.world (λ w. IsOneRun
-    (openings_of is_honest may_hold (finds maker) (refuses maker)) lines text status
+IsOneRunIfHonest custody making maker lines text status end =
+    InEach custody end.cluster.world (λ w. IsOneRun
+    (openings_of custody making maker) lines text status
     (record { world = w; aliases = end.aliases }))
 
 -- known bytes grow by a text: where the keepers at this end are honest, by that of one run of the script
-pub record RunsScript {K M : Type 0} (is_honest : K → Type 0) (may_hold : K → Held)
-    (finds : M → ℕ → Kept → Type 0) (refuses : M → ℕ → Fault → Type 0) (maker : M)
+pub record RunsScript {K M : Type 0} (custody : Custody K)
+    (making : Making M) (maker : M)
     (old new : Option (List ℕ)) (script : List ℕ) (status : ℕ) (end : SessionOver K M)
     : Type 0 where
   pub text : List ℕ
   pub written : Appends old new text
-  pub one_run : IsOneRunIfHonest is_honest may_hold finds refuses maker (lines script) text status end
+  pub one_run : IsOneRunIfHonest custody making maker (lines script) text status end
 
 -- known bytes grow by a front of a text: where the keepers at this end are honest, of that of one run of
 -- the script's first lines
-pub record RunsFirst {K M : Type 0} (is_honest : K → Type 0) (may_hold : K → Held)
-    (finds : M → ℕ → Kept → Type 0) (refuses : M → ℕ → Fault → Type 0) (maker : M)
+pub record RunsFirst {K M : Type 0} (custody : Custody K)
+    (making : Making M) (maker : M)
     (old new : Option (List ℕ)) (script : List ℕ) (end : SessionOver K M) : Type 0 where
   pub first : List (List ℕ)
   pub later : List (List ℕ)
@@ -52,4 +52,4 @@ pub record RunsFirst {K M : Type 0} (is_honest : K → Type 0) (may_hold : K →
   pub rest : List ℕ
   pub status : ℕ
   pub written : Appends old new front
-  pub one_run : IsOneRunIfHonest is_honest may_hold finds refuses maker first (front ++ rest) status end
+  pub one_run : IsOneRunIfHonest custody making maker first (front ++ rest) status end

@@ -5,7 +5,7 @@ use Rattle.fl_bench.specs.laws.Puts.{none_some, same_found}
 use Rattle.fl_jobs.specs.declared.answer.Reply.TheVariants.{Emitted}
 use Rattle.fl_jobs.specs.declared.job.Act.TheVariants.{Emit}
 use Rattle.fl_jobs.specs.declared.job.Job.TheVariants.{By}
-use Rattle.fl_store.specs.Keeping.{Held}
+use Rattle.fl_store.specs.Custody.{Custody}
 use Rattle.fl_labels.specs.declared.pid.Pid.{Pid}
 use Rattle.fl_system.specs.declared.event.Event.{Event}
 use Rattle.fl_system.specs.declared.event.Event.TheVariants.{Job}
@@ -226,14 +226,14 @@ module _ (safe : (w : World) → IsReached w → IsSafeWorld w)
 
 -- ---- so it is of nodes over keepers
 
-pub run_lasts : {K : Type 0} (is_honest : K → Type 0) (may_hold : K → Held) (old new : WorldOver K)
+pub run_lasts : {K : Type 0} (custody : Custody K) (old new : WorldOver K)
     (events : List Event) (replies : List Reply)
     → ((w w' : World) (events : List Event) (replies : List Reply) (run : Run w events replies w')
     → IsReached w → Lasts w events replies (moments_of w events replies w' run))
-    → InEach is_honest may_hold old IsReached
-    → Goes is_honest may_hold old new (λ w w'. Run w events replies w')
-    → Goes is_honest may_hold old new (λ w w'. LastingRun w events replies w')
-run_lasts is_honest may_hold old new events replies law reached goes = record {
+    → InEach custody old IsReached
+    → Goes custody old new (λ w w'. Run w events replies w')
+    → Goes custody old new (λ w w'. LastingRun w events replies w')
+run_lasts custody old new events replies law reached goes = record {
   honest = goes.honest;
   comes = λ all after is.
       let before = goes.comes all after is in (

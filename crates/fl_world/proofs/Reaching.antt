@@ -3,7 +3,7 @@ use Rattle.std.proofs.Common.{◌≡◌, ℕ, refl, sym, subst, List, [], ◌∷
 use Rattle.std.specs.FinMap as map
 use Rattle.fl_labels.specs.SetBy.{In}
 use Rattle.fl_ops.specs.declared.op.Op.{Op}
-use Rattle.fl_store.specs.Keeping.{Held}
+use Rattle.fl_store.specs.Custody.{Custody}
 use Rattle.fl_system.specs.World.{World, KeptNode, empty_world}
 use Rattle.fl_system.specs.declared.reply.Reply.{Reply}
 use Rattle.fl_system.specs.declared.reply.Reply.TheVariants as replies
@@ -47,33 +47,33 @@ empty_reached : (desks : ℕ) → IsReached (empty_world desks)
 empty_reached desks = record { desks = desks; moments = []; is_run = tt; leads = refl }
 
 -- the world without a node
-pub none_reached : {K : Type 0} (is_honest : K → Type 0) (may_hold : K → Held) (desks : ℕ)
-    → InEach is_honest may_hold (empty_over desks) IsReached
-none_reached is_honest may_hold desks =
-    record { each = λ honest w is. subst IsReached (none_is may_hold desks w is) (empty_reached desks) }
+pub none_reached : {K : Type 0} (custody : Custody K) (desks : ℕ)
+    → InEach custody (empty_over desks) IsReached
+none_reached custody desks =
+    record { each = λ honest w is. subst IsReached (none_is custody desks w is) (empty_reached desks) }
 
 -- a call that is a move leads to what a run leads to
-pub each_reached : {K : Type 0} (is_honest : K → Type 0) (may_hold : K → Held) (old new : WorldOver K) (move : Move)
-    (reply : Reply) → Goes is_honest may_hold old new (λ w w'. Moves w move reply w') → InEach is_honest may_hold old IsReached
-    → InEach is_honest may_hold new IsReached
-each_reached is_honest may_hold old new move reply goes all = record {
+pub each_reached : {K : Type 0} (custody : Custody K) (old new : WorldOver K) (move : Move)
+    (reply : Reply) → Goes custody old new (λ w w'. Moves w move reply w') → InEach custody old IsReached
+    → InEach custody new IsReached
+each_reached custody old new move reply goes all = record {
   each = λ honest after is.
       let before = goes.comes honest after is in
       reached_on before.0 after move reply (all.each (goes.honest honest) before.0 before.1) before.2;
 }
 
 -- what each of them has leads to what each of them has
-pub each_has : {K : Type 0} (is_honest : K → Type 0) (may_hold : K → Held) (over : WorldOver K) (P Q : World → Type 0)
-    → ((w : World) → P w → Q w) → InEach is_honest may_hold over P → InEach is_honest may_hold over Q
-each_has is_honest may_hold over P Q leads all = record { each = λ honest w is. leads w (all.each honest w is) }
+pub each_has : {K : Type 0} (custody : Custody K) (over : WorldOver K) (P Q : World → Type 0)
+    → ((w : World) → P w → Q w) → InEach custody over P → InEach custody over Q
+each_has custody over P Q leads all = record { each = λ honest w is. leads w (all.each honest w is) }
 
 -- an event of a world that a run leads to is not refused for a name
-pub never_named : {K : Type 0} (is_honest : K → Type 0) (may_hold : K → Held) (old new : WorldOver K) (event : Event)
+pub never_named : {K : Type 0} (custody : Custody K) (old new : WorldOver K) (event : Event)
     (reply : Reply)
     → ((w after : World) (event : Event) (reply : Reply) → IsReached w → Step w event reply after → ¬ IsNameRefusal reply)
-    → InEach is_honest may_hold old IsReached → Goes is_honest may_hold old new (λ w w'. Step w event reply w')
-    → InEach is_honest may_hold new (λ w. ¬ IsNameRefusal reply)
-never_named is_honest may_hold old new event reply none reached goes = record {
+    → InEach custody old IsReached → Goes custody old new (λ w w'. Step w event reply w')
+    → InEach custody new (λ w. ¬ IsNameRefusal reply)
+never_named custody old new event reply none reached goes = record {
   each = λ honest after is.
       let before = goes.comes honest after is in
       none before.0 after event reply (reached.each (goes.honest honest) before.0 before.1) before.2;
@@ -97,10 +97,10 @@ pub no_stray : ((w : World) (op : Op) (s : KeptNode) → IsReached w → IsKnown
 no_stray owned w reached name stray = stray.unknown (owned w stray.op stray.owner reached (inl stray.in_world) stray.there)
 
 -- so a joining is one of such a world
-module _ {K : Type 0} (is_honest : K → Type 0) (may_hold : K → Held) (old new : WorldOver K) (number : ℕ) (keeper : K)
-    (known : (w : World) → IsReached w → HasNoStray w) (all : InEach is_honest may_hold old IsReached) where
-  pub joins_known : (result : Result ℕ (Fault × K)) → IfOk result (λ boot. TakesIn is_honest may_hold old keeper new (DoesJoin number boot))
-      → IfOk result (λ boot. TakesIn is_honest may_hold old keeper new (λ w k w'. Joins w number k (replies.Booted boot) w'))
+module _ {K : Type 0} (custody : Custody K) (old new : WorldOver K) (number : ℕ) (keeper : K)
+    (known : (w : World) → IsReached w → HasNoStray w) (all : InEach custody old IsReached) where
+  pub joins_known : (result : Result ℕ (Fault × K)) → IfOk result (λ boot. TakesIn custody old keeper new (DoesJoin number boot))
+      → IfOk result (λ boot. TakesIn custody old keeper new (λ w k w'. Joins w number k (replies.Booted boot) w'))
   joins_known (Ok boot) takes = record {
     honest = takes.honest;
     comes = λ honest after is.
@@ -110,8 +110,8 @@ module _ {K : Type 0} (is_honest : K → Type 0) (may_hold : K → Held) (old ne
   joins_known (Err e) takes = tt
 
   pub refused_known : (result : Result ℕ (Fault × K))
-      → IfErr result (λ e. GivesBack is_honest may_hold old keeper new e.1 (DoesNotJoin number e.0))
-      → IfErr result (λ e. GivesBack is_honest may_hold old keeper new e.1 (IsRefused number e.0))
+      → IfErr result (λ e. GivesBack custody old keeper new e.1 (DoesNotJoin number e.0))
+      → IfErr result (λ e. GivesBack custody old keeper new e.1 (IsRefused number e.0))
   refused_known (Ok boot) gives = tt
   refused_known (Err e) gives = record {
     honest = gives.honest;
@@ -121,31 +121,31 @@ module _ {K : Type 0} (is_honest : K → Type 0) (may_hold : K → Held) (old ne
   }
 
 -- a node that joins is a move too, and who is refused changes nothing
-pub joined_or_not : {K : Type 0} (is_honest : K → Type 0) (may_hold : K → Held) (old new : WorldOver K) (number : ℕ) (keeper : K)
+pub joined_or_not : {K : Type 0} (custody : Custody K) (old new : WorldOver K) (number : ℕ) (keeper : K)
     (result : Result ℕ (Fault × K))
-    → IfOk result (λ boot. TakesIn is_honest may_hold old keeper new (λ w k w'. Joins w number k (replies.Booted boot) w'))
-    → OnErr result (new ≡ old) → InEach is_honest may_hold old IsReached → InEach is_honest may_hold new IsReached
-joined_or_not is_honest may_hold old new number keeper (Ok boot) joins same all = record {
+    → IfOk result (λ boot. TakesIn custody old keeper new (λ w k w'. Joins w number k (replies.Booted boot) w'))
+    → OnErr result (new ≡ old) → InEach custody old IsReached → InEach custody new IsReached
+joined_or_not custody old new number keeper (Ok boot) joins same all = record {
   each = λ honest after is.
       let before = joins.comes honest after is in
       reached_on before.0 after (Comes number before.1) _ (all.each (joins.honest honest).0 before.0 before.2) before.4;
 }
-joined_or_not is_honest may_hold old new number keeper (Err e) joins same all =
-    subst (λ o. InEach is_honest may_hold o IsReached) (sym same) all
+joined_or_not custody old new number keeper (Err e) joins same all =
+    subst (λ o. InEach custody o IsReached) (sym same) all
 
 -- a node that is opened again over another keeper is a move, and one that is not there, or runs, leaves all as it was
-pub returned_or_not : {K A B : Type 0} (is_honest : K → Type 0) (may_hold : K → Held) (old new : WorldOver K) (number : ℕ)
+pub returned_or_not : {K A B : Type 0} (custody : Custody K) (old new : WorldOver K) (number : ℕ)
     (Makes : K → K → Type 0) (reply : Reply) → (map.get old.nodes number ≡ None → (new ≡ old) × A)
     → ((n : NodeOver K) → map.get old.nodes number ≡ Some n → IsRunning n.node.state → (new ≡ old) × B)
     → ((n : NodeOver K) → map.get old.nodes number ≡ Some n → ¬ IsRunning n.node.state
-    → (made : K) × Makes n.keeper made × Goes is_honest may_hold old new (ReturnsOver may_hold made number reply))
-    → InEach is_honest may_hold old IsReached → InEach is_honest may_hold new IsReached
-returned_or_not {K} is_honest may_hold old new number Makes reply absent running stopped all = by_node (map.get old.nodes number) refl
+    → (made : K) × Makes n.keeper made × Goes custody old new (ReturnsOver custody made number reply))
+    → InEach custody old IsReached → InEach custody new IsReached
+returned_or_not {K} custody old new number Makes reply absent running stopped all = by_node (map.get old.nodes number) refl
   where
-    as_before : new ≡ old → InEach is_honest may_hold new IsReached
-    as_before same = subst (λ o. InEach is_honest may_hold o IsReached) (sym same) all
+    as_before : new ≡ old → InEach custody new IsReached
+    as_before same = subst (λ o. InEach custody o IsReached) (sym same) all
 
-    by_state : (n : NodeOver K) → map.get old.nodes number ≡ Some n → (s : State) → n.node.state ≡ s → InEach is_honest may_hold new IsReached
+    by_state : (n : NodeOver K) → map.get old.nodes number ≡ Some n → (s : State) → n.node.state ≡ s → InEach custody new IsReached
     by_state n at (Running pending) e = as_before (running n at (subst IsRunning (sym e) tt)).0
     by_state n at (Stopped doubt) e =
         let made = stopped n at (subst IsRunning e) in
@@ -155,6 +155,6 @@ returned_or_not {K} is_honest may_hold old new number Makes reply absent running
               reached_on before.0 after (Returns number before.2.kept) reply (all.each (made.2.honest honest) before.0 before.1) before.2.returns;
         }
 
-    by_node : (o : Option (NodeOver K)) → map.get old.nodes number ≡ o → InEach is_honest may_hold new IsReached
+    by_node : (o : Option (NodeOver K)) → map.get old.nodes number ≡ o → InEach custody new IsReached
     by_node None e = as_before (absent e).0
     by_node (Some n) e = by_state n e n.node.state refl

@@ -1,6 +1,6 @@
 -- Events that happen one after another.
 use Rattle.std.proofs.Common.{◌≡◌, ◌≤◌, ◌<◌, ◌+◌, ◌^◌, ℕ, refl, sym, subst, List, [], ◌∷◌, ◌++◌, arith}
-use Rattle.fl_store.specs.Keeping.{Held}
+use Rattle.fl_store.specs.Custody.{Custody}
 use Rattle.fl_system.specs.World.{World}
 use Rattle.fl_system.specs.WorldSteps.{Step}
 use Rattle.fl_system.specs.Runs.{Run}
@@ -23,27 +23,27 @@ run_then w between w' [] (r ∷ replies) event reply run step = absurd run
 run_then w between w' (e ∷ events) [] event reply run step = absurd run
 
 -- the events that have happened, what they were answered, and that there is room for the answers to so many more
-pub record RunsTo {K : Type 0} (is_honest : K → Type 0) (may_hold : K → Held) (old new : WorldOver K) (events : List Event)
+pub record RunsTo {K : Type 0} (custody : Custody K) (old new : WorldOver K) (events : List Event)
     (replies : List Reply) (len capacity left : ℕ) : Type 0 where
-  pub goes : Goes is_honest may_hold old new (λ w w'. Run w events replies w')
+  pub goes : Goes custody old new (λ w w'. Run w events replies w')
   pub room : len + left ≤ capacity
 
-module _ {K : Type 0} (is_honest : K → Type 0) (may_hold : K → Held) where
+module _ {K : Type 0} (custody : Custody K) where
   pub none_yet : (over : WorldOver K) (replies : List Reply) (len capacity left : ℕ) → replies ≡ [] → len ≡ 0 → left ≤ capacity
-      → RunsTo is_honest may_hold over over [] replies len capacity left
+      → RunsTo custody over over [] replies len capacity left
   none_yet over replies len capacity left none zero_is enough = record {
-    goes = subst (λ r. Goes is_honest may_hold over over (λ w w'. Run w [] r w')) (sym none)
+    goes = subst (λ r. Goes custody over over (λ w w'. Run w [] r w')) (sym none)
         (record { honest = λ all. all; comes = λ all w is. (w, is, refl) });
     room = omega (arith, zero_is, enough);
   }
 
   pub one_more : (old new next : WorldOver K) (events : List Event) (replies replies' : List Reply) (event : Event) (reply : Reply)
-      (len len' capacity capacity' left left' : ℕ) → RunsTo is_honest may_hold old new events replies len capacity left
-      → Goes is_honest may_hold new next (λ w w'. Step w event reply w') → replies' ≡ replies ++ reply ∷ [] → len' ≡ len + 1
+      (len len' capacity capacity' left left' : ℕ) → RunsTo custody old new events replies len capacity left
+      → Goes custody new next (λ w w'. Step w event reply w') → replies' ≡ replies ++ reply ∷ [] → len' ≡ len + 1
       → capacity' ≡ capacity → left ≡ left' + 1
-      → RunsTo is_honest may_hold old next (events ++ event ∷ []) replies' len' capacity' left'
+      → RunsTo custody old next (events ++ event ∷ []) replies' len' capacity' left'
   one_more old new next events replies replies' event reply len len' capacity capacity' left left' so_far goes grown longer same fewer = record {
-    goes = subst (λ r. Goes is_honest may_hold old next (λ w w'. Run w (events ++ event ∷ []) r w')) (sym grown) (record {
+    goes = subst (λ r. Goes custody old next (λ w w'. Run w (events ++ event ∷ []) r w')) (sym grown) (record {
       honest = λ all. so_far.goes.honest (goes.honest all);
       comes = λ all after is.
           let between = goes.comes all after is in
@@ -54,10 +54,10 @@ module _ {K : Type 0} (is_honest : K → Type 0) (may_hold : K → Held) where
   }
 
   pub all_done : (old new : WorldOver K) (events all : List Event) (replies : List Reply) (len capacity left : ℕ)
-      → RunsTo is_honest may_hold old new events replies len capacity left → events ≡ all
-      → Goes is_honest may_hold old new (λ w w'. Run w all replies w')
+      → RunsTo custody old new events replies len capacity left → events ≡ all
+      → Goes custody old new (λ w w'. Run w all replies w')
   all_done old new events all replies len capacity left so_far is =
-      subst (λ e. Goes is_honest may_hold old new (λ w w'. Run w e replies w')) is so_far.goes
+      subst (λ e. Goes custody old new (λ w w'. Run w e replies w')) is so_far.goes
 
 -- a job that looks as far as can be looks at the whole list
 pub job_far : {K : Type 0} (over : WorldOver K) (number desk upto bound : ℕ) (job : AnyJob) (event : Event)

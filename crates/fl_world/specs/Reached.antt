@@ -1,10 +1,10 @@
 -- What is true of each world that nodes over keepers may be.
-use Rattle.fl_store.specs.Keeping.{Held}
+use Rattle.fl_store.specs.Custody.{Custody}
 use Rattle.fl_system.specs.World.{World}
 use Rattle.fl_nodes.specs.Over.{WorldOver}
 use Rattle.fl_nodes.specs.Goes.{MayBe, AreHonest}
 
 -- where its keepers are honest, each world that it may be has this
-pub record InEach {K : Type 0} (is_honest : K → Type 0) (may_hold : K → Held) (over : WorldOver K)
+pub record InEach {K : Type 0} (custody : Custody K) (over : WorldOver K)
     (has : World → Type 0) : Type 0 where
-  pub each : AreHonest is_honest over → (w : World) → MayBe may_hold over w → has w
+  pub each : AreHonest custody over → (w : World) → MayBe custody over w → has w

@@ -10,6 +10,7 @@ ghost use Rattle.fl_system.specs.Runs.{Run};
 ghost use Rattle.fl_system.specs.Waiting.{IsRunning};
 ghost use Rattle.fl_system.specs.WorldSteps.{Step};
 ghost use Rattle.fl_world_laws.specs.Places.{IsNameRefusal};
+ghost use Rattle.fl_store.specs.Breaking.{IsLeftBroken};
 ghost use Rattle.fl_node.specs.Causes.{KeeperFails};
 ghost use Rattle.fl_node.specs.Over.{NodeOver};
 ghost use Rattle.fl_nodes.specs.Over.{empty_over};
@@ -65,7 +66,7 @@ impl<K: Keeper> Model for World<K> {
 
     ghost view = { λ w. w.nodes };
 
-    ghost invariant = { λ w. InEach K.is_honest K.may_hold w.nodes IsReached };
+    ghost invariant = { λ w. InEach K.custody w.nodes IsReached };
 }
 
 impl<K: Keeper + Drop> Drop for World<K> {
@@ -87,7 +88,7 @@ impl<K: Keeper> World<K> {
     /// The headline, of any world that a run led to: names are unique, what is published is saved, and each open endpoint and
     /// each thing that was admitted is safe by all that is saved, whatever happens from then on.
     pub fn law_safe(&self)
-        ensures { InEach K.is_honest K.may_hold self.now IsSafeWorld }
+        ensures { InEach K.custody self.now IsSafeWorld }
     {
         let _nodes = &self.nodes;
         law_headline();
@@ -96,7 +97,7 @@ impl<K: Keeper> World<K> {
     /// What lasts, of any world that a run led to: no yes is withdrawn, what is published grows by the node's own publications alone,
     /// what is noted is of its moment, a tag is confined, and no event is refused for a name.
     pub fn law_lasting(&self)
-        ensures { InEach K.is_honest K.may_hold self.now IsLastingWorld }
+        ensures { InEach K.custody self.now IsLastingWorld }
     {
         let _nodes = &self.nodes;
         law_lasting();
@@ -119,7 +120,7 @@ impl<K: Keeper> World<K> {
     /// What was admitted, in the order of the run: each of it is safe by all that is saved, whatever happens from now on.
     pub fn audit(&self) -> &[Admission]
         ensures audit { result.now ≡ self.now.audit }
-        ensures safe { InEach K.is_honest K.may_hold self.now HasSafeAudit }
+        ensures safe { InEach K.custody self.now HasSafeAudit }
     {
         self.law_safe();
         self.nodes.audit()
@@ -128,12 +129,12 @@ impl<K: Keeper> World<K> {
     /// A node of this number joins over its keeper, as `Nodes::join` has it, or the keeper is given back with why not.
     pub fn join(&mut self, alloc: Global, number: NodeNumber, keeper: K) -> Result<u32, (Fault, K)>
         requires { 0 < number }
-        ensures joins { IfOk result (λ boot. TakesIn K.is_honest K.may_hold self.old keeper self.new
+        ensures joins { IfOk result (λ boot. TakesIn K.custody self.old keeper self.new
             (λ w k w'. Joins w number k (replies.Booted boot) w')) }
-        ensures refused { IfErr result (λ e. GivesBack K.is_honest K.may_hold self.old keeper self.new e.1
+        ensures refused { IfErr result (λ e. GivesBack K.custody self.old keeper self.new e.1
             (IsRefused number e.0)) }
-        ensures cause { let bad = K.has_bad_row keeper in
-            IfErr result (λ e. KeeperFails (K.is_broken e.1) (K.is_honest e.1) bad e.0) }
+        ensures cause { let bad = K.custody.has_bad_row keeper in IfErr result (λ e.
+            KeeperFails (IsLeftBroken K.custody keeper e.1) (K.custody.is_honest e.1) bad e.0) }
         ensures same { OnErr result (self.new ≡ self.old) }
     {
         law_names();
@@ -152,17 +153,17 @@ impl<K: Keeper> World<K> {
         requires callable { F.IsAlwaysCallable make }
         requires trusted { (n : NodeOver K) (made : K) → map.get self.old.nodes number ≡ Some n
             → (¬ IsRunning n.node.state) → FnOnceReturnsAtMut F.FnOnce make n.keeper tt made
-            → TakesOver K.is_honest K.may_hold n.keeper made }
+            → TakesOver K.custody n.keeper made }
         ensures absent { map.get self.old.nodes number ≡ None
             → (self.new ≡ self.old) × (result ≡ replies.NoSuch) }
         ensures running { (n : NodeOver K) → map.get self.old.nodes number ≡ Some n → IsRunning n.node.state
             → (self.new ≡ self.old) × (result ≡ replies.Refused (Fault.Refused Refusal.Busy)) }
         ensures stopped { (n : NodeOver K) → map.get self.old.nodes number ≡ Some n
             → (¬ IsRunning n.node.state) → (made : K) × FnOnceReturnsAtMut F.FnOnce make n.keeper tt made
-            × Goes K.is_honest K.may_hold self.old self.new (ReturnsOver K.may_hold made number result) }
+            × Goes K.custody self.old self.new (ReturnsOver K.custody made number result) }
         ensures cause { result ≡ replies.Refused Fault.KeeperFailed
-            → FailsAt K.is_broken K.is_honest (λ n. (made : K)
-            × FnOnceReturnsAtMut F.FnOnce make n.keeper tt made × K.has_bad_row made)
+            → FailsAt K.custody (λ n. (made : K)
+            × FnOnceReturnsAtMut F.FnOnce make n.keeper tt made × K.custody.has_bad_row made)
             self.old self.new number }
     {
         self.nodes.reopen_with(alloc, number, make)
@@ -171,7 +172,7 @@ impl<K: Keeper> World<K> {
     /// Has the node do a job at its desk, under all that it published, as `Nodes::job` has it. What the job lets pass is noted.
     pub fn job(&mut self, alloc: Global, number: NodeNumber, desk: u8, job: Job) -> Reply
         ensures { (upto : _) → IsWhole self.old number upto
-            → Goes K.is_honest K.may_hold self.old self.new
+            → Goes K.custody self.old self.new
             (λ w w'. Step w (event.Job number desk upto job) result w') }
     {
         self.nodes.job(alloc, number, desk, job)
@@ -179,17 +180,17 @@ impl<K: Keeper> World<K> {
 
     /// Saves what is to be saved at the node, as `Nodes::save` has it.
     pub fn save(&mut self, number: NodeNumber) -> Reply
-        ensures goes { Goes K.is_honest K.may_hold self.old self.new
+        ensures goes { Goes K.custody self.old self.new
             (λ w w'. Step w (event.Save number) result w') }
         ensures cause { result ≡ replies.Refused Fault.KeeperFailed
-            → IsBrokenAt K.is_broken self.new number }
+            → IsBrokenAt K.custody self.new number }
     {
         self.nodes.save(number)
     }
 
     /// Gives up what is to be saved at the node, as `Nodes::cancel` has it.
     pub fn cancel(&mut self, number: NodeNumber) -> Reply
-        ensures { Goes K.is_honest K.may_hold self.old self.new
+        ensures { Goes K.custody self.old self.new
             (λ w w'. Step w (event.Cancel number) result w') }
     {
         self.nodes.cancel(number)
@@ -197,7 +198,7 @@ impl<K: Keeper> World<K> {
 
     /// Publishes what is due at the node, as `Nodes::publish` has it.
     pub fn publish(&mut self, alloc: Global, number: NodeNumber) -> Reply
-        ensures { Goes K.is_honest K.may_hold self.old self.new
+        ensures { Goes K.custody self.old self.new
             (λ w w'. Step w (event.Publish number) result w') }
     {
         self.nodes.publish(alloc, number)
@@ -205,18 +206,18 @@ impl<K: Keeper> World<K> {
 
     /// Restarts the node, as `Nodes::restart` has it.
     pub fn restart(&mut self, alloc: Global, number: NodeNumber, keeps: bool) -> Reply
-        ensures goes { Goes K.is_honest K.may_hold self.old self.new
+        ensures goes { Goes K.custody self.old self.new
             (λ w w'. Step w (event.Restart number keeps) result w') }
-        ensures cause { let bad = LoadsBadRowOf K.number K.is_honest K.may_hold K.has_bad_row in
+        ensures cause { let bad = LoadsBadRowOf K.custody in
             result ≡ replies.Refused Fault.KeeperFailed
-            → FailsAt K.is_broken K.is_honest bad self.old self.new number }
+            → FailsAt K.custody bad self.old self.new number }
     {
         self.nodes.restart(alloc, number, keeps)
     }
 
     /// Has the node send what it has saved, as `Nodes::tell` has it.
     pub fn tell(&mut self, alloc: Global, number: NodeNumber) -> Reply
-        ensures { Goes K.is_honest K.may_hold self.old self.new
+        ensures { Goes K.custody self.old self.new
             (λ w w'. Step w (event.Tell number) result w') }
     {
         self.nodes.tell(alloc, number)
@@ -224,7 +225,7 @@ impl<K: Keeper> World<K> {
 
     /// Has the packet of this number come to the node of this number, as `Nodes::deliver` has it; it may come again.
     pub fn deliver(&mut self, alloc: Global, packet: u64, number: NodeNumber) -> Reply
-        ensures { Goes K.is_honest K.may_hold self.old self.new
+        ensures { Goes K.custody self.old self.new
             (λ w w'. Step w (event.Deliver packet number) result w') }
     {
         self.nodes.deliver(alloc, packet, number)
@@ -243,7 +244,7 @@ impl<K: Keeper> World<K> {
     // The event happens. A job looks at the whole list of its node.
     fn turn(&mut self, alloc: Global, event: Event) -> Reply
         requires { LooksFar event }
-        ensures { Goes K.is_honest K.may_hold self.old self.new (λ w w'. Step w event result w') }
+        ensures { Goes K.custody self.old self.new (λ w w'. Step w event result w') }
     {
         match event {
             Event::Job {
@@ -268,8 +269,8 @@ impl<K: Keeper> World<K> {
     /// look as far as can be. It is never answered `Clash` or `Impostor`.
     pub fn step(&mut self, alloc: Global, event: Event) -> Reply
         requires { LooksFar event }
-        ensures goes { Goes K.is_honest K.may_hold self.old self.new (λ w w'. Step w event result w') }
-        ensures named { InEach K.is_honest K.may_hold self.new (λ w. ¬ IsNameRefusal result) }
+        ensures goes { Goes K.custody self.old self.new (λ w w'. Step w event result w') }
+        ensures named { InEach K.custody self.new (λ w. ¬ IsNameRefusal result) }
     {
         let _nodes = &self.nodes;
         law_names();
@@ -283,9 +284,9 @@ impl<K: Keeper> World<K> {
     /// that see the same answer alike, and a tag is confined.
     pub fn run(&mut self, alloc: Global, events: Vec<Event>) -> Result<Vec<Reply>, AllocError>
         requires { All LooksFar events.items }
-        ensures ok { IfOk result (λ replies. Goes K.is_honest K.may_hold self.old self.new
+        ensures ok { IfOk result (λ replies. Goes K.custody self.old self.new
             (λ w w'. Run w events.items replies.items w')) }
-        ensures lasting { IfOk result (λ replies. Goes K.is_honest K.may_hold self.old self.new
+        ensures lasting { IfOk result (λ replies. Goes K.custody self.old self.new
             (λ w w'. LastingRun w events.items replies.items w')) }
         ensures err { OnErr result (self.new ≡ self.old) }
     {

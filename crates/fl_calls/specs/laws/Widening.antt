@@ -1,8 +1,9 @@
 -- What may be opened by a maker may be opened by one that makes no less.
 use Rattle.std.specs.Prelude.{ℕ}
 use Rattle.std.specs.declared.result.Result.{Result}
+use Rattle.fl_store.specs.Custody.{Custody}
 use Rattle.fl_store.specs.Kept.{Kept}
-use Rattle.fl_store.specs.Keeping.{Held}
+use Rattle.fl_makers.specs.Making.{Making}
 use Rattle.fl_system.specs.declared.answer.Fault.{Fault}
 use Rattle.fl_system.specs.World.{World}
 use Rattle.fl_calls.specs.Answer.{Answer}
@@ -16,16 +17,16 @@ pub record OpensMore (less more : Openings) : Type 0 where
       → more.refuses w number fault
 
 -- those of a maker that makes no more than another
-pub opens_more : {K : Type 0} (is_honest : K → Type 0) (may_hold : K → Held) (finds finds' : ℕ → Kept → Type 0)
-    (refuses refuses' : ℕ → Fault → Type 0) → ((n : ℕ) (k : Kept) → finds' n k → finds n k)
-    → ((n : ℕ) (fault : Fault) → refuses' n fault → refuses n fault)
-    → OpensMore (openings_of is_honest may_hold finds' refuses') (openings_of is_honest may_hold finds refuses)
-opens_more {K} is_honest may_hold finds finds' refuses refuses' f r =
+pub opens_more : {K M : Type 0} (custody : Custody K) (making : Making M) (maker maker' : M)
+    → ((n : ℕ) (k : Kept) → making.finds maker' n k → making.finds maker n k)
+    → ((n : ℕ) (fault : Fault) → making.refuses maker' n fault → making.refuses maker n fault)
+    → OpensMore (openings_of custody making maker') (openings_of custody making maker)
+opens_more {K} {M} custody making maker maker' f r =
     record { finds = f; refuses = refuses_more }
   where
     refuses_more : (w : World) (number : ℕ) (fault : Fault)
-        → (openings_of is_honest may_hold finds' refuses').refuses w number fault
-        → (openings_of is_honest may_hold finds refuses).refuses w number fault
+        → (openings_of custody making maker').refuses w number fault
+        → (openings_of custody making maker).refuses w number fault
     refuses_more w number fault (without_keeper why) = without_keeper (r number fault why)
     refuses_more w number fault (not_joined keeper other over) =
         not_joined keeper other (λ trusted. let k = over trusted in (k.0, f number k.0 k.1, k.2))

@@ -1,8 +1,9 @@
 -- What is responded to a line that was read.
 use Rattle.std.specs.Prelude.{◌≡◌, ◌⊎◌, ℕ, List, Option}
 use Rattle.fl_aliases.specs.Table.{Table}
+use Rattle.fl_store.specs.Custody.{Custody}
 use Rattle.fl_store.specs.Kept.{Kept}
-use Rattle.fl_store.specs.Keeping.{Held}
+use Rattle.fl_makers.specs.Making.{Making}
 use Rattle.fl_script.specs.declared.line.Line.{Line}
 use Rattle.fl_system.specs.declared.answer.Fault.{Fault}
 use Rattle.fl_calls.specs.Over.{ClusterOver, GoesOn}
@@ -13,26 +14,23 @@ use Rattle.fl_cluster.specs.Shown.{shown}
 use Rattle.fl_cluster.specs.declared.response.Response.{Response}
 
 -- the response answers the line, whatever the aliases are
-abbrev pub RespondsTo : {K M : Type 0} → (K → Type 0) → (K → Held) → (M → ℕ → Kept → Type 0)
-    → (M → ℕ → Fault → Type 0) → ClusterOver K M → Line → Response → ClusterOver K M → Type 0
-RespondsTo is_honest may_hold finds refuses old line response new =
-    GoesOn is_honest may_hold finds refuses old new (λ openings w w'. (aliases : Table)
+abbrev pub RespondsTo : {K M : Type 0} → Custody K → Making M → ClusterOver K M → Line → Response → ClusterOver K M → Type 0
+RespondsTo custody making old line response new =
+    GoesOn custody making old new (λ openings w w'. (aliases : Table)
     → AnswersLine openings (record { world = w; aliases = aliases }) line
     (shown (record { cluster = new; aliases = aliases }) response) w')
 
 -- the response answers the line, and its alias stands for what it made
-abbrev pub Names : {K M : Type 0} → (K → Type 0) → (K → Held) → (M → ℕ → Kept → Type 0)
-    → (M → ℕ → Fault → Type 0) → SessionOver K M → Line → Option (List ℕ) → Response
+abbrev pub Names : {K M : Type 0} → Custody K → Making M → SessionOver K M → Line → Option (List ℕ) → Response
     → SessionOver K M → Type 0
-Names is_honest may_hold finds refuses old line alias response new =
-    GoesOn is_honest may_hold finds refuses old.cluster new.cluster (λ openings w w'.
+Names custody making old line alias response new =
+    GoesOn custody making old.cluster new.cluster (λ openings w w'.
     AnswersNamed openings (record { world = w; aliases = old.aliases }) line alias
     (shown new response) (record { world = w'; aliases = new.aliases }))
 
 -- the same, or there was no memory for the alias, and nothing changed
-abbrev pub NamesOrStarves : {K M : Type 0} → (K → Type 0) → (K → Held) → (M → ℕ → Kept → Type 0)
-    → (M → ℕ → Fault → Type 0) → SessionOver K M → Line → Option (List ℕ) → Response
+abbrev pub NamesOrStarves : {K M : Type 0} → Custody K → Making M → SessionOver K M → Line → Option (List ℕ) → Response
     → SessionOver K M → Type 0
-NamesOrStarves is_honest may_hold finds refuses old line alias response new =
-    Names is_honest may_hold finds refuses old line alias response new
+NamesOrStarves custody making old line alias response new =
+    Names custody making old line alias response new
     ⊎ ((shown new response ≡ starved_line) × (new ≡ old))

@@ -1,8 +1,9 @@
 -- Lines over keepers, one after another, in each world that their nodes may be.
 use Rattle.std.proofs.Common.{◌≡◌, ◌+◌, ℕ, refl, sym, ap, subst, List, [], ◌∷◌}
+use Rattle.fl_store.specs.Custody.{Custody}
 use Rattle.fl_store.specs.Kept.{Kept}
-use Rattle.fl_store.specs.Keeping.{Held}
 use Rattle.fl_stream.specs.Turns.{LineOutput, Run as Lines}
+use Rattle.fl_makers.specs.Making.{Making}
 use Rattle.fl_system.specs.declared.answer.Fault.{Fault}
 use Rattle.fl_system.specs.World.{World}
 use Rattle.fl_nodes.specs.Goes.{Goes}
@@ -17,11 +18,10 @@ use Rattle.fl_turns.specs.Session.{Session, begun}
 use Rattle.fl_world.specs.Reached.{InEach}
 use Rattle.fl_turns.specs.laws.Widening.{turn_too}
 
-module _ {K M : Type 0} (is_honest : K → Type 0) (may_hold : K → Held) (finds : M → ℕ → Kept → Type 0)
-    (refuses : M → ℕ → Fault → Type 0) (start : M) where
+module _ {K M : Type 0} (custody : Custody K) (making : Making M) (start : M) where
   -- the openings of this maker
   from : M → Openings
-  from maker = openings_of is_honest may_hold (finds maker) (refuses maker)
+  from maker = openings_of custody making maker
 
   -- the session over one of the worlds that its nodes may be
   seen : SessionOver K M → World → Session
@@ -29,17 +29,17 @@ module _ {K M : Type 0} (is_honest : K → Type 0) (may_hold : K → Held) (find
 
   -- a maker that makes no more than the first one
   record IsLess (maker : M) : Type 0 where
-    pub finds_less : (number : ℕ) (k : Kept) → finds maker number k → finds start number k
-    pub refuses_less : (number : ℕ) (fault : Fault) → refuses maker number fault → refuses start number fault
+    pub finds_less : (number : ℕ) (k : Kept) → making.finds maker number k → making.finds start number k
+    pub refuses_less : (number : ℕ) (fault : Fault) → making.refuses maker number fault → making.refuses start number fault
 
   wider : (maker : M) → IsLess maker → OpensMore (from maker) (from start)
   unfolding from
   wider maker less =
-      opens_more is_honest may_hold (finds start) (finds maker) (refuses start) (refuses maker) less.finds_less less.refuses_less
+      opens_more custody making start maker less.finds_less less.refuses_less
 
   -- the lines are answered so in each world that the nodes may be
   Answers : ℕ → SessionOver K M → List (List ℕ) → List LineOutput → SessionOver K M → Type 0
-  Answers number old lines outputs new = Goes is_honest may_hold old.cluster.world new.cluster.world
+  Answers number old lines outputs new = Goes custody old.cluster.world new.cluster.world
       (λ w w'. IsAnswered (from start) number (seen old w) lines outputs (seen new w'))
 
   no_line : (number : ℕ) (over : SessionOver K M) → Answers number over [] [] over
@@ -51,7 +51,7 @@ module _ {K M : Type 0} (is_honest : K → Type 0) (may_hold : K → Held) (find
 
   one_line : (number : ℕ) (old mid new : SessionOver K M) (line : List ℕ) (lines : List (List ℕ)) (output : LineOutput)
       (outputs : List LineOutput) → IsLess old.cluster.maker
-      → TurnsOver is_honest may_hold finds refuses number old line output mid
+      → TurnsOver custody making number old line output mid
       → Answers (number + 1) mid lines outputs new → Answers number old (line ∷ lines) (output ∷ outputs) new
   unfolding Answers from seen
   one_line number old mid new line lines output outputs less turns rest = record {
@@ -77,14 +77,14 @@ module _ {K M : Type 0} (is_honest : K → Type 0) (may_hold : K → Held) (find
   }
 
   less_after : (number : ℕ) (old mid : SessionOver K M) (line : List ℕ) (output : LineOutput) → IsLess old.cluster.maker
-      → TurnsOver is_honest may_hold finds refuses number old line output mid → IsLess mid.cluster.maker
+      → TurnsOver custody making number old line output mid → IsLess mid.cluster.maker
   less_after number old mid line output less turns = record {
     finds_less = λ n k found. less.finds_less n k (turns.turn.finds_less n k found);
     refuses_less = λ n fault why. less.refuses_less n fault (turns.turn.refuses_less n fault why);
   }
 
   chained : (number : ℕ) (old new : SessionOver K M) (lines : List (List ℕ)) (outputs : List LineOutput)
-      → IsLess old.cluster.maker → Lines (TurnsOver is_honest may_hold finds refuses) number old lines outputs new
+      → IsLess old.cluster.maker → Lines (TurnsOver custody making) number old lines outputs new
       → Answers number old lines outputs new
   chained number old new [] [] less h = subst (λ x. Answers number old [] [] x) (sym h) (no_line number old)
   chained number old new [] (output ∷ outputs) less h = absurd h
@@ -95,9 +95,9 @@ module _ {K M : Type 0} (is_honest : K → Type 0) (may_hold : K → Held) (find
 
   -- from the world without a node on
   pub script_answered : (lines : List (List ℕ)) (outputs : List LineOutput) (new : SessionOver K M)
-      → Lines (TurnsOver is_honest may_hold finds refuses) 1 (begun_over start) lines outputs new
-      → InEach is_honest may_hold new.cluster.world (λ w. IsAnswered
-      (openings_of is_honest may_hold (finds start) (refuses start)) 1 begun lines outputs
+      → Lines (TurnsOver custody making) 1 (begun_over start) lines outputs new
+      → InEach custody new.cluster.world (λ w. IsAnswered
+      (openings_of custody making start) 1 begun lines outputs
       (record { world = w; aliases = new.aliases }))
   unfolding Answers from seen
   script_answered lines outputs new h =
@@ -107,5 +107,5 @@ module _ {K M : Type 0} (is_honest : K → Type 0) (may_hold : K → Held) (find
         each = λ honest w is.
             let before = all.comes honest w is in
             subst (λ x. IsAnswered (from start) 1 (record { world = x; aliases = [] }) lines outputs (seen new w))
-            (sym (none_is may_hold 1 before.0 before.1)) before.2;
+            (sym (none_is custody 1 before.0 before.1)) before.2;
       }

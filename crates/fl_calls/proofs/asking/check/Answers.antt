@@ -13,20 +13,20 @@ spelled it = record { format = _; has = it.0; written = it.1 }
 
 pub returns-in-Err-BadPacket : goal.returns-in-Err-BadPacket
 returns-in-Err-BadPacket g c =
-    checks_bad g.K.Keeper.is_honest g.K.Keeper.may_hold c.args.world.now c.args.number c.args.bytes.now c.in-Err-BadPacket.field-0
+    checks_bad g.K.Keeper.custody c.args.world.now c.args.number c.args.bytes.now c.in-Err-BadPacket.field-0
     c.in-Err-BadPacket.place _ c.in-Err-BadPacket.ensures c.in-Err-BadPacket.field-0-is (cc (c.in-Err-BadPacket.place-is))
 
 pub returns-in-Err-Memory : goal.returns-in-Err-Memory
 returns-in-Err-Memory g c =
-    checks_starved g.K.Keeper.is_honest g.K.Keeper.may_hold c.args.world.now c.args.number c.args.bytes.now c.in-Err-Memory.field-0
+    checks_starved g.K.Keeper.custody c.args.world.now c.args.number c.args.bytes.now c.in-Err-Memory.field-0
     c.starved.result c.in-Err-Memory.ensures c.in-Err-Memory.field-0-is c.starved.ensures
 
 pub returns-in-Ok-check : goal.returns-in-Ok-check
 returns-in-Ok-check g c =
-    checks_tells g.K.Keeper.is_honest g.K.Keeper.may_hold c.args.world.now c.args.number c.args.bytes.now c.in-Some.node.now c.in-Ok.packet
+    checks_tells g.K.Keeper.custody c.args.world.now c.args.number c.args.bytes.now c.in-Some.node.now c.in-Ok.packet
     c.in-Ok-check.count c.counted.result c.in-Some.ensures (spelled c.in-Ok.ensures) c.in-Ok-check.ensures c.counted.ensures
 
 pub returns : goal.returns
 returns g c =
-    checks_refuses g.K.Keeper.is_honest g.K.Keeper.may_hold c.args.world.now c.args.number c.args.bytes.now c.in-Some.node.now c.in-Ok.packet
+    checks_refuses g.K.Keeper.custody c.args.world.now c.args.number c.args.bytes.now c.in-Some.node.now c.in-Ok.packet
     c.in-Err.fault c.refused.result c.in-Some.ensures (spelled c.in-Ok.ensures) c.in-Err.ensures c.refused.ensures

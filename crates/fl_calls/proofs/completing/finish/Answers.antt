@@ -8,17 +8,17 @@ use Rattle.fl_calls.proofs.completing.finish.Goals as goal
 
 pub returns-then-is_done : goal.returns-then-is_done
 returns-then-is_done g c =
-    goes_then g.K.Keeper.is_honest g.K.Keeper.may_hold _ _ _ _ _ _
+    goes_then g.K.Keeper.custody _ _ _ _ _ _
     (λ w v w' first second. saved (subst (λ r. Step w (Save c.args.number) r v) (c.is_done.ensures.yes c.if-is_done.true) first) second)
     c.save-reply.ensures.goes c.publish.ensures
 
 pub returns-then-is_starved : goal.returns-then-is_starved
 returns-then-is_starved g c =
-    gives_up g.K.Keeper.is_honest g.K.Keeper.may_hold _ _ _ _ _ _ (c.is_starved.ensures.yes c.if-is_starved.true)
+    gives_up g.K.Keeper.custody _ _ _ _ _ _ (c.is_starved.ensures.yes c.if-is_starved.true)
     c.save-reply.ensures.goes c.cancel.ensures
 
 pub returns-else-is_starved : goal.returns-else-is_starved
 returns-else-is_starved g c =
-    goes_as g.K.Keeper.is_honest g.K.Keeper.may_hold _ _ _ _
+    goes_as g.K.Keeper.custody _ _ _ _
     (λ w w' step. not_saved (c.is_done.ensures.no c.if-is_done.false) (c.is_starved.ensures.no c.if-is_starved.false) step)
     c.save-reply.ensures.goes

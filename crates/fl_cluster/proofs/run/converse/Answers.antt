@@ -6,13 +6,13 @@ use Rattle.fl_cluster.proofs.run.converse.Goals as goal
 pub returns-clause-one_run : goal.returns-clause-one_run
 returns-clause-one_run g c =
     IfOk-weaker c.converse.result.1 _ _ (λ status h. IfSome_then _ h (λ script p.
-    runs_script g.M.K.Keeper.is_honest g.M.K.Keeper.may_hold g.M.MakesKeepers.finds g.M.MakesKeepers.refuses
+    runs_script g.M.K.Keeper.custody g.M.MakesKeepers.making
     c.args.keepers _ _ script status _ p)) (rw c.new.ensures at c.converse.ensures.ok)
 
 pub returns-clause-first_run : goal.returns-clause-first_run
 returns-clause-first_run g c =
     on_err_weaker c.converse.result.1 (λ h. IfSome_then _ h (λ script p.
-    runs_first g.M.K.Keeper.is_honest g.M.K.Keeper.may_hold g.M.MakesKeepers.finds g.M.MakesKeepers.refuses
+    runs_first g.M.K.Keeper.custody g.M.MakesKeepers.making
     c.args.keepers _ _ script _ p)) (rw c.new.ensures at c.converse.ensures.err)
 
 pub returns-clause-ok : goal.returns-clause-ok

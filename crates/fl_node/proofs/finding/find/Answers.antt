@@ -1,4 +1,5 @@
-use Rattle.std.proofs.Common.{◌≡◌, ◌∙◌, sym}
+use Rattle.std.proofs.Common.{◌≡◌, ◌⊎◌, inl, inr, ◌∙◌, sym, ap, Err}
+use Rattle.fl_store.specs.Breaking.{was_broken, loading}
 use Rattle.fl_node.specs.parts.Finding.{FailsToFind}
 use Rattle.fl_node.proofs.FindLemmas.{found, load_failed, not_loaded, other_node}
 use Rattle.fl_node.proofs.finding.find.Goals as goal
@@ -16,4 +17,11 @@ pub returns-in-Err-clause-held : goal.returns-in-Err-clause-held
 returns-in-Err-clause-held g c = rw c.shown.ensures (λ honest. let held = c.in-Err.ensures.held honest in (held.0, not_loaded _ _ _ _ held.1))
 
 pub returns-in-Err-clause-cause : goal.returns-in-Err-clause-cause
-returns-in-Err-clause-cause g c failed = load_failed _ _ _ c.in-Err.fault c.in-Err.ensures.cause (sym c.shown.ensures ∙ failed)
+returns-in-Err-clause-cause g c failed =
+    load_failed _ _ _ _ c.in-Err.fault (λ is. record {
+      broken = c.in-Err.ensures.breaks.0 (ap Err is);
+      cause = λ honest. elim (c.in-Err.ensures.broke honest (ap Err is)) [
+        | inl was ↦ was_broken was
+        | inr why ↦ loading why
+      ];
+    }) c.in-Err.ensures.cause (sym c.shown.ensures ∙ failed)

@@ -18,7 +18,7 @@ returns-in-Err-clause-err g c =
 pub returns-in-Err-clause-held : goal.returns-in-Err-clause-held
 returns-in-Err-clause-held g c = rw c.reason.ensures (λ honest.
     let held = c.in-Err.ensures.held honest in
-    (held.0, subst (λ ops. Keeps ops (g.K.Keeper.may_hold c.args.keeper.now) (g.K.Keeper.may_hold c.save.new.self) (Err (unkept_of c.in-Err.fault))) c.ops_of_batch.ensures (unkept_left _ _ c.ops_of_batch.result.now c.in-Err.fault held.1)))
+    (held.0, subst (λ ops. Keeps ops (g.K.Keeper.custody.may_hold c.args.keeper.now) (g.K.Keeper.custody.may_hold c.save.new.self) (Err (unkept_of c.in-Err.fault))) c.ops_of_batch.ensures (unkept_left _ _ c.ops_of_batch.result.now c.in-Err.fault held.1)))
 
 pub returns-in-Err-clause-broken : goal.returns-in-Err-clause-broken
 returns-in-Err-clause-broken g c failed = save_broke _ _ c.in-Err.fault c.in-Err.ensures.cause (sym c.reason.ensures ∙ err_same failed)

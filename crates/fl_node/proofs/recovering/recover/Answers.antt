@@ -57,7 +57,10 @@ returns-clause-ok g c honest =
     )
 
 pub returns-in-Err-raise-clause-cause : goal.returns-in-Err-raise-clause-cause
-returns-in-Err-raise-clause-cause g c failed = elim (c.in-Err-raise.ensures.cause failed) [
-  | inl broken ↦ inl broken
-  | inr never ↦ inr (λ honest. absurd (never honest))
+returns-in-Err-raise-clause-cause g c failed = inl (c.in-Err-raise.ensures.cause failed)
+
+pub returns-in-Err-clause-cause : goal.returns-in-Err-clause-cause
+returns-in-Err-clause-cause g c failed = elim (c.in-Err.ensures.cause failed) [
+  | inl is ↦ inl is.broken
+  | inr row ↦ inr row
 ]

@@ -8,5 +8,5 @@ returns-clause-begins g c = λ maker first later outputs end. run_begins _ 1 (be
 
 pub returns-clause-same : goal.returns-clause-same
 returns-clause-same g c = λ maker first later other a b m n certain.
-    same_first c.law_one_packet.ensures.one c.law_one_packet.ensures.whole g.M.K.Keeper.is_honest g.M.K.Keeper.may_hold
+    same_first c.law_one_packet.ensures.one c.law_one_packet.ensures.whole g.M.K.Keeper.custody
     (g.M.MakesKeepers.finds maker) (g.M.MakesKeepers.refuses maker) certain first later other a b m n

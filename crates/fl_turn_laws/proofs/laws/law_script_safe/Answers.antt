@@ -5,7 +5,7 @@ use Rattle.fl_turn_laws.proofs.laws.law_script_safe.Goals as goal
 
 pub returns-clause-safe : goal.returns-clause-safe
 returns-clause-safe g c = λ maker lines text status end h.
-    let all = script_answered g.M.K.Keeper.is_honest g.M.K.Keeper.may_hold g.M.MakesKeepers.finds g.M.MakesKeepers.refuses
+    let all = script_answered g.M.K.Keeper.custody g.M.MakesKeepers.making
     maker lines h.outputs end h.run in
     record {
       each = λ honest w is.
@@ -15,7 +15,7 @@ returns-clause-safe g c = λ maker lines text status end h.
 
 pub returns-clause-lasting : goal.returns-clause-lasting
 returns-clause-lasting g c = λ maker lines text status end h.
-    let all = script_answered g.M.K.Keeper.is_honest g.M.K.Keeper.may_hold g.M.MakesKeepers.finds g.M.MakesKeepers.refuses
+    let all = script_answered g.M.K.Keeper.custody g.M.MakesKeepers.making
     maker lines h.outputs end h.run in
     record {
       each = λ honest w is.

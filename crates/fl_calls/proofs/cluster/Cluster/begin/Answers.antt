@@ -8,13 +8,13 @@ use Rattle.fl_calls.proofs.cluster.Cluster.begin.Goals as goal
 
 pub returns-in-Ok : goal.returns-in-Ok
 returns-in-Ok g c =
-    once_open g.M.K.Keeper.is_honest g.M.K.Keeper.may_hold g.M.MakesKeepers.finds g.M.MakesKeepers.refuses _ _ _ _ _ _ _ _
+    once_open g.M.K.Keeper.custody g.M.MakesKeepers.making _ _ _ _ _ _ _ _
     (λ v. Says replied (Step v c.args.event)) (replied c.step.result) c.self.view_is c.in-Ok.is
     (rw c.number_of.ensures at c.enter.ensures)
-    (goes_as g.M.K.Keeper.is_honest g.M.K.Keeper.may_hold _ _ _ _ (λ w w' done. (c.step.result, refl, done)) c.step.ensures.goes)
+    (goes_as g.M.K.Keeper.custody _ _ _ _ (λ w w' done. (c.step.result, refl, done)) c.step.ensures.goes)
 
 pub returns-in-Err : goal.returns-in-Err
 returns-in-Err g c =
     rw c.turned_away.ensures
-    (once_shut g.M.K.Keeper.is_honest g.M.K.Keeper.may_hold g.M.MakesKeepers.finds g.M.MakesKeepers.refuses _ _ _ _ _
+    (once_shut g.M.K.Keeper.custody g.M.MakesKeepers.making _ _ _ _ _
     (λ v. Says replied (Step v c.args.event)) c.in-Err.is (rw c.number_of.ensures at c.enter.ensures))

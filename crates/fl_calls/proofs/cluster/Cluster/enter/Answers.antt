@@ -4,5 +4,5 @@ use Rattle.fl_calls.proofs.cluster.Cluster.enter.Goals as goal
 
 pub returns-in-Some : goal.returns-in-Some
 returns-in-Some g c =
-    rw (← c.self.view_is) (entered_as g.M.K.Keeper.is_honest g.M.K.Keeper.may_hold g.M.MakesKeepers.finds g.M.MakesKeepers.refuses
+    rw (← c.self.view_is) (entered_as g.M.K.Keeper.custody g.M.MakesKeepers.making
     _ _ _ (sym (rw c.in-Some.is at c.node.ensures)))

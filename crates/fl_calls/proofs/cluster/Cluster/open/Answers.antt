@@ -1,12 +1,13 @@
+use Rattle.fl_store.specs.Breaking.{IsLeftBroken}
 use Rattle.fl_calls.proofs.Going.{unmade, joins_or_not}
 use Rattle.fl_calls.proofs.Opening.{opens_as}
 use Rattle.fl_calls.proofs.cluster.Cluster.open.Goals as goal
 
 pub returns-in-Ok : goal.returns-in-Ok
 returns-in-Ok g c =
-    opens_as g.M.K.Keeper.is_honest g.M.K.Keeper.may_hold g.M.MakesKeepers.finds g.M.MakesKeepers.refuses _ _ _ _ _ _ _
+    opens_as g.M.K.Keeper.custody g.M.MakesKeepers.making _ _ _ _ _ _ _
     c.self.view_is
-    (joins_or_not g.M.K.Keeper.is_honest g.M.K.Keeper.may_hold _ _ g.M.K.Keeper.is_broken _ _ _ _ c.in-Ok.keeper _ _
+    (joins_or_not g.M.K.Keeper.custody _ _ (λ left. IsLeftBroken g.M.K.Keeper.custody c.in-Ok.keeper left) _ _ _ _ c.in-Ok.keeper _ _
     (rw (← c.self.view_is) at c.requires.absent) (rw c.in-Ok.is at c.make.ensures.made) (rw c.in-Ok.is at c.make.ensures.fails)
     c.outcome.ensures.ok c.outcome.ensures.err c.join.ensures.joins c.join.ensures.refused c.join.ensures.cause
     c.join.ensures.same)
@@ -14,8 +15,8 @@ returns-in-Ok g c =
 
 pub returns-in-Err : goal.returns-in-Err
 returns-in-Err g c =
-    opens_as g.M.K.Keeper.is_honest g.M.K.Keeper.may_hold g.M.MakesKeepers.finds g.M.MakesKeepers.refuses _ _ _ _ _ _ _
+    opens_as g.M.K.Keeper.custody g.M.MakesKeepers.making _ _ _ _ _ _ _
     c.self.view_is
-    (unmade g.M.K.Keeper.is_honest g.M.K.Keeper.may_hold _ _ _ _ _ (rw (← c.self.view_is) at c.requires.absent)
+    (unmade g.M.K.Keeper.custody _ _ _ _ _ (rw (← c.self.view_is) at c.requires.absent)
     (g.M.MakesKeepers.told _ _ _ (rw c.in-Err.is at c.make.ensures.why)))
     c.make.ensures.same_finds c.make.ensures.same_refuses

@@ -5,9 +5,9 @@ use Rattle.fl_calls.proofs.cluster.Cluster.text.Goals.{in-Ok, in-Err}
 
 pub returns : goal.returns
 returns g c = elim c.match-enter.branch [
-  | in-Ok w ↦ told g.M.K.Keeper.is_honest g.M.K.Keeper.may_hold g.M.MakesKeepers.finds g.M.MakesKeepers.refuses _ _ _ _ _ _ _
+  | in-Ok w ↦ told g.M.K.Keeper.custody g.M.MakesKeepers.making _ _ _ _ _ _ _
       (λ v. Tells v c.args.number) _ _ c.self.view_is w.in-Ok.is w.result-is c.enter.ensures
       (λ x s may at. w.tell.ensures x s may at)
-  | in-Err w ↦ told_why g.M.K.Keeper.is_honest g.M.K.Keeper.may_hold g.M.MakesKeepers.finds g.M.MakesKeepers.refuses _ _ _ _ _
+  | in-Err w ↦ told_why g.M.K.Keeper.custody g.M.MakesKeepers.making _ _ _ _ _
       (λ v. Tells v c.args.number) _ _ w.in-Err.is w.result-is w.shut.ensures c.enter.ensures
 ]

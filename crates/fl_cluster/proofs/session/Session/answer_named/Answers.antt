@@ -9,7 +9,7 @@ settle-requires g c = placed_is_set (placed _ _ _ _ _ c.in-Ok.ensures.new c.in-O
 pub returns : goal.returns
 returns g c =
     let set = placed _ _ _ _ _ c.in-Ok.ensures.new c.in-Ok.ensures.ok in
-    rw (← c.self.view_is) (inl (names_some g.M.K.Keeper.is_honest g.M.K.Keeper.may_hold g.M.MakesKeepers.finds g.M.MakesKeepers.refuses
+    rw (← c.self.view_is) (inl (names_some g.M.K.Keeper.custody g.M.MakesKeepers.making
     (record { cluster = c.self.inside.cluster; aliases = c.self.inside.aliases })
     (record { cluster = c.respond_to-response.new.cluster; aliases = c.settle.new.aliases })
     c.args.line c.args.alias c.respond_to-response.result c.made.result c.requires.makes

@@ -12,4 +12,4 @@ returns-in-Ok g c =
 
 pub returns-in-Err : goal.returns-in-Err
 returns-in-Err g c =
-    rw c.starved.ensures (turns_starved g.M.K.Keeper.is_honest g.M.K.Keeper.may_hold g.M.MakesKeepers.finds g.M.MakesKeepers.refuses _ c.args.line.now c.in-Err.ensures.err)
+    rw c.starved.ensures (turns_starved g.M.K.Keeper.custody g.M.MakesKeepers.making _ c.args.line.now c.in-Err.ensures.err)

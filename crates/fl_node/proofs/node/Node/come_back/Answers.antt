@@ -36,10 +36,10 @@ returns-clause-restarts g c honest =
     )
 
 pub returns-then-not-keeps-clause-cause : goal.returns-then-not-keeps-clause-cause
-returns-then-not-keeps-clause-cause g c = loads_own _ _ _ _ _ _ _ _ _ (λ honest. (c.open_again.ensures.opens honest).0) c.open_again.ensures.cause
+returns-then-not-keeps-clause-cause g c = loads_own g.K.Keeper.custody _ _ _ _ _ (λ honest. (c.open_again.ensures.opens honest).0) c.open_again.ensures.cause
 
 pub returns-in_default-clause-cause : goal.returns-in_default-clause-cause
-returns-in_default-clause-cause g c = loads_own _ _ _ _ _ _ _ _ _ (λ honest. (c.open_again-in_default.ensures.opens honest).0) c.open_again-in_default.ensures.cause
+returns-in_default-clause-cause g c = loads_own g.K.Keeper.custody _ _ _ _ _ (λ honest. (c.open_again-in_default.ensures.opens honest).0) c.open_again-in_default.ensures.cause
 
 pub returns-in-Err-clause-cause : goal.returns-in-Err-clause-cause
 returns-in-Err-clause-cause g c failed = inl (c.in-Err.ensures.cause (ap Err failed))
@@ -47,7 +47,7 @@ returns-in-Err-clause-cause g c failed = inl (c.in-Err.ensures.cause (ap Err fai
 pub returns-clause-cause : goal.returns-clause-cause
 returns-clause-cause g c =
     let pending = subst (λ x. x.node.state ≡ Running (Unsaved c.in-Ok.field-0.now)) c.self.view_is c.in-Ok.ensures.ok in
-    loads_stored _ _ _ _ _ _ _ _ _ _ c.in_default-save.ensures.keeper (λ honest.
+    loads_stored g.K.Keeper.custody _ _ _ _ _ _ c.in_default-save.ensures.keeper (λ honest.
     let opened = c.open_again-2.ensures.opens honest in
     let held = c.in_default-save.ensures.saves opened.0 in
     (opened.0, held.0, stored_then _ _ _ _ _ pending held.1)) c.open_again-2.ensures.cause

@@ -1,4 +1,5 @@
-use Rattle.std.proofs.Common.{inl, inr, length, ◌≡◌, ◌∙◌, refl, sym, ap}
+use Rattle.std.proofs.Common.{inl, inr, length, ◌≡◌, ◌⊎◌, ◌∙◌, refl, sym, ap, Err}
+use Rattle.fl_store.specs.Breaking.{raising}
 use Rattle.fl_system.specs.Openings.{IsOf}
 use Rattle.fl_node.proofs.OpenLemmas.{not_found, found_no_room, not_raised, opens, kept_opened}
 use Rattle.fl_node.proofs.node.Node.open.Goals as goal
@@ -31,7 +32,10 @@ pub returns-in-Err-clause-cause : goal.returns-in-Err-clause-cause
 returns-in-Err-clause-cause g c failed = c.in-Err.ensures.cause failed
 
 pub returns-in-Err-raise-clause-cause : goal.returns-in-Err-raise-clause-cause
-returns-in-Err-raise-clause-cause g c failed = elim (c.in-Err-raise.ensures.cause failed) [
-  | inl broken ↦ inl broken
-  | inr never ↦ inr (λ honest. absurd (never honest))
-]
+returns-in-Err-raise-clause-cause g c failed = inl (record {
+  broken = c.in-Err-raise.ensures.cause failed;
+  cause = λ honest. elim (c.in-Err-raise.ensures.broke honest (ap Err failed)) [
+    | inl was ↦ absurd (c.in-Ok.ensures.sound was)
+    | inr why ↦ raising (c.in-Ok.ensures.loads (c.in-Err-raise.ensures.held honest).0) why
+  ];
+})

@@ -13,39 +13,39 @@ use Rattle.fl_nodes.proofs.nodes.Nodes.deliver.Goals.{in-Full, in-Delta, in-Have
 
 pub returns-in_default : goal.returns-in_default
 returns-in_default g c =
-    no_such_left g.K.Keeper.is_honest g.K.Keeper.may_hold c.args.self.now _ (event.Deliver c.args.packet c.args.number)
+    no_such_left g.K.Keeper.custody c.args.self.now _ (event.Deliver c.args.packet c.args.number)
     (unchanged c.self.inside.all.entries _ c.self.inside.sent.items c.self.inside.audit.items c.args.self.now c.self.view_is (ap (λ (t : BTreeMap ℕ (NodeOver g.row.K.Denot)). t.entries) c.get_mut.follows.holds-at-none))
     (sym (held c.self.inside.all.entries c.self.inside.all.entries c.self.inside.sent.items c.self.inside.audit.items c.args.self.now c.self.view_is c.args.number) ∙ sym c.in_default.ensures.value)
 
 pub returns-in_default-packet_at : goal.returns-in_default-packet_at
 returns-in_default-packet_at g c =
-    no_packet g.K.Keeper.is_honest g.K.Keeper.may_hold c.self.inside.all.entries _ c.self.inside.sent.items c.self.inside.audit.items c.args.self.now c.self.view_is
+    no_packet g.K.Keeper.custody c.self.inside.all.entries _ c.self.inside.sent.items c.self.inside.audit.items c.args.self.now c.self.view_is
     c.args.number c.in-Some.node.now c.in-Some.node.now (sym c.in-Some.ensures.value) (c.get_mut.follows.holds c.in-Some.node.now).0
     c.args.packet refl (ap (λ l. packet_of l c.args.packet) (sym c.deref.ensures.value) ∙ c.in_default-packet_at.ensures)
 
 pub returns : goal.returns
 returns g c = elim c.match-sent.branch [
-  | in-Full w ↦ rw (w.answer-is, w.node-is, w.self-inside-is) (delivers_ops g.K.Keeper.is_honest g.K.Keeper.may_hold c.self.inside.all.entries _ c.self.inside.sent.items c.self.inside.audit.items c.args.self.now c.self.view_is
+  | in-Full w ↦ rw (w.answer-is, w.node-is, w.self-inside-is) (delivers_ops g.K.Keeper.custody c.self.inside.all.entries _ c.self.inside.sent.items c.self.inside.audit.items c.args.self.now c.self.view_is
       c.args.number c.in-Some.node.now w.receive-answer.new.node (sym c.in-Some.ensures.value) (c.get_mut.follows.holds w.receive-answer.new.node).0
       c.args.packet c.in-Some-packet_at.sent.now
       (ap (λ l. packet_of l c.args.packet) (sym c.deref.ensures.value) ∙ c.in-Some-packet_at.ensures)
       w.in-Full.field-0 w.receive-answer.result (inl w.in-Full.is) w.receive-answer.ensures.keeper w.receive-answer.ensures.takes)
-  | in-Delta w ↦ rw (w.answer-is, w.node-is, w.self-inside-is) (delivers_ops g.K.Keeper.is_honest g.K.Keeper.may_hold c.self.inside.all.entries _ c.self.inside.sent.items c.self.inside.audit.items c.args.self.now c.self.view_is
+  | in-Delta w ↦ rw (w.answer-is, w.node-is, w.self-inside-is) (delivers_ops g.K.Keeper.custody c.self.inside.all.entries _ c.self.inside.sent.items c.self.inside.audit.items c.args.self.now c.self.view_is
       c.args.number c.in-Some.node.now w.receive-answer-in-Delta.new.node (sym c.in-Some.ensures.value) (c.get_mut.follows.holds w.receive-answer-in-Delta.new.node).0
       c.args.packet c.in-Some-packet_at.sent.now
       (ap (λ l. packet_of l c.args.packet) (sym c.deref.ensures.value) ∙ c.in-Some-packet_at.ensures)
       w.in-Delta.field-0 w.receive-answer-in-Delta.result (inr w.in-Delta.is) w.receive-answer-in-Delta.ensures.keeper w.receive-answer-in-Delta.ensures.takes)
-  | in-Have+in-Ok w ↦ rw (w.answer-is, w.node-is, w.self-inside-is) (delivers_window g.K.Keeper.is_honest g.K.Keeper.may_hold c.self.inside.all.entries _ c.self.inside.sent.items c.self.inside.audit.items c.args.self.now c.self.view_is
+  | in-Have+in-Ok w ↦ rw (w.answer-is, w.node-is, w.self-inside-is) (delivers_window g.K.Keeper.custody c.self.inside.all.entries _ c.self.inside.sent.items c.self.inside.audit.items c.args.self.now c.self.view_is
       c.args.number c.in-Some.node.now c.in-Some.node.now (sym c.in-Some.ensures.value) (c.get_mut.follows.holds c.in-Some.node.now).0
       c.args.packet c.in-Some-packet_at.sent.now
       (ap (λ l. packet_of l c.args.packet) (sym c.deref.ensures.value) ∙ c.in-Some-packet_at.ensures)
       w.in-Have.window w.in-Ok.told.items w.send_all.result w.send_all.new.sent.items w.in-Have.is refl w.in-Ok.ensures.running w.in-Ok.ensures.ok w.send_all.ensures)
-  | in-Have+in-Err w ↦ rw (w.answer-is, w.node-is, w.self-inside-is) (window_refused g.K.Keeper.is_honest g.K.Keeper.may_hold c.self.inside.all.entries _ c.self.inside.sent.items c.self.inside.audit.items c.args.self.now c.self.view_is
+  | in-Have+in-Err w ↦ rw (w.answer-is, w.node-is, w.self-inside-is) (window_refused g.K.Keeper.custody c.self.inside.all.entries _ c.self.inside.sent.items c.self.inside.audit.items c.args.self.now c.self.view_is
       c.args.number c.in-Some.node.now c.in-Some.node.now (sym c.in-Some.ensures.value) (c.get_mut.follows.holds c.in-Some.node.now).0
       c.args.packet c.in-Some-packet_at.sent.now
       (ap (λ l. packet_of l c.args.packet) (sym c.deref.ensures.value) ∙ c.in-Some-packet_at.ensures)
       w.in-Have.window w.in-Err.fault w.in-Have.is refl w.in-Err.ensures.err)
-  | in-Data w ↦ rw (w.answer-is, w.node-is, w.self-inside-is) (delivers_message g.K.Keeper.is_honest g.K.Keeper.may_hold c.self.inside.all.entries _ c.self.inside.sent.items c.self.inside.audit.items c.args.self.now c.self.view_is
+  | in-Data w ↦ rw (w.answer-is, w.node-is, w.self-inside-is) (delivers_message g.K.Keeper.custody c.self.inside.all.entries _ c.self.inside.sent.items c.self.inside.audit.items c.args.self.now c.self.view_is
       c.args.number c.in-Some.node.now w.bring-answer.new.node (sym c.in-Some.ensures.value) (c.get_mut.follows.holds w.bring-answer.new.node).0
       c.args.packet c.in-Some-packet_at.sent.now
       (ap (λ l. packet_of l c.args.packet) (sym c.deref.ensures.value) ∙ c.in-Some-packet_at.ensures)

@@ -11,19 +11,19 @@ use Rattle.fl_nodes.proofs.nodes.Nodes.job.Goals as goal
 
 pub returns-in_default : goal.returns-in_default
 returns-in_default g c upto whole =
-    no_such_left g.K.Keeper.is_honest g.K.Keeper.may_hold c.args.self.now _ (event.Job c.args.number c.args.desk upto c.args.job)
+    no_such_left g.K.Keeper.custody c.args.self.now _ (event.Job c.args.number c.args.desk upto c.args.job)
     (unchanged c.self.inside.all.entries _ c.self.inside.sent.items c.self.inside.audit.items c.args.self.now c.self.view_is (ap (λ (t : BTreeMap ℕ (NodeOver g.row.K.Denot)). t.entries) c.get_mut.follows.holds-at-none))
     (sym (held c.self.inside.all.entries c.self.inside.all.entries c.self.inside.sent.items c.self.inside.audit.items c.args.self.now c.self.view_is c.args.number) ∙ sym c.in_default.ensures.value)
 
 pub returns-then-lacks : goal.returns-then-lacks
 returns-then-lacks g c upto whole =
-    no_such_job g.K.Keeper.is_honest g.K.Keeper.may_hold c.self.inside.all.entries _ c.self.inside.sent.items c.self.inside.audit.items c.args.self.now c.self.view_is
+    no_such_job g.K.Keeper.custody c.self.inside.all.entries _ c.self.inside.sent.items c.self.inside.audit.items c.args.self.now c.self.view_is
     c.args.number c.args.desk upto c.args.job c.in-Some.node.now c.in-Some.node.now (sym c.in-Some.ensures.value) (c.get_mut.follows.holds c.in-Some.node.now).0
     refl (c.lacks.ensures.lacking c.if-lacks.true)
 
 pub returns : goal.returns
 returns g c upto whole =
-    worked g.K.Keeper.is_honest g.K.Keeper.may_hold c.self.inside.all.entries _ c.self.inside.sent.items c.self.inside.audit.items c.args.self.now c.self.view_is
+    worked g.K.Keeper.custody c.self.inside.all.entries _ c.self.inside.sent.items c.self.inside.audit.items c.args.self.now c.self.view_is
     c.args.number c.args.desk upto c.args.job c.in-Some.node.now c.work-answer.new.node (sym c.in-Some.ensures.value) (c.get_mut.follows.holds c.work-answer.new.node).0
     _ _ _ c.work-answer.ensures.keeper (c.lacks.ensures.there c.if-lacks.false)
     (c.work-answer.ensures.works upto (whole c.in-Some.node.now

@@ -11,17 +11,17 @@ use Rattle.fl_nodes.proofs.nodes.Nodes.publish.Goals.{in-Ok, in-Err}
 
 pub returns-in_default : goal.returns-in_default
 returns-in_default g c =
-    no_such_left g.K.Keeper.is_honest g.K.Keeper.may_hold c.args.self.now _ (event.Publish c.args.number)
+    no_such_left g.K.Keeper.custody c.args.self.now _ (event.Publish c.args.number)
     (unchanged c.self.inside.all.entries _ c.self.inside.sent.items c.self.inside.audit.items c.args.self.now c.self.view_is (ap (λ (t : BTreeMap ℕ (NodeOver g.row.K.Denot)). t.entries) c.get_mut.follows.holds-at-none))
     (sym (held c.self.inside.all.entries c.self.inside.all.entries c.self.inside.sent.items c.self.inside.audit.items c.args.self.now c.self.view_is c.args.number) ∙ sym c.in_default.ensures.value)
 
 pub returns : goal.returns
 returns g c = elim c.match-publish.branch [
-  | in-Ok w ↦ rw (w.answer-is, c.once_published-reply.ensures, c.state.ensures) (published g.K.Keeper.is_honest g.K.Keeper.may_hold c.args.self.now _ c.args.number c.in-Some.node.now c.publish.new.self
+  | in-Ok w ↦ rw (w.answer-is, c.once_published-reply.ensures, c.state.ensures) (published g.K.Keeper.custody c.args.self.now _ c.args.number c.in-Some.node.now c.publish.new.self
       (sym (held c.self.inside.all.entries c.self.inside.all.entries c.self.inside.sent.items c.self.inside.audit.items c.args.self.now c.self.view_is c.args.number) ∙ sym c.in-Some.ensures.value)
       (changed c.self.inside.all.entries _ c.self.inside.sent.items c.self.inside.audit.items c.args.self.now c.self.view_is c.args.number c.in-Some.node.now c.publish.new.self (sym c.in-Some.ensures.value) (c.get_mut.follows.holds c.publish.new.self).0)
       _ w.in-Ok.ensures.keeper w.in-Ok.ensures.publishes)
-  | in-Err w ↦ rw w.answer-is (not_published g.K.Keeper.is_honest g.K.Keeper.may_hold c.args.self.now _ c.args.number c.in-Some.node.now c.publish.new.self
+  | in-Err w ↦ rw w.answer-is (not_published g.K.Keeper.custody c.args.self.now _ c.args.number c.in-Some.node.now c.publish.new.self
       (sym (held c.self.inside.all.entries c.self.inside.all.entries c.self.inside.sent.items c.self.inside.audit.items c.args.self.now c.self.view_is c.args.number) ∙ sym c.in-Some.ensures.value)
       (changed c.self.inside.all.entries _ c.self.inside.sent.items c.self.inside.audit.items c.args.self.now c.self.view_is c.args.number c.in-Some.node.now c.publish.new.self (sym c.in-Some.ensures.value) (c.get_mut.follows.holds c.publish.new.self).0)
       _ w.in-Err.ensures.keeper w.in-Err.ensures.publishes)

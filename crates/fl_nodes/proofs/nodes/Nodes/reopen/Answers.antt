@@ -10,7 +10,7 @@ use Rattle.fl_nodes.proofs.nodes.Nodes.reopen.Goals as goal
 
 pub returns-in_default-clause-reopens : goal.returns-in_default-clause-reopens
 returns-in_default-clause-reopens g c =
-    not_there g.K.Keeper.is_honest g.K.Keeper.may_hold c.args.self.now _ c.args.number c.args.keeper
+    not_there g.K.Keeper.custody c.args.self.now _ c.args.number c.args.keeper
     (unchanged c.self.inside.all.entries _ c.self.inside.sent.items c.self.inside.audit.items c.args.self.now c.self.view_is (ap (λ (t : BTreeMap ℕ (NodeOver g.row.K.Denot)). t.entries) c.get_mut.follows.holds-at-none))
     (sym (held c.self.inside.all.entries c.self.inside.all.entries c.self.inside.sent.items c.self.inside.audit.items c.args.self.now c.self.view_is c.args.number) ∙ sym c.in_default.ensures.value)
 
@@ -21,14 +21,14 @@ returns-in_default-clause-given g c =
 
 pub returns-clause-reopens : goal.returns-clause-reopens
 returns-clause-reopens g c =
-    reopened g.K.Keeper.is_honest g.K.Keeper.may_hold c.args.self.now _ c.args.number c.args.keeper _ c.in-Some.node.now c.reopen_over-result.new.self
+    reopened g.K.Keeper.custody c.args.self.now _ c.args.number c.args.keeper _ c.in-Some.node.now c.reopen_over-result.new.self
     (sym (held c.self.inside.all.entries c.self.inside.all.entries c.self.inside.sent.items c.self.inside.audit.items c.args.self.now c.self.view_is c.args.number) ∙ sym c.in-Some.ensures.value)
     (changed c.self.inside.all.entries _ c.self.inside.sent.items c.self.inside.audit.items c.args.self.now c.self.view_is c.args.number c.in-Some.node.now c.reopen_over-result.new.self (sym c.in-Some.ensures.value) (c.get_mut.follows.holds c.reopen_over-result.new.self).0)
     _ c.reopen_over-result.ensures.running c.reopen_over-result.ensures.given c.reopen_over-result.ensures.stopped _ c.opened.ensures
 
 pub returns-clause-given : goal.returns-clause-given
 returns-clause-given g c =
-    is_spare g.K.Keeper.is_honest g.K.Keeper.may_hold c.args.self.now _ c.args.number c.args.keeper _ c.in-Some.node.now c.reopen_over-result.new.self
+    is_spare g.K.Keeper.custody c.args.self.now _ c.args.number c.args.keeper _ c.in-Some.node.now c.reopen_over-result.new.self
     (sym (held c.self.inside.all.entries c.self.inside.all.entries c.self.inside.sent.items c.self.inside.audit.items c.args.self.now c.self.view_is c.args.number) ∙ sym c.in-Some.ensures.value)
     (changed c.self.inside.all.entries _ c.self.inside.sent.items c.self.inside.audit.items c.args.self.now c.self.view_is c.args.number c.in-Some.node.now c.reopen_over-result.new.self (sym c.in-Some.ensures.value) (c.get_mut.follows.holds c.reopen_over-result.new.self).0)
     _ c.reopen_over-result.ensures.running c.reopen_over-result.ensures.given c.reopen_over-result.ensures.stopped
@@ -38,9 +38,9 @@ returns-in_default-clause-cause g c failed = absurd (no_refusal_missing _ failed
 
 pub returns-clause-cause : goal.returns-clause-cause
 returns-clause-cause g c =
-    fails_as g.K.Keeper.is_broken c.args.self.now _ c.args.number c.reopen_over-result.new.self
+    fails_as g.K.Keeper.custody c.args.self.now _ c.args.number c.reopen_over-result.new.self
     (changed c.self.inside.all.entries _ c.self.inside.sent.items c.self.inside.audit.items c.args.self.now c.self.view_is c.args.number c.in-Some.node.now c.reopen_over-result.new.self (sym c.in-Some.ensures.value) (c.get_mut.follows.holds c.reopen_over-result.new.self).0)
-    g.K.Keeper.is_honest (λ n. g.K.Keeper.has_bad_row c.args.keeper) c.in-Some.node.now
+    (λ n. g.K.Keeper.custody.has_bad_row c.args.keeper) c.in-Some.node.now
     (sym (held c.self.inside.all.entries c.self.inside.all.entries c.self.inside.sent.items c.self.inside.audit.items c.args.self.now c.self.view_is c.args.number) ∙ sym c.in-Some.ensures.value)
     _ _ c.opened.ensures c.reopen_over-result.ensures.cause
 

@@ -30,14 +30,14 @@ returns-clause-absent g c none =
 
 pub returns-clause-running : goal.returns-clause-running
 returns-clause-running g c n at runs =
-    when_running g.K.Keeper.is_honest g.K.Keeper.may_hold c.args.self.now _ c.args.number c.in-Some.node.now c.reopen_with-result.new.self
+    when_running g.K.Keeper.custody c.args.self.now _ c.args.number c.in-Some.node.now c.reopen_with-result.new.self
     (sym (held c.self.inside.all.entries c.self.inside.all.entries c.self.inside.sent.items c.self.inside.audit.items c.args.self.now c.self.view_is c.args.number) ∙ sym c.in-Some.ensures.value)
     (changed c.self.inside.all.entries _ c.self.inside.sent.items c.self.inside.audit.items c.args.self.now c.self.view_is c.args.number c.in-Some.node.now c.reopen_with-result.new.self (sym c.in-Some.ensures.value) (c.get_mut.follows.holds c.reopen_with-result.new.self).0)
     n at runs _ c.reopen_with-result.ensures.running _ c.opened.ensures
 
 pub returns-clause-stopped : goal.returns-clause-stopped
 returns-clause-stopped g c n at stops =
-    when_stopped g.K.Keeper.is_honest g.K.Keeper.may_hold c.args.self.now _ c.args.number c.in-Some.node.now c.reopen_with-result.new.self
+    when_stopped g.K.Keeper.custody c.args.self.now _ c.args.number c.in-Some.node.now c.reopen_with-result.new.self
     (sym (held c.self.inside.all.entries c.self.inside.all.entries c.self.inside.sent.items c.self.inside.audit.items c.args.self.now c.self.view_is c.args.number) ∙ sym c.in-Some.ensures.value)
     (changed c.self.inside.all.entries _ c.self.inside.sent.items c.self.inside.audit.items c.args.self.now c.self.view_is c.args.number c.in-Some.node.now c.reopen_with-result.new.self (sym c.in-Some.ensures.value) (c.get_mut.follows.holds c.reopen_with-result.new.self).0)
     n at stops _ c.requires.trusted _ c.reopen_with-result.ensures.stopped _ c.opened.ensures
@@ -47,11 +47,11 @@ returns-in_default-clause-cause g c failed = absurd (no_refusal_missing _ failed
 
 pub returns-clause-cause : goal.returns-clause-cause
 returns-clause-cause g c =
-    fails_over g.K.Keeper.is_broken c.args.self.now _ c.args.number c.reopen_with-result.new.self
+    fails_over g.K.Keeper.custody c.args.self.now _ c.args.number c.reopen_with-result.new.self
     (changed c.self.inside.all.entries _ c.self.inside.sent.items c.self.inside.audit.items c.args.self.now c.self.view_is c.args.number c.in-Some.node.now c.reopen_with-result.new.self (sym c.in-Some.ensures.value) (c.get_mut.follows.holds c.reopen_with-result.new.self).0)
-    g.K.Keeper.is_honest _ c.in-Some.node.now
+    _ c.in-Some.node.now
     (sym (held c.self.inside.all.entries c.self.inside.all.entries c.self.inside.sent.items c.self.inside.audit.items c.args.self.now c.self.view_is c.args.number) ∙ sym c.in-Some.ensures.value)
-    (λ k made. FnOnceReturnsAtMut g.F.FnOnce c.args.make k tt made) g.K.Keeper.has_bad_row (λ made gives row. (made, gives, row)) _ _ c.opened.ensures c.reopen_with-result.ensures.cause
+    (λ k made. FnOnceReturnsAtMut g.F.FnOnce c.args.make k tt made) g.K.Keeper.custody.has_bad_row (λ made gives row. (made, gives, row)) _ _ c.opened.ensures c.reopen_with-result.ensures.cause
 
 pub invariant_of-self-2 : goal.invariant_of-self-2
 invariant_of-self-2 g c =

@@ -13,17 +13,17 @@ use Rattle.fl_nodes.proofs.nodes.Nodes.restart.Goals.{in-Ok, in-Err}
 
 pub returns-in_default-clause-goes : goal.returns-in_default-clause-goes
 returns-in_default-clause-goes g c =
-    no_such_left g.K.Keeper.is_honest g.K.Keeper.may_hold c.args.self.now _ (event.Restart c.args.number c.args.keeps)
+    no_such_left g.K.Keeper.custody c.args.self.now _ (event.Restart c.args.number c.args.keeps)
     (unchanged c.self.inside.all.entries _ c.self.inside.sent.items c.self.inside.audit.items c.args.self.now c.self.view_is (ap (λ (t : BTreeMap ℕ (NodeOver g.row.K.Denot)). t.entries) c.get_mut.follows.holds-at-none))
     (sym (held c.self.inside.all.entries c.self.inside.all.entries c.self.inside.sent.items c.self.inside.audit.items c.args.self.now c.self.view_is c.args.number) ∙ sym c.in_default.ensures.value)
 
 pub returns-clause-goes : goal.returns-clause-goes
 returns-clause-goes g c = elim c.match-come_back.branch [
-  | in-Ok w ↦ rw w.answer-is (booted g.K.Keeper.is_honest g.K.Keeper.may_hold c.args.self.now _ c.args.number c.in-Some.node.now c.come_back.new.self
+  | in-Ok w ↦ rw w.answer-is (booted g.K.Keeper.custody c.args.self.now _ c.args.number c.in-Some.node.now c.come_back.new.self
       (sym (held c.self.inside.all.entries c.self.inside.all.entries c.self.inside.sent.items c.self.inside.audit.items c.args.self.now c.self.view_is c.args.number) ∙ sym c.in-Some.ensures.value)
       (changed c.self.inside.all.entries _ c.self.inside.sent.items c.self.inside.audit.items c.args.self.now c.self.view_is c.args.number c.in-Some.node.now c.come_back.new.self (sym c.in-Some.ensures.value) (c.get_mut.follows.holds c.come_back.new.self).0)
       c.args.keeps _ w.in-Ok.ensures.restarts)
-  | in-Err w ↦ rw w.answer-is (not_booted g.K.Keeper.is_honest g.K.Keeper.may_hold c.args.self.now _ c.args.number c.in-Some.node.now c.come_back.new.self
+  | in-Err w ↦ rw w.answer-is (not_booted g.K.Keeper.custody c.args.self.now _ c.args.number c.in-Some.node.now c.come_back.new.self
       (sym (held c.self.inside.all.entries c.self.inside.all.entries c.self.inside.sent.items c.self.inside.audit.items c.args.self.now c.self.view_is c.args.number) ∙ sym c.in-Some.ensures.value)
       (changed c.self.inside.all.entries _ c.self.inside.sent.items c.self.inside.audit.items c.args.self.now c.self.view_is c.args.number c.in-Some.node.now c.come_back.new.self (sym c.in-Some.ensures.value) (c.get_mut.follows.holds c.come_back.new.self).0)
       c.args.keeps _ w.in-Err.ensures.restarts)
@@ -35,9 +35,9 @@ returns-in_default-clause-cause g c failed = absurd (no_refusal_missing _ failed
 pub returns-clause-cause : goal.returns-clause-cause
 returns-clause-cause g c = elim c.match-come_back.branch [
   | in-Ok w ↦ rw w.answer-is (λ failed. absurd (no_refusal_booted _ _ failed))
-  | in-Err w ↦ rw w.answer-is (λ failed. fails_at g.K.Keeper.is_broken c.args.self.now _ c.args.number c.come_back.new.self
+  | in-Err w ↦ rw w.answer-is (λ failed. fails_at g.K.Keeper.custody c.args.self.now _ c.args.number c.come_back.new.self
       (changed c.self.inside.all.entries _ c.self.inside.sent.items c.self.inside.audit.items c.args.self.now c.self.view_is c.args.number c.in-Some.node.now c.come_back.new.self (sym c.in-Some.ensures.value) (c.get_mut.follows.holds c.come_back.new.self).0)
-      g.K.Keeper.is_honest (LoadsBadRowOf g.K.Keeper.number g.K.Keeper.is_honest g.K.Keeper.may_hold g.K.Keeper.has_bad_row) c.in-Some.node.now
+      (LoadsBadRowOf g.K.Keeper.custody) c.in-Some.node.now
       (sym (held c.self.inside.all.entries c.self.inside.all.entries c.self.inside.sent.items c.self.inside.audit.items c.args.self.now c.self.view_is c.args.number) ∙ sym c.in-Some.ensures.value)
       (w.in-Err.ensures.cause (same_fault _ _ failed)))
 ]

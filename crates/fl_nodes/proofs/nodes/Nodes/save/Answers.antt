@@ -12,17 +12,17 @@ use Rattle.fl_nodes.proofs.nodes.Nodes.save.Goals.{in-Ok, in-Err}
 
 pub returns-in_default-clause-goes : goal.returns-in_default-clause-goes
 returns-in_default-clause-goes g c =
-    no_such_left g.K.Keeper.is_honest g.K.Keeper.may_hold c.args.self.now _ (event.Save c.args.number)
+    no_such_left g.K.Keeper.custody c.args.self.now _ (event.Save c.args.number)
     (unchanged c.self.inside.all.entries _ c.self.inside.sent.items c.self.inside.audit.items c.args.self.now c.self.view_is (ap (λ (t : BTreeMap ℕ (NodeOver g.row.K.Denot)). t.entries) c.get_mut.follows.holds-at-none))
     (sym (held c.self.inside.all.entries c.self.inside.all.entries c.self.inside.sent.items c.self.inside.audit.items c.args.self.now c.self.view_is c.args.number) ∙ sym c.in_default.ensures.value)
 
 pub returns-clause-goes : goal.returns-clause-goes
 returns-clause-goes g c = elim c.match-save.branch [
-  | in-Ok w ↦ rw w.answer-is (saved g.K.Keeper.is_honest g.K.Keeper.may_hold c.args.self.now _ c.args.number c.in-Some.node.now c.save.new.self
+  | in-Ok w ↦ rw w.answer-is (saved g.K.Keeper.custody c.args.self.now _ c.args.number c.in-Some.node.now c.save.new.self
       (sym (held c.self.inside.all.entries c.self.inside.all.entries c.self.inside.sent.items c.self.inside.audit.items c.args.self.now c.self.view_is c.args.number) ∙ sym c.in-Some.ensures.value)
       (changed c.self.inside.all.entries _ c.self.inside.sent.items c.self.inside.audit.items c.args.self.now c.self.view_is c.args.number c.in-Some.node.now c.save.new.self (sym c.in-Some.ensures.value) (c.get_mut.follows.holds c.save.new.self).0)
       w.in-Ok.ensures.saves)
-  | in-Err w ↦ rw w.answer-is (not_saved g.K.Keeper.is_honest g.K.Keeper.may_hold c.args.self.now _ c.args.number c.in-Some.node.now c.save.new.self
+  | in-Err w ↦ rw w.answer-is (not_saved g.K.Keeper.custody c.args.self.now _ c.args.number c.in-Some.node.now c.save.new.self
       (sym (held c.self.inside.all.entries c.self.inside.all.entries c.self.inside.sent.items c.self.inside.audit.items c.args.self.now c.self.view_is c.args.number) ∙ sym c.in-Some.ensures.value)
       (changed c.self.inside.all.entries _ c.self.inside.sent.items c.self.inside.audit.items c.args.self.now c.self.view_is c.args.number c.in-Some.node.now c.save.new.self (sym c.in-Some.ensures.value) (c.get_mut.follows.holds c.save.new.self).0)
       _ w.in-Err.ensures.saves)
@@ -34,7 +34,7 @@ returns-in_default-clause-cause g c failed = absurd (no_refusal_missing _ failed
 pub returns-clause-cause : goal.returns-clause-cause
 returns-clause-cause g c = elim c.match-save.branch [
   | in-Ok w ↦ rw w.answer-is (λ failed. absurd (no_refusal_done _ failed))
-  | in-Err w ↦ rw w.answer-is (λ failed. broken_at g.K.Keeper.is_broken c.args.self.now _ c.args.number c.save.new.self
+  | in-Err w ↦ rw w.answer-is (λ failed. broken_at g.K.Keeper.custody c.args.self.now _ c.args.number c.save.new.self
       (changed c.self.inside.all.entries _ c.self.inside.sent.items c.self.inside.audit.items c.args.self.now c.self.view_is c.args.number c.in-Some.node.now c.save.new.self (sym c.in-Some.ensures.value) (c.get_mut.follows.holds c.save.new.self).0)
       (w.in-Err.ensures.cause (ap Err (same_fault _ _ failed))))
 ]

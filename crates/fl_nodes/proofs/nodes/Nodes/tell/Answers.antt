@@ -10,12 +10,12 @@ use Rattle.fl_nodes.proofs.nodes.Nodes.tell.Goals as goal
 
 pub returns-in_default : goal.returns-in_default
 returns-in_default g c =
-    no_such g.K.Keeper.is_honest g.K.Keeper.may_hold c.args.self.now (event.Tell c.args.number)
+    no_such g.K.Keeper.custody c.args.self.now (event.Tell c.args.number)
     (sym (held c.self.inside.all.entries c.self.inside.all.entries c.self.inside.sent.items c.self.inside.audit.items c.args.self.now c.self.view_is c.args.number) ∙ sym c.in_default.ensures.value)
 
 pub returns-in-Ok : goal.returns-in-Ok
 returns-in-Ok g c =
-    tells g.K.Keeper.is_honest g.K.Keeper.may_hold c.args.self.now c.args.number c.in-Some.node.now
+    tells g.K.Keeper.custody c.args.self.now c.args.number c.in-Some.node.now
     (sym (held c.self.inside.all.entries c.self.inside.all.entries c.self.inside.sent.items c.self.inside.audit.items c.args.self.now c.self.view_is c.args.number) ∙ sym c.in-Some.ensures.value)
     (event.Tell c.args.number) _ c.in-Ok.told.items c.self.inside.sent.items c.send_all.new.sent.items c.send_all.result (ap (λ (w : WorldOver g.row.K.Denot). w.packets) c.self.view_is)
     (ap (λ (w : WorldOver g.row.K.Denot). record w { packets = c.send_all.new.sent.items }) c.self.view_is) c.send_all.ensures
@@ -24,7 +24,7 @@ returns-in-Ok g c =
 
 pub returns-in-Err : goal.returns-in-Err
 returns-in-Err g c =
-    tells_nothing g.K.Keeper.is_honest g.K.Keeper.may_hold c.args.self.now c.args.number c.in-Some.node.now
+    tells_nothing g.K.Keeper.custody c.args.self.now c.args.number c.in-Some.node.now
     (sym (held c.self.inside.all.entries c.self.inside.all.entries c.self.inside.sent.items c.self.inside.audit.items c.args.self.now c.self.view_is c.args.number) ∙ sym c.in-Some.ensures.value)
     (event.Tell c.args.number) c.args.self.now c.in-Err.fault refl c.in-Err.ensures.err
     (λ stopped w k at is. Step.tell at (TellAt.stopped stopped))

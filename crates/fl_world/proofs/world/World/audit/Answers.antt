@@ -4,4 +4,4 @@ use Rattle.fl_world.proofs.world.World.audit.Goals as goal
 
 pub returns-clause-safe : goal.returns-clause-safe
 returns-clause-safe g c =
-    each_has g.K.Keeper.is_honest g.K.Keeper.may_hold _ IsSafeWorld HasSafeAudit (λ w safe. safe.audit) c.law_safe.ensures
+    each_has g.K.Keeper.custody _ IsSafeWorld HasSafeAudit (λ w safe. safe.audit) c.law_safe.ensures

@@ -8,9 +8,9 @@ use Rattle.fl_world.proofs.world.World.cancel.Goals as goal
 
 pub invariant_of-self : goal.invariant_of-self
 invariant_of-self g c =
-    each_reached g.K.Keeper.is_honest g.K.Keeper.may_hold _ _ (Happens (event.Cancel c.args.number)) _ c.cancel.ensures c.self.invariant
+    each_reached g.K.Keeper.custody _ _ (Happens (event.Cancel c.args.number)) _ c.cancel.ensures c.self.invariant
 
 pub returns : goal.returns
 returns g c =
-    subst (λ old. Goes g.K.Keeper.is_honest g.K.Keeper.may_hold old c.cancel.new.self (λ w w'. Step w (event.Cancel c.args.number) c.cancel.result w'))
+    subst (λ old. Goes g.K.Keeper.custody old c.cancel.new.self (λ w w'. Step w (event.Cancel c.args.number) c.cancel.result w'))
     c.self.view_is c.cancel.ensures

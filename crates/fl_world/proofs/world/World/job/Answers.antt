@@ -10,12 +10,12 @@ use Rattle.fl_world.proofs.world.World.job.Goals as goal
 pub invariant_of-self : goal.invariant_of-self
 invariant_of-self g c =
     let look = whole_look c.self.inside.nodes c.args.number in
-    each_reached g.K.Keeper.is_honest g.K.Keeper.may_hold _ _ (Happens (event.Job c.args.number c.args.desk look.0 c.args.job)) _
+    each_reached g.K.Keeper.custody _ _ (Happens (event.Job c.args.number c.args.desk look.0 c.args.job)) _
     (c.job.ensures look.0 look.1) c.self.invariant
 
 pub returns : goal.returns
 returns g c upto whole =
-    subst (λ old. Goes g.K.Keeper.is_honest g.K.Keeper.may_hold old c.job.new.self
+    subst (λ old. Goes g.K.Keeper.custody old c.job.new.self
     (λ w w'. Step w (event.Job c.args.number c.args.desk upto c.args.job) c.job.result w'))
     c.self.view_is
     (c.job.ensures upto (subst (λ o. IsWhole o c.args.number upto) (sym c.self.view_is) whole))

@@ -6,5 +6,5 @@ use Rattle.fl_world.proofs.world.World.law_lasting.Goals as goal
 
 pub returns : goal.returns
 returns g c =
-    subst (λ o. InEach g.K.Keeper.is_honest g.K.Keeper.may_hold o IsLastingWorld) c.self.view_is
-    (each_has g.K.Keeper.is_honest g.K.Keeper.may_hold _ _ _ c.law_lasting.ensures c.self.invariant)
+    subst (λ o. InEach g.K.Keeper.custody o IsLastingWorld) c.self.view_is
+    (each_has g.K.Keeper.custody _ _ _ c.law_lasting.ensures c.self.invariant)

@@ -6,5 +6,5 @@ use Rattle.fl_world.proofs.world.World.law_safe.Goals as goal
 
 pub returns : goal.returns
 returns g c =
-    subst (λ o. InEach g.K.Keeper.is_honest g.K.Keeper.may_hold o IsSafeWorld) c.self.view_is
-    (each_has g.K.Keeper.is_honest g.K.Keeper.may_hold _ _ _ c.law_headline.ensures c.self.invariant)
+    subst (λ o. InEach g.K.Keeper.custody o IsSafeWorld) c.self.view_is
+    (each_has g.K.Keeper.custody _ _ _ c.law_headline.ensures c.self.invariant)

@@ -8,9 +8,9 @@ use Rattle.fl_world.proofs.world.World.publish.Goals as goal
 
 pub invariant_of-self : goal.invariant_of-self
 invariant_of-self g c =
-    each_reached g.K.Keeper.is_honest g.K.Keeper.may_hold _ _ (Happens (event.Publish c.args.number)) _ c.publish.ensures c.self.invariant
+    each_reached g.K.Keeper.custody _ _ (Happens (event.Publish c.args.number)) _ c.publish.ensures c.self.invariant
 
 pub returns : goal.returns
 returns g c =
-    subst (λ old. Goes g.K.Keeper.is_honest g.K.Keeper.may_hold old c.publish.new.self (λ w w'. Step w (event.Publish c.args.number) c.publish.result w'))
+    subst (λ old. Goes g.K.Keeper.custody old c.publish.new.self (λ w w'. Step w (event.Publish c.args.number) c.publish.result w'))
     c.self.view_is c.publish.ensures

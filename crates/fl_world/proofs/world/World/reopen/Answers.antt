@@ -6,7 +6,7 @@ reopen_with-requires-clause-trusted g c = rw c.self.view_is c.requires.trusted
 
 pub invariant_of-self : goal.invariant_of-self
 invariant_of-self g c =
-    returned_or_not g.K.Keeper.is_honest g.K.Keeper.may_hold _ _ c.args.number _ _ c.reopen_with.ensures.absent c.reopen_with.ensures.running
+    returned_or_not g.K.Keeper.custody _ _ c.args.number _ _ c.reopen_with.ensures.absent c.reopen_with.ensures.running
     c.reopen_with.ensures.stopped c.self.invariant
 
 pub returns-clause-absent : goal.returns-clause-absent

@@ -8,11 +8,11 @@ use Rattle.fl_world.proofs.world.World.restart.Goals as goal
 
 pub invariant_of-self : goal.invariant_of-self
 invariant_of-self g c =
-    each_reached g.K.Keeper.is_honest g.K.Keeper.may_hold _ _ (Happens (event.Restart c.args.number c.args.keeps)) _ c.restart.ensures.goes c.self.invariant
+    each_reached g.K.Keeper.custody _ _ (Happens (event.Restart c.args.number c.args.keeps)) _ c.restart.ensures.goes c.self.invariant
 
 pub returns-clause-goes : goal.returns-clause-goes
 returns-clause-goes g c =
-    subst (λ old. Goes g.K.Keeper.is_honest g.K.Keeper.may_hold old c.restart.new.self (λ w w'. Step w (event.Restart c.args.number c.args.keeps) c.restart.result w'))
+    subst (λ old. Goes g.K.Keeper.custody old c.restart.new.self (λ w w'. Step w (event.Restart c.args.number c.args.keeps) c.restart.result w'))
     c.self.view_is c.restart.ensures.goes
 
 pub returns-clause-cause : goal.returns-clause-cause

@@ -5,5 +5,5 @@ use Rattle.fl_world.proofs.world.World.run.Given as goal
 
 abbrev pub invariant-loop-event : goal.invariant-loop-event
 invariant-loop-event g l =
-    RunsTo g.K.Keeper.is_honest g.K.Keeper.may_hold l.fn.self l.self l.yielded l.replies.items (vec_len l.replies)
+    RunsTo g.K.Keeper.custody l.fn.self l.self l.yielded l.replies.items (vec_len l.replies)
     (vec_capacity l.replies) (length l.event-iterator.rest.items)

@@ -8,9 +8,9 @@ use Rattle.fl_world.proofs.world.World.save.Goals as goal
 
 pub invariant_of-self : goal.invariant_of-self
 invariant_of-self g c =
-    each_reached g.K.Keeper.is_honest g.K.Keeper.may_hold _ _ (Happens (event.Save c.args.number)) _ c.save.ensures.goes c.self.invariant
+    each_reached g.K.Keeper.custody _ _ (Happens (event.Save c.args.number)) _ c.save.ensures.goes c.self.invariant
 
 pub returns-clause-goes : goal.returns-clause-goes
 returns-clause-goes g c =
-    subst (λ old. Goes g.K.Keeper.is_honest g.K.Keeper.may_hold old c.save.new.self (λ w w'. Step w (event.Save c.args.number) c.save.result w'))
+    subst (λ old. Goes g.K.Keeper.custody old c.save.new.self (λ w w'. Step w (event.Save c.args.number) c.save.result w'))
     c.self.view_is c.save.ensures.goes
