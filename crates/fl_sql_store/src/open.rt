@@ -197,6 +197,7 @@ pub fn check<S: Alter>(
     number: NodeNumber,
 ) -> Result<(), KeeperFault>
     ensures idle { OnOk result (conn.new.in_transaction ≡ false) }
+    ensures same { conn.old.in_transaction ≡ false → conn.new.in_transaction ≡ false }
     ensures ready { HasCleanDisk (state S.Store conn.new)
         → OnOk result (IsReady number (state S.Store conn.new)) }
     ensures opens { HasCleanDisk (state S.Store conn.new)

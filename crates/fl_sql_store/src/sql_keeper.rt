@@ -1,5 +1,5 @@
 //! A keeper over a database.
-ghost use Rattle.std.specs.Prelude.{◌≡◌, ◌<◌, true, false, not, IfOk, IfErr};
+ghost use Rattle.std.specs.Prelude.{◌≡◌, ◌<◌, true, false, not, IfOk, IfErr, OnOk, OnErr};
 ghost use Rattle.sqlite.specs.Held.{state};
 ghost use Rattle.sqlite.specs.State.{HasCleanDisk};
 ghost use Rattle.std.proofs.Common.{ap, ◌∙◌};
@@ -114,6 +114,55 @@ impl<S: Alter> SqlKeeper<S> {
 }
 
 impl<S: Alter> SqlKeeper<S> {
+    ghost use Rattle.fl_store.specs.Keeping.{Stays};
+    ghost use Rattle.fl_sql_store.specs.SqlKeeping.{held_in};
+
+    /// Opens a keeper of this node over a database, as `open` does. Where that is refused, the keeper
+    /// is broken, over the database as it was left.
+    pub fn open_or_broken(
+        alloc: Global,
+        conn: Connection<S>,
+        number: NodeNumber,
+    ) -> (SqlKeeper<S>, Result<(), KeeperFault>)
+        requires { conn.in_transaction ≡ false }
+        ensures number { result.0.number ≡ number }
+        ensures sound { OnOk result.1 (result.0.is_broken ≡ false) }
+        ensures broken { OnErr result.1 (result.0.is_broken ≡ true) }
+        ensures opens { HasCleanDisk (state S.Store result.0.conn)
+            → OnOk result.1 (OpensAs number (state S.Store conn) (state S.Store result.0.conn)) }
+        ensures refuses { HasCleanDisk (state S.Store result.0.conn)
+            → IfErr result.1 (RefusesToOpen number (state S.Store conn) (state S.Store result.0.conn)) }
+        ensures held { HasCleanDisk (state S.Store result.0.conn)
+            → Stays (held_in number (state S.Store conn)) (held_in number (state S.Store result.0.conn)) }
+    {
+        let mut conn = conn;
+        match check(alloc, &mut conn, number) {
+            Ok(()) => (SqlKeeper::over(alloc, conn, number), Ok(())),
+            Err(fault) => (SqlKeeper::broken(alloc, conn, number), Err(fault)),
+        }
+    }
+
+    // A broken keeper over a database.
+    fn broken(alloc: Global, conn: Connection<S>, number: NodeNumber) -> SqlKeeper<S>
+        requires { conn.in_transaction ≡ false }
+        ensures { result ≡ record { conn = conn; number = number; failures = 1; is_broken = true } }
+    {
+        SqlKeeper {
+            alloc,
+            conn,
+            number,
+            failures: 1,
+            is_broken: true,
+        }
+    }
+
+    /// Whether it is broken.
+    pub fn is_broken(&self) -> bool
+        ensures { result ≡ self.now.is_broken }
+    {
+        self.is_broken
+    }
+
     /// The connection, as the last call left it. No transaction is under way.
     pub fn into_connection(self) -> Connection<S>
         ensures same { result ≡ self.conn }
