@@ -14,6 +14,7 @@ use Rattle.sqlite.specs.Held.{Held, AreDatabases}
 use Rattle.sqlite.specs.State.{HasCleanDisk}
 use Rattle.sqlite.specs.Files.{file_state, over_files, IsOpened, Finds, IsCleanLeft}
 use Rattle.sqlite.specs.Files.{FailsToOpenFiles}
+use Rattle.fl_store.specs.Custody.{Custody}
 use Rattle.fl_store.specs.Kept.{Kept}
 use Rattle.fl_store.specs.Call.{Call}
 use Rattle.fl_store.specs.declared.keeper.KeeperFault.{KeeperFault}
@@ -67,6 +68,20 @@ module _ {D : Type 0} {g : Ghosts D} where
   FileWants call (Open old) (Open new) = SqlWants over_files call old new
   FileWants call (Open old) (Lost number) = ⊥
   FileWants call (Lost number) new = ⊥
+
+  -- whose it is, what it may hold, and when it fails
+  abbrev pub file_custody : Custody (FileKeeper D g)
+  file_custody = record {
+    number = number_of;
+    may_hold = MayHold;
+    is_honest = IsHonest;
+    failed = failed_of;
+    is_broken = is_broken_of;
+    has_bad_row = HasBad;
+    breaks = FileBreaks;
+    wants = FileWants;
+    becomes = λ call old new. Unit {0};
+  }
 
   pub file_holds : ((file : D) → g.may_leave file (g.seen file)) → (keeper : FileKeeper D g)
       → IsHonest keeper → ∥ ((k : Kept) × MayHold keeper k) ∥₁

@@ -4,9 +4,8 @@ ghost use Rattle.sqlite.specs.State.{HasCleanDisk};
 ghost use Rattle.sqlite.specs.Files.{file_state};
 ghost use Rattle.fl_store.specs.Keeping.{Stays};
 ghost use Rattle.fl_sql_store.specs.SqlKeeping.{held_in};
-ghost use Rattle.fl_sql_store.specs.FileKeeping.{number_of, failed_of, is_broken_of, IsHonest};
-ghost use Rattle.fl_sql_store.specs.FileKeeping.{MayHold, HasBad, FileBreaks, FileWants};
-ghost use Rattle.fl_sql_store.specs.FileKeeping.{file_holds, file_numbered};
+ghost use Rattle.fl_sql_store.specs.FileKeeping.{number_of, is_broken_of, IsHonest, MayHold};
+ghost use Rattle.fl_sql_store.specs.FileKeeping.{file_custody, file_holds, file_numbered};
 ghost use Rattle.fl_sql_store.specs.FileKeeping.{Reopens, Mends};
 
 use crate::again::opened_again;
@@ -115,21 +114,7 @@ impl<D: Disk + Drop> FileKeeper<D> {
 }
 
 impl<D: Disk> Keeper for FileKeeper<D> {
-    ghost number = { number_of };
-
-    ghost may_hold = { MayHold };
-
-    ghost failed = { failed_of };
-
-    ghost is_broken = { is_broken_of };
-
-    ghost is_honest = { IsHonest };
-
-    ghost breaks = { FileBreaks };
-
-    ghost wants = { FileWants };
-
-    ghost has_bad_row = { HasBad };
+    ghost custody = { file_custody };
 
     ghost holds = { file_holds D.Disk.seen_may_stay };
 
