@@ -177,7 +177,7 @@ found m {doubt} own op h = elim own.saved [
 again_follow : (n m : NodeState) → m.boot ≡ n.boot → m.published ≡ n.published → m.views ≡ n.views
     → Within (Contains n.published) (In m.saved) → {doubt : Option Batch} {k : Kept} {result : Result ℕ Fault}
     {n' : NodeState} {k' : Kept} → OpensAgain m doubt k result n' k' → Follows n n'
-again_follow n m boot list views published {doubt} {k} (OpensAgain.opens (Opens.opens own)) =
+again_follow n m boot list views published {doubt} {k} (OpensAgain.opens (Opens.opens own left)) =
     let higher = own.boot in
     later_boot (omega (arith, higher, boot)) there (λ desk v e op h.
     let made = made_at (length m.views) (λ _. length (opened (length m.views) k).published) desk v e in

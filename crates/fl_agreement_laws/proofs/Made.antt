@@ -251,9 +251,9 @@ module _ {B : Op → Type 0} {w : World} (n k : ℕ) where
   joins_turns : {kept : Kept} {reply : Reply} {w' : World} → Joins w k kept reply w' → TurnsAt w w' n [] B
   joins_turns (Joins.there at) = unmoved n refl
   joins_turns (Joins.not_opened free h) = unmoved n refl
-  joins_turns (Joins.clash free is least) = unmoved n refl
-  joins_turns (Joins.impostor free is none least) = unmoved n refl
-  joins_turns (Joins.joins free is names no_clash no_stray) = comes _ free
+  joins_turns (Joins.clash free is left least) = unmoved n refl
+  joins_turns (Joins.impostor free is left none least) = unmoved n refl
+  joins_turns (Joins.joins free is left names no_clash no_stray) = comes _ free
 
   reopening_turns : {kept : Kept} {reply : Reply} {w' : World} → Reopening w k kept reply w' → TurnsAt w w' n [] B
   reopening_turns (Reopening.no_node e) = unmoved n refl

@@ -123,7 +123,7 @@ module _ {B : Op → Type 0} where
   pub again_turn : (n m : NodeState) → m.boot ≡ n.boot → m.published ≡ n.published → {doubt : Option Batch}
       → Within (Contains (ops_in doubt)) (IsOnItsWay n.state) → {k : Kept} {result : Result ℕ Fault} {n' : NodeState}
       {k' : Kept} → OpensAgain m doubt k result n' k' → Turns n n' [] B
-  again_turn n m boot list doubts {k} (OpensAgain.opens (Opens.opens own)) =
+  again_turn n m boot list doubts {k} (OpensAgain.opens (Opens.opens own left)) =
       let higher = own.boot in
       nothing_left n _ [] (reopened (omega (arith, higher, boot))) refl
   again_turn n m boot list doubts (OpensAgain.stays why) =

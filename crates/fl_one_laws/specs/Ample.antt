@@ -1,36 +1,45 @@
 -- When an event of a world has one outcome.
-use Rattle.std.specs.Prelude.{◌≢◌, ◌⊎◌, ◌<◌, ◌≤◌, ℕ, List, ◌∷◌}
+use Rattle.std.specs.Prelude.{◌≡◌, ◌≢◌, ◌⊎◌, ◌<◌, ◌≤◌, ℕ, List, [], ◌∷◌}
 use Rattle.std.specs.declared.option.Option.TheVariants.{None}
-use Rattle.fl_jobs.specs.declared.answer.Refusal.TheVariants.{Memory, NamesSpent}
+use Rattle.fl_jobs.specs.declared.answer.Refusal.TheVariants.{Memory}
+use Rattle.fl_store.specs.Kept.{Kept, raised}
 use Rattle.fl_system.specs.declared.answer.Fault.TheVariants as faults
 use Rattle.fl_system.specs.declared.event.Event.{Event}
 use Rattle.fl_system.specs.declared.event.Event.TheVariants.{Job, Restart}
 use Rattle.fl_system.specs.declared.reply.Reply.{Reply}
 use Rattle.fl_system.specs.declared.reply.Reply.TheVariants.{Refused}
 use Rattle.fl_system.specs.Numbered.{item_at}
+use Rattle.fl_system.specs.State.{NodeState}
 use Rattle.fl_system.specs.Waiting.{IsRunning}
-use Rattle.fl_system.specs.World.{World, KeptNode}
+use Rattle.fl_system.specs.World.{World, KeptNode, went}
 use Rattle.fl_system.specs.WorldSteps.{IsAt}
 
--- nothing was refused for want of memory, no keeper failed, and none was another node's
+-- nothing was refused for want of memory, and no keeper failed
 pub record IsAmple (reply : Reply) : Type 0 where
   pub memory : reply ≢ Refused (faults.Refused Memory)
   pub keeper : reply ≢ Refused faults.KeeperFailed
-  pub own : reply ≢ Refused faults.WrongNode
 
--- no boot was wanting
-abbrev pub HasBoot : Reply → Type 0
-HasBoot reply = reply ≢ Refused (faults.Refused NamesSpent)
+-- no restart was refused as another node's: that may have raised the boot, or not
+abbrev pub IsSettled : Event → Reply → Type 0
+IsSettled (Restart number keeps) reply = reply ≢ Refused faults.WrongNode
+IsSettled other reply = Unit {0}
 
--- nor at this event
-abbrev pub HasBootAt : Event → Reply → Type 0
-HasBootAt (Restart number keeps) reply = HasBoot reply
-HasBootAt other reply = Unit {0}
+-- nor any of these
+abbrev pub AreSettled : List Event → List Reply → Type 0
+AreSettled (event ∷ events) (reply ∷ replies) = IsSettled event reply × AreSettled events replies
+AreSettled events replies = Unit {0}
 
--- nor at any of these
-abbrev pub HaveBoots : List Event → List Reply → Type 0
-HaveBoots (event ∷ events) (reply ∷ replies) = HasBootAt event reply × HaveBoots events replies
-HaveBoots events replies = Unit {0}
+-- what a refused opening leaves: what was kept, or that with its boot raised
+abbrev pub IsLeft : Kept → Kept → Type 0
+IsLeft kept left = (left ≡ kept) ⊎ (left ≡ raised kept)
+
+-- two worlds that the world w may be after an opening of a node was refused: they differ at most in
+-- whether that raised the boot
+pub record AreSameButBoot (w : World) (number : ℕ) (a b : World) : Type 0 where
+  pub node : NodeState
+  pub kept : Kept
+  pub one : (left : Kept) × IsLeft kept left × (a ≡ went w number node left [] [])
+  pub other : (left : Kept) × IsLeft kept left × (b ≡ went w number node left [] [])
 
 -- a job is for a desk that is there, or for a node that runs
 abbrev pub HasDesk : World → Event → Type 0

@@ -3,6 +3,7 @@ pub mod Tellings
 pub mod Benches
 pub mod Calls
 pub mod Deliveries
+pub mod Restarts
 pub mod Steps
 pub mod Joinings
 pub mod Desks

@@ -183,9 +183,9 @@ module _ (a b : ℕ) (U : Op → Type 0) (w : World) where
     joins_keeps : (number : ℕ) {k : Kept} {reply : Reply} {w' : World} → Joins w number k reply w' → Keeps a b U w w'
     joins_keeps number (Joins.there at) = unmoved refl
     joins_keeps number (Joins.not_opened free h) = unmoved refl
-    joins_keeps number (Joins.clash free is least) = unmoved refl
-    joins_keeps number (Joins.impostor free is none least) = unmoved refl
-    joins_keeps number {k} (Joins.joins free is names no_clash no_stray) =
+    joins_keeps number (Joins.clash free is left least) = unmoved refl
+    joins_keeps number (Joins.impostor free is left none least) = unmoved refl
+    joins_keeps number {k} (Joins.joins free is left names no_clash no_stray) =
         added number (record { node = opened w.desks k; kept = raised k }) free refl
 
     reopening_keeps : (number : ℕ) {k : Kept} {reply : Reply} {w' : World} → Reopening w number k reply w'

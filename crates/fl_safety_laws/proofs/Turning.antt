@@ -350,7 +350,7 @@ module _ (U : Op → Type 0) where
   pub again_turn : (n m : NodeState) → m.number ≡ n.number → m.boot ≡ n.boot → m.benches ≡ n.benches
       → (doubt : Option Batch) (k : Kept) {result : Result ℕ Fault} {n' : NodeState} {k' : Kept}
       → OpensAgain m doubt k result n' k' → Turns U n n'
-  again_turn n m number boot benches doubt k (OpensAgain.opens (Opens.opens own)) =
+  again_turn n m number boot benches doubt k (OpensAgain.opens (Opens.opens own left)) =
       opens (omega (arith, own.boot, boot)) (own.number ∙ number) (opened_orderly (length m.views) k)
       (opened_empty (length m.views) k)
   again_turn n m number boot benches doubt k (OpensAgain.stays why) = rests U n _ number boot benches

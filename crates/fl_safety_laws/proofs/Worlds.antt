@@ -530,9 +530,9 @@ pub joins_guarded : (w : World) → Guarded w → (number : ℕ) (k : Kept) {rep
     → Joins w number k reply w' → Next w w'
 joins_guarded w g number k (Joins.there at) = same_next w g
 joins_guarded w g number k (Joins.not_opened free why) = same_next w g
-joins_guarded w g number k (Joins.clash free own least) = same_next w g
-joins_guarded w g number k (Joins.impostor free own none least) = same_next w g
-joins_guarded w g number k (Joins.joins free own once clashes strays) =
+joins_guarded w g number k (Joins.clash free own left least) = same_next w g
+joins_guarded w g number k (Joins.impostor free own left none least) = same_next w g
+joins_guarded w g number k (Joins.joins free own left once clashes strays) =
     record {
       guarded = joined_guarded w number k free own g;
       union = union_joined w number k free;

@@ -1,5 +1,5 @@
 -- How a node joins a world, and how a stopped one is opened over another keeper.
-use Rattle.std.specs.Prelude.{◌≡◌, ◌≢◌, ◌+◌, ℕ, []}
+use Rattle.std.specs.Prelude.{◌≡◌, ◌≢◌, ◌<◌, ◌+◌, ℕ, []}
 use Rattle.std.specs.FinMap as map
 use Rattle.std.specs.declared.cmp.Ordering.TheVariants.{Less}
 use Rattle.std.specs.declared.option.Option.{Option}
@@ -61,14 +61,14 @@ pub data Joins (w : World) (number : ℕ) (k : Kept) : Reply → World → Type 
   not_opened : {fault : Fault} {left : Kept} → map.get w.nodes number ≡ None
       → Opens w.desks (IsOf number) k (Err fault) left → Joins w number k (Refused fault) w
   -- or else something else is saved under one of its names
-  clash : {name : Name} → map.get w.nodes number ≡ None → IsOf number k
+  clash : {name : Name} → map.get w.nodes number ≡ None → IsOf number k → k.boot < 4294967295
       → IsLeastName (IsClashAt w k.saved) name → Joins w number k (Refused (faults.Clash name)) w
   -- or else a node would not have saved what was made under its number
-  impostor : {name : Name} → map.get w.nodes number ≡ None → IsOf number k
+  impostor : {name : Name} → map.get w.nodes number ≡ None → IsOf number k → k.boot < 4294967295
       → ((other : Name) → ¬ IsClashAt w k.saved other)
       → IsLeastName (IsStray (joined w number k)) name
       → Joins w number k (Refused (faults.Impostor name)) w
-  joins : map.get w.nodes number ≡ None → IsOf number k → HasNamesOnce k.saved
+  joins : map.get w.nodes number ≡ None → IsOf number k → k.boot < 4294967295 → HasNamesOnce k.saved
       → ((name : Name) → ¬ IsClashAt w k.saved name)
       → ((name : Name) → ¬ IsStray (joined w number k) name)
       → Joins w number k (Booted (k.boot + 1)) (joined w number k)

@@ -1,5 +1,5 @@
 -- How a node is opened, and opened again.
-use Rattle.std.specs.Prelude.{◌≡◌, ◌⊎◌, ◌≤◌, ◌+◌, ℕ, Bool, true, false, List, length}
+use Rattle.std.specs.Prelude.{◌≡◌, ◌⊎◌, ◌<◌, ◌≤◌, ◌+◌, ℕ, Bool, true, false, List, length}
 use Rattle.std.specs.declared.option.Option.{Option}
 use Rattle.std.specs.declared.option.Option.TheVariants.{None}
 use Rattle.std.specs.declared.result.Result.{Result}
@@ -45,14 +45,15 @@ pub data FailsToOpen (own : Kept → Type 0) (k : Kept) : Fault → Type 0 where
   no_room : FailsToOpen own k (Refused Memory)
   -- the keeper broke, or one of its rows is bad
   keeper_failed : FailsToOpen own k KeeperFailed
-  -- no boot is left
-  spent : k.boot ≡ 4294967295 → FailsToOpen own k (Refused NamesSpent)
   -- it is not the node's
   other : ¬ own k → FailsToOpen own k WrongNode
 
--- What is kept is opened, with its boot raised, or not, and its boot may be raised then.
+-- What is kept is opened where it is the node's own and a boot is left, with its boot raised.
 pub data Opens (desks : ℕ) (own : Kept → Type 0) (k : Kept) : Result NodeState Fault → Kept → Type 0 where
-  opens : own k → Opens desks own k (Ok (opened desks k)) (raised k)
+  opens : own k → k.boot < 4294967295 → Opens desks own k (Ok (opened desks k)) (raised k)
+  -- no boot is left
+  spent : own k → k.boot ≡ 4294967295 → Opens desks own k (Err (Refused NamesSpent)) k
+  -- its boot may be raised all the same
   refused : {fault : Fault} {left : Kept} → FailsToOpen own k fault → (left ≡ k) ⊎ (left ≡ raised k)
       → Opens desks own k (Err fault) left
 

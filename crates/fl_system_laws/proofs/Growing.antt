@@ -63,7 +63,7 @@ module _ (op : Op) where
 
   again_grows : (n : NodeState) (doubt : Option Batch) (k : Kept) {result : Result ℕ Fault} {n' : NodeState} {k' : Kept}
       → OpensAgain n doubt k result n' k' → In n.saved op → In n'.saved op
-  again_grows n doubt k (OpensAgain.opens (Opens.opens own)) has = elim own.saved [
+  again_grows n doubt k (OpensAgain.opens (Opens.opens own left)) has = elim own.saved [
     | inl e ↦ subst (λ s. In s op) (sym e) has
     | inr e ↦ subst (λ s. In s op) (sym e) (in_more _ _ op has)
   ]

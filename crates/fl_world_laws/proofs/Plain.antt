@@ -102,11 +102,11 @@ cancels_plain {n} (Cancels.none why) = none_unsaved n.state _ why
 fails_plain : {own : Kept → Type 0} {k : Kept} {f : Fault} → FailsToOpen own k f → ¬ IsNameFault f
 fails_plain FailsToOpen.no_room = λ h. h
 fails_plain FailsToOpen.keeper_failed = λ h. h
-fails_plain (FailsToOpen.spent e) = λ h. h
 fails_plain (FailsToOpen.other e) = λ h. h
 
 opens_plain : {desks : ℕ} {own : Kept → Type 0} {k : Kept} {f : Fault} {k' : Kept} → Opens desks own k (Err f) k'
     → ¬ IsNameFault f
+opens_plain (Opens.spent own all) = λ h. h
 opens_plain (Opens.refused why left) = fails_plain why
 
 again_plain : {n : NodeState} {doubt : Option Batch} {k : Kept} {f : Fault} {n' : NodeState} {k' : Kept}

@@ -225,9 +225,9 @@ module _ (w : World) (named : IsNamed w) (tidy : AllTidy w) where
       → Outgo w move reply after
   joins_outgo (Joins.there at) = nothing refl
   joins_outgo (Joins.not_opened free h) = nothing refl
-  joins_outgo (Joins.clash free is least) = nothing refl
-  joins_outgo (Joins.impostor free is none least) = nothing refl
-  joins_outgo (Joins.joins free is names no_clash no_stray) = no_more refl
+  joins_outgo (Joins.clash free is left least) = nothing refl
+  joins_outgo (Joins.impostor free is left none least) = nothing refl
+  joins_outgo (Joins.joins free is left names no_clash no_stray) = no_more refl
 
   reopening_outgo : {number : ℕ} {k : Kept} {move : Move} {reply : Reply} {after : World}
       → Reopening w number k reply after → Outgo w move reply after

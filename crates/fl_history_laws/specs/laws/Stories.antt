@@ -450,7 +450,7 @@ module _ (w : World) (tidy : AllTidy w) (pid : Pid) where
     -- it is opened again, and nobody stands there
     pub again_none : {m : NodeState} {doubt : Option Batch} {k : Kept} {boot : ℕ} {n : NodeState} {k' : Kept}
         → OpensAgain m doubt k (Ok boot) n k' → process_of n pid ≡ None
-    again_none {m} {k = k} (OpensAgain.opens (Opens.opens own)) = opened_none (length m.views) k pid
+    again_none {m} {k = k} (OpensAgain.opens (Opens.opens own left)) = opened_none (length m.views) k pid
 
     again_benches : {m : NodeState} {doubt : Option Batch} {k : Kept} {fault : Fault} {n : NodeState} {k' : Kept}
         → OpensAgain m doubt k (Err fault) n k' → n.benches ≡ m.benches
@@ -519,9 +519,9 @@ module _ (w : World) (tidy : AllTidy w) (pid : Pid) where
       → Story w (Comes number k) reply pid (living w pid) (living after pid)
   joins_story number (Joins.there at) = rests refl
   joins_story number (Joins.not_opened free h) = rests refl
-  joins_story number (Joins.clash free is least) = rests refl
-  joins_story number (Joins.impostor free is none least) = rests refl
-  joins_story number (Joins.joins free is names no_clash no_stray) = joined_story number free
+  joins_story number (Joins.clash free is left least) = rests refl
+  joins_story number (Joins.impostor free is left none least) = rests refl
+  joins_story number (Joins.joins free is left names no_clash no_stray) = joined_story number free
 
   reopening_story : (number : ℕ) {k : Kept} {reply : Reply} {after : World} → Reopening w number k reply after
       → Story w (Returns number k) reply pid (living w pid) (living after pid)

@@ -209,7 +209,7 @@ opened_tidy desks k = record { each = λ j b e. at_place j b e }
 
 again_turn : {n : NodeState} {doubt : Option Batch} {k : Kept} {result : Result ℕ Fault} {n' : NodeState} {k' : Kept}
     → OpensAgain n doubt k result n' k' → SeatsTurn (seats n) (seats n')
-again_turn {n} {k = k} (OpensAgain.opens (Opens.opens own)) =
+again_turn {n} {k = k} (OpensAgain.opens (Opens.opens own left)) =
     opens own.number (omega (arith, own.boot)) (opened_tidy (length n.views) k)
 again_turn {n} (OpensAgain.stays h) = rests (seats n)
 

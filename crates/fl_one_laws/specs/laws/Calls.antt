@@ -1,5 +1,5 @@
 -- What is pending at a node is saved, published or given up, and a node is restarted, in one way.
-use Rattle.std.proofs.Common.{◌≡◌, ◌≢◌, ◌⊎◌, ◌+◌, ◌∙◌, inl, inr, ℕ, Bool, true, false, refl, sym, ap, subst, length, Option, Result, Ok, Err}
+use Rattle.std.proofs.Common.{◌≡◌, ◌≢◌, ◌⊎◌, ◌<◌, ◌+◌, ◌∙◌, inl, inr, ℕ, Bool, true, false, refl, sym, ap, subst, arith, length, Option, None, Result, Ok, Err}
 use Rattle.fl_jobs.specs.declared.answer.Refusal.TheVariants.{Memory, NamesSpent}
 use Rattle.fl_store.specs.Kept.{Kept, with_batch, raised}
 use Rattle.fl_system.specs.declared.answer.Fault.{Fault}
@@ -8,11 +8,12 @@ use Rattle.fl_system.specs.declared.state.Batch.{Batch}
 use Rattle.fl_system.specs.declared.state.Pending.TheVariants.{Nothing, Unsaved, Due}
 use Rattle.fl_system.specs.declared.state.State.{State}
 use Rattle.fl_system.specs.declared.state.State.TheVariants.{Running, Stopped}
-use Rattle.fl_system.specs.State.{NodeState, ops_of}
+use Rattle.fl_system.specs.State.{NodeState, ops_of, kept_of}
 use Rattle.fl_system.specs.Waiting.{NoneUnsaved, NoneDue}
-use Rattle.fl_system.specs.Saves.{Saves, stored}
+use Rattle.fl_system.specs.Saves.{Saves, stored, halted}
 use Rattle.fl_system.specs.Publishes.{Publishes, Cancels, published_with, cancelled_with, list_with}
-use Rattle.fl_system.specs.Openings.{Opens, OpensAgain, Restarts, FailsToOpen, opened}
+use Rattle.fl_system.specs.Openings.{Opens, OpensOwn, OpensAgain, Restarts, FailsToOpen, IsOwn, opened}
+use Rattle.fl_one_laws.specs.Ample.{IsLeft}
 
 -- ---- why nothing is done
 
@@ -93,65 +94,81 @@ module _ {n : NodeState} where
 
 -- ---- openings
 
--- the result is no refusal for memory, a boot, a keeper that failed or another node
-pub record IsOpening (r : Result ℕ Fault) : Type 0 where
+-- the result is no refusal for memory, and no keeper failed
+pub record IsFed (r : Result ℕ Fault) : Type 0 where
   pub memory : r ≢ Err (Refused Memory)
   pub keeper : r ≢ Err KeeperFailed
-  pub own : r ≢ Err WrongNode
-  pub boot : r ≢ Err (Refused NamesSpent)
 
-no_failure : {own : Kept → Type 0} {k : Kept} {fault : Fault} → FailsToOpen own k fault → IsOpening (Err fault) → ⊥
-no_failure FailsToOpen.no_room o = o.memory refl
-no_failure FailsToOpen.keeper_failed o = o.keeper refl
-no_failure (FailsToOpen.spent last) o = o.boot refl
-no_failure (FailsToOpen.other not_own) o = o.own refl
+-- what comes of an opening of the node again then
+data Opening (n : NodeState) (doubt : Option Batch) (k : Kept) : Result ℕ Fault → NodeState → Kept → Type 0 where
+  opens : IsOwn (kept_of n) doubt k → k.boot < 4294967295
+      → Opening n doubt k (Ok (k.boot + 1)) (opened (length n.views) k) (raised k)
+  spent : IsOwn (kept_of n) doubt k → k.boot ≡ 4294967295
+      → Opening n doubt k (Err (Refused NamesSpent)) (halted n doubt) k
+  foreign : {left : Kept} → ¬ IsOwn (kept_of n) doubt k → IsLeft k left
+      → Opening n doubt k (Err WrongNode) (halted n doubt) left
 
--- the node is opened over what is kept
-abbrev IsOpenedAs : NodeState → Kept → Result ℕ Fault → NodeState → Kept → Type 0
-IsOpenedAs n k r a x = (r ≡ Ok (k.boot + 1)) × (a ≡ opened (length n.views) k) × (x ≡ raised k)
+fails_so : {n : NodeState} {doubt : Option Batch} {k left : Kept} {fault : Fault}
+    → FailsToOpen (IsOwn (kept_of n) doubt) k fault → IsLeft k left → IsFed (Err fault)
+    → Opening n doubt k (Err fault) (halted n doubt) left
+fails_so FailsToOpen.no_room left o = absurd (o.memory refl)
+fails_so FailsToOpen.keeper_failed left o = absurd (o.keeper refl)
+fails_so (FailsToOpen.other not_own) left o = Opening.foreign not_own left
 
-opens_so : {desks : ℕ} {own : Kept → Type 0} {k : Kept} {r : Result NodeState Fault} {x : Kept} (a : NodeState)
-    → Opens desks own k r x → r ≡ Ok a → (a ≡ opened desks k) × (x ≡ raised k)
-opens_so a (Opens.opens own) is = (cc, refl)
-opens_so a (Opens.refused why left) is = absurd (cc)
+stays_so : {n : NodeState} {doubt : Option Batch} {k left : Kept} {fault : Fault}
+    → OpensOwn n doubt k (Err fault) left → IsFed (Err fault) → Opening n doubt k (Err fault) (halted n doubt) left
+stays_so (Opens.spent own all) o = Opening.spent own all
+stays_so (Opens.refused why left) o = fails_so why left o
 
-fails_so : {desks : ℕ} {own : Kept → Type 0} {k : Kept} {r : Result NodeState Fault} {x : Kept} (fault : Fault)
-    → Opens desks own k r x → r ≡ Err fault → IsOpening (Err fault) → ⊥
-fails_so fault (Opens.opens own) is o = absurd (cc)
-fails_so {own = own} {k = k} fault (Opens.refused {fault = other} why left) is o =
-    let same : other ≡ fault = cc in
-    no_failure (subst (FailsToOpen own k) same why) o
+opening_of : {n : NodeState} {doubt : Option Batch} {k : Kept} {r : Result ℕ Fault} {a : NodeState} {x : Kept}
+    → OpensAgain n doubt k r a x → IsFed r → Opening n doubt k r a x
+opening_of (OpensAgain.opens (Opens.opens own left)) o = Opening.opens own left
+opening_of (OpensAgain.stays opening) o = stays_so opening o
 
-opened_so : {n : NodeState} {doubt : Option Batch} {k : Kept} {r : Result ℕ Fault} {a : NodeState} {x : Kept}
-    → OpensAgain n doubt k r a x → IsOpening r → IsOpenedAs n k r a x
-opened_so {a = a} (OpensAgain.opens opening) o =
-    let e = opens_so a opening refl in
-    (ap (λ (m : NodeState). Ok m.boot) e.0, e.0, e.1)
-opened_so (OpensAgain.stays {fault} fails) o = absurd (fails_so fault fails refl o)
+-- Two openings have one result and leave one node. What they leave to the next may differ in its boot, where they are refused as
+-- another node's.
+pub record AreOne (r s : Result ℕ Fault) (a b : NodeState) (x y : Kept) : Type 0 where
+  pub says : r ≡ s
+  pub node : a ≡ b
+  pub settled : r ≢ Err WrongNode → x ≡ y
+  pub kept : (k : Kept) × IsLeft k x × IsLeft k y
+
+module _ {n : NodeState} {doubt : Option Batch} {k : Kept} where
+  same_opening : {r s : Result ℕ Fault} {a b : NodeState} {x y : Kept} → Opening n doubt k r a x
+      → Opening n doubt k s b y → AreOne r s a b x y
+  same_opening (Opening.opens own left) (Opening.opens its more) =
+      record { says = refl; node = refl; settled = λ _. refl; kept = (raised k, inl refl, inl refl) }
+  same_opening (Opening.spent own all) (Opening.spent its last) =
+      record { says = refl; node = refl; settled = λ _. refl; kept = (k, inl refl, inl refl) }
+  same_opening (Opening.foreign not_own left) (Opening.foreign nor rest) =
+      record { says = refl; node = refl; settled = λ settled. absurd (settled refl); kept = (k, left, rest) }
+  same_opening (Opening.opens own left) (Opening.spent its all) = absurd (omega (arith, left, all))
+  same_opening (Opening.spent own all) (Opening.opens its left) = absurd (omega (arith, left, all))
+  same_opening (Opening.opens own left) (Opening.foreign not_own rest) = absurd (not_own own)
+  same_opening (Opening.foreign not_own rest) (Opening.opens own left) = absurd (not_own own)
+  same_opening (Opening.spent own all) (Opening.foreign not_own rest) = absurd (not_own own)
+  same_opening (Opening.foreign not_own rest) (Opening.spent own all) = absurd (not_own own)
+
+pub one_again : {n : NodeState} {doubt : Option Batch} {k : Kept} {r s : Result ℕ Fault} {a b : NodeState}
+    {x y : Kept} → OpensAgain n doubt k r a x → OpensAgain n doubt k s b y → IsFed r → IsFed s → AreOne r s a b x y
+one_again h j o p = same_opening (opening_of h o) (opening_of j p)
 
 -- what is restarted, and over what
 abbrev RestartsAs : NodeState → Kept → State → Bool → Result ℕ Fault → NodeState → Kept → Type 0
-RestartsAs n k (Running Nothing) keeps r a x = IsOpenedAs n k r a x
-RestartsAs n k (Running (Due batch)) keeps r a x = IsOpenedAs n k r a x
-RestartsAs n k (Running (Unsaved batch)) false r a x = IsOpenedAs n k r a x
+RestartsAs n k (Running Nothing) keeps r a x = Opening n None k r a x
+RestartsAs n k (Running (Due batch)) keeps r a x = Opening n None k r a x
+RestartsAs n k (Running (Unsaved batch)) false r a x = Opening n None k r a x
 RestartsAs n k (Running (Unsaved batch)) true r a x =
-    IsOpenedAs (stored n batch) (with_batch k (ops_of batch)) r a x
-RestartsAs n k (Stopped doubt) keeps r a x = IsOpenedAs n k r a x
-
-module _ (n : NodeState) (k : Kept) where
-  same_end : {r s : Result ℕ Fault} {a b : NodeState} {x y : Kept} → IsOpenedAs n k r a x → IsOpenedAs n k s b y
-      → (r ≡ s) × (a ≡ b) × (x ≡ y)
-  same_end h j = (h.0 ∙ sym j.0, h.1 ∙ sym j.1, h.2 ∙ sym j.2)
+    Opening (stored n batch) None (with_batch k (ops_of batch)) r a x
+RestartsAs n k (Stopped doubt) keeps r a x = Opening n doubt k r a x
 
 one_restarting : (n : NodeState) (k : Kept) (state : State) (keeps : Bool) (r s : Result ℕ Fault) (a b : NodeState)
-    (x y : Kept) → RestartsAs n k state keeps r a x → RestartsAs n k state keeps s b y
-    → (r ≡ s) × (a ≡ b) × (x ≡ y)
-one_restarting n k (Running Nothing) keeps r s a b x y h j = same_end n k h j
-one_restarting n k (Running (Due batch)) keeps r s a b x y h j = same_end n k h j
-one_restarting n k (Running (Unsaved batch)) false r s a b x y h j = same_end n k h j
-one_restarting n k (Running (Unsaved batch)) true r s a b x y h j =
-    same_end (stored n batch) (with_batch k (ops_of batch)) h j
-one_restarting n k (Stopped doubt) keeps r s a b x y h j = same_end n k h j
+    (x y : Kept) → RestartsAs n k state keeps r a x → RestartsAs n k state keeps s b y → AreOne r s a b x y
+one_restarting n k (Running Nothing) keeps r s a b x y h j = same_opening h j
+one_restarting n k (Running (Due batch)) keeps r s a b x y h j = same_opening h j
+one_restarting n k (Running (Unsaved batch)) false r s a b x y h j = same_opening h j
+one_restarting n k (Running (Unsaved batch)) true r s a b x y h j = same_opening h j
+one_restarting n k (Stopped doubt) keeps r s a b x y h j = same_opening h j
 
 module _ (n : NodeState) (k : Kept) (r : Result ℕ Fault) (a : NodeState) (x : Kept) where
   -- of what state it is
@@ -165,24 +182,23 @@ module _ (n : NodeState) (k : Kept) (r : Result ℕ Fault) (a : NodeState) (x : 
       of_state keeps state e (subst (λ c. RestartsAs n k state c r a x) (sym f) h)
 
 restarts_as : {n : NodeState} {k : Kept} (keeps : Bool) {r : Result ℕ Fault} {a : NodeState} {x : Kept}
-    → Restarts n k keeps r a x → IsOpening r → RestartsAs n k n.state keeps r a x
+    → Restarts n k keeps r a x → IsFed r → RestartsAs n k n.state keeps r a x
 restarts_as keeps (Restarts.not_saved {fault} on e saves) o = elim (refused_save fault e saves refl) [
   | inl is ↦ absurd (o.memory (ap Err is))
   | inr is ↦ absurd (o.keeper (ap Err is))
 ]
 restarts_as {n} {k} keeps {r} {a} {x} (Restarts.saved {batch} on e again) o =
-    of_keeps n k r a x keeps true (Running (Unsaved batch)) on e (opened_so again o)
+    of_keeps n k r a x keeps true (Running (Unsaved batch)) on e (opening_of again o)
 restarts_as {n} {k} keeps {r} {a} {x} (Restarts.lost {batch} off e again) o =
-    of_keeps n k r a x keeps false (Running (Unsaved batch)) off e (opened_so again o)
+    of_keeps n k r a x keeps false (Running (Unsaved batch)) off e (opening_of again o)
 restarts_as {n} {k} keeps {r} {a} {x} (Restarts.idle e again) o =
-    of_state n k r a x keeps (Running Nothing) e (opened_so again o)
+    of_state n k r a x keeps (Running Nothing) e (opening_of again o)
 restarts_as {n} {k} keeps {r} {a} {x} (Restarts.due {batch} e again) o =
-    of_state n k r a x keeps (Running (Due batch)) e (opened_so again o)
+    of_state n k r a x keeps (Running (Due batch)) e (opening_of again o)
 restarts_as {n} {k} keeps {r} {a} {x} (Restarts.stopped {doubt} e again) o =
-    of_state n k r a x keeps (Stopped doubt) e (opened_so again o)
+    of_state n k r a x keeps (Stopped doubt) e (opening_of again o)
 
 pub one_restart : {n : NodeState} {k : Kept} (keeps : Bool) {r s : Result ℕ Fault} {a b : NodeState} {x y : Kept}
-    → Restarts n k keeps r a x → Restarts n k keeps s b y → IsOpening r → IsOpening s
-    → (r ≡ s) × (a ≡ b) × (x ≡ y)
+    → Restarts n k keeps r a x → Restarts n k keeps s b y → IsFed r → IsFed s → AreOne r s a b x y
 one_restart {n} {k} keeps {r} {s} {a} {b} {x} {y} h j o p =
     one_restarting n k n.state keeps r s a b x y (restarts_as keeps h o) (restarts_as keeps j p)

@@ -106,7 +106,7 @@ opened_desks desks k = length-items desks _
 
 again_keeps : {n : NodeState} {doubt : Option Batch} {k : Kept} {r : Result ℕ Fault} {a : NodeState} {x : Kept}
     → OpensAgain n doubt k r a x → Keeps n a
-again_keeps {n} {k = k} (OpensAgain.opens (Opens.opens own)) = opened_desks (length n.views) k
+again_keeps {n} {k = k} (OpensAgain.opens (Opens.opens own left)) = opened_desks (length n.views) k
 again_keeps (OpensAgain.stays fails) = refl
 
 restarts_keeps : {n : NodeState} {k : Kept} {keeps : Bool} {r : Result ℕ Fault} {a : NodeState} {x : Kept}

@@ -7,7 +7,7 @@ use Rattle.fl_bench.specs.laws.Puts.{none_some, same_found}
 use Rattle.fl_system.specs.declared.answer.Answer.{Answer}
 use Rattle.fl_system.specs.declared.answer.Answer.TheVariants as answers
 use Rattle.fl_system.specs.declared.answer.Fault.{Fault}
-use Rattle.fl_system.specs.declared.answer.Fault.TheVariants.{Refused, KeeperFailed}
+use Rattle.fl_system.specs.declared.answer.Fault.TheVariants.{Refused, KeeperFailed, WrongNode}
 use Rattle.fl_system.specs.declared.event.Event.{Event}
 use Rattle.fl_system.specs.declared.event.Event.TheVariants.{Job, Save, Publish, Cancel, Restart, Tell, Deliver}
 use Rattle.fl_system.specs.declared.reply.Reply.{Reply}
@@ -25,10 +25,11 @@ use Rattle.fl_system.specs.WorldJobs.{JobAt, next_packet, sent_message}
 use Rattle.fl_system.specs.WorldCalls.{SaveAt, PublishAt, CancelAt, RestartAt}
 use Rattle.fl_system.specs.Deliveries.{TellAt, DeliverAt}
 use Rattle.fl_system.specs.WorldSteps.{IsAt, IsArrival, Step, node_of}
-use Rattle.fl_one_laws.specs.Ample.{IsAmple, HasBoot, HasBootAt, HasDesk}
+use Rattle.fl_one_laws.specs.Ample.{IsAmple, IsSettled, AreSameButBoot, HasDesk}
 use Rattle.fl_one_laws.specs.laws.Benches.{one_job, no_view}
-use Rattle.fl_one_laws.specs.laws.Calls.{IsOpening, one_save, one_publish, one_cancel, one_restart}
+use Rattle.fl_one_laws.specs.laws.Calls.{one_save, one_publish, one_cancel}
 use Rattle.fl_one_laws.specs.laws.Deliveries.{one_tell, one_delivery}
+use Rattle.fl_one_laws.specs.laws.Restarts.{one_restart_at, others}
 
 -- ---- a job
 
@@ -103,19 +104,6 @@ ample_keeper fault p e = p.keeper (cc)
 fine : {A : Type 0} {x : A} {fault : Fault} → ◌≢◌ {A = Result A Fault} (Ok x) (Err fault)
 fine e = cc
 
-booting : (boot : ℕ) → IsOpening (Ok boot)
-booting boot = record { memory = fine; keeper = fine; own = fine; boot = fine }
-
-not_booting : (fault : Fault) → IsAmple (replies.Refused fault) → HasBoot (replies.Refused fault)
-    → IsOpening (Err fault)
-not_booting fault p has =
-    record {
-      memory = λ e. p.memory (cc);
-      keeper = λ e. p.keeper (cc);
-      own = λ e. p.own (cc);
-      boot = λ e. has (cc);
-    }
-
 module _ {w : World} {number : ℕ} {s : KeptNode} where
   one_save_at : {r r' : Reply} {a b : World} → SaveAt w number s r a → SaveAt w number s r' b → IsAmple r → IsAmple r'
       → (r ≡ r') × (a ≡ b)
@@ -171,23 +159,6 @@ module _ {w : World} {number : ℕ} {s : KeptNode} where
       let said = one.0 in
       let same : fault ≡ other = cc in
       (ap replies.Refused same, ap (λ n. went w number n s.kept [] []) one.1)
-
-  one_restart_at : (keeps : Bool) {r r' : Reply} {a b : World} → RestartAt w number s keeps r a
-      → RestartAt w number s keeps r' b → IsAmple r → IsAmple r' → HasBoot r → HasBoot r' → (r ≡ r') × (a ≡ b)
-  one_restart_at keeps (RestartAt.booted {boot} h) (RestartAt.booted {boot = other} k) p q has had =
-      let one = one_restart keeps h k (booting boot) (booting other) in
-      let said = one.0 in
-      let same : boot ≡ other = cc in
-      (ap replies.Booted same, λ i. went w number (one.1 i) (one.2 i) [] [])
-  one_restart_at keeps (RestartAt.booted {boot} h) (RestartAt.refused {fault} k) p q has had =
-      let said = (one_restart keeps h k (booting boot) (not_booting fault q had)).0 in absurd (cc)
-  one_restart_at keeps (RestartAt.refused {fault} h) (RestartAt.booted {boot} k) p q has had =
-      let said = (one_restart keeps h k (not_booting fault p has) (booting boot)).0 in absurd (cc)
-  one_restart_at keeps (RestartAt.refused {fault} h) (RestartAt.refused {fault = other} k) p q has had =
-      let one = one_restart keeps h k (not_booting fault p has) (not_booting other q had) in
-      let said = one.0 in
-      let same : fault ≡ other = cc in
-      (ap replies.Refused same, λ i. went w number (one.1 i) (one.2 i) [] [])
 
 -- ---- what is named is there, or not
 
@@ -253,27 +224,41 @@ module _ (w : World) where
   not_missing event s r a has p at h (inl none) = none_some none at
   not_missing event s r a has p at h (inr unfit) = not_unfit event s r a has p at h unfit
 
+  -- one answer and one world
+  one_end : {P : Type 0} {r r' : Reply} {a b : World} → (r ≡ r') × (a ≡ b) → (r ≡ r') × (P → a ≡ b)
+  one_end one = (one.0, λ settled. one.1)
+
   one_answering : (event : Event) (s : KeptNode) (r r' : Reply) (a b : World) → AnswersAt w s event r a
-      → AnswersAt w s event r' b → IsAmple r → IsAmple r' → HasBootAt event r → HasBootAt event r'
-      → (r ≡ r') × (a ≡ b)
-  one_answering (Job number desk upto job) s r r' a b h k p q has had = one_job_at h.1 k.1 p q
-  one_answering (Save number) s r r' a b h k p q has had = one_save_at h k p q
-  one_answering (Publish number) s r r' a b h k p q has had = one_publish_at h k p q
-  one_answering (Cancel number) s r r' a b h k p q has had = one_cancel_at h k
-  one_answering (Restart number keeps) s r r' a b h k p q has had = one_restart_at keeps h k p q has had
-  one_answering (Tell number) s r r' a b h k p q has had = one_tell w number s h k p q
-  one_answering (Deliver packet number) s r r' a b h k p q has had =
+      → AnswersAt w s event r' b → IsAmple r → IsAmple r' → (r ≡ r') × (IsSettled event r → a ≡ b)
+  one_answering (Job number desk upto job) s r r' a b h k p q = one_end (one_job_at h.1 k.1 p q)
+  one_answering (Save number) s r r' a b h k p q = one_end (one_save_at h k p q)
+  one_answering (Publish number) s r r' a b h k p q = one_end (one_publish_at h k p q)
+  one_answering (Cancel number) s r r' a b h k p q = one_end (one_cancel_at h k)
+  one_answering (Restart number keeps) s r r' a b h k p q =
+      let one = one_restart_at keeps h k p q in (one.says, one.settled)
+  one_answering (Tell number) s r r' a b h k p q = one_end (one_tell w number s h k p q)
+  one_answering (Deliver packet number) s r r' a b h k p q =
       let same : k.0 ≡ h.0 = same_found k.1 h.1 in
-      one_delivery w number s h.2 (subst (λ sent. DeliverAt w number s sent r' b) same k.2) p q
+      one_end (one_delivery w number s h.2 (subst (λ sent. DeliverAt w number s sent r' b) same k.2) p q)
 
   pub one_step : (event : Event) (r r' : Reply) (a b : World) → Step w event r a → Step w event r' b → IsAmple r
-      → IsAmple r' → HasBootAt event r → HasBootAt event r' → HasDesk w event → (r ≡ r') × (a ≡ b)
-  one_step event r r' a b h k p q has had desk = both (sees h) (sees k)
+      → IsAmple r' → HasDesk w event → (r ≡ r') × (IsSettled event r → a ≡ b)
+  one_step event r r' a b h k p q desk = both (sees h) (sees k)
     where
-      both : Sees w event r a → Sees w event r' b → (r ≡ r') × (a ≡ b)
-      both (misses none says leaves) (misses none' says' leaves') = (says ∙ sym says', leaves ∙ sym leaves')
+      both : Sees w event r a → Sees w event r' b → (r ≡ r') × (IsSettled event r → a ≡ b)
+      both (misses none says leaves) (misses none' says' leaves') =
+          one_end (says ∙ sym says', leaves ∙ sym leaves')
       both (misses none says leaves) (finds s at does) = absurd (not_missing event s r' b desk q at does none)
       both (finds s at does) (misses none says leaves) = absurd (not_missing event s r a desk p at does none)
       both (finds s at does) (finds t at' does') =
           one_answering event s r r' a b does
-          (subst (λ x. AnswersAt w x event r' b) (same_found at' at) does') p q has had
+          (subst (λ x. AnswersAt w x event r' b) (same_found at' at) does') p q
+
+  -- a restart that is refused as another node's
+  pub refused_restart : (number : ℕ) (keeps : Bool) (a b : World)
+      → Step w (Restart number keeps) (replies.Refused WrongNode) a
+      → Step w (Restart number keeps) (replies.Refused WrongNode) b → AreSameButBoot w number a b
+  refused_restart number keeps a b (Step.restart at h) (Step.restart at' k) =
+      let same = same_found at' at in
+      (one_restart_at keeps h (subst (λ x. RestartAt w number x keeps (replies.Refused WrongNode) b) same k) others
+      others).kept

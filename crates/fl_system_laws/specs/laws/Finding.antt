@@ -21,10 +21,10 @@ module _ (own : Kept → Type 0) (k : Kept) (is_own : own k) where
   fails_other : {fault : Fault} → FailsToOpen own k fault → fault ≡ WrongNode → ⊥
   fails_other FailsToOpen.no_room e = cc
   fails_other FailsToOpen.keeper_failed e = cc
-  fails_other (FailsToOpen.spent all) e = cc
   fails_other (FailsToOpen.other not_own) e = not_own is_own
 
   opens_other : (desks : ℕ) {fault : Fault} {k' : Kept} → Opens desks own k (Err fault) k' → fault ≡ WrongNode → ⊥
+  opens_other desks (Opens.spent its all) e = cc
   opens_other desks (Opens.refused why left) e = fails_other why e
 
 again_other : (n : NodeState) (doubt : Option Batch) {fault : Fault} {n' : NodeState} {k' : Kept}
@@ -62,7 +62,7 @@ pub record IsOpened (desks : ℕ) (k : Kept) (boot : ℕ) (n' : NodeState) : Typ
 
 again_finds : (n : NodeState) (doubt : Option Batch) (k : Kept) {boot : ℕ} {n' : NodeState} {k' : Kept}
     → OpensAgain n doubt k (Ok boot) n' k' → IsOpened (length n.views) k boot n'
-again_finds n doubt k (OpensAgain.opens (Opens.opens own)) = record { node_is = refl; boot_is = refl }
+again_finds n doubt k (OpensAgain.opens (Opens.opens own left)) = record { node_is = refl; boot_is = refl }
 
 pub restart_loses : (n : NodeState) → IsRunning n.state → {boot : ℕ} {n' : NodeState} {k' : Kept}
     → Restarts n (kept_of n) false (Ok boot) n' k' → IsOpened (length n.views) (kept_of n) boot n'

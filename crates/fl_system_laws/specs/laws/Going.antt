@@ -224,9 +224,9 @@ module _ (w : World) where
   joins_goes : (number : ℕ) {k : Kept} {reply : Reply} {w' : World} → Joins w number k reply w' → Goes w w'
   joins_goes number (Joins.there at) = Goes.stays
   joins_goes number (Joins.not_opened free h) = Goes.stays
-  joins_goes number (Joins.clash free is least) = Goes.stays
-  joins_goes number (Joins.impostor free is none least) = Goes.stays
-  joins_goes number {k} (Joins.joins free is names no_clash no_stray) =
+  joins_goes number (Joins.clash free is left least) = Goes.stays
+  joins_goes number (Joins.impostor free is left none least) = Goes.stays
+  joins_goes number {k} (Joins.joins free is left names no_clash no_stray) =
       Goes.joins number (may_join number k free is names no_clash no_stray)
 
   reopening_goes : (number : ℕ) {k : Kept} {reply : Reply} {w' : World} → Reopening w number k reply w' → Goes w w'

@@ -103,7 +103,7 @@ opened_own desks k = record { own = λ running. refl }
 
 pub again_own : {n : NodeState} {doubt : Option Batch} {k : Kept} {result : Result ℕ Fault} {n' : NodeState} {k' : Kept}
     → OpensAgain n doubt k result n' k' → IsKeptOwn n' k'
-again_own (OpensAgain.opens (Opens.opens own)) = record { own = λ running. refl }
+again_own (OpensAgain.opens (Opens.opens own left)) = record { own = λ running. refl }
 again_own {doubt = doubt} (OpensAgain.stays h) = stops doubt refl
 
 pub restarts_own : {n : NodeState} {k : Kept} {keeps : Bool} {result : Result ℕ Fault} {n' : NodeState} {k' : Kept}

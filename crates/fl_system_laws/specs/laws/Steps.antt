@@ -311,7 +311,7 @@ module _ {known : Op → Type 0} where
 
     opens_step : {k : Kept} {result : Result ℕ Fault} {n' : NodeState} {k' : Kept} → IsSound known n
         → OpensAgain m doubt k result n' k' → IsStep known n (holding n')
-    opens_step {k} s (OpensAgain.opens (Opens.opens own)) = opened_step k own (length m.views) s
+    opens_step {k} s (OpensAgain.opens (Opens.opens own left)) = opened_step k own (length m.views) s
     opens_step s (OpensAgain.stays h) =
         moves n _ (record {
           number = number;

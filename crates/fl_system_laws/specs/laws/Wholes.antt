@@ -142,7 +142,7 @@ opened_whole desks k = record { whole = λ running op i. inl (member_listed k.sa
 pub again_whole : {n : NodeState} {doubt : Option Batch} {k : Kept} {result : Result ℕ Fault} {n' : NodeState}
     {k' : Kept}
     → OpensAgain n doubt k result n' k' → IsWhole n'
-again_whole {n} {k = k} (OpensAgain.opens (Opens.opens own)) = opened_whole (length n.views) k
+again_whole {n} {k = k} (OpensAgain.opens (Opens.opens own left)) = opened_whole (length n.views) k
 again_whole {doubt = doubt} (OpensAgain.stays h) = stops doubt refl
 
 pub restarts_whole : {n : NodeState} {k : Kept} {keeps : Bool} {result : Result ℕ Fault} {n' : NodeState} {k' : Kept}
