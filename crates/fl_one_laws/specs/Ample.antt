@@ -1,5 +1,6 @@
 -- When an event of a world has one outcome.
 use Rattle.std.specs.Prelude.{◌≡◌, ◌≢◌, ◌⊎◌, ◌<◌, ◌≤◌, ℕ, List, [], ◌∷◌}
+use Rattle.std.specs.declared.option.Option.{Option}
 use Rattle.std.specs.declared.option.Option.TheVariants.{None}
 use Rattle.fl_jobs.specs.declared.answer.Refusal.TheVariants.{Memory}
 use Rattle.fl_store.specs.Kept.{Kept, raised}
@@ -9,10 +10,14 @@ use Rattle.fl_system.specs.declared.event.Event.TheVariants.{Job, Restart}
 use Rattle.fl_system.specs.declared.reply.Reply.{Reply}
 use Rattle.fl_system.specs.declared.reply.Reply.TheVariants.{Refused}
 use Rattle.fl_system.specs.Numbered.{item_at}
-use Rattle.fl_system.specs.State.{NodeState}
+use Rattle.fl_system.specs.declared.state.Batch.{Batch}
+use Rattle.fl_system.specs.declared.state.State.TheVariants.{Stopped}
+use Rattle.fl_system.specs.State.{NodeState, kept_of}
+use Rattle.fl_system.specs.Openings.{IsOwn}
 use Rattle.fl_system.specs.Waiting.{IsRunning}
 use Rattle.fl_system.specs.World.{World, KeptNode, went}
 use Rattle.fl_system.specs.WorldSteps.{IsAt}
+use Rattle.fl_system_laws.specs.Owned.{IsKeptOwn}
 
 -- nothing was refused for want of memory, and no keeper failed
 pub record IsAmple (reply : Reply) : Type 0 where
@@ -28,6 +33,16 @@ IsSettled other reply = Unit {0}
 abbrev pub AreSettled : List Event → List Reply → Type 0
 AreSettled (event ∷ events) (reply ∷ replies) = IsSettled event reply × AreSettled events replies
 AreSettled events replies = Unit {0}
+
+-- what is kept of a node is its own: what it saved while it runs, and what it may open again once it
+-- is stopped
+pub record IsOwnKept (n : NodeState) (k : Kept) : Type 0 where
+  pub running : IsKeptOwn n k
+  pub stopped : (doubt : Option Batch) → n.state ≡ Stopped doubt → IsOwn (kept_of n) doubt k
+
+-- so it is of each node of the world
+pub record HaveOwn (w : World) : Type 0 where
+  pub each : (number : ℕ) (s : KeptNode) → IsAt w number s → IsOwnKept s.node s.kept
 
 -- what a refused opening leaves: what was kept, or that with its boot raised
 abbrev pub IsLeft : Kept → Kept → Type 0

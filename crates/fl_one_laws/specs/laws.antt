@@ -8,3 +8,4 @@ pub mod Steps
 pub mod Joinings
 pub mod Desks
 pub mod Runs
+pub mod Owners

@@ -11,9 +11,9 @@ ghost use Rattle.fl_system.specs.declared.reply.Reply.{Reply};
 ghost use Rattle.fl_system.specs.declared.reply.Reply.TheVariants.{Refused};
 ghost use Rattle.fl_system.specs.Joins.{Joins, Reopening};
 ghost use Rattle.fl_system.specs.Runs.{IsReached, Run};
-ghost use Rattle.fl_system.specs.World.{World};
+ghost use Rattle.fl_system.specs.World.{World, empty_world};
 ghost use Rattle.fl_system.specs.WorldSteps.{Step};
-ghost use Rattle.fl_one_laws.specs.Ample.{AreSameButBoot, AreSettled, HasDesk};
+ghost use Rattle.fl_one_laws.specs.Ample.{AreSameButBoot, AreSettled, HasDesk, HaveOwn};
 ghost use Rattle.fl_one_laws.specs.Ample.{IsAmple, IsAtDesk, IsSettled};
 
 /// An event of a world has one answer, where memory is not wanted and no keeper fails, and leaves
@@ -48,6 +48,19 @@ pub fn law_one_reopening()
     ensures boot { (w w1 w2 : World) (number : ℕ) (k : Kept) →
         Reopening w number k (Refused WrongNode) w1 →
         Reopening w number k (Refused WrongNode) w2 → AreSameButBoot w number w1 w2 }
+{}
+
+/// What is kept of each node is its own in a world without a node, and stays so at each event and
+/// each joining: no restart is then refused as another node's. It may be another's only where a
+/// node was opened over another keeper.
+pub fn law_own_keepers()
+    ensures empty { (desks : ℕ) → HaveOwn (empty_world desks) }
+    ensures step { (w w1 : World) (event : Event) (r : Reply) → HaveOwn w → Step w event r w1 →
+        HaveOwn w1 × IsSettled event r }
+    ensures joins { (w w1 : World) (number : ℕ) (k : Kept) (r : Reply) → HaveOwn w →
+        Joins w number k r w1 → HaveOwn w1 }
+    ensures run { (w w1 : World) (events : List Event) (rs : List Reply) → HaveOwn w →
+        Run w events rs w1 → AreSettled events rs }
 {}
 
 /// Events at a world that a run led to, one after another, each job at one of its desks, have one

@@ -14,7 +14,7 @@ use Rattle.fl_system.specs.Saves.{Saves, stored}
 use Rattle.fl_system.specs.Openings.{Opens, FailsToOpen, IsOwn, OpensAgain, Restarts, opened}
 
 -- what a node saved is its own
-own_kept : (n : NodeState) (doubt : Option Batch) → IsOwn (kept_of n) doubt (kept_of n)
+pub own_kept : (n : NodeState) (doubt : Option Batch) → IsOwn (kept_of n) doubt (kept_of n)
 own_kept n doubt = record { number = refl; boot = le_refl _; saved = inl refl }
 
 module _ (own : Kept → Type 0) (k : Kept) (is_own : own k) where
@@ -23,7 +23,7 @@ module _ (own : Kept → Type 0) (k : Kept) (is_own : own k) where
   fails_other FailsToOpen.keeper_failed e = cc
   fails_other (FailsToOpen.other not_own) e = not_own is_own
 
-  opens_other : (desks : ℕ) {fault : Fault} {k' : Kept} → Opens desks own k (Err fault) k' → fault ≡ WrongNode → ⊥
+  pub opens_other : (desks : ℕ) {fault : Fault} {k' : Kept} → Opens desks own k (Err fault) k' → fault ≡ WrongNode → ⊥
   opens_other desks (Opens.spent its all) e = cc
   opens_other desks (Opens.refused why left) e = fails_other why e
 
@@ -37,7 +37,7 @@ none_other (Running (Unsaved batch)) fault why e = why
 none_other (Running (Due batch)) fault why e = cc
 none_other (Stopped doubt) fault why e = cc
 
-saves_other : (n : NodeState) (k : Kept) {fault : Fault} {n' : NodeState} {k' : Kept}
+pub saves_other : (n : NodeState) (k : Kept) {fault : Fault} {n' : NodeState} {k' : Kept}
     → Saves n k (Err fault) n' k' → fault ≡ WrongNode → ⊥
 saves_other n k (Saves.no_room is) e = cc
 saves_other n k (Saves.failed is left) e = cc
