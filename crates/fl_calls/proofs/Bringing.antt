@@ -94,18 +94,18 @@ joined_there : (w : World) (number : ℕ) (k : Kept) (reply : Reply) (w' : World
     → Joins w number k reply w' → Stands w' number
 joined_there w number k reply w' boot is (Joins.there at) = absurd (cc)
 joined_there w number k reply w' boot is (Joins.not_opened none refusal) = absurd (cc)
-joined_there w number k reply w' boot is (Joins.clash none of least) = absurd (cc)
-joined_there w number k reply w' boot is (Joins.impostor none of clash least) = absurd (cc)
-joined_there w number k reply w' boot is (Joins.joins none of once clash stray) = record { s = _; at = put_here w.nodes number _ }
+joined_there w number k reply w' boot is (Joins.clash none of left least) = absurd (cc)
+joined_there w number k reply w' boot is (Joins.impostor none of left clash least) = absurd (cc)
+joined_there w number k reply w' boot is (Joins.joins none of left once clash stray) = record { s = _; at = put_here w.nodes number _ }
 
 -- and the others still are
 joined_still : (w : World) (number other : ℕ) (k : Kept) (reply : Reply) (w' : World) → Stands w other
     → Joins w number k reply w' → Stands w' other
 joined_still w number other k reply w' stands (Joins.there at) = stands
 joined_still w number other k reply w' stands (Joins.not_opened none refusal) = stands
-joined_still w number other k reply w' stands (Joins.clash none of least) = stands
-joined_still w number other k reply w' stands (Joins.impostor none of clash least) = stands
-joined_still w number other k reply w' stands (Joins.joins none of once clash stray) =
+joined_still w number other k reply w' stands (Joins.clash none of left least) = stands
+joined_still w number other k reply w' stands (Joins.impostor none of left clash least) = stands
+joined_still w number other k reply w' stands (Joins.joins none of left once clash stray) =
     let put = put_there w.nodes number other _ stands.s (eq_by_cmp nat_cmp other number) refl stands.at in
     record { s = put.0; at = put.1 }
 

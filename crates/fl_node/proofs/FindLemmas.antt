@@ -1,5 +1,5 @@
 -- What an opening finds, from what the keeper's calls leave.
-use Rattle.std.proofs.Common.{◌≡◌, ◌≢◌, ◌⊎◌, inl, inr, ◌∙◌, refl, sym, ap, ℕ, Bool, IsTrue, Ok, Err, Result}
+use Rattle.std.proofs.Common.{◌≡◌, ◌≢◌, ◌⊎◌, ◌≤◌, inl, inr, ◌∙◌, refl, sym, ap, subst, arith, ℕ, Bool, IsTrue, Ok, Err, Result}
 use Rattle.fl_labels.specs.SetBy.{SetBy}
 use Rattle.fl_ops.specs.OpOrder.{op_cmp}
 use Rattle.fl_jobs.specs.declared.answer.Refusal.TheVariants as refusal
@@ -9,7 +9,7 @@ use Rattle.fl_store.specs.Kept.{Kept, raised}
 use Rattle.fl_store.specs.Keeping.{Held, Follows, Stays, AfterLoad, AfterBoot, LoadFails, BootFails}
 use Rattle.fl_system.specs.declared.answer.Fault.{Fault}
 use Rattle.fl_system.specs.declared.answer.Fault.TheVariants.{Refused, KeeperFailed, WrongNode}
-use Rattle.fl_node.specs.parts.Finding.{shown_as, FailsToFind, IsFound, IsNotFound, FailsToRaise, IsRaised, IsNotRaised}
+use Rattle.fl_node.specs.parts.Finding.{shown_as, FailsToFind, IsFound, IsNotFound, FailsToRaise, IsRaised}
 
 module _ (old new : Held) where
   -- the node's operations are found
@@ -26,15 +26,22 @@ module _ (old new : Held) where
   not_loaded number IsOther h = absurd h
   not_loaded number NamesSpent h = absurd h
 
-  pub raises : (boot : ℕ) → AfterBoot old new (Ok boot) → Follows (IsRaised boot) old new
-  raises boot h after is = let b = h after is in (b.0, b.1, record { up = b.2.0; boot_is = b.2.1 })
+  pub raises : (boot : ℕ) → boot ≤ 4294967295 → AfterBoot old new (Ok boot) → Follows (IsRaised boot) old new
+  raises boot upper h after is =
+      let b = h after is in
+      let up = b.2.1 in
+      (b.0, b.1, record { up = b.2.0; boot_is = up; left = omega (arith, upper, up) })
 
-  pub not_raised : (f : KeeperFault) → AfterBoot old new (Err f) → Follows (IsNotRaised (shown_as f)) old new
-  not_raised Memory h = λ after is. let b = h after is in (b.0, b.1, record { left = inl b.2; fails = FailsToRaise.no_room })
-  not_raised Broken h = λ after is. let b = h after is in (b.0, b.1, record { left = b.2; fails = FailsToRaise.keeper_failed })
+  pub not_raised : (f : KeeperFault) → AfterBoot old new (Err f) → Follows (λ k k'. FailsToRaise k (shown_as f) k') old new
+  not_raised Memory h = λ after is.
+      let b = h after is in
+      (b.0, b.1, subst (FailsToRaise b.0 (Refused refusal.Memory)) (sym b.2) FailsToRaise.no_room)
+  not_raised Broken h = λ after is. let b = h after is in (b.0, b.1, FailsToRaise.keeper_failed b.2)
   not_raised BadRow h = absurd h
   not_raised IsOther h = absurd h
-  not_raised NamesSpent h = λ after is. let b = h after is in (b.0, b.1, record { left = inl b.2.0; fails = FailsToRaise.spent b.2.1 })
+  not_raised NamesSpent h = λ after is.
+      let b = h after is in
+      (b.0, b.1, subst (FailsToRaise b.0 (Refused refusal.NamesSpent)) (sym b.2.0) (FailsToRaise.spent b.2.1))
 
 -- another node's is not found
 pub other_node : {old : Held} {number own : ℕ} → ((k : Kept) → old k → k.number ≡ own) → own ≢ number → Follows (IsNotFound number WrongNode) old old

@@ -1,5 +1,5 @@
 -- What an opening leaves, from what it finds.
-use Rattle.std.proofs.Common.{◌≡◌, ◌⊎◌, inl, inr, ◌∙◌, ◌+◌, refl, sym, ap, subst, ℕ, List, Ok, Err}
+use Rattle.std.proofs.Common.{◌≡◌, ◌<◌, inl, inr, ◌∙◌, ◌+◌, refl, sym, ap, subst, ℕ, List, Ok, Err}
 use Rattle.fl_labels.specs.SetBy.{SetBy, members}
 use Rattle.fl_ops.specs.declared.op.Op.{Op}
 use Rattle.fl_ops.specs.OpOrder.{op_cmp}
@@ -8,8 +8,7 @@ use Rattle.fl_store.specs.Kept.{Kept, raised}
 use Rattle.fl_store.specs.Keeping.{Held, Follows}
 use Rattle.fl_system.specs.declared.answer.Fault.{Fault}
 use Rattle.fl_system.specs.declared.answer.Fault.TheVariants.{Refused}
-use Rattle.fl_system.specs.State.{NodeState}
-use Rattle.fl_node.specs.parts.Finding.{FailsToFind, IsFound, IsNotFound, FailsToRaise, IsRaised, IsNotRaised}
+use Rattle.fl_node.specs.parts.Finding.{FailsToFind, IsFound, IsNotFound, FailsToRaise, IsRaised}
 use Rattle.fl_system.specs.Openings.{starting, opened, FailsToOpen, Opens}
 
 fresh_is : (number boot : ℕ) (saved : SetBy op_cmp) (published : List Op) (k : Kept) → k.number ≡ number → boot ≡ k.boot + 1 → saved ≡ k.saved → published ≡ members saved
@@ -26,10 +25,12 @@ module _ (own : Kept → Type 0) (number : ℕ) (its : (k : Kept) → own k → 
   pub not_found : (old new : Held) (fault : Fault) → Follows (IsNotFound number fault) old new → Follows (λ k k'. Opens 1 own k (Err fault) k') old new
   not_found old new fault h after is = let b = h after is in (b.0, b.1, Opens.refused (fails_to_open b.0 fault b.2.fails) (inl b.2.same))
 
-fails_raised : (own : Kept → Type 0) (k : Kept) (fault : Fault) → FailsToRaise k fault → FailsToOpen own k fault
-fails_raised own k fault FailsToRaise.no_room = FailsToOpen.no_room
-fails_raised own k fault FailsToRaise.keeper_failed = FailsToOpen.keeper_failed
-fails_raised own k fault (FailsToRaise.spent all) = FailsToOpen.spent all
+-- what is the node's own where its boots are spent is not opened
+fails_raised : (own : Kept → Type 0) (k k' : Kept) (fault : Fault) → (k.boot ≡ 4294967295 → own k) → FailsToRaise k fault k'
+    → Opens 1 own k (Err fault) k'
+fails_raised own k k' fault its FailsToRaise.no_room = Opens.refused FailsToOpen.no_room (inl refl)
+fails_raised own k k' fault its (FailsToRaise.keeper_failed left) = Opens.refused FailsToOpen.keeper_failed left
+fails_raised own k k' fault its (FailsToRaise.spent all) = Opens.spent (its all) all
 
 module _ (own : Kept → Type 0) (number : ℕ) (saved : SetBy op_cmp) (old mid : Held) (found : Follows (IsFound number saved) old mid) where
   -- what is found is not opened
@@ -42,15 +43,15 @@ module _ (own : Kept → Type 0) (number : ℕ) (saved : SetBy op_cmp) (old mid 
   found_no_room = found_refused (Refused Memory) (λ k _ _ _. FailsToOpen.no_room)
 
   module _ (new : Held) where
-    pub not_raised : (fault : Fault) → Follows (IsNotRaised fault) mid new → Follows (λ k k'. Opens 1 own k (Err fault) k') old new
-    not_raised fault h after is =
+    pub not_raised : (fault : Fault) → ((k : Kept) → k.number ≡ number → saved ≡ k.saved → k.boot ≡ 4294967295 → own k)
+        → Follows (λ k k'. FailsToRaise k fault k') mid new → Follows (λ k k'. Opens 1 own k (Err fault) k') old new
+    not_raised fault is_own h after is =
         let r = h after is in
         let b = found r.0 r.1 in (
           b.0,
           b.1,
-          Opens.refused
-              (subst (λ k. FailsToOpen own k fault) b.2.same (fails_raised own r.0 fault r.2.fails))
-              (subst (λ k. (after ≡ k) ⊎ (after ≡ raised k)) b.2.same r.2.left),
+          fails_raised own b.0 after fault (is_own b.0 b.2.number_is b.2.saved_is)
+              (subst (λ k. FailsToRaise k fault after) b.2.same r.2),
         )
 
     -- raised, and found to be another's by its boot
@@ -69,11 +70,12 @@ module _ (own : Kept → Type 0) (number : ℕ) (saved : SetBy op_cmp) (old mid 
         let r = h after is in
         let b = found r.0 r.1 in
         let boot_is = subst (λ (k : Kept). boot ≡ k.boot + 1) b.2.same r.2.boot_is in
+        let left = subst (λ (k : Kept). k.boot < 4294967295) b.2.same r.2.left in
         let node_is = fresh_is number boot saved published b.0 b.2.number_is boot_is b.2.saved_is published_is in (
           b.0,
           b.1,
           subst (λ n. Opens 1 own b.0 (Ok n) after) (sym node_is)
-              (subst (λ k. Opens 1 own b.0 (Ok (opened 1 b.0)) k) (sym (r.2.up ∙ ap raised b.2.same)) (Opens.opens (is_own b.0 b.2.number_is boot_is b.2.saved_is))),
+              (subst (λ k. Opens 1 own b.0 (Ok (opened 1 b.0)) k) (sym (r.2.up ∙ ap raised b.2.same)) (Opens.opens (is_own b.0 b.2.number_is boot_is b.2.saved_is) left)),
         )
 
     -- an opening finds what the opened node has

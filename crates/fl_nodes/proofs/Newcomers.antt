@@ -1,5 +1,5 @@
 -- A node that joins the others, or not, as a step of the world.
-use Rattle.std.proofs.Common.{◌≡◌, ◌∙◌, ◌⊎◌, ◌+◌, inl, inr, refl, sym, ap, subst, ℕ, Bool, true, false, cond, List, [], ◌++◌, Option, Some, None, Result, Ok, Err}
+use Rattle.std.proofs.Common.{◌≡◌, ◌∙◌, ◌⊎◌, ◌<◌, ◌+◌, inl, inr, refl, sym, ap, subst, ℕ, Bool, true, false, cond, List, [], ◌++◌, Option, Some, None, Result, Ok, Err}
 use Rattle.std.proofs.lemmas.Cmp.{nat_cmp_total}
 use Rattle.std.proofs.lemmas.List.{append-nil}
 use Rattle.std.specs.BTreeMap.{is_at}
@@ -46,19 +46,20 @@ some_is x y h = cc
 
 record IsOpening (number : ℕ) (k : Kept) (n : NodeState) (k' : Kept) : Type 0 where
   own : k.number ≡ number
+  boot_left : k.boot < 4294967295
   node_is : n ≡ opened 1 k
   up : k' ≡ raised k
 
 opening_of : (number : ℕ) (k : Kept) (n : NodeState) (k' : Kept) → Opens 1 (IsOf number) k (Ok n) k' → IsOpening number k n k'
-opening_of number k n k' (Opens.opens own) = record { own = own; node_is = refl; up = refl }
+opening_of number k n k' (Opens.opens own left) = record { own = own; boot_left = left; node_is = refl; up = refl }
 
 left_as : (number : ℕ) (k k' : Kept) (fault : Fault) → FailsToOpen (IsOf number) k fault → (k' ≡ k) ⊎ (k' ≡ raised k) → LeftBy fault k k'
 left_as number k k' fault FailsToOpen.no_room h = h
 left_as number k k' fault FailsToOpen.keeper_failed h = h
-left_as number k k' fault (FailsToOpen.spent e) h = h
 left_as number k k' fault (FailsToOpen.other e) h = h
 
 left_by : (number : ℕ) (k k' : Kept) (fault : Fault) → Opens 1 (IsOf number) k (Err fault) k' → LeftBy fault k k'
+left_by number k k' fault (Opens.spent own all) = refl
 left_by number k k' fault (Opens.refused cause left) = left_as number k k' fault cause left
 
 least_name : (P : Name → Type 0) (name : Name) → IsLeastOf P name → IsLeastName P name
@@ -142,7 +143,7 @@ module _ {K : Type 0} (custody : Custody K) where
           (subst (λ g. GivesBack custody old keeper old g (DoesNotJoin number (faults.Clash name))) (sym is_given)
           (refused_after (faults.Clash name) (λ w k k' is absent o known. record {
             same = refl;
-            joins = Joins.clash absent o.own (subst (λ n. IsLeastName (IsClashAt w n.saved) name) o.node_is
+            joins = Joins.clash absent o.own o.boot_left (subst (λ n. IsLeastName (IsClashAt w n.saved) name) o.node_is
                 (least_name (IsClashAt w y.node.saved) name (least w (are_nodes old w is))));
             left = o.up;
           })))
@@ -244,7 +245,7 @@ module _ {K : Type 0} (custody : Custody K) where
             (subst (λ g. GivesBack custody old keeper old g (DoesNotJoin number (faults.Impostor name))) (sym is_given)
             (refused_after (faults.Impostor name) (λ w k k' is absent o known. record {
               same = refl;
-              joins = Joins.impostor absent o.own (clear_of w k k' (are_nodes old w is) o)
+              joins = Joins.impostor absent o.own o.boot_left (clear_of w k k' (are_nodes old w is) o)
                   (least_stray w k known absent name
                   (subst (λ n. IsLeastOf (IsStrayWith w number n.saved) name) o.node_is (least w (are_nodes old w is))));
               left = o.up;
@@ -332,7 +333,7 @@ module _ {K : Type 0} (custody : Custody K) where
                     b.1,
                     λ known. subst (λ r. Joins before number b.0 (reply.Booted r) after) (sym (is_boot ∙ ap (λ n. n.boot) o.node_is))
                         (subst (Joins before number b.0 (reply.Booted (b.0.boot + 1))) (goes_on after b.0 s.kept is o s.there)
-                        (Joins.joins (gone after.nodes) o.own (subst (λ n. HasNamesOnce n.saved) o.node_is names)
+                        (Joins.joins (gone after.nodes) o.own o.boot_left (subst (λ n. HasNamesOnce n.saved) o.node_is names)
                         (clear_of before b.0 s.kept (are_nodes old before is_before) o)
                         (λ name stray. subst (λ n. (name : Name) → ¬ IsStrayWith before number n.saved name) o.node_is
                         (strays before (are_nodes old before is_before)) name (strays_from before b.0 known name stray)))),

@@ -3,6 +3,7 @@ use Rattle.std.specs.Prelude.{◌≡◌, ◌⊎◌, ℕ}
 use Rattle.std.specs.declared.option.Option.{Option}
 use Rattle.std.specs.declared.option.Option.TheVariants.{None, Some}
 use Rattle.fl_labels.specs.declared.name.Name.{Name}
+use Rattle.fl_jobs.specs.declared.answer.Refusal.TheVariants.{NamesSpent}
 use Rattle.fl_store.specs.Custody.{Custody}
 use Rattle.fl_store.specs.Kept.{Kept, raised}
 use Rattle.fl_system.specs.declared.answer.Fault.{Fault}
@@ -39,11 +40,13 @@ pub record GivesBack {K : Type 0} (custody : Custody K)
       → (before : World) × (k : Kept) × MayBe custody old before × custody.may_hold keeper k
       × step before k after k'
 
--- what a refused joining leaves of what was kept: its boot may have been raised, and was if it was opened
+-- what a refused joining leaves of what was kept: its boot may have been raised, was if it was opened, and was not where no boot
+-- was left
 abbrev pub LeftBy : Fault → Kept → Kept → Type 0
 LeftBy (faults.Clash name) k k' = k' ≡ raised k
 LeftBy (faults.Impostor name) k k' = k' ≡ raised k
-LeftBy (faults.Refused refusal) k k' = (k' ≡ k) ⊎ (k' ≡ raised k)
+LeftBy (faults.Refused NamesSpent) k k' = k' ≡ k
+LeftBy (faults.Refused other) k k' = (k' ≡ k) ⊎ (k' ≡ raised k)
 LeftBy faults.KeeperFailed k k' = (k' ≡ k) ⊎ (k' ≡ raised k)
 LeftBy faults.WrongNode k k' = (k' ≡ k) ⊎ (k' ≡ raised k)
 LeftBy faults.Stopped k k' = (k' ≡ k) ⊎ (k' ≡ raised k)

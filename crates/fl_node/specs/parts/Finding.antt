@@ -1,5 +1,5 @@
 -- What an opening finds at a keeper.
-use Rattle.std.specs.Prelude.{◌≡◌, ◌≢◌, ◌⊎◌, ◌+◌, ℕ}
+use Rattle.std.specs.Prelude.{◌≡◌, ◌≢◌, ◌⊎◌, ◌<◌, ◌+◌, ℕ}
 use Rattle.std.specs.declared.result.Result.{Result}
 use Rattle.std.specs.declared.result.Result.TheVariants.{Ok, Err}
 use Rattle.fl_labels.specs.SetBy.{SetBy}
@@ -39,19 +39,18 @@ abbrev pub Finds : ℕ → Held → Held → Result (SetBy op_cmp) Fault → Typ
 Finds number old new (Ok saved) = Follows (IsFound number saved) old new
 Finds number old new (Err fault) = Follows (IsNotFound number fault) old new
 
-pub data FailsToRaise (k : Kept) : Fault → Type 0 where
-  no_room : FailsToRaise k (Refused Memory)
-  keeper_failed : FailsToRaise k KeeperFailed
-  spent : k.boot ≡ 4294967295 → FailsToRaise k (Refused NamesSpent)
-
+-- the boot was raised, since one was left
 pub record IsRaised (boot : ℕ) (k k' : Kept) : Type 0 where
   pub up : k' ≡ raised k
   pub boot_is : boot ≡ k.boot + 1
+  pub left : k.boot < 4294967295
 
-pub record IsNotRaised (fault : Fault) (k k' : Kept) : Type 0 where
-  pub left : (k' ≡ k) ⊎ (k' ≡ raised k)
-  pub fails : FailsToRaise k fault
+-- why it was not, and what is left
+pub data FailsToRaise (k : Kept) : Fault → Kept → Type 0 where
+  no_room : FailsToRaise k (Refused Memory) k
+  keeper_failed : {left : Kept} → (left ≡ k) ⊎ (left ≡ raised k) → FailsToRaise k KeeperFailed left
+  spent : k.boot ≡ 4294967295 → FailsToRaise k (Refused NamesSpent) k
 
 abbrev pub Raises : Held → Held → Result ℕ Fault → Type 0
 Raises old new (Ok boot) = Follows (IsRaised boot) old new
-Raises old new (Err fault) = Follows (IsNotRaised fault) old new
+Raises old new (Err fault) = Follows (λ k k'. FailsToRaise k fault k') old new

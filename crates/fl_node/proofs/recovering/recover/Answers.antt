@@ -31,8 +31,15 @@ returns-in_default-listed-clause-err g c honest =
 pub returns-in-Err-raise-clause-err : goal.returns-in-Err-raise-clause-err
 returns-in-Err-raise-clause-err g c honest =
     let raised = c.in-Err-raise.ensures.held honest in
-    let held = c.in-Ok.ensures.held raised.0 in
-    (held.0, not_raised (IsOwn (record { number = c.args.number; boot = c.args.boot; saved = c.args.saved.now }) (option_copied c.args.doubt)) c.args.number c.in-Ok.found _ _ held.1 _ _ raised.1)
+    let held = c.in-Ok.ensures.held raised.0 in (
+      held.0,
+      not_raised (IsOwn (record { number = c.args.number; boot = c.args.boot; saved = c.args.saved.now }) (option_copied c.args.doubt)) c.args.number c.in-Ok.found _ _ held.1 _ _
+          (λ k number saved_is last. record {
+            number = number;
+            boot = omega (arith, last);
+            saved = elim (c.in-Ok-is_own.ensures.holds c.if-not-own.false) [ inl e ↦ inl (sym saved_is ∙ e) | inr e ↦ inr (sym saved_is ∙ e) ];
+          }) raised.1,
+    )
 
 pub returns-then-next-boot-clause-err : goal.returns-then-next-boot-clause-err
 returns-then-next-boot-clause-err g c honest =

@@ -18,7 +18,7 @@ pub returns-in-Err-raise-clause-err : goal.returns-in-Err-raise-clause-err
 returns-in-Err-raise-clause-err g c honest =
     let raised = c.in-Err-raise.ensures.held honest in
     let held = c.in-Ok.ensures.held raised.0 in
-    (held.0, not_raised (IsOf c.args.number) c.args.number c.in-Ok.saved _ _ held.1 _ _ raised.1)
+    (held.0, not_raised (IsOf c.args.number) c.args.number c.in-Ok.saved _ _ held.1 _ _ (λ k number saved last. number) raised.1)
 
 pub returns-clause-ok : goal.returns-clause-ok
 returns-clause-ok g c =
