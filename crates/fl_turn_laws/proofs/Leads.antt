@@ -20,7 +20,7 @@ use Rattle.fl_turns.specs.Answer.{Answer}
 use Rattle.fl_turns.specs.Run.{Run}
 use Rattle.fl_turns.specs.Session.{Session}
 use Rattle.fl_turns.specs.Turn.{AsksNode, AnswersLine, asks, unites, counts, lists, AnswersReading, Turn}
-use Rattle.fl_turn_laws.specs.Leading.{Leads}
+use Rattle.fl_turn_laws.specs.Leading.{IsPlain, ArePlain, Leads}
 
 -- ---- runs, one after another
 
@@ -32,17 +32,22 @@ ends_on : (w : World) (ms ns : List Moment) → end w (ms ++ ns) ≡ end (end w 
 ends_on w [] ns = refl
 ends_on w (m ∷ ms) ns = ends_on m.after ms ns
 
+plain_on : (ms ns : List Moment) → ArePlain ms → ArePlain ns → ArePlain (ms ++ ns)
+plain_on [] ns plain more = more
+plain_on (m ∷ ms) ns plain more = (plain.0, plain_on ms ns plain.1 more)
+
 pub stays : (w : World) → Leads w w
-stays w = record { moments = []; is_run = tt; leads = refl }
+stays w = record { moments = []; is_run = tt; plain = tt; leads = refl }
 
 -- nothing changed
 same : (w w' : World) → w' ≡ w → Leads w w'
-same w w' is = record { moments = []; is_run = tt; leads = sym is }
+same w w' is = record { moments = []; is_run = tt; plain = tt; leads = sym is }
 
-one : (w w' : World) (move : Move) (reply : Reply) → Moves w move reply w' → Leads w w'
-one w w' move reply goes = record {
+one : (w w' : World) (move : Move) (reply : Reply) → IsPlain move → Moves w move reply w' → Leads w w'
+one w w' move reply plain goes = record {
   moments = record { move = move; reply = reply; after = w' } ∷ [];
   is_run = (goes, tt);
+  plain = (plain, tt);
   leads = refl;
 }
 
@@ -51,6 +56,7 @@ then_ u v w first second = record {
   moments = first.moments ++ second.moments;
   is_run = runs_on u first.moments second.moments first.is_run
       (subst (λ x. IsRun x second.moments) (sym first.leads) second.is_run);
+  plain = plain_on first.moments second.moments first.plain second.plain;
   leads = ends_on u first.moments second.moments ∙ ap (λ x. end x second.moments) first.leads ∙ second.leads;
 }
 
@@ -60,12 +66,12 @@ is_reached w h = record { desks = 1; moments = h.moments; is_run = h.is_run; lea
 -- ---- what is asked of a world
 
 pub step_leads : (w w' : World) (event : Event) (reply : Reply) → Step w event reply w' → Leads w w'
-step_leads w w' event reply step = one w w' (Happens event) reply step
+step_leads w w' event reply step = one w w' (Happens event) reply tt step
 
 pub enters_leads : (openings : Openings) (w w' : World) (number : ℕ) (result : Result (Unit {0}) Fault)
     → Enters openings w number result w' → Leads w w'
 enters_leads openings w w' number result (is_there at) = stays w
-enters_leads openings w w' number result (joins {k} {boot} none found step) = one w w' (Comes number k) _ step
+enters_leads openings w w' number result (joins {k} {boot} none found step) = one w w' (Comes number k) _ tt step
 enters_leads openings w w' number result (is_refused none why) = stays w
 
 open_leads : (openings : Openings) (w w' : World) (number : ℕ) (does : World → Said → World → Type 0) (answer : Said)

@@ -25,17 +25,18 @@ use Rattle.fl_system.specs.declared.sent.Sent.{Sent}
 use Rattle.fl_system.specs.declared.state.State.{State}
 use Rattle.fl_system.specs.declared.state.State.TheVariants.{Running, Stopped}
 use Rattle.fl_system.specs.Joins.{Joins}
-use Rattle.fl_system.specs.Runs.{Moment, IsRun, end}
+use Rattle.fl_system.specs.Runs.{Move, Happens, Comes, Returns, Moves, Moment, IsRun, end}
 use Rattle.fl_system.specs.Waiting.{IsRunning, NotRunning}
 use Rattle.fl_system.specs.World.{World, KeptNode, empty_world}
 use Rattle.fl_system.specs.WorldSteps.{Step, IsAt, node_of}
 use Rattle.fl_system_laws.specs.Goes.{Goes}
 use Rattle.fl_system_laws.specs.laws.Going.{moves_goes}
 use Rattle.fl_node.specs.Checking.{Checks}
-use Rattle.fl_one_laws.specs.Ample.{HasBootAt, HasDesk, IsAtDesk}
+use Rattle.fl_one_laws.specs.Ample.{IsAmple, HasDesk, HaveOwn, IsAtDesk}
 use Rattle.fl_one_laws.specs.laws.Benches.{one_stop, not_both}
 use Rattle.fl_one_laws.specs.laws.Desks.{reached_desks, at_desk}
 use Rattle.fl_one_laws.specs.laws.Joinings.{one_joining}
+use Rattle.fl_one_laws.specs.laws.Owners.{empty_owned, step_owned, joins_owned, step_settled}
 use Rattle.fl_one_laws.specs.laws.Steps.{one_step}
 use Rattle.fl_script.specs.declared.line.Line.{Line}
 use Rattle.fl_script.specs.declared.reading.Reading.{Reading}
@@ -54,8 +55,8 @@ use Rattle.fl_turns.specs.Naming.{made_by, renamed}
 use Rattle.fl_turns.specs.Run.{Run}
 use Rattle.fl_turns.specs.Session.{Session, begun}
 use Rattle.fl_turns.specs.Turn.{AsksNode, AnswersLine, asks, unites, counts, lists, AnswersReading, Turn}
-use Rattle.fl_turn_laws.specs.Certain.{IsSureReply, IsSure, OpenOneWay}
-use Rattle.fl_turn_laws.specs.Leading.{Leads}
+use Rattle.fl_turn_laws.specs.Certain.{IsSure, OpenOneWay}
+use Rattle.fl_turn_laws.specs.Leading.{IsPlain, ArePlain, Leads}
 use Rattle.fl_turn_laws.proofs.Leads.{stays, then_, enters_leads, step_leads, turn_leads, is_reached}
 use Rattle.fl_turn_laws.proofs.OneCheck.{one_check}
 
@@ -83,46 +84,44 @@ has_desk w e fit is =
     sym (ap (λ (x : World). x.desks) fit.leads) ∙ run_desks (empty_world 1) fit.moments fit.is_run in
     at_desk w (reached_desks w (is_reached w fit)) e (subst (λ count. IsAtDesk count e) (sym desks) is)
 
+-- a script opens no node over another keeper, so what is kept of each is its own
+move_own : (w : World) (move : Move) (reply : Reply) (a : World) → HaveOwn w → Moves w move reply a → IsPlain move → HaveOwn a
+move_own w (Happens event) reply a own does plain = step_owned own does
+move_own w (Comes number k) reply a own does plain = joins_owned own does
+move_own w (Returns number k) reply a own does plain = absurd plain
+
+run_own : (w : World) (ms : List Moment) → HaveOwn w → IsRun w ms → ArePlain ms → HaveOwn (end w ms)
+run_own w [] own run plain = own
+run_own w (m ∷ ms) own run plain =
+    run_own m.after ms (move_own w m.move m.reply m.after own run.0 plain.0) run.1 plain.1
+
+has_own : (w : World) → Fit w → HaveOwn w
+unfolding Fit
+has_own w fit =
+    subst HaveOwn fit.leads (run_own (empty_world 1) fit.moments (empty_owned 1) fit.is_run fit.plain)
+
 -- ---- what is sure
 
-boot_at : (e : Event) (reply : Reply) → IsSureReply reply → HasBootAt e reply
-boot_at (event.Job number desk upto job) reply sure = tt
-boot_at (event.Save number) reply sure = tt
-boot_at (event.Publish number) reply sure = tt
-boot_at (event.Cancel number) reply sure = tt
-boot_at (event.Restart number keeps) reply sure = sure.boot
-boot_at (event.Tell number) reply sure = tt
-boot_at (event.Deliver packet number) reply sure = tt
+not_sure : IsAmple starved → ⊥
+not_sure sure = sure.memory refl
 
-not_sure : IsSureReply starved → ⊥
-not_sure sure = sure.ample.memory refl
+sure_booted : (boot : ℕ) → IsAmple (Booted boot)
+sure_booted boot = record { memory = λ e. cc; keeper = λ e. cc }
 
-sure_booted : (boot : ℕ) → IsSureReply (Booted boot)
-sure_booted boot = record {
-  ample = record { memory = λ e. cc; keeper = λ e. cc; own = λ e. cc };
-  boot = λ e. cc;
-}
+sure_done : IsAmple Done
+sure_done = record { memory = λ e. cc; keeper = λ e. cc }
 
-sure_done : IsSureReply Done
-sure_done = record {
-  ample = record { memory = λ e. cc; keeper = λ e. cc; own = λ e. cc };
-  boot = λ e. cc;
-}
-
-sure_begun : (reply : Reply) → begins reply ≡ true → IsSureReply reply
+sure_begun : (reply : Reply) → begins reply ≡ true → IsAmple reply
 sure_begun reply some = record {
-  ample = record {
-    memory = λ e. absurd (cc (ap begins e, some));
-    keeper = λ e. absurd (cc (ap begins e, some));
-    own = λ e. absurd (cc (ap begins e, some));
-  };
-  boot = λ e. absurd (cc (ap begins e, some));
+  memory = λ e. absurd (cc (ap begins e, some));
+  keeper = λ e. absurd (cc (ap begins e, some));
 }
 
 step_one : (w : World) (e : Event) (r s : Reply) (a b : World) → Fit w → IsAtDesk 1 e → Step w e r a → Step w e s b
-    → IsSureReply r → IsSureReply s → (r ≡ s) × (a ≡ b)
+    → IsAmple r → IsAmple s → (r ≡ s) × (a ≡ b)
 step_one w e r s a b fit desk h k p q =
-    one_step w e r s a b h k p.ample q.ample (boot_at e r p) (boot_at e s q) (has_desk w e fit desk)
+    let one = one_step w e r s a b h k p q (has_desk w e fit desk) in
+    (one.0, one.1 (step_settled (has_own w fit) h))
 
 fit_step : (w a : World) (e : Event) (r : Reply) → Fit w → Step w e r a → Fit a
 unfolding Fit
@@ -131,7 +130,7 @@ fit_step w a e r fit h = then_ (empty_world 1) w a fit (step_leads w a e r h)
 -- ---- what is begun and finished
 
 finishes_one : (w : World) (number : ℕ) (r s : Reply) (a b : World) → Fit w → Finishes w number r a → Finishes w number s b
-    → IsSureReply r → IsSureReply s → (r ≡ s) × (a ≡ b)
+    → IsAmple r → IsAmple s → (r ≡ s) × (a ≡ b)
 finishes_one w number r s a b fit (given_up first second) k p q = absurd (not_sure p)
 finishes_one w number r s a b fit h (given_up first second) p q = absurd (not_sure q)
 finishes_one w number r s a b fit (not_saved isnt fed step) (not_saved isnt' fed' step') p q =
@@ -146,7 +145,7 @@ finishes_one w number r s a b fit (saved {between} first second) (saved {between
     (subst (λ x. Step x (event.Publish number) s b) (sym same.1) second') p q
 
 completes_one : (w : World) (e : Event) (r s : Reply) (a b : World) → Fit w → IsAtDesk 1 e → Completes w e r a
-    → Completes w e s b → IsSureReply r → IsSureReply s → (r ≡ s) × (a ≡ b)
+    → Completes w e s b → IsAmple r → IsAmple s → (r ≡ s) × (a ≡ b)
 completes_one w e r s a b fit desk (at_once none step) (at_once none' step') p q = step_one w e r s a b fit desk step step' p q
 completes_one w e r s a b fit desk (at_once none step) (in_steps {first} {between} some step' rest) p q =
     let same = (step_one w e r first a between fit desk step step' p (sure_begun first some)).0 in
@@ -166,19 +165,19 @@ One : (World → Said → World → Type 0) → World → Type 0
 One does w = (x y : Said) (a b : World) → does w x a → does w y b → IsSure (said x) → IsSure (said y) → (x ≡ y) × (a ≡ b)
 
 says_one : (to_say : Reply → Said) (w : World) (step : World → Reply → World → Type 0)
-    → ((reply : Reply) → IsSure (said (to_say reply)) → IsSureReply reply)
-    → ((r s : Reply) (a b : World) → step w r a → step w s b → IsSureReply r → IsSureReply s → (r ≡ s) × (a ≡ b))
+    → ((reply : Reply) → IsSure (said (to_say reply)) → IsAmple reply)
+    → ((r s : Reply) (a b : World) → step w r a → step w s b → IsAmple r → IsAmple s → (r ≡ s) × (a ≡ b))
     → One (λ v. Says to_say (step v)) w
 unfolding One
 says_one to_say w step sure one x y a b h k p q =
     let same = one h.0 k.0 a b h.2 k.2 (sure h.0 (subst (λ z. IsSure (said z)) h.1 p)) (sure k.0 (subst (λ z. IsSure (said z)) k.1 q)) in
     (h.1 ∙ ap to_say same.0 ∙ sym k.1, same.1)
 
-sure_replied : (reply : Reply) → IsSure (said (replied reply)) → IsSureReply reply
+sure_replied : (reply : Reply) → IsSure (said (replied reply)) → IsAmple reply
 sure_replied reply sure = sure
 
 -- what is said of a message
-sure_message : (packet : Packet) (reply : Reply) → IsSure (said (said_of packet reply)) → IsSureReply reply
+sure_message : (packet : Packet) (reply : Reply) → IsSure (said (said_of packet reply)) → IsAmple reply
 sure_message (packets.Full batch) reply sure = sure
 sure_message (packets.Have window) reply sure = sure
 sure_message (packets.Delta batch) reply sure = sure
@@ -194,12 +193,12 @@ sure_message (packets.Data d) NoSuch sure = sure
 sure_message (packets.Data d) (Refused fault) sure = sure
 
 completing : (to_say : Reply → Said) (e : Event) (w : World) → Fit w → IsAtDesk 1 e
-    → ((reply : Reply) → IsSure (said (to_say reply)) → IsSureReply reply) → One (λ v. Says to_say (Completes v e)) w
+    → ((reply : Reply) → IsSure (said (to_say reply)) → IsAmple reply) → One (λ v. Says to_say (Completes v e)) w
 completing to_say e w fit desk sure =
     says_one to_say w (λ v. Completes v e) sure (λ r s a b. completes_one w e r s a b fit desk)
 
 stepping : (to_say : Reply → Said) (e : Event) (w : World) → Fit w → IsAtDesk 1 e
-    → ((reply : Reply) → IsSure (said (to_say reply)) → IsSureReply reply) → One (λ v. Says to_say (Step v e)) w
+    → ((reply : Reply) → IsSure (said (to_say reply)) → IsAmple reply) → One (λ v. Says to_say (Step v e)) w
 stepping to_say e w fit desk sure =
     says_one to_say w (λ v. Step v e) sure (λ r s a b. step_one w e r s a b fit desk)
 
@@ -250,11 +249,11 @@ unites_one first second w x y a b (calls.stopped {s} {fault} which at why) (call
 no_memory : Result ℕ Fault
 no_memory = Err (faults.Refused Memory)
 
-sure_checked : (fault : Fault) → IsSureReply (Refused fault) → Err fault ≢ no_memory
+sure_checked : (fault : Fault) → IsAmple (Refused fault) → Err fault ≢ no_memory
 unfolding no_memory
 sure_checked fault sure e =
     let same : fault ≡ faults.Refused Memory = cc e in
-    sure.ample.memory (ap Refused same)
+    sure.memory (ap Refused same)
 
 module _ (one_spelling : (f g : Format) (a b : Packet) → HasPacket f a → HasPacket g b
     → packet_bytes f a ≡ packet_bytes g b → (f ≡ g) × (a ≡ b))
@@ -317,28 +316,53 @@ module _ (one_spelling : (f g : Format) (a b : Packet) → HasPacket f a → Has
       pub found : making.finds maker number kept
       pub refused : Joins w number kept (Refused fault) w
 
-    no_keeper : (fault : Fault) → IsKeeperFault fault → IsSureReply (Refused fault) → ⊥
-    no_keeper fault (inl is) sure = sure.ample.memory (ap Refused is)
-    no_keeper fault (inr (inl is)) sure = sure.ample.keeper (ap Refused is)
-    no_keeper fault (inr (inr is)) sure = sure.ample.own (ap Refused is)
+    -- or is another's
+    IsOthers : ℕ → Fault → Type 0
+    IsOthers number fault = making.refuses maker number faults.WrongNode × (fault ≡ faults.WrongNode)
 
-    would_not : (w : World) (number : ℕ) (fault : Fault) → NotOpened custody making maker w number fault
-        → IsSureReply (Refused fault) → WouldNotJoin w number fault
-    would_not w number fault (without_keeper why) sure = absurd (no_keeper fault (certain.fails number fault why) sure)
-    would_not w number fault (not_joined keeper other over) sure =
+    of_cause : (number : ℕ) (fault : Fault) → making.refuses maker number fault → IsKeeperFault fault → IsAmple (Refused fault)
+        → IsOthers number fault
+    unfolding IsOthers
+    of_cause number fault why (inl is) sure = absurd (sure.memory (ap Refused is))
+    of_cause number fault why (inr (inl is)) sure = absurd (sure.keeper (ap Refused is))
+    of_cause number fault why (inr (inr is)) sure = (subst (λ f. making.refuses maker number f) is why, is)
+
+    refusal : (w : World) (number : ℕ) (fault : Fault) → NotOpened custody making maker w number fault
+        → IsAmple (Refused fault) → IsOthers number fault ⊎ WouldNotJoin w number fault
+    refusal w number fault (without_keeper why) sure = inl (of_cause number fault why (certain.fails number fault why) sure)
+    refusal w number fault (not_joined keeper other over) sure =
         let k = over (certain.trusted keeper) in
-        record { kept = k.0; found = k.1; refused = k.2 }
+        inr (record { kept = k.0; found = k.1; refused = k.2 })
 
     -- how a node is opened is sure
     SureEntry : Result (Unit {0}) Fault → Type 0
     SureEntry (Ok u) = Unit {0}
-    SureEntry (Err fault) = IsSureReply (Refused fault)
+    SureEntry (Err fault) = IsAmple (Refused fault)
 
     both_join : (w : World) (number : ℕ) (k other : Kept) (r s : Reply) (a b : World) → making.finds maker number k → making.finds maker number other
-        → Joins w number k r a → Joins w number other s b → IsSureReply r → IsSureReply s → (r ≡ s) × (a ≡ b)
+        → Joins w number k r a → Joins w number other s b → IsAmple r → IsAmple s → (r ≡ s) × (a ≡ b)
     both_join w number k other r s a b found found' step step' p q =
         one_joining step (subst (λ x. Joins w number x s b) (certain.one_kept number other k found' found) step')
-        p.ample q.ample p.boot q.boot
+        p q
+
+    -- who joins is not refused
+    joins_alone : (w a : World) (number boot : ℕ) (k : Kept) (fault : Fault) → making.finds maker number k
+        → Joins w number k (Booted boot) a → IsAmple (Refused fault) → IsOthers number fault ⊎ WouldNotJoin w number fault → ⊥
+    unfolding IsOthers
+    joins_alone w a number boot k fault found step sure (inl other) = certain.never_both number k other.0 found
+    joins_alone w a number boot k fault found step sure (inr not) =
+        let same = (both_join w number k not.kept (Booted boot) (Refused fault) a w found not.found step not.refused
+        (sure_booted boot) sure).0 in absurd (cc)
+
+    one_refusal : (w : World) (number : ℕ) (f g : Fault) → IsOthers number f ⊎ WouldNotJoin w number f
+        → IsOthers number g ⊎ WouldNotJoin w number g → IsAmple (Refused f) → IsAmple (Refused g) → f ≡ g
+    unfolding IsOthers
+    one_refusal w number f g (inl is) (inl so) p q = is.1 ∙ sym so.1
+    one_refusal w number f g (inl is) (inr not) p q = absurd (certain.never_both number not.kept is.0 not.found)
+    one_refusal w number f g (inr not) (inl is) p q = absurd (certain.never_both number not.kept is.0 not.found)
+    one_refusal w number f g (inr not) (inr nor) p q =
+        let same = (both_join w number not.kept nor.kept (Refused f) (Refused g) w w not.found nor.found not.refused
+        nor.refused p q).0 in cc
 
     enters_one : (w a b : World) (number : ℕ) (r s : Result (Unit {0}) Fault) → Enters o w number r a → Enters o w number s b
         → SureEntry r → SureEntry s → (r ≡ s) × (a ≡ b)
@@ -351,17 +375,11 @@ module _ (one_spelling : (f g : Format) (a b : Packet) → HasPacket f a → Has
     enters_one w a b number r s (joins {k} {boot} none found step) (joins {k = other} {boot = boot'} none' found' step') p q =
         (refl, (both_join w number k other (Booted boot) (Booted boot') a b found found' step step' (sure_booted boot) (sure_booted boot')).1)
     enters_one w a b number r s (joins {k} {boot} none found step) (is_refused {fault} none' why) p q =
-        let not = would_not w number fault why q in
-        absurd (cc ((both_join w number k not.kept (Booted boot) (Refused fault) a w found not.found step not.refused (sure_booted boot) q).0))
+        absurd (joins_alone w a number boot k fault found step q (refusal w number fault why q))
     enters_one w a b number r s (is_refused {fault} none' why) (joins {k} {boot} none found step) p q =
-        let not = would_not w number fault why p in
-        absurd (cc ((both_join w number k not.kept (Booted boot) (Refused fault) b w found not.found step not.refused (sure_booted boot) p).0))
+        absurd (joins_alone w b number boot k fault found step p (refusal w number fault why p))
     enters_one w a b number r s (is_refused {fault} none why) (is_refused {fault = other} none' why') p q =
-        let not = would_not w number fault why p in
-        let nor = would_not w number other why' q in
-        let same = (both_join w number not.kept nor.kept (Refused fault) (Refused other) w w not.found nor.found not.refused nor.refused p q).0 in
-        let one : fault ≡ other = cc same in
-        (ap Err one, refl)
+        (ap Err (one_refusal w number fault other (refusal w number fault why p) (refusal w number other why' q) p q), refl)
 
     once_one : (number : ℕ) (does : World → Said → World → Type 0) → ((v : World) → Fit v → One does v) → (w : World) → Fit w
         → One (λ v. OnceOpen o v number does) w

@@ -49,8 +49,8 @@ pub fn law_script<M: MakesKeepers>()
         1 begun lines outputs (record { world = w; aliases = end.aliases })) }
 {}
 
-/// The answer to a line is a run of worlds: so is that to all lines of a script, and each law of worlds that a run leads to
-/// holds of scripts.
+/// The answer to a line is a run of worlds, by events and joinings alone: so is that to all lines of a script, and each law of
+/// worlds that a run leads to holds of scripts.
 pub fn law_worlds<M: MakesKeepers>()
     ensures turn { (maker : M) (old new : Session) (line : List ℕ) (answer : Answer) →
         Turn (openings_of M.K.custody M.making maker)
@@ -82,7 +82,7 @@ pub fn law_script_safe<M: MakesKeepers>()
 }
 
 /// What the first lines are answered is a run of them alone; and, where the keepers open one way and no line is answered that
-/// something was wanting, the same whatever comes later.
+/// memory was wanting or a keeper failed, the same whatever comes later.
 pub fn law_first_lines<M: MakesKeepers>()
     ensures begins { (maker : M) (first later : List (List ℕ)) (outputs : List LineOutput)
         (end : SessionOver M.K M) → Lines (TurnsOver M.K.custody M.making)
@@ -101,8 +101,8 @@ pub fn law_first_lines<M: MakesKeepers>()
     law_one_packet();
 }
 
-/// Where the keepers of a script's nodes open one way, as those in memory do, and no line is answered that memory, a name, a boot
-/// or a keeper was wanting, a script has one run: the same answers, and the same nodes at the end.
+/// Where the keepers of a script's nodes open one way, as those in memory do, and no line is answered that memory was wanting or
+/// a keeper failed, a script has one run: the same answers, whatever else they refuse, and the same nodes at the end.
 pub fn law_output<M: MakesKeepers>()
     ensures { (maker : M) (lines : List (List ℕ)) (a b : List Answer) (m n : Session) →
         OpenOneWay M.K.custody M.making maker →

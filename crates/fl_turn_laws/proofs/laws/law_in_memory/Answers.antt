@@ -6,4 +6,5 @@ returns c = λ lines a b m n. c.law_output.ensures (record {}) lines a b m n (re
   trusted = λ keeper. record { honest = tt; kept = keeper.kept; held = refl };
   one_kept = λ number k other is was. is ∙ sym was;
   fails = λ number fault never. absurd never;
+  never_both = λ number k never. absurd never;
 })
