@@ -1,10 +1,14 @@
-//! Tests of worlds over keepers in memory.
+//! Tests of worlds over keepers in memory, and over files.
 #![tactic(auto)]
 
 #[cfg(test)]
 mod gossip;
 #[cfg(test)]
+mod hiccup;
+#[cfg(test)]
 mod keepers;
+#[cfg(test)]
+mod mending;
 #[cfg(test)]
 mod reopening;
 #[cfg(test)]

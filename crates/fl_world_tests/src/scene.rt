@@ -7,6 +7,7 @@ use fl_jobs::job::{Act, Job, Order};
 use fl_labels::name::{Name, NodeNumber};
 use fl_labels::pid::Pid;
 use fl_ops::op::Policy;
+use fl_store::keeper::Keeper;
 use fl_store::mem::MemKeeper;
 use fl_system::event::Event;
 use fl_system::reply::Reply;
@@ -30,8 +31,8 @@ pub fn joins(
 }
 
 /// Has the event happen, which is to be answered so.
-pub fn happens(
-    world: &mut World<MemKeeper>,
+pub fn happens<K: Keeper>(
+    world: &mut World<K>,
     alloc: Global,
     event: Event,
     wanted: &Reply,
@@ -58,7 +59,7 @@ pub fn job(job: Job) -> Event
 }
 
 /// The process that is made first at node 1 since this boot begins to make a tag there.
-pub fn tag_is_begun(world: &mut World<MemKeeper>, alloc: Global, boot: u32) -> Result<(), Fail>
+pub fn tag_is_begun<K: Keeper>(world: &mut World<K>, alloc: Global, boot: u32) -> Result<(), Fail>
     requires { 0 < boot }
 {
     let pid = Pid {
