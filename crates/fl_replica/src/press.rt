@@ -155,8 +155,10 @@ impl Press {
     /// the batch, [`PressFault::Staged`] where it is staged, and there is none to absorb it.
     ///
     /// Each operation is absorbed by both copies, by the other one at the next call: twice what
-    /// [`Index::absorb`] costs, and four microseconds a call. It first waits for each look that
-    /// began before the last call, so a desk that asks without a rest holds it up.
+    /// [`Index::absorb`] costs, and some three microseconds a call. It first waits for each look
+    /// that began before the last call, so a desk that asks without a rest holds it up: beside one
+    /// such thread a call took 24 to 174 microseconds, on a machine with much else to do, where it
+    /// takes 6 alone.
     ///
     /// [`Index::absorb`]: fl_closure::index::Index::absorb
     pub fn publish<R: Wait>(&mut self, rt: &R, batch: &[Op]) -> Result<Told, PressFault>
