@@ -94,8 +94,8 @@ fn first_writer<R: Wait>(
 /// A press whose published list is this one, with nothing staged, and so many desks, which were
 /// told of it. Fails only where there is not enough memory.
 ///
-/// It takes two copies of the list with its index, twice what [`Index`] does, and some hundred
-/// bytes a desk; the cache of a desk grows by what it is asked, to 1,024 questions. It waits for
+/// It takes two copies of the list with its index, twice what [`Index`] does, and little for each
+/// desk, whose cache grows by what it is asked, to 1,024 questions. It waits for
 /// nobody.
 ///
 /// [`Index`]: fl_closure::index::Index
