@@ -60,8 +60,6 @@ impl<D: Disk> Disk for Hiccup<D> {
 
     ghost key_of = { λ h. D.Disk.key_of h.inner };
 
-    ghost is_frozen = { λ h. D.Disk.is_frozen h.inner };
-
     ghost is_clean = { λ h. D.Disk.is_clean h.inner };
 
     ghost is_fair = { λ h. D.Disk.is_fair h.inner };
