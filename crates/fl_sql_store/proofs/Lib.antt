@@ -2,4 +2,3 @@ pub mod KeepLemmas
 pub mod FoundLemmas
 pub mod CauseLemmas
 pub mod RewriteLemmas
-pub mod AgainLemmas

@@ -1,4 +1,3 @@
 pub mod SqlKeeping
 pub mod Opening
 pub mod Breaking
-pub mod FileKeeping

@@ -1,11 +1,11 @@
 //! Tests of a node over files that is opened again after a write failed.
 ghost use Rattle.fl_store.specs.Keeping.{Stays};
-ghost use Rattle.fl_sql_store.specs.FileKeeping.{IsHonest, MayHold};
+ghost use Rattle.fl_file_store.specs.FileKeeping.{IsHonest, MayHold};
 
 use crate::hiccup::Hiccup;
 use crate::scene::tag_is_begun;
 use fl_labels::name::NodeNumber;
-use fl_sql_store::file_keeper::FileKeeper;
+use fl_file_store::file_keeper::FileKeeper;
 use fl_sql_store::sql_keeper::SqlKeeper;
 use fl_system::answer::Fault;
 use fl_system::reply::Reply;

@@ -1,6 +1,6 @@
 -- The keeper is opened again over its own files, so it is trusted no further than before.
 use Rattle.std.proofs.Common.{subst, sym}
-use Rattle.fl_sql_store.specs.FileKeeping.{IsHonest, MayHold}
+use Rattle.fl_file_store.specs.FileKeeping.{IsHonest, MayHold}
 use Rattle.fl_world_tests.proofs.mending.mended.Goals as goal
 
 pub reopen-requires-clause-trusted : goal.reopen-requires-clause-trusted

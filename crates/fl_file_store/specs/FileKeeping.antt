@@ -22,11 +22,11 @@ use Rattle.fl_sql_tables.specs.Stored.{HasBadRow}
 use Rattle.fl_sql_store.specs.SqlKeeping.{SqlKept, held_in, something_held, kept_number}
 use Rattle.fl_sql_store.specs.Opening.{OpensAs, RefusesToOpen}
 use Rattle.fl_sql_store.specs.Breaking.{SqlBreaks, SqlWants}
-use Rattle.fl_sql_store.specs.declared.unmended.Unmended.{Unmended}
-use Rattle.fl_sql_store.specs.declared.unmended.Unmended.TheVariants.{Unusable, Unopened}
-use Rattle.fl_sql_store.specs.declared.unmended.Unmended.TheVariants.{Refused, GivenUp}
-use Rattle.fl_sql_store.specs.declared.file_keeper.FileKeeper.{FileKeeper}
-use Rattle.fl_sql_store.specs.declared.file_keeper.FileKeeper.TheVariants.{Open, Lost}
+use Rattle.fl_file_store.specs.declared.unmended.Unmended.{Unmended}
+use Rattle.fl_file_store.specs.declared.unmended.Unmended.TheVariants.{Unusable, Unopened}
+use Rattle.fl_file_store.specs.declared.unmended.Unmended.TheVariants.{Refused, GivenUp}
+use Rattle.fl_file_store.specs.declared.file_keeper.FileKeeper.{FileKeeper}
+use Rattle.fl_file_store.specs.declared.file_keeper.FileKeeper.TheVariants.{Open, Lost}
 
 -- no sync of either has failed
 abbrev pub AreUsable : {D : Type 0} → Ghosts D → Files D → Type 0

@@ -1,5 +1,5 @@
-use Rattle.fl_sql_store.proofs.AgainLemmas.{both_usable, not_both}
-use Rattle.fl_sql_store.proofs.again.opened_again.Goals as goal
+use Rattle.fl_file_store.proofs.AgainLemmas.{both_usable, not_both}
+use Rattle.fl_file_store.proofs.again.opened_again.Goals as goal
 
 pub returns-then-not-may_be_used-clause-shut : goal.returns-then-not-may_be_used-clause-shut
 returns-then-not-may_be_used-clause-shut g c =

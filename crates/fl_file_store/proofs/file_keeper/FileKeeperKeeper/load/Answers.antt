@@ -1,4 +1,4 @@
-use Rattle.fl_sql_store.proofs.file_keeper.FileKeeperKeeper.load.Goals as goal
+use Rattle.fl_file_store.proofs.file_keeper.FileKeeperKeeper.load.Goals as goal
 
 pub returns-in-Open-clause-cause : goal.returns-in-Open-clause-cause
 returns-in-Open-clause-cause g c = rw c.in-Open.is c.load.ensures.cause

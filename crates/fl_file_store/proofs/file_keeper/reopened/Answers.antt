@@ -1,7 +1,7 @@
 use Rattle.std.proofs.Common.{subst}
-use Rattle.fl_sql_store.specs.FileKeeping.{OpensAgain, StaysShut}
-use Rattle.fl_sql_store.proofs.AgainLemmas.{trusted_no_further, is_mended, is_refused, is_lost}
-use Rattle.fl_sql_store.proofs.file_keeper.reopened.Goals as goal
+use Rattle.fl_file_store.specs.FileKeeping.{OpensAgain, StaysShut}
+use Rattle.fl_file_store.proofs.AgainLemmas.{trusted_no_further, is_mended, is_refused, is_lost}
+use Rattle.fl_file_store.proofs.file_keeper.reopened.Goals as goal
 
 pub returns-in-Ok-outcome-clause-reopens : goal.returns-in-Ok-outcome-clause-reopens
 returns-in-Ok-outcome-clause-reopens g c =

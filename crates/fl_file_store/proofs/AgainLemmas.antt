@@ -35,11 +35,11 @@ use Rattle.fl_sql_tables.specs.Stored.{kept_in}
 use Rattle.fl_store.specs.declared.keeper.KeeperFault.{KeeperFault}
 use Rattle.fl_sql_store.specs.SqlKeeping.{SqlKept, held_in}
 use Rattle.fl_sql_store.specs.Opening.{OpensAs, RefusesToOpen}
-use Rattle.fl_sql_store.specs.FileKeeping.{number_of, OpensAgain, StaysShut, Reopens, Mends}
-use Rattle.fl_sql_store.specs.declared.unmended.Unmended.{Unmended}
-use Rattle.fl_sql_store.specs.declared.unmended.Unmended.TheVariants.{Unusable, Unopened, Refused, GivenUp}
-use Rattle.fl_sql_store.specs.declared.file_keeper.FileKeeper.{FileKeeper}
-use Rattle.fl_sql_store.specs.declared.file_keeper.FileKeeper.TheVariants.{Open, Lost}
+use Rattle.fl_file_store.specs.FileKeeping.{number_of, OpensAgain, StaysShut, Reopens, Mends}
+use Rattle.fl_file_store.specs.declared.unmended.Unmended.{Unmended}
+use Rattle.fl_file_store.specs.declared.unmended.Unmended.TheVariants.{Unusable, Unopened, Refused, GivenUp}
+use Rattle.fl_file_store.specs.declared.file_keeper.FileKeeper.{FileKeeper}
+use Rattle.fl_file_store.specs.declared.file_keeper.FileKeeper.TheVariants.{Open, Lost}
 
 -- what the files of a store stand for, as they read now
 module _ {D : Type 0} {g : Ghosts D} (it : FileStore D g) (stays : SeenMayStay g) (clean : IsTrue (state it).is_clean) where

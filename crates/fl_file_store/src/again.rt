@@ -1,6 +1,6 @@
 //! Opening the files of a connection again.
 ghost use Rattle.std.specs.Prelude.{◌≡◌, false, IfOk, IfErr};
-ghost use Rattle.fl_sql_store.specs.FileKeeping.{GivesUp, OpensAgain, StaysShut};
+ghost use Rattle.fl_file_store.specs.FileKeeping.{GivesUp, OpensAgain, StaysShut};
 
 use crate::unmended::Unmended;
 use sqlite::{Connection, FileStore, Files, Options};

@@ -1,7 +1,7 @@
 use Rattle.std.proofs.Common.{subst, sym}
 use Rattle.fl_store.specs.Keeping.{Stays}
-use Rattle.fl_sql_store.specs.FileKeeping.{IsHonest, MayHold}
-use Rattle.fl_sql_store.proofs.file_keeper.FileKeeper.mended.Goals as goal
+use Rattle.fl_file_store.specs.FileKeeping.{IsHonest, MayHold}
+use Rattle.fl_file_store.proofs.file_keeper.FileKeeper.mended.Goals as goal
 
 pub returns-in-Open-clause-held : goal.returns-in-Open-clause-held
 returns-in-Open-clause-held g c =
