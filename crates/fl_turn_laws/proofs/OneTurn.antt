@@ -1,5 +1,5 @@
 -- A line has one answer, where the keepers of its nodes open one way.
-use Rattle.std.proofs.Common.{◌≡◌, ◌≢◌, ◌∙◌, inl, inr, ℕ, true, List, [], ◌∷◌, ◌++◌, length, take, None, Some, refl, sym, ap, subst, Result, Ok, Err, arith}
+use Rattle.std.proofs.Common.{◌≡◌, ◌≢◌, ◌⊎◌, ◌∙◌, inl, inr, ℕ, true, List, [], ◌∷◌, ◌++◌, length, take, None, Some, refl, sym, ap, subst, Result, Ok, Err, arith}
 use Rattle.std.specs.List.{All, AllByRecursion}
 use Rattle.std.proofs.lemmas.List.Elements.{recursion_from_All}
 use Rattle.fl_bench.specs.laws.Puts.{none_some, same_found}
