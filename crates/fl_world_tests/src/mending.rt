@@ -4,8 +4,8 @@ ghost use Rattle.fl_file_store.specs.FileKeeping.{IsHonest, MayHold};
 
 use crate::hiccup::Hiccup;
 use crate::scene::tag_is_begun;
-use fl_labels::name::NodeNumber;
 use fl_file_store::file_keeper::FileKeeper;
+use fl_labels::name::NodeNumber;
 use fl_sql_store::sql_keeper::SqlKeeper;
 use fl_system::answer::Fault;
 use fl_system::reply::Reply;
