@@ -7,7 +7,6 @@ ghost use Rattle.fl_system.specs.Numbered.{item_at};
 ghost use Rattle.fl_system.specs.World.{World as AnyWorld};
 ghost use Rattle.fl_system.specs.WorldSteps.{node_of};
 ghost use Rattle.fl_nodes.specs.Goes.{MayBe};
-ghost use Rattle.fl_world.specs.Looking.{LooksFar};
 ghost use Rattle.fl_calls.specs.Answer.{registry_of, shown};
 ghost use Rattle.fl_calls.specs.Entering.{Enters};
 ghost use Rattle.fl_calls.specs.Over.{begun_over, GoesOn};
@@ -133,7 +132,7 @@ impl<M: MakesKeepers> Cluster<M> {
         ensures { result ≡ begun_over maker }
     {
         Cluster {
-            world: World::new(alloc),
+            world: World::new(alloc, 1),
             maker,
         }
     }
@@ -175,8 +174,7 @@ impl<M: MakesKeepers> Cluster<M> {
     /// was begun is given up, and where publishing does it stays due: `Memory`.
     #[inline(always)]
     pub fn ask(&mut self, alloc: Global, event: Event) -> Response
-        requires far { LooksFar event }
-        requires known { 0 < node_of event }
+        requires { 0 < node_of event }
         ensures { GoesOn M.K.custody M.making self.old self.new
             (λ openings w w'. Asks openings w event (shown self.new.world result) w') }
     {
@@ -189,8 +187,7 @@ impl<M: MakesKeepers> Cluster<M> {
     /// Has the event happen at its node, which is opened where it is not there. What it begins is to be saved and published by
     /// further events.
     pub fn begin(&mut self, alloc: Global, event: Event) -> Response
-        requires far { LooksFar event }
-        requires known { 0 < node_of event }
+        requires { 0 < node_of event }
         ensures { GoesOn M.K.custody M.making self.old self.new
             (λ openings w w'. AsksToBegin openings w event (shown self.new.world result) w') }
     {

@@ -2,7 +2,6 @@
 ghost use Rattle.std.specs.Prelude.{◌≡◌, ◌≢◌, false, true};
 ghost use Rattle.fl_system.specs.WorldSteps.{node_of};
 ghost use Rattle.fl_nodes.specs.Goes.{Goes};
-ghost use Rattle.fl_world.specs.Looking.{LooksFar};
 ghost use Rattle.fl_calls.specs.Completing.{begins, starved, Finishes, Completes};
 
 use fl_jobs::answer::Refusal;
@@ -64,7 +63,6 @@ fn finish<K: Keeper>(alloc: Global, world: &mut World<K>, number: NodeNumber) ->
 /// Has the event happen, and saves and publishes what it begins. Gives what the last of it is answered.
 #[inline(always)]
 pub fn complete<K: Keeper>(alloc: Global, world: &mut World<K>, event: Event) -> Reply
-    requires { LooksFar event }
     ensures { Goes K.custody world.old world.new (λ w w'. Completes w event result w') }
 {
     let number = number_of(&event);

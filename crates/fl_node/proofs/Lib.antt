@@ -1,7 +1,7 @@
 pub mod NodeLemmas
 pub mod FindLemmas
 pub mod OpenLemmas
-pub mod Alone
+pub mod Working
 pub mod Sounds
 pub mod SaveLemmas
 pub mod JobLemmas

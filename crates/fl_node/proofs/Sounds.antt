@@ -1,9 +1,7 @@
 -- What stays true of a node.
-use Rattle.std.proofs.Common.{arith, ◌≡◌, ◌≤◌, length, ◌⊎◌, ◌∙◌, refl, sym, ap, subst, ℕ, List}
+use Rattle.std.proofs.Common.{◌≡◌, ◌∙◌, sym, ap, subst, ℕ}
 use Rattle.std.specs.declared.option.Option.{Option}
-use Rattle.fl_labels.specs.SetBy as set
 use Rattle.fl_labels.specs.SetBy.{SetBy}
-use Rattle.fl_ops.specs.declared.op.Op.{Op}
 use Rattle.fl_ops.specs.OpOrder.{op_cmp}
 use Rattle.fl_store.specs.Kept.{Kept, HasNamesOnce, with_ops, with_batch}
 use Rattle.fl_store.specs.Keeping.{Held, Follows, Stays}
@@ -17,67 +15,63 @@ use Rattle.fl_system.specs.State.{ops_of}
 use Rattle.fl_system.specs.Waiting.{IsRunning}
 use Rattle.fl_node.specs.Sound.{IsSound, IsFresh, IsKeptOwn}
 
-module _ {honest : Type 0} {held : Held} {number boot : ℕ} {saved : SetBy op_cmp} {published : List Op} {seen : ℕ} {index : SetBy op_cmp} where
+module _ {honest : Type 0} {held : Held} {number boot : ℕ} {saved : SetBy op_cmp} {desks benches : ℕ} where
   -- what is on its way moves on
-  pub moves : (s : State) (pending : Pending) → IsRunning s → IsFresh (Running pending) saved → IsSound honest held number boot saved published seen s index
-      → IsSound honest held number boot saved published seen (Running pending) index
-  moves (Running p) pending running fresh h = record { numbered = h.numbered; booted = h.booted; sees = h.sees; indexed = h.indexed; once = h.once; fresh = fresh; kept = h.kept }
+  pub moves : (s : State) (pending : Pending) → IsRunning s → IsFresh (Running pending) saved → IsSound honest held number boot saved s desks benches
+      → IsSound honest held number boot saved (Running pending) desks benches
+  moves (Running p) pending running fresh h = record { numbered = h.numbered; booted = h.booted; once = h.once; fresh = fresh; kept = h.kept; paired = h.paired }
   moves (Stopped doubt) pending running fresh h = absurd running
 
-module _ {honest honest' : Type 0} {held held' : Held} {number boot : ℕ} {saved saved' : SetBy op_cmp} {published : List Op} {seen : ℕ} {index : SetBy op_cmp} where
+  -- other views and benches, as many
+  pub counts_on : (s : State) (desks' benches' : ℕ) → desks' ≡ desks → benches' ≡ benches → IsSound honest held number boot saved s desks benches
+      → IsSound honest held number boot saved s desks' benches'
+  counts_on s desks' benches' same_desks same_benches h = record {
+    numbered = h.numbered;
+    booted = h.booted;
+    once = h.once;
+    fresh = h.fresh;
+    kept = h.kept;
+    paired = same_benches ∙ h.paired ∙ sym same_desks;
+  }
+
+  -- what was due is published, or what was pending is given up
+  pub rests_on : (s : State) (desks' benches' : ℕ) → IsRunning s → desks' ≡ desks → benches' ≡ benches → IsSound honest held number boot saved s desks benches
+      → IsSound honest held number boot saved (Running Nothing) desks' benches'
+  rests_on s desks' benches' running same_desks same_benches h = counts_on (Running Nothing) desks' benches' same_desks same_benches (moves s Nothing running tt h)
+
+module _ {honest honest' : Type 0} {held held' : Held} {number boot : ℕ} {saved saved' : SetBy op_cmp} {desks benches : ℕ} where
   -- another keeper, or one that changed, at a node that is stopped
-  pub halts : (s : State) (doubt : Option Batch) → saved' ≡ saved → IsSound honest held number boot saved published seen s index
-      → IsSound honest' held' number boot saved' published seen (Stopped doubt) index
-  halts s doubt saved_is h = record { numbered = h.numbered; booted = h.booted; sees = h.sees; indexed = h.indexed; once = subst HasNamesOnce (sym saved_is) h.once; fresh = tt; kept = λ _. tt }
+  pub halts : (s : State) (doubt : Option Batch) → saved' ≡ saved → IsSound honest held number boot saved s desks benches
+      → IsSound honest' held' number boot saved' (Stopped doubt) desks benches
+  halts s doubt saved_is h = record { numbered = h.numbered; booted = h.booted; once = subst HasNamesOnce (sym saved_is) h.once; fresh = tt; kept = λ _. tt; paired = h.paired }
 
   -- the batch is saved
   pub saves_on : (batch : Batch) → saved' ≡ with_ops saved (ops_of batch) → (honest' → honest × Follows (λ k k'. k' ≡ with_batch k (ops_of batch)) held held')
-      → IsSound honest held number boot saved published seen (Running (Unsaved batch)) index → IsSound honest' held' number boot saved' published seen (Running (Due batch)) index
+      → IsSound honest held number boot saved (Running (Unsaved batch)) desks benches → IsSound honest' held' number boot saved' (Running (Due batch)) desks benches
   saves_on batch saved_is step h = record {
     numbered = h.numbered;
     booted = h.booted;
-    sees = h.sees;
-    indexed = h.indexed;
     once = subst HasNamesOnce (sym saved_is) (once-more (ops_of batch) saved h.fresh h.once);
     fresh = tt;
     kept = λ trusted k is.
         let s = step trusted in
         let b = s.1 k is in
         b.2 ∙ ap (λ (x : Kept). with_batch x (ops_of batch)) (h.kept s.0 b.0 b.1) ∙ (λ i. record { number = number; boot = boot; saved = (sym saved_is) i });
+    paired = h.paired;
   }
 
   -- it is not, for want of memory
-  pub stays_on : (s : State) → IsRunning s → saved' ≡ saved → (honest' → honest × Stays held held') → IsSound honest held number boot saved published seen s index
-      → IsSound honest' held' number boot saved' published seen s index
+  pub stays_on : (s : State) → IsRunning s → saved' ≡ saved → (honest' → honest × Stays held held') → IsSound honest held number boot saved s desks benches
+      → IsSound honest' held' number boot saved' s desks benches
   stays_on (Running pending) running saved_is step h = record {
     numbered = h.numbered;
     booted = h.booted;
-    sees = h.sees;
-    indexed = h.indexed;
     once = subst HasNamesOnce (sym saved_is) h.once;
     fresh = subst (IsFresh (Running pending)) (sym saved_is) h.fresh;
     kept = λ trusted k is.
         let s = step trusted in
         let b = s.1 k is in
         b.2 ∙ h.kept s.0 b.0 b.1 ∙ (λ i. record { number = number; boot = boot; saved = (sym saved_is) i });
+    paired = h.paired;
   }
   stays_on (Stopped doubt) running saved_is step h = absurd running
-
-module _ {honest : Type 0} {held : Held} {number boot : ℕ} {saved : SetBy op_cmp} {published published' : List Op} {seen seen' : ℕ} {index index' : SetBy op_cmp} where
-  -- what was due is published
-  pub publishes_on : (s : State) → IsRunning s → seen' ≤ length published' → index' ≡ set.of_list published' → IsSound honest held number boot saved published seen s index
-      → IsSound honest held number boot saved published' seen' (Running Nothing) index'
-  publishes_on (Running pending) running sees index_is h = record { numbered = h.numbered; booted = h.booted; sees = sees; indexed = index_is; once = h.once; fresh = tt; kept = h.kept }
-  publishes_on (Stopped doubt) running sees index_is h = absurd running
-
-module _ {honest : Type 0} {held : Held} {number boot : ℕ} {saved : SetBy op_cmp} {published : List Op} {seen seen' : ℕ} {index index' : SetBy op_cmp} where
-  -- its desk sees all that is published
-  pub looks_on : (s : State) → seen' ≡ length published → index' ≡ index → IsSound honest held number boot saved published seen s index
-      → IsSound honest held number boot saved published seen' s index'
-  looks_on s seen_is index_is h = record { numbered = h.numbered; booted = h.booted; sees = omega arith; indexed = index_is ∙ h.indexed; once = h.once; fresh = h.fresh; kept = h.kept }
-
-module _ {honest : Type 0} {held : Held} {number boot : ℕ} {saved : SetBy op_cmp} {published : List Op} {seen : ℕ} {index index' : SetBy op_cmp} where
-  -- its index was asked, and has the same members
-  pub asks_on : (s : State) → index' ≡ index → IsSound honest held number boot saved published seen s index
-      → IsSound honest held number boot saved published seen s index'
-  asks_on s index_is h = record { numbered = h.numbered; booted = h.booted; sees = h.sees; indexed = index_is ∙ h.indexed; once = h.once; fresh = h.fresh; kept = h.kept }

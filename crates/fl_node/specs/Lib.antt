@@ -4,3 +4,4 @@ pub mod Sound
 pub mod Telling
 pub mod parts
 pub mod Checking
+pub mod Desks

@@ -1,8 +1,6 @@
 -- What is true of every node.
-use Rattle.std.specs.Prelude.{◌≡◌, ◌<◌, ◌≤◌, ℕ, List, length}
-use Rattle.fl_labels.specs.SetBy as set
+use Rattle.std.specs.Prelude.{◌≡◌, ◌<◌, ℕ}
 use Rattle.fl_labels.specs.SetBy.{SetBy}
-use Rattle.fl_ops.specs.declared.op.Op.{Op}
 use Rattle.fl_ops.specs.OpOrder.{op_cmp}
 use Rattle.fl_store.specs.Kept.{Kept, AreNew, HasNamesOnce}
 use Rattle.fl_store.specs.Keeping.{Held}
@@ -24,11 +22,10 @@ IsKeptOwn (Running pending) own held = (k : Kept) → held k → k ≡ own
 IsKeptOwn (Stopped doubt) own held = Unit {0}
 
 pub record IsSound (honest : Type 0) (held : Held) (number boot : ℕ) (saved : SetBy op_cmp)
-    (published : List Op) (seen : ℕ) (state : State) (index : SetBy op_cmp) : Type 0 where
+    (state : State) (desks benches : ℕ) : Type 0 where
   pub numbered : 0 < number
   pub booted : 0 < boot
-  pub sees : seen ≤ length published
-  pub indexed : index ≡ set.of_list published
   pub once : HasNamesOnce saved
   pub fresh : IsFresh state saved
   pub kept : honest → IsKeptOwn state (record { number = number; boot = boot; saved = saved }) held
+  pub paired : benches ≡ desks

@@ -3,3 +3,4 @@ pub mod Finding
 pub mod Keeping
 pub mod Ordering
 pub mod Receiving
+pub mod Working

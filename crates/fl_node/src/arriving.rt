@@ -1,6 +1,7 @@
 //! How a message comes to a node.
-ghost use Rattle.std.specs.Prelude.{◌≡◌};
+ghost use Rattle.std.specs.Prelude.{◌≡◌, length};
 ghost use Rattle.fl_system.specs.Arrives.{Arrives};
+ghost use Rattle.fl_node.specs.Desks.{IsDeskOf};
 
 use crate::node::Node;
 use crate::state::running;
@@ -13,15 +14,20 @@ use std::alloc::Global;
 
 impl<K: Keeper> Node<K> {
     /// Hands a message that came to its receiver, as `Bench::job` has it, and says to whom. No operation is asked for, so that
-    /// nothing but the receiver's inbox changes, or, where the message is refused, nothing. A stopped node answers `Stopped`.
+    /// nothing but the receiver's inbox changes, or, where the message is refused, nothing. A stopped node answers `Stopped`. A node without a
+    /// desk is given none.
     pub fn arrive(&mut self, alloc: Global, message: Data) -> Result<Reply, Fault>
+        requires { IsDeskOf self.old.node 1 }
+        ensures desks { length self.new.node.views ≡ length self.old.node.views }
         ensures arrives { Arrives self.old.node message result self.new.node }
         ensures keeper { self.new.keeper ≡ self.old.keeper }
     {
         running(&self.state)?;
-        match self.bench.job(alloc, &mut self.index, Job::Arrive(message)) {
+        let message = Job::Arrive(message);
+        match self.benches.job(alloc, &mut self.listing, 1, message) {
             Ok(Outcome::Reply(reply)) => Ok(reply),
-            Ok(Outcome::Out(_)) | Ok(Outcome::Order(_, _)) => unreachable!(),
+            Ok(Outcome::Out(_packet)) => unreachable!("an arrival sends nothing"),
+            Ok(Outcome::Order(_body, _pid)) => unreachable!("an arrival is no order"),
             Err(refusal) => Err(Fault::Refused(refusal)),
         }
     }

@@ -1,20 +1,17 @@
 // What an opening finds at a keeper, and makes of it.
 ghost use Rattle.std.specs.Prelude.{◌≡◌, ◌⊎◌, ◌<◌, IsTrue, Err, IfOk, IfErr};
-ghost use Rattle.fl_labels.specs.SetBy as set;
 ghost use Rattle.fl_store.specs.Breaking.{IsLeftBroken};
 ghost use Rattle.fl_store.specs.Call.{Load, Boot};
 ghost use Rattle.fl_store.specs.Kept.{HasNamesOnce};
 ghost use Rattle.fl_node.specs.Causes.{KeeperFails};
 ghost use Rattle.fl_node.specs.parts.Finding.{Finds, Raises, shown_as};
 
-use fl_cache::cached::CachedIndex;
 use fl_jobs::answer::Refusal;
 use fl_labels::name::NodeNumber;
-use fl_ops::op::Op;
 use fl_opset::set::OpSet;
 use fl_store::keeper::{Keeper, KeeperFault};
 use fl_system::answer::Fault;
-use std::alloc::{AllocError, Global};
+use std::alloc::Global;
 
 // What is answered where a keeper refuses.
 fn shown(fault: KeeperFault) -> Fault
@@ -70,15 +67,4 @@ pub fn raise<K: Keeper>(keeper: &mut K) -> Result<u32, Fault>
         Ok(boot) => Ok(boot),
         Err(fault) => Err(shown(fault)),
     }
-}
-
-/// The operations of a set, rising, and their index.
-pub fn listed(alloc: Global, saved: &OpSet) -> Result<(Vec<Op>, CachedIndex), AllocError>
-    ensures list { IfOk result (λ found. found.0.items ≡ set.members saved.now) }
-    ensures index { IfOk result (λ found. found.1 ≡ set.of_list (set.members saved.now)) }
-{
-    let list = Vec::from_slice(alloc, saved.as_slice())?;
-    let mut index = CachedIndex::new(alloc);
-    index.absorb_all(alloc, saved)?;
-    Ok((list, index))
 }

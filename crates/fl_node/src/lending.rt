@@ -15,13 +15,11 @@ impl<K: Keeper> Node<K> {
         self.number
     }
 
-    /// How many desks the node has: one.
+    /// How many desks the node has.
     pub fn desks(&self) -> u8
-        ensures desks { length self.now.node.views ≡ result }
-        ensures one { result ≡ 1 }
+        ensures { length self.now.node.views ≡ result }
     {
-        let _seen = &self.seen;
-        1
+        self.listing.desks()
     }
 
     /// How often the node was opened, this time too.

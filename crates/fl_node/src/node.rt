@@ -13,26 +13,29 @@ ghost use Rattle.fl_system.specs.Processes.{process_of};
 ghost use Rattle.fl_system.specs.Waiting.{IsRunning, NotRunning};
 ghost use Rattle.fl_system.specs.Begins.{Begins};
 ghost use Rattle.fl_system.specs.Jobs.{Jobs};
+ghost use Rattle.fl_system.specs.Numbered.{item_at};
 ghost use Rattle.fl_system.specs.Saves.{Saves};
 ghost use Rattle.fl_system.specs.Publishes.{Publishes, Cancels};
 ghost use Rattle.fl_system.specs.Openings.{Opens, IsOf, OpensAgain, Reopens, Restarts, doubt_of};
 ghost use Rattle.fl_node.specs.Causes.{KeeperFails, LoadsBadRow};
+ghost use Rattle.fl_node.specs.Desks.{IsDeskOf};
 ghost use Rattle.fl_node.specs.parts.Ordering.{Orders};
+ghost use Rattle.fl_node.specs.parts.Working.{WorksAt};
 
 use crate::beginning::next_name;
-use crate::finding::{find, listed, raise};
+use crate::finding::{find, raise};
 use crate::keeping::{Unkept, keep};
-use crate::publishing::{append, give, release, tell};
-use crate::recovering::recover;
+use crate::publishing::{give, release};
+use crate::recovering::{Had, recover};
 use crate::state::{doubt, doubted, due, halt, idle, running, saved, unsaved};
 use fl_bench::process::Process;
 use fl_bench::shared::SharedCaps;
-use fl_cache::cached::CachedIndex;
+use fl_desks::benches::Benches;
+use fl_desks::listing::Listing;
 use fl_jobs::answer::{Outcome, Refusal};
 use fl_jobs::job::{Job, let_go};
 use fl_labels::name::{Name, NodeNumber};
 use fl_labels::pid::Pid;
-use fl_monitor::bench::Bench;
 use fl_ops::op::{Body, Op};
 use fl_opset::set::OpSet;
 use fl_sink::sink::WriteFault;
@@ -44,22 +47,22 @@ use std::io::Write;
 use std::marker::Model;
 use std::mem::replace;
 
-/// A node of one desk and one bench: its keeper, what is saved and published of it, how much of that the desk sees, what is on
-/// its way, and its processes.
+/// A node: its keeper, what is saved and published of it, how much of that each of its desks sees, what is on its way, and the
+/// benches of its processes, as many as there are desks.
+///
+/// An operation stands in it three times, and once more for each desk that sees it, with what it leads to there.
 pub struct Node<K: Keeper> {
     pub(crate) keeper: K,
     pub(crate) number: NodeNumber,
     pub(crate) boot: u32,
     pub(crate) saved: OpSet,
-    pub(crate) published: Vec<Op>,
-    pub(crate) index: CachedIndex,
-    pub(crate) seen: u64,
+    pub(crate) listing: Listing,
     pub(crate) state: State,
-    pub(crate) bench: Bench,
+    pub(crate) benches: Benches,
 }
 
 impl<K: Keeper> Model for Node<K> {
-    ghost use Rattle.std.specs.Prelude.{◌∷◌, []};
+    ghost use Rattle.std.specs.Prelude.{length};
     ghost use Rattle.fl_node.specs.Over.{NodeOver, coded_over};
     ghost use Rattle.fl_node.specs.Sound.{IsSound};
 
@@ -72,17 +75,17 @@ impl<K: Keeper> Model for Node<K> {
         number = a.number;
         boot = a.boot;
         saved = a.saved;
-        published = a.published.items;
-        views = a.seen ∷ [];
+        published = a.listing.published;
+        views = a.listing.views;
         state = a.state;
-        procs = 0;
-        benches = a.bench ∷ [];
+        procs = a.benches.procs;
+        benches = a.benches.benches;
       };
       keeper = a.keeper;
     } };
 
     ghost invariant = { λ a. IsSound (K.custody.is_honest a.keeper) (K.custody.may_hold a.keeper)
-        a.number a.boot a.saved a.published.items a.seen a.state a.index };
+        a.number a.boot a.saved a.state (length a.listing.views) (length a.benches.benches) };
 }
 
 impl<K: Keeper + Drop> Drop for Node<K> {
@@ -92,31 +95,35 @@ impl<K: Keeper + Drop> Drop for Node<K> {
             number: _,
             boot: _,
             saved: _,
-            published: _,
-            index: _,
-            seen: _,
+            listing: _,
             state: _,
-            bench: _,
+            benches: _,
         } = self;
     }
 }
 
 impl<K: Keeper> Node<K> {
-    /// Opens the node of this number over its keeper, which is given back where that is refused. All that is saved is published,
-    /// in rising order, and there is no process.
+    /// Opens the node of this number over its keeper, which is given back where that is refused, with so many desks and benches.
+    /// All that is saved is published, in rising order, each desk sees all of it, and there is no process.
     ///
     /// - `WrongNode`: the keeper is another node's.
     /// - `KeeperFailed`: it is broken, or one of its rows is bad.
     /// - `NamesSpent`: it was opened 4,294,967,295 times.
     /// - `Memory`: there was not enough.
     ///
-    /// A refused opening may have raised the boot. Loads what is saved, and copies it twice, into the list and into the index;
-    /// there each put costs a search by order.
-    pub fn open(alloc: Global, mut keeper: K, number: NodeNumber) -> Result<Node<K>, (Fault, K)>
+    /// A refused opening may have raised the boot. Loads what is saved, and copies it twice, and once more for each desk, into its
+    /// index; there each put costs a search by order.
+    pub fn open(
+        alloc: Global,
+        mut keeper: K,
+        number: NodeNumber,
+        desks: u8,
+    ) -> Result<Node<K>, (Fault, K)>
         requires { 0 < number }
         ensures number { IfOk result (λ node. node.node.number ≡ number) }
+        ensures desks { IfOk result (λ node. length node.node.views ≡ desks) }
         ensures ok { IfOk result (λ node. K.custody.is_honest node.keeper → K.custody.is_honest keeper
-            × Follows (λ k k'. Opens 1 (IsOf number) k (Ok node.node) k')
+            × Follows (λ k k'. Opens desks (IsOf number) k (Ok node.node) k')
             (K.custody.may_hold keeper) (K.custody.may_hold node.keeper)) }
         ensures cause { let bad = K.custody.has_bad_row keeper in IfErr result (λ e.
             KeeperFails (IsLeftBroken K.custody keeper e.1) (K.custody.is_honest e.1) bad e.0) }
@@ -125,31 +132,31 @@ impl<K: Keeper> Node<K> {
         ensures sound { IfOk result (λ node. ¬ IsTrue (K.custody.is_broken keeper)) }
         ensures whole { IfOk result (λ node. K.custody.is_honest node.keeper → ¬ K.custody.has_bad_row keeper) }
         ensures err { IfErr result (λ e. K.custody.is_honest e.1 → K.custody.is_honest keeper
-            × Follows (λ k k'. Opens 1 (IsOf number) k (Err e.0) k')
+            × Follows (λ k k'. Opens desks (IsOf number) k (Err e.0) k')
             (K.custody.may_hold keeper) (K.custody.may_hold e.1)) }
     {
         let saved = match find(alloc, &mut keeper, number) {
             Ok(saved) => saved,
             Err(fault) => return Err((fault, keeper)),
         };
-        let Ok((published, index)) = listed(alloc, &saved) else {
+        let Ok(listing) = Listing::new(alloc, &saved, desks) else {
             return Err((Fault::Refused(Refusal::Memory), keeper));
         };
         let boot = match raise(&mut keeper) {
             Ok(boot) => boot,
             Err(fault) => return Err((fault, keeper)),
         };
-        let seen = published.len() as u64;
+        let Ok(benches) = Benches::new(alloc, number, boot, desks) else {
+            return Err((Fault::Refused(Refusal::Memory), keeper));
+        };
         Ok(Node {
             keeper,
             number,
             boot,
             saved,
-            published,
-            index,
-            seen,
+            listing,
             state: State::Running(Pending::Nothing),
-            bench: Bench::new(alloc, number, boot, 1, 1),
+            benches,
         })
     }
 
@@ -162,11 +169,9 @@ impl<K: Keeper> Node<K> {
             number: _,
             boot: _,
             saved: _,
-            published: _,
-            index: _,
-            seen: _,
+            listing: _,
             state: _,
-            bench: _,
+            benches: _,
         } = self;
         keeper
     }
@@ -183,14 +188,14 @@ impl<K: Keeper> Node<K> {
     pub fn published(&self) -> &[Op]
         ensures { result.now ≡ self.now.node.published }
     {
-        &self.published
+        self.listing.list()
     }
 
     /// The process, or none where it does not stand here. A stopped node lends it too.
     pub fn process(&self, pid: Pid) -> Option<&Process>
         ensures { option_copied result ≡ process_of self.now.node pid }
     {
-        self.bench.process(pid)
+        self.benches.process(pid)
     }
 
     /// What the process owns, for whoever notes it, or none where it does not stand here. Fails only where there is not
@@ -200,7 +205,7 @@ impl<K: Keeper> Node<K> {
         ensures err { OnErr result (IsSome (process_of self.old.node pid)) }
         ensures same { self.new ≡ self.old }
     {
-        self.bench.share(alloc, pid)
+        self.benches.share(alloc, pid)
     }
 
     /// The published operations, rising. A stopped node answers `Stopped`. Takes no memory.
@@ -210,7 +215,7 @@ impl<K: Keeper> Node<K> {
         ensures err { IfErr result (λ fault. NotRunning self.now.node.state fault) }
     {
         match running(&self.state) {
-            Ok(()) => Ok(self.index.ops()),
+            Ok(()) => Ok(self.listing.ops()),
             Err(fault) => Err(fault),
         }
     }
@@ -258,35 +263,55 @@ impl<K: Keeper> Node<K> {
         Ok(name)
     }
 
-    /// Does a job at desk 1 under all that is published, as `Bench::job` has it. An order begins its operation, as `begin` has it;
-    /// where that is refused, the bench is as before. A stopped node answers `Stopped`.
-    pub fn job(&mut self, alloc: Global, job: Job) -> Result<Answer, Fault>
-        ensures job { let count = length self.old.node.published in
-            Jobs self.old.node 1 count job result self.new.node }
+    // Does a job at its bench, under what the desk sees. An order begins its operation.
+    fn work(&mut self, alloc: Global, desk: u8, job: Job) -> Result<Answer, Fault>
+        requires { IsDeskOf self.old.node desk }
+        ensures desks { length self.new.node.views ≡ length self.old.node.views }
+        ensures works { (seen : _) → item_at self.old.node.views desk ≡ Some seen
+            → WorksAt self.old.node desk seen job result self.new.node }
+        ensures keeper { self.new.keeper ≡ self.old.keeper }
+    {
+        match self.benches.job(alloc, &mut self.listing, desk, job) {
+            Ok(Outcome::Reply(reply)) => Ok(Answer::Reply(reply)),
+            Ok(Outcome::Out(packet)) => Ok(Answer::Out(packet)),
+            Ok(Outcome::Order(body, pid)) => self.order(body, pid, desk),
+            Err(refusal) => Err(Fault::Refused(refusal)),
+        }
+    }
+
+    /// Does a job at a desk, which first looks at the list up to a length: it sees so many operations then, or as many as it saw
+    /// before. The job is done at its bench under what the desk sees, as `Bench::job` has it; a new process is made on each bench
+    /// in turn. An order begins its operation, as `begin` has it; where that is refused, the benches are as before. A stopped node
+    /// answers `Stopped`, and `Memory` comes too where the desk is to see more and there is no room for that: the desk and the
+    /// benches are then as before. Costs what the bench does, and for each operation that the desk has not seen what
+    /// `CachedIndex::absorb` does.
+    pub fn job(&mut self, alloc: Global, desk: u8, upto: u64, job: Job) -> Result<Answer, Fault>
+        requires { IsDeskOf self.old.node desk }
+        ensures desks { length self.new.node.views ≡ length self.old.node.views }
+        ensures job { Jobs self.old.node desk upto job result self.new.node }
         ensures keeper { self.new.keeper ≡ self.old.keeper }
     {
         if let Err(fault) = running(&self.state) {
             let_go(job);
             return Err(fault);
         }
-        self.seen = self.published.len() as u64;
-        match self.bench.job(alloc, &mut self.index, job) {
-            Ok(Outcome::Reply(reply)) => Ok(Answer::Reply(reply)),
-            Ok(Outcome::Out(packet)) => Ok(Answer::Out(packet)),
-            Ok(Outcome::Order(body, pid)) => self.order(body, pid),
-            Err(refusal) => Err(Fault::Refused(refusal)),
-        }
+        let Ok(()) = self.listing.look(alloc, desk, upto) else {
+            self.benches.count(&job);
+            let_go(job);
+            return Err(Fault::Refused(Refusal::Memory));
+        };
+        self.work(alloc, desk, job)
     }
 
-    // Begins the operation of an order, or has its maker go on without it.
-    fn order(&mut self, body: Body, pid: Pid) -> Result<Answer, Fault>
-        ensures orders { Orders self.old.node body pid result self.new.node }
+    // Begins the operation of an order at the desk, or has its maker go on without it.
+    fn order(&mut self, body: Body, pid: Pid, desk: u8) -> Result<Answer, Fault>
+        ensures orders { Orders self.old.node body pid desk result self.new.node }
         ensures keeper { self.new.keeper ≡ self.old.keeper }
     {
-        match self.begin_at(body, Some(pid), Some(1)) {
+        match self.begin_at(body, Some(pid), Some(desk)) {
             Ok(name) => Ok(Answer::Begun(name)),
             Err(fault) => {
-                self.bench.cancel(pid);
+                self.benches.cancel(pid);
                 Err(fault)
             }
         }
@@ -297,35 +322,35 @@ impl<K: Keeper> Node<K> {
     /// - `Stopped`: the node is stopped.
     /// - `Busy`: there is nothing to save.
     pub fn cancel(&mut self) -> Result<(), Fault>
+        ensures desks { length self.new.node.views ≡ length self.old.node.views }
         ensures cancels { Cancels self.old.node result self.new.node }
         ensures keeper { self.new.keeper ≡ self.old.keeper }
     {
         let batch = unsaved(&self.state)?;
-        release(&mut self.bench, batch);
+        release(&mut self.benches, batch);
         self.state = State::Running(Pending::Nothing);
         Ok(())
     }
 
     /// Publishes what is saved and due, and gives the length of the list. The maker of a tag or a group has its two capabilities
-    /// from then on, and the desk of an order sees the whole list.
+    /// from then on, and the desk of an order sees the whole list; other desks see what they saw.
     ///
     /// - `Stopped`: the node is stopped.
     /// - `Busy`: nothing is due.
     /// - `Memory`: there was not enough; it stays due.
     ///
-    /// Costs what the batch does, as `CachedIndex::absorb` and `CachedIndex::absorb_all` have it; nothing that was published is copied for it
-    /// but where these move it.
+    /// Costs what the batch does, as `Listing::extend` has it; nothing that was published is copied for it but where that moves it.
     pub fn publish(&mut self, alloc: Global) -> Result<u64, Fault>
+        ensures desks { length self.new.node.views ≡ length self.old.node.views }
         ensures publishes { Publishes self.old.node result self.new.node }
         ensures keeper { self.new.keeper ≡ self.old.keeper }
     {
         let batch = due(&self.state)?;
-        let Ok(()) = append(alloc, &mut self.published, &mut self.index, batch) else {
+        let Ok(()) = self.listing.extend(alloc, batch) else {
             return Err(Fault::Refused(Refusal::Memory));
         };
-        let count = self.published.len() as u64;
-        give(&mut self.bench, batch);
-        tell(&mut self.seen, batch, count);
+        let count = self.listing.list().len() as u64;
+        give(&mut self.benches, batch);
         self.state = State::Running(Pending::Nothing);
         Ok(count)
     }
@@ -341,6 +366,7 @@ impl<K: Keeper> Node<K> {
         ensures number { self.new.node.number ≡ self.old.node.number }
         ensures keeper { K.custody.number self.new.keeper ≡ K.custody.number self.old.keeper }
         ensures cause { result ≡ Err Fault.KeeperFailed → IsTrue (K.custody.is_broken self.new.keeper) }
+        ensures desks { length self.new.node.views ≡ length self.old.node.views }
         ensures saves { K.custody.is_honest self.new.keeper → K.custody.is_honest self.old.keeper
             × Follows (λ k k'. Saves self.old.node k result self.new.node k')
             (K.custody.may_hold self.old.keeper) (K.custody.may_hold self.new.keeper) }
@@ -369,6 +395,7 @@ impl<K: Keeper> Node<K> {
             → K.custody.number self.old.keeper ≡ self.old.node.number → result ≡ Err Fault.KeeperFailed }
         ensures whole { IfOk result
             (λ boot. K.custody.is_honest self.new.keeper → ¬ K.custody.has_bad_row self.old.keeper) }
+        ensures desks { length self.new.node.views ≡ length self.old.node.views }
         ensures opens { K.custody.is_honest self.new.keeper → K.custody.is_honest self.old.keeper
             × Follows (λ k k'. OpensAgain self.old.node (doubt_of self.old.node.state) k
             result self.new.node k')
@@ -376,22 +403,19 @@ impl<K: Keeper> Node<K> {
     {
         let doubt = doubt(&self.state);
         let saved = &self.saved;
-        match recover(
-            alloc,
-            &mut self.keeper,
-            self.number,
-            self.boot,
-            saved,
-            doubt,
-        ) {
+        let desks = self.listing.desks();
+        let was = Had {
+            number: self.number,
+            boot: self.boot,
+            desks,
+        };
+        match recover(alloc, &mut self.keeper, was, saved, doubt) {
             Ok(recovered) => {
                 let boot = recovered.boot;
                 self.boot = boot;
                 self.saved = recovered.saved;
-                self.seen = recovered.published.len() as u64;
-                self.published = recovered.published;
-                self.index = recovered.index;
-                self.bench = Bench::new(alloc, self.number, boot, 1, 1);
+                self.listing = recovered.listing;
+                self.benches = recovered.benches;
                 self.state = State::Running(Pending::Nothing);
                 Ok(boot)
             }
@@ -417,6 +441,7 @@ impl<K: Keeper> Node<K> {
             (K.custody.is_honest self.new.keeper) bad) }
         ensures broken { (¬ IsRunning self.old.node.state) → IsTrue (K.custody.is_broken self.old.keeper)
             → K.custody.number self.old.keeper ≡ self.old.node.number → result ≡ Err Fault.KeeperFailed }
+        ensures desks { length self.new.node.views ≡ length self.old.node.views }
         ensures restarts { K.custody.is_honest self.new.keeper → K.custody.is_honest self.old.keeper
             × Follows (λ k k'. Restarts self.old.node k keeps result self.new.node k')
             (K.custody.may_hold self.old.keeper) (K.custody.may_hold self.new.keeper) }
@@ -442,6 +467,7 @@ impl<K: Keeper> Node<K> {
             (K.custody.is_honest left) bad) }
         ensures broken { (¬ IsRunning self.node.state) → IsTrue (K.custody.is_broken self.keeper)
             → K.custody.number self.keeper ≡ self.node.number → result.1 ≡ Err Fault.KeeperFailed }
+        ensures desks { length result.0.node.views ≡ length self.node.views }
         ensures restarts { K.custody.is_honest result.0.keeper → K.custody.is_honest self.keeper
             × Follows (λ k k'. Restarts self.node k keeps result.1 result.0.node k')
             (K.custody.may_hold self.keeper) (K.custody.may_hold result.0.keeper) }
@@ -457,6 +483,7 @@ impl<K: Keeper> Node<K> {
         ensures running { IsRunning self.old.node.state → (self.new ≡ self.old)
             × (result.0 ≡ Err (Fault.Refused Refusal.Busy)) × (result.1 ≡ keeper) }
         ensures given { (¬ IsRunning self.old.node.state) → result.1 ≡ self.old.keeper }
+        ensures desks { length self.new.node.views ≡ length self.old.node.views }
         ensures stopped { (¬ IsRunning self.old.node.state)
             → K.custody.is_honest self.new.keeper → K.custody.is_honest keeper
             × Follows (λ k k'. Reopens self.old.node k result.0 self.new.node k')
@@ -487,6 +514,7 @@ impl<K: Keeper> Node<K> {
             × (K.custody.is_honest self.new.keeper → K.custody.is_honest made
             × Follows (λ k k'. Reopens self.old.node k result self.new.node k')
             (K.custody.may_hold made) (K.custody.may_hold self.new.keeper)) }
+        ensures desks { length self.new.node.views ≡ length self.old.node.views }
         ensures number { self.new.node.number ≡ self.old.node.number }
         ensures cause { let left = self.new.keeper in
             IfErr result (λ fault. fault ≡ Fault.KeeperFailed
@@ -509,6 +537,7 @@ impl<K: Keeper> Node<K> {
     pub fn reopen<F: FnOnce(K) -> K>(self, alloc: Global, make: F) -> (Node<K>, Result<u32, Fault>)
         requires { F.IsAlwaysCallable make }
         ensures number { result.0.node.number ≡ self.node.number }
+        ensures desks { length result.0.node.views ≡ length self.node.views }
         ensures running { IsRunning self.node.state
             → (result.0 ≡ self) × (result.1 ≡ Err (Fault.Refused Refusal.Busy)) }
         ensures stopped { (IsRunning self.node.state → ⊥)
@@ -532,22 +561,18 @@ impl<K: Keeper> Node<K> {
             number,
             boot,
             saved,
-            published,
-            index,
-            seen,
+            listing,
             state,
-            bench,
+            benches,
         } = self;
         let mut node = Node {
             keeper: make(keeper),
             number,
             boot,
             saved,
-            published,
-            index,
-            seen,
+            listing,
             state,
-            bench,
+            benches,
         };
         let result = node.open_again(alloc);
         (node, result)

@@ -1,5 +1,5 @@
 //! What a node takes of other nodes' operations.
-ghost use Rattle.std.specs.Prelude.{◌≡◌, IfOk, IfErr};
+ghost use Rattle.std.specs.Prelude.{◌≡◌, length, IfOk, IfErr};
 ghost use Rattle.fl_labels.specs.SetBy as set;
 ghost use Rattle.fl_ops.specs.OpOrder.{op_cmp};
 ghost use Rattle.fl_store.specs.Kept.{AreNew};
@@ -10,16 +10,16 @@ ghost use Rattle.fl_node.specs.parts.Receiving.{untaken_as};
 
 use crate::node::Node;
 use crate::state::{idle, running};
+use fl_desks::listing::collected;
 use fl_gossip::fault::GossipFault;
 use fl_gossip::taking::take;
 use fl_jobs::answer::Refusal;
-use fl_ops::op::Op;
 use fl_opset::set::OpSet;
 use fl_store::keeper::Keeper;
 use fl_system::answer::Fault;
 use fl_system::state::{Batch, Pending, State};
 use fl_wire::packet::Packet;
-use std::alloc::{AllocError, Global};
+use std::alloc::Global;
 
 // What is answered where operations are not taken.
 fn shown(fault: GossipFault) -> Fault
@@ -30,17 +30,6 @@ fn shown(fault: GossipFault) -> Fault
         GossipFault::Clash(name) => Fault::Clash(name),
         GossipFault::Memory => Fault::Refused(Refusal::Memory),
     }
-}
-
-// The operations of a list, as a set.
-fn collected(alloc: Global, ops: &[Op]) -> Result<OpSet, AllocError>
-    ensures { IfOk result (λ all. all ≡ set.of_list ops.now) }
-{
-    let mut all = OpSet::new(alloc);
-    for op in ops {
-        all.add(*op)?;
-    }
-    Ok(all)
 }
 
 impl<K: Keeper> Node<K> {
@@ -73,6 +62,7 @@ impl<K: Keeper> Node<K> {
     ///
     /// Two binary searches for each operation, and a copy of what is new.
     pub fn receive(&mut self, alloc: Global, packet: &Packet) -> Result<u64, Fault>
+        ensures desks { length self.new.node.views ≡ length self.old.node.views }
         ensures receives { let ops = set.of_list {R = op_cmp} (ops_of packet.now) in
             Receives self.old.node ops result self.new.node }
         ensures keeper { self.new.keeper ≡ self.old.keeper }

@@ -28,19 +28,31 @@ pub fn given<T: Drop>(said: Result<T, Fault>) -> Result<T, Fail> {
     }
 }
 
-/// A node over a keeper.
+/// A node of one desk over a keeper.
 pub fn opened(alloc: Global, keeper: MemKeeper, number: NodeNumber) -> Result<Node<MemKeeper>, Fail>
     requires { 0 < number }
 {
-    match Node::open(alloc, keeper, number) {
+    match Node::open(alloc, keeper, number, 1) {
         Ok(node) => Ok(node),
         Err(_) => Err(Fail::from("not opened")),
     }
 }
 
+/// What the node answers to a job at its first desk, which looks at the whole list.
+pub fn asked(
+    alloc: Global,
+    node: &mut Node<MemKeeper>,
+    job: Job,
+) -> Result<Answer, Fault> {
+    if node.desks() == 0 {
+        return Err(Fault::Stopped);
+    }
+    node.job(alloc, 1, u64::MAX, job)
+}
+
 /// Whether the node is asked for a process, and makes this one.
 pub fn makes(alloc: Global, node: &mut Node<MemKeeper>, pid: Pid) -> bool {
-    match &node.job(alloc, Job::Proc) {
+    match &asked(alloc, node, Job::Proc) {
         Ok(Answer::Reply(Reply::Made(made))) => *made == pid,
         _ => false,
     }

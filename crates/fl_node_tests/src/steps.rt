@@ -1,5 +1,5 @@
 //! Tests of orders: at the end of the names, and of a group that is opened.
-use crate::opened::{first, given, makes, opened};
+use crate::opened::{asked, first, given, makes, opened};
 use fl_jobs::answer::{Refusal, Reply};
 use fl_jobs::job::{Act, Job, Order};
 use fl_labels::cap::Cap;
@@ -24,13 +24,13 @@ fn keeper_with(alloc: Global, op: Op) -> Result<MemKeeper, AllocError> {
 
 // What the first process is answered that orders this.
 fn ordered(alloc: Global, node: &mut Node<MemKeeper>, order: Order) -> Result<Answer, Fault> {
-    node.job(alloc, Job::By(first(1), Act::Order(order)))
+    asked(alloc, node, Job::By(first(1), Act::Order(order)))
 }
 
 // Whether the process may use the group.
 fn may_use(alloc: Global, node: &mut Node<MemKeeper>, pid: Pid, group: Group) -> bool {
     let job = Job::By(pid, Act::Ask(Cap::Use(group)));
-    matches!(&node.job(alloc, job), Ok(Answer::Reply(Reply::Yes)))
+    matches!(&asked(alloc, node, job), Ok(Answer::Reply(Reply::Yes)))
 }
 
 #[test]

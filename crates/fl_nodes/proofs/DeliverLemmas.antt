@@ -90,8 +90,8 @@ no_such_packet custody old new k number same none =
     subst (λ n. Goes custody old n (λ w w'. Step w (event.Deliver k number) reply.NoSuch w')) (sym same)
     (stays custody old _ (λ w is. Step.no_packet (ap (λ l. item_at l k) is.packets ∙ none)))
 
-module _ {K : Type 0} (custody : Custody K) (es fs : List (ℕ × NodeOver K)) (packets : List Sent)
-    (audit : List Admission) (old : WorldOver K) (is : of_entries es packets audit ≡ old) (number : ℕ)
+module _ {K : Type 0} (custody : Custody K) {desks : ℕ} (es fs : List (ℕ × NodeOver K)) (packets : List Sent)
+    (audit : List Admission) (old : WorldOver K) (is : of_entries desks es packets audit ≡ old) (number : ℕ)
     (x y : NodeOver K) (there : lookup (is_at (nat_cmp number)) es ≡ Some x) (left : fs ≡ set_value (is_at (nat_cmp number)) es y) where
   at_old : map.get old.nodes number ≡ Some x
   at_old = sym (held es es packets audit old is number) ∙ there
@@ -100,7 +100,7 @@ module _ {K : Type 0} (custody : Custody K) (es fs : List (ℕ × NodeOver K)) (
   same_packets = ap (λ (w : WorldOver K). w.packets) is
 
   -- the node was left
-  pub put_back : y ≡ x → of_entries fs packets audit ≡ old
+  pub put_back : y ≡ x → of_entries desks fs packets audit ≡ old
   put_back same =
       changed es fs packets audit old is number x y there left
       ∙ (λ i. record {
@@ -112,14 +112,14 @@ module _ {K : Type 0} (custody : Custody K) (es fs : List (ℕ × NodeOver K)) (
 
   -- the node was left, and no such packet was sent
   pub no_packet : (k : ℕ) → y ≡ x → packet_of packets k ≡ None
-      → Goes custody old (of_entries fs packets audit) (λ w w'. Step w (event.Deliver k number) reply.NoSuch w')
+      → Goes custody old (of_entries desks fs packets audit) (λ w w'. Step w (event.Deliver k number) reply.NoSuch w')
   no_packet k same none = no_such_packet custody old _ k number (put_back same) (ap (λ l. item_at l k) (sym same_packets) ∙ numbered packets k ∙ none)
 
   module _ (k : ℕ) (s : Sent) (sent_is : packet_of packets k ≡ Some s) where
     found : (w : World) → MayBe custody old w → item_at w.packets k ≡ Some s
     found w may_be = ap (λ l. item_at l k) (may_be.packets ∙ sym same_packets) ∙ numbered packets k ∙ sent_is
 
-    is_new : (admitted audit_after : List Admission) → audit_after ≡ audit ++ admitted → of_entries fs packets audit_after ≡ over_went old number y [] admitted
+    is_new : (admitted audit_after : List Admission) → audit_after ≡ audit ++ admitted → of_entries desks fs packets audit_after ≡ over_went old number y [] admitted
     is_new admitted audit_after noted =
         let nodes : map.from_entries fs ≡ map.insert old.nodes number y =
         put_through nat_cmp_total nat_cmp-IsAntisymmetric es fs old.nodes number x y (ap (λ (w : WorldOver K). w.nodes) is) there left in
@@ -132,9 +132,9 @@ module _ {K : Type 0} (custody : Custody K) (es fs : List (ℕ × NodeOver K)) (
 
     pub delivers_message : (d : Data) (result : Reply) (audit_after : List Admission) → s.packet ≡ packet.Data d → y.keeper ≡ x.keeper
         → Brought x.node s.sender d result y.node audit audit_after
-        → Goes custody old (of_entries fs packets audit_after) (λ w w'. Step w (event.Deliver k number) result w')
+        → Goes custody old (of_entries desks fs packets audit_after) (λ w w'. Step w (event.Deliver k number) result w')
     delivers_message d result audit_after kind same h =
-        lifts_kept custody old number x y [] h.admitted at_old (of_entries fs packets audit_after) _ (is_new h.admitted audit_after h.admitted_is) same
+        lifts_kept custody old number x y [] h.admitted at_old (of_entries desks fs packets audit_after) _ (is_new h.admitted audit_after h.admitted_is) same
         (λ w kept at may_be. Step.deliver (found w may_be) at
         (DeliverAt.message kind (message_at w number x.node y.node kept s d result h.admitted at h.brings)))
 
@@ -144,25 +144,25 @@ module _ {K : Type 0} (custody : Custody K) (es fs : List (ℕ × NodeOver K)) (
 
     pub delivers_ops : (batch : Batch) (result : Reply) → (s.packet ≡ packet.Full batch) ⊎ (s.packet ≡ packet.Delta batch) → y.keeper ≡ x.keeper
         → Takes x.node (set.of_list {R = op_cmp} (ops_of s.packet)) result y.node
-        → Goes custody old (of_entries fs packets audit) (λ w w'. Step w (event.Deliver k number) result w')
+        → Goes custody old (of_entries desks fs packets audit) (λ w w'. Step w (event.Deliver k number) result w')
     delivers_ops batch result kind same h =
-        lifts_kept custody old number x y [] [] at_old (of_entries fs packets audit) _ (is_new [] audit (sym (append-nil audit))) same
+        lifts_kept custody old number x y [] [] at_old (of_entries desks fs packets audit) _ (is_new [] audit (sym (append-nil audit))) same
         (λ w kept at may_be. Step.deliver (found w may_be) at
         (DeliverAt.ops kind (batch_at w number x.node y.node kept batch.ops result
         (subst (λ ops. Takes x.node (set.of_list {R = op_cmp} ops) result y.node) (ops_are batch kind) h))))
 
     pub delivers_window : (window : Intervals) (told : List Packet) (result : Reply) (packets_after : List Sent) → s.packet ≡ packet.Have window → y ≡ x
         → IsRunning x.node.state → IsAnswer x.node.saved window told → Sends number told packets result packets_after
-        → Goes custody old (of_entries fs packets_after audit) (λ w w'. Step w (event.Deliver k number) result w')
+        → Goes custody old (of_entries desks fs packets_after audit) (λ w w'. Step w (event.Deliver k number) result w')
     delivers_window window told result packets_after kind same running answer h =
-        tells custody old number x at_old (event.Deliver k number) (of_entries fs packets_after audit) told packets packets_after result same_packets
+        tells custody old number x at_old (event.Deliver k number) (of_entries desks fs packets_after audit) told packets packets_after result same_packets
         (ap (λ (w : WorldOver K). record w { packets = packets_after }) (put_back same)) h
         (λ w kept at may_be. Step.deliver (found w may_be) at (DeliverAt.have kind (WindowAt.no_room running)))
         (λ w kept at may_be. Step.deliver (found w may_be) at (DeliverAt.have kind (WindowAt.answers running answer)))
 
     pub window_refused : (window : Intervals) (fault : Fault) → s.packet ≡ packet.Have window → y ≡ x → TellsNothing x.node.state fault
-        → Goes custody old (of_entries fs packets audit) (λ w w'. Step w (event.Deliver k number) (reply.Refused fault) w')
+        → Goes custody old (of_entries desks fs packets audit) (λ w w'. Step w (event.Deliver k number) (reply.Refused fault) w')
     window_refused window fault kind same h =
-        tells_nothing custody old number x at_old (event.Deliver k number) (of_entries fs packets audit) fault (put_back same) h
+        tells_nothing custody old number x at_old (event.Deliver k number) (of_entries desks fs packets audit) fault (put_back same) h
         (λ stopped w kept at may_be. Step.deliver (found w may_be) at (DeliverAt.have kind (WindowAt.stopped stopped)))
         (λ running w kept at may_be. Step.deliver (found w may_be) at (DeliverAt.have kind (WindowAt.no_room running)))

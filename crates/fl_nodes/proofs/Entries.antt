@@ -14,11 +14,11 @@ use Rattle.fl_node.specs.Over.{NodeOver}
 use Rattle.fl_nodes.specs.Over.{WorldOver}
 use Rattle.fl_nodes.proofs.Lifting.{over_went}
 
-abbrev pub of_entries : {K : Type 0} → List (ℕ × NodeOver K) → List Sent → List Admission → WorldOver K
-of_entries es packets audit = record { desks = 1; nodes = map.from_entries es; packets = packets; audit = audit }
+abbrev pub of_entries : {K : Type 0} → ℕ → List (ℕ × NodeOver K) → List Sent → List Admission → WorldOver K
+of_entries desks es packets audit = record { desks = desks; nodes = map.from_entries es; packets = packets; audit = audit }
 
-module _ {K : Type 0} (es fs : List (ℕ × NodeOver K)) (packets : List Sent) (audit : List Admission) (w : WorldOver K)
-    (is : of_entries es packets audit ≡ w) where
+module _ {K : Type 0} {desks : ℕ} (es fs : List (ℕ × NodeOver K)) (packets : List Sent) (audit : List Admission) (w : WorldOver K)
+    (is : of_entries desks es packets audit ≡ w) where
   the_map : map.from_entries {R = nat_cmp} es ≡ w.nodes
   the_map = ap (λ (t : WorldOver K). t.nodes) is
 
@@ -27,7 +27,7 @@ module _ {K : Type 0} (es fs : List (ℕ × NodeOver K)) (packets : List Sent) (
 
   -- a node that is there was changed, and nothing else
   pub changed : (number : ℕ) (x y : NodeOver K) → lookup (is_at (nat_cmp number)) es ≡ Some x
-      → fs ≡ set_value (is_at (nat_cmp number)) es y → of_entries fs packets audit ≡ over_went w number y [] []
+      → fs ≡ set_value (is_at (nat_cmp number)) es y → of_entries desks fs packets audit ≡ over_went w number y [] []
   changed number x y there f =
       let nodes = put_through nat_cmp_total nat_cmp-IsAntisymmetric es fs w.nodes number x y the_map there f in
       let same_packets : packets ≡ w.packets ++ [] = ap (λ (t : WorldOver K). t.packets) is ∙ sym (append-nil w.packets) in
@@ -35,5 +35,5 @@ module _ {K : Type 0} (es fs : List (ℕ × NodeOver K)) (packets : List Sent) (
       λ i. record { desks = (ap (λ (t : WorldOver K). t.desks) is) i; nodes = nodes i; packets = same_packets i; audit = same_audit i }
 
   -- nothing was changed
-  pub unchanged : fs ≡ es → of_entries fs packets audit ≡ w
-  unchanged same = ap (λ (l : List (ℕ × NodeOver K)). of_entries l packets audit) same ∙ is
+  pub unchanged : fs ≡ es → of_entries desks fs packets audit ≡ w
+  unchanged same = ap (λ (l : List (ℕ × NodeOver K)). of_entries desks l packets audit) same ∙ is

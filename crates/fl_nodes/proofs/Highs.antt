@@ -25,7 +25,7 @@ use Rattle.fl_node.specs.Over.{NodeOver}
 use Rattle.fl_nodes.specs.Goes.{MayBeNode}
 use Rattle.fl_nodes.specs.Over.{WorldOver}
 use Rattle.fl_nodes.specs.parts.Joined.{AreNodes, IsStrayWith}
-use Rattle.fl_nodes.specs.parts.Highest.{IsUpTo, AreUpTo}
+use Rattle.fl_nodes.specs.parts.Highest.{IsUpTo, IsWithin, AreWithin}
 use Rattle.fl_nodes.proofs.Entries.{of_entries, changed}
 use Rattle.fl_nodes.proofs.Lifting.{at_other, here, same_number}
 
@@ -71,38 +71,52 @@ last_highest s last some is op h = by_place (cases_lt at.0 (length (members s) -
 some_same : {X : Type 0} {x y : X} → ◌≡◌ {A = Option X} (Some x) (Some y) → x ≡ y
 some_same h = cc
 
-module _ {K : Type 0} (before after : ℕ) (raises : before ≤ after) where
+module _ {K : Type 0} (before after desks : ℕ) (raises : before ≤ after) where
   -- one of them was changed, or came
-  one_more : (nodes : map.FinMap nat_cmp (NodeOver K)) (number : ℕ) (y : NodeOver K) → AreUpTo before nodes → IsUpTo after y.node.saved
-      → AreUpTo after (map.insert nodes number y)
-  one_more nodes number y all own q n at op h = by_place (eq_by_cmp nat_cmp q number) refl
+  one_more : (nodes : map.FinMap nat_cmp (NodeOver K)) (number : ℕ) (y : NodeOver K) → AreWithin before desks nodes → IsWithin after desks y
+      → AreWithin after desks (map.insert nodes number y)
+  one_more nodes number y all own q n at = by_place (eq_by_cmp nat_cmp q number) refl
     where
-      by_place : (b : Bool) → eq_by_cmp nat_cmp q number ≡ b → op.name.node ≤ after
+      by_place : (b : Bool) → eq_by_cmp nat_cmp q number ≡ b → IsWithin after desks n
       by_place true e =
           let same : y ≡ n = some_same (sym (here nodes number y) ∙ ap (map.get (map.insert nodes number y)) (sym (same_number q number e)) ∙ at) in
-          own op (subst (λ (m : NodeOver K). In m.node.saved op) (sym same) h)
-      by_place false e = omega (arith, all q n (sym (at_other nodes number q y e) ∙ at) op h, raises)
+          subst (IsWithin after desks) same own
+      by_place false e =
+          let was = all q n (sym (at_other nodes number q y e) ∙ at) in
+          record { upto = λ op h. omega (arith, was.upto op h, raises); desked = was.desked }
 
   pub changed_up : (es fs : List (ℕ × NodeOver K)) (number : ℕ) (x y : NodeOver K) → lookup (is_at (nat_cmp number)) es ≡ Some x
-      → fs ≡ set_value (is_at (nat_cmp number)) es y → AreUpTo before (map.from_entries es) → IsUpTo after y.node.saved
-      → AreUpTo after (map.from_entries fs)
-  changed_up es fs number x y there f all own =
-      subst (AreUpTo after) (sym (ap (λ (w : WorldOver K). w.nodes) (changed es fs [] [] (of_entries es [] []) refl number x y there f)))
-      (one_more (map.from_entries es) number y all own)
+      → fs ≡ set_value (is_at (nat_cmp number)) es y → AreWithin before desks (map.from_entries es) → IsUpTo after y.node.saved
+      → length y.node.views ≡ length x.node.views → AreWithin after desks (map.from_entries fs)
+  changed_up es fs number x y there f all own desked =
+      let was = all number x (sym (get_held nat_cmp_total nat_cmp-IsAntisymmetric es (map.from_entries es) number refl) ∙ there) in
+      subst (AreWithin after desks) (sym (ap (λ (w : WorldOver K). w.nodes) (changed es fs [] [] (of_entries desks es [] []) refl number x y there f)))
+      (one_more (map.from_entries es) number y all (record { upto = own; desked = desked ∙ was.desked }))
 
   pub added_up : (es fs : List (ℕ × NodeOver K)) (number : ℕ) (y : NodeOver K)
       → ((q : ℕ) → lookup (is_at (nat_cmp q)) fs ≡ cond (is_at (nat_cmp number) q) (Some y) (lookup (is_at (nat_cmp q)) es))
-      → AreUpTo before (map.from_entries es) → IsUpTo after y.node.saved → AreUpTo after (map.from_entries fs)
-  added_up es fs number y h all own =
-      subst (AreUpTo after) (sym (one_put nat_cmp_total nat_cmp-IsAntisymmetric es fs (map.from_entries es) number y refl h))
-      (one_more (map.from_entries es) number y all own)
+      → AreWithin before desks (map.from_entries es) → IsUpTo after y.node.saved → length y.node.views ≡ desks → AreWithin after desks (map.from_entries fs)
+  added_up es fs number y h all own desked =
+      subst (AreWithin after desks) (sym (one_put nat_cmp_total nat_cmp-IsAntisymmetric es fs (map.from_entries es) number y refl h))
+      (one_more (map.from_entries es) number y all (record { upto = own; desked = desked }))
 
 -- a node was looked at
-pub looked_up : {K : Type 0} (highest : ℕ) (es fs : List (ℕ × NodeOver K)) (number : ℕ) (x : NodeOver K) → lookup (is_at (nat_cmp number)) es ≡ Some x
-    → fs ≡ set_value (is_at (nat_cmp number)) es x → AreUpTo highest (map.from_entries es) → AreUpTo highest (map.from_entries fs)
-looked_up highest es fs number x there f all =
-    changed_up highest highest (omega arith) es fs number x x there f all
-    (λ op h. all number x (sym (get_held nat_cmp_total nat_cmp-IsAntisymmetric es (map.from_entries es) number refl) ∙ there) op h)
+pub looked_up : {K : Type 0} (highest desks : ℕ) (es fs : List (ℕ × NodeOver K)) (number : ℕ) (x : NodeOver K) → lookup (is_at (nat_cmp number)) es ≡ Some x
+    → fs ≡ set_value (is_at (nat_cmp number)) es x → AreWithin highest desks (map.from_entries es) → AreWithin highest desks (map.from_entries fs)
+looked_up highest desks es fs number x there f all =
+    changed_up highest highest desks (omega arith) es fs number x x there f all
+    (all number x (sym (get_held nat_cmp_total nat_cmp-IsAntisymmetric es (map.from_entries es) number refl) ∙ there)).upto refl
+
+-- nothing was changed
+pub left_up : {K : Type 0} (highest desks : ℕ) (es fs : List (ℕ × NodeOver K)) → fs ≡ es → AreWithin highest desks (map.from_entries es)
+    → AreWithin highest desks (map.from_entries fs)
+left_up {K} highest desks es fs same all = subst (λ (l : List (ℕ × NodeOver K)). AreWithin highest desks (map.from_entries l)) (sym same) all
+
+-- a node that is there has as many desks as each
+pub desked : {K : Type 0} (highest desks : ℕ) (es : List (ℕ × NodeOver K)) (number : ℕ) (x : NodeOver K) → lookup (is_at (nat_cmp number)) es ≡ Some x
+    → AreWithin highest desks (map.from_entries es) → length x.node.views ≡ desks
+desked highest desks es number x there all =
+    (all number x (sym (get_held nat_cmp_total nat_cmp-IsAntisymmetric es (map.from_entries es) number refl) ∙ there)).desked
 
 -- ---- a newcomer that has saved nothing
 
@@ -124,13 +138,13 @@ node_of (Some n) None t e h = absurd h
 node_of None (Some s) t e h = absurd h
 node_of None None t e h = absurd (cc)
 
-module _ {K : Type 0} (over : WorldOver K) (w : World) (are : AreNodes over w) (highest number : ℕ) (all : AreUpTo highest over.nodes)
+module _ {K : Type 0} (over : WorldOver K) (w : World) (are : AreNodes over w) (highest number desks : ℕ) (all : AreWithin highest desks over.nodes)
     (above : highest < number) (saved : SetBy op_cmp) (none : len saved ≡ 0) where
   pub no_stray : FindsLeast (IsStrayWith w number saved) None
   no_stray name (IsStrayWith.brought op is in_saved at unknown) = empty_has saved none op in_saved
   no_stray name (IsStrayWith.awaited op is of u unknown) =
       let n = node_of _ _ u.1 u.2 (are u.0) in
-      let low = all u.0 n.node n.there op (subst (λ (s : NodeState). In s.saved op) n.same u.3) in
+      let low = (all u.0 n.node n.there).upto op (subst (λ (s : NodeState). In s.saved op) n.same u.3) in
       absurd (omega (arith, low, above, of))
 
 some_none : {X : Type 0} (x : X) → ◌≡◌ {A = Option X} None (Some x) → ⊥
@@ -142,5 +156,5 @@ none_held nothing empty number =
     ap (λ l. lookup (is_at (nat_cmp number)) l) (sym empty)
     ∙ get_held nat_cmp_total nat_cmp-IsAntisymmetric nothing (map.from_entries nothing) number refl
 
-pub none_up : {K : Type 0} (es : List (ℕ × NodeOver K)) → es ≡ [] → (highest : ℕ) → AreUpTo highest (map.from_entries es)
-none_up es empty highest number n at = absurd (some_none n (none_held es empty number ∙ at))
+pub none_up : {K : Type 0} (es : List (ℕ × NodeOver K)) → es ≡ [] → (highest desks : ℕ) → AreWithin highest desks (map.from_entries es)
+none_up es empty highest desks number n at = absurd (some_none n (none_held es empty number ∙ at))

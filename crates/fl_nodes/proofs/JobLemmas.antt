@@ -1,5 +1,6 @@
 -- A job at a node as a step of the world.
-use Rattle.std.proofs.Common.{◌≡◌, ◌≢◌, ◌++◌, ◌∙◌, refl, sym, ap, subst, ℕ, zero, suc, List, [], ◌∷◌, length, Some, None, arith}
+use Rattle.std.proofs.Common.{◌<◌, ◌≤◌, ltb, true, false, ◌≡◌, ◌≢◌, ◌++◌, ◌∙◌, refl, sym, ap, subst, ℕ, zero, suc, List, [], ◌∷◌, length, Some, None, arith}
+use Rattle.std.proofs.lemmas.Bool.Decides.{nat_tests}
 use Rattle.std.proofs.lemmas.Cmp.{nat_cmp_total}
 use Rattle.std.proofs.lemmas.List.{append-nil}
 use Rattle.std.specs.BTreeMap.{is_at}
@@ -33,13 +34,22 @@ use Rattle.fl_notes.specs.Working.{Works, Worked}
 use Rattle.fl_nodes.proofs.Lifting.{StandsAs, lifts_kept, node_there, over_went, stays, with_kept}
 use Rattle.fl_nodes.proofs.Entries.{changed, held, of_entries}
 
--- a node of one desk has no other
-pub no_other_desk : (views : List ℕ) (desk : ℕ) → length views ≡ 1 → desk ≢ 1 → item_at views desk ≡ None
-no_other_desk [] desk one other = refl
-no_other_desk (x ∷ []) zero one other = refl
-no_other_desk (x ∷ []) (suc zero) one other = absurd (other refl)
-no_other_desk (x ∷ []) (suc (suc k)) one other = refl
-no_other_desk (x ∷ y ∷ rest) desk one other = absurd (omega (arith, one))
+pub below : (m n : ℕ) → ltb m n ≡ true → m < n
+below m n e = grind (arith, nat_tests)
+
+pub not_below : (m n : ℕ) → ltb m n ≡ false → n ≤ m
+not_below m n e = grind (arith, nat_tests)
+
+-- there is no desk 0, and none beyond the last
+pub no_desk_zero : (views : List ℕ) → item_at views 0 ≡ None
+no_desk_zero [] = refl
+no_desk_zero (x ∷ rest) = refl
+
+pub no_desk_beyond : (views : List ℕ) (desk : ℕ) → length views < desk → item_at views desk ≡ None
+no_desk_beyond [] desk more = refl
+no_desk_beyond (x ∷ rest) zero more = refl
+no_desk_beyond (x ∷ rest) (suc zero) more = absurd (omega (arith, more))
+no_desk_beyond (x ∷ rest) (suc (suc k)) more = no_desk_beyond rest (suc k) (omega (arith, more))
 
 pub not_arrival : (job : Job) → ((d : Data) → job ≡ Arrive d → ⊥) → IsArrival job → ⊥
 not_arrival (Arrive d) h k = h d refl
@@ -47,26 +57,26 @@ not_arrival Proc h k = k
 not_arrival (By pid act) h k = k
 not_arrival (Member root c) h k = k
 
-job_at : (w : World) (number upto count : ℕ) (n n' : NodeState) (k : Kept) (job : Job) (result : Reply) (sent : List Sent) (admitted : List Admission)
-    → count ≡ length w.packets → Works number n 1 upto job count result n' sent admitted
-    → JobAt w number (with_kept n k) 1 upto job result (went w number n' k sent admitted)
-job_at w number upto count n n' k job result sent admitted e (Works.refused h) = JobAt.refused h
-job_at w number upto count n n' k job result sent admitted e (Works.replied h) = JobAt.replied h
-job_at w number upto count n n' k job result sent admitted e (Works.begun h) = JobAt.begun h
-job_at w number upto count n n' k job result sent admitted e (Works.sends {d} h) =
-    subst (λ c. JobAt w number (with_kept n k) 1 upto job (reply.Sent (suc c) 1)
+job_at : (w : World) (number desk upto count : ℕ) (n n' : NodeState) (k : Kept) (job : Job) (result : Reply) (sent : List Sent) (admitted : List Admission)
+    → count ≡ length w.packets → Works number n desk upto job count result n' sent admitted
+    → JobAt w number (with_kept n k) desk upto job result (went w number n' k sent admitted)
+job_at w number desk upto count n n' k job result sent admitted e (Works.refused h) = JobAt.refused h
+job_at w number desk upto count n n' k job result sent admitted e (Works.replied h) = JobAt.replied h
+job_at w number desk upto count n n' k job result sent admitted e (Works.begun h) = JobAt.begun h
+job_at w number desk upto count n n' k job result sent admitted e (Works.sends {d} h) =
+    subst (λ c. JobAt w number (with_kept n k) desk upto job (reply.Sent (suc c) 1)
     (went w number n' k (sent_message number n d ∷ []) (entries n job (answers.Out d)))) (sym e) (JobAt.sends h)
-job_at w number upto count n n' k job result sent admitted e (Works.no_room look seen noted) = JobAt.no_room look seen noted
+job_at w number desk upto count n n' k job result sent admitted e (Works.no_room look seen noted) = JobAt.no_room look seen noted
 
-module _ {K : Type 0} (custody : Custody K) (es fs : List (ℕ × NodeOver K)) (packets : List Sent)
-    (audit : List Admission) (old : WorldOver K) (is : of_entries es packets audit ≡ old) (number desk upto : ℕ) (job : Job)
+module _ {K : Type 0} (custody : Custody K) {desks : ℕ} (es fs : List (ℕ × NodeOver K)) (packets : List Sent)
+    (audit : List Admission) (old : WorldOver K) (is : of_entries desks es packets audit ≡ old) (number desk upto : ℕ) (job : Job)
     (x y : NodeOver K) (there : lookup (is_at (nat_cmp number)) es ≡ Some x) (left : fs ≡ set_value (is_at (nat_cmp number)) es y) where
   at_old : map.get old.nodes number ≡ Some x
   at_old = sym (held es es packets audit old is number) ∙ there
 
   -- what the job names is not there, and the node is left
   pub no_such_job : y ≡ x → IsNoSuch x.node desk job
-      → Goes custody old (of_entries fs packets audit) (λ w w'. Step w (event.Job number desk upto job) reply.NoSuch w')
+      → Goes custody old (of_entries desks fs packets audit) (λ w w'. Step w (event.Job number desk upto job) reply.NoSuch w')
   no_such_job same none =
       subst (λ n. Goes custody old n (λ w w'. Step w (event.Job number desk upto job) reply.NoSuch w')) (sym unchanged)
       (stays custody old _ (λ w may_be. by_cause w (node_there custody old w number x at_old may_be) none))
@@ -76,7 +86,7 @@ module _ {K : Type 0} (custody : Custody K) (es fs : List (ℕ × NodeOver K)) (
       by_cause w s (IsNoSuch.no_desk h) = Step.no_desk s.there h
       by_cause w s (IsNoSuch.no_job h) = Step.no_such_job h
 
-      unchanged : of_entries fs packets audit ≡ old
+      unchanged : of_entries desks fs packets audit ≡ old
       unchanged =
           changed es fs packets audit old is number x y there left
           ∙ (λ i. record {
@@ -88,14 +98,13 @@ module _ {K : Type 0} (custody : Custody K) (es fs : List (ℕ × NodeOver K)) (
 
   -- the job is done at the node
   pub worked : (result : Reply) (packets_after : List Sent) (audit_after : List Admission) → y.keeper ≡ x.keeper → IsThere x.node desk job
-      → Worked number x.node 1 upto job result y.node packets packets_after audit audit_after
-      → Goes custody old (of_entries fs packets_after audit_after) (λ w w'. Step w (event.Job number desk upto job) result w')
+      → Worked number x.node desk upto job result y.node packets packets_after audit audit_after
+      → Goes custody old (of_entries desks fs packets_after audit_after) (λ w w'. Step w (event.Job number desk upto job) result w')
   worked result packets_after audit_after same given work =
-      lifts_kept custody old number x y work.sent work.admitted at_old (of_entries fs packets_after audit_after) _ is_new same
+      lifts_kept custody old number x y work.sent work.admitted at_old (of_entries desks fs packets_after audit_after) _ is_new same
       (λ w k at may_be. Step.job at given.asked
-      (subst (λ d. JobAt w number (with_kept x.node k) d upto job result (went w number y.node k work.sent work.admitted)) (sym given.first)
-      (job_at w number upto (length packets) x.node y.node k job result work.sent work.admitted
-      (ap length (same_packets ∙ sym may_be.packets)) work.works)))
+      (job_at w number desk upto (length packets) x.node y.node k job result work.sent work.admitted
+      (ap length (same_packets ∙ sym may_be.packets)) work.works))
     where
       same_packets : packets ≡ old.packets
       same_packets = ap (λ (w : WorldOver K). w.packets) is
@@ -106,7 +115,7 @@ module _ {K : Type 0} (custody : Custody K) (es fs : List (ℕ × NodeOver K)) (
       nodes_are : map.from_entries fs ≡ map.insert old.nodes number y
       nodes_are = put_through nat_cmp_total nat_cmp-IsAntisymmetric es fs old.nodes number x y (ap (λ (w : WorldOver K). w.nodes) is) there left
 
-      is_new : of_entries fs packets_after audit_after ≡ over_went old number y work.sent work.admitted
+      is_new : of_entries desks fs packets_after audit_after ≡ over_went old number y work.sent work.admitted
       is_new = λ i. record {
         desks = (ap (λ (w : WorldOver K). w.desks) is) i;
         nodes = nodes_are i;

@@ -44,23 +44,23 @@ some_is x y h = cc
 
 -- ---- openings
 
-record IsOpening (number : ℕ) (k : Kept) (n : NodeState) (k' : Kept) : Type 0 where
+record IsOpening (desks number : ℕ) (k : Kept) (n : NodeState) (k' : Kept) : Type 0 where
   own : k.number ≡ number
   boot_left : k.boot < 4294967295
-  node_is : n ≡ opened 1 k
+  node_is : n ≡ opened desks k
   up : k' ≡ raised k
 
-opening_of : (number : ℕ) (k : Kept) (n : NodeState) (k' : Kept) → Opens 1 (IsOf number) k (Ok n) k' → IsOpening number k n k'
-opening_of number k n k' (Opens.opens own left) = record { own = own; boot_left = left; node_is = refl; up = refl }
+opening_of : (desks number : ℕ) (k : Kept) (n : NodeState) (k' : Kept) → Opens desks (IsOf number) k (Ok n) k' → IsOpening desks number k n k'
+opening_of desks number k n k' (Opens.opens own left) = record { own = own; boot_left = left; node_is = refl; up = refl }
 
 left_as : (number : ℕ) (k k' : Kept) (fault : Fault) → FailsToOpen (IsOf number) k fault → (k' ≡ k) ⊎ (k' ≡ raised k) → LeftBy fault k k'
 left_as number k k' fault FailsToOpen.no_room h = h
 left_as number k k' fault FailsToOpen.keeper_failed h = h
 left_as number k k' fault (FailsToOpen.other e) h = h
 
-left_by : (number : ℕ) (k k' : Kept) (fault : Fault) → Opens 1 (IsOf number) k (Err fault) k' → LeftBy fault k k'
-left_by number k k' fault (Opens.spent own all) = refl
-left_by number k k' fault (Opens.refused cause left) = left_as number k k' fault cause left
+left_by : (desks number : ℕ) (k k' : Kept) (fault : Fault) → Opens desks (IsOf number) k (Err fault) k' → LeftBy fault k k'
+left_by desks number k k' fault (Opens.spent own all) = refl
+left_by desks number k k' fault (Opens.refused cause left) = left_as number k k' fault cause left
 
 least_name : (P : Name → Type 0) (name : Name) → IsLeastOf P name → IsLeastName P name
 least_name P name h = record { holds = h.holds; least = h.least }
@@ -94,10 +94,10 @@ module _ {K : Type 0} (custody : Custody K) where
         );
       })
 
-  module _ (old : WorldOver K) (desks : old.desks ≡ 1) (number : ℕ) (keeper : K) (none : map.get old.nodes number ≡ None) where
+  module _ (old : WorldOver K) (count : ℕ) (desks : old.desks ≡ count) (number : ℕ) (keeper : K) (none : map.get old.nodes number ≡ None) where
     -- the opening is refused
     pub refused_opening : (new : WorldOver K) → new ≡ old → (given : K) (fault : Fault)
-        → (custody.is_honest given → custody.is_honest keeper × Follows (λ k k'. Opens 1 (IsOf number) k (Err fault) k') (custody.may_hold keeper) (custody.may_hold given))
+        → (custody.is_honest given → custody.is_honest keeper × Follows (λ k k'. Opens count (IsOf number) k (Err fault) k') (custody.may_hold keeper) (custody.may_hold given))
         → GivesBack custody old keeper new given (DoesNotJoin number fault)
     refused_opening new same given fault call =
         subst (λ n. GivesBack custody old keeper n given (DoesNotJoin number fault)) (sym same) (record {
@@ -112,16 +112,16 @@ module _ {K : Type 0} (custody : Custody K) where
                   same = refl;
                   joins = Joins.not_opened (no_node custody old after number none is)
                       (subst (λ d. Opens d (IsOf number) b.0 (Err fault) k') (sym (is.desks ∙ desks)) b.2);
-                  left = left_by number b.0 k' fault b.2;
+                  left = left_by count number b.0 k' fault b.2;
                 },
               );
         })
 
     module _ (y : NodeOver K)
-        (opens : custody.is_honest y.keeper → custody.is_honest keeper × Follows (λ k k'. Opens 1 (IsOf number) k (Ok y.node) k') (custody.may_hold keeper) (custody.may_hold y.keeper)) where
+        (opens : custody.is_honest y.keeper → custody.is_honest keeper × Follows (λ k k'. Opens count (IsOf number) k (Ok y.node) k') (custody.may_hold keeper) (custody.may_hold y.keeper)) where
       -- it was opened, and refused then
       refused_after : (fault : Fault)
-          → ((w : World) (k k' : Kept) → MayBe custody old w → map.get w.nodes number ≡ None → IsOpening number k y.node k' → HasNoStray w → IsRefused number fault w k w k')
+          → ((w : World) (k k' : Kept) → MayBe custody old w → map.get w.nodes number ≡ None → IsOpening count number k y.node k' → HasNoStray w → IsRefused number fault w k w k')
           → GivesBack custody old keeper old y.keeper (DoesNotJoin number fault)
       refused_after fault refuses = record {
         honest = λ all left. (all, (opens left).0);
@@ -131,7 +131,7 @@ module _ {K : Type 0} (custody : Custody K) where
               b.0,
               is,
               b.1,
-              refuses after b.0 k' is (no_node custody old after number none is) (opening_of number b.0 y.node k' b.2),
+              refuses after b.0 k' is (no_node custody old after number none is) (opening_of count number b.0 y.node k' b.2),
             );
       }
 
@@ -227,7 +227,7 @@ module _ {K : Type 0} (custody : Custody K) where
           }
 
       module _ (clear : (w : World) → AreNodes old w → (name : Name) → ¬ IsClashAt w y.node.saved name) where
-        clear_of : (w : World) (k k' : Kept) → AreNodes old w → IsOpening number k y.node k' → (name : Name) → ¬ IsClashAt w k.saved name
+        clear_of : (w : World) (k k' : Kept) → AreNodes old w → IsOpening count number k y.node k' → (name : Name) → ¬ IsClashAt w k.saved name
         clear_of w k k' are o = subst (λ n. (name : Name) → ¬ IsClashAt w n.saved name) o.node_is (clear w are)
 
         least_stray : (w : World) (k : Kept) → HasNoStray w → map.get w.nodes number ≡ None → (name : Name)
@@ -294,7 +294,7 @@ module _ {K : Type 0} (custody : Custody K) where
                 (here (map.remove m number) number s ∙ sym at)
             by_place q false e = at_other (map.remove m number) number q s e ∙ others m q e
 
-        goes_on : (after : World) (k k' : Kept) → MayBe custody (over_with old number y) after → IsOpening number k y.node k'
+        goes_on : (after : World) (k k' : Kept) → MayBe custody (over_with old number y) after → IsOpening count number k y.node k'
             → map.get after.nodes number ≡ Some (with_kept y.node k') → joined (without after) number k ≡ after
         goes_on after k k' is o at =
             let s : KeptNode = record { node = opened old.desks k; kept = raised k } in
@@ -324,7 +324,7 @@ module _ {K : Type 0} (custody : Custody K) where
               comes = λ all after is.
                   let s = node_there custody (over_with old number y) after number y (here old.nodes number y) is in
                   let b = (opens (all number y (here old.nodes number y))).1 s.kept s.held in
-                  let o = opening_of number b.0 y.node s.kept b.2 in
+                  let o = opening_of count number b.0 y.node s.kept b.2 in
                   let before = without after in
                   let is_before = may_be_without after is in (
                     before,
@@ -359,12 +359,12 @@ pub is_not_there : {A : Type 0} (o : Option A) (b : Bool) → b ≡ is_some o �
 is_not_there None b e h = refl
 is_not_there (Some x) b e h = absurd (cc)
 
-module _ {K : Type 0} (es fs : List (ℕ × NodeOver K)) (packets : List Sent) (audit : List Admission) (w : WorldOver K)
-    (is : of_entries es packets audit ≡ w) (number : ℕ) where
+module _ {K : Type 0} {desks : ℕ} (es fs : List (ℕ × NodeOver K)) (packets : List Sent) (audit : List Admission) (w : WorldOver K)
+    (is : of_entries desks es packets audit ≡ w) (number : ℕ) where
   -- a node was put
   pub added : (y : NodeOver K)
       → ((q : ℕ) → lookup (is_at (nat_cmp q)) fs ≡ cond (is_at (nat_cmp number) q) (Some y) (lookup (is_at (nat_cmp q)) es))
-      → of_entries fs packets audit ≡ over_with w number y
+      → of_entries desks fs packets audit ≡ over_with w number y
   added y h =
       let nodes = one_put nat_cmp_total nat_cmp-IsAntisymmetric es fs w.nodes number y (ap (λ (t : WorldOver K). t.nodes) is) h in
       λ i. record {

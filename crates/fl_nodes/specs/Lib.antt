@@ -2,7 +2,6 @@ pub mod Over
 pub mod Goes
 pub mod Failing
 pub mod Texts
-pub mod Whole
 pub mod Joining
 pub mod parts
 pub mod laws

@@ -1,5 +1,5 @@
 //! Nodes that join the others, and stopped ones that are opened over another keeper.
-ghost use Rattle.std.specs.Prelude.{◌≡◌, ◌<◌, is_some, IfOk, IfErr, OnErr, OnOk};
+ghost use Rattle.std.specs.Prelude.{◌≡◌, ◌<◌, length, is_some, IfOk, IfErr, OnErr, OnOk};
 ghost use Rattle.std.specs.Prelude.{None, Some, Err};
 ghost use Rattle.std.specs.FinMap as map;
 ghost use Rattle.std.specs.Fn.{FnOnceReturnsAtMut};
@@ -45,10 +45,17 @@ fn opened(outcome: Result<u32, Fault>) -> Reply
 impl<K: Keeper> Nodes<K> {
     // Whether a node of this number is there.
     fn has(&self, number: NodeNumber) -> bool
-        ensures there { result ≡ is_some (map.get self.now.nodes number) }
-        ensures desks { self.now.desks ≡ 1 }
+        ensures { result ≡ is_some (map.get self.now.nodes number) }
     {
         self.all.contains_key(&number)
+    }
+
+    // How many desks each node has.
+    fn desks(&self) -> u8
+        ensures desks { result ≡ self.now.desks }
+        ensures some { 0 < result }
+    {
+        self.desks
     }
 
     // The least name under which an operation of the set and one of a node clash.
@@ -75,7 +82,8 @@ impl<K: Keeper> Nodes<K> {
 
     // Takes a node in, under a number that is not there, or gives its keeper back for want of memory.
     fn take_in(&mut self, number: NodeNumber, node: Node<K>) -> Result<(), (Fault, K)>
-        requires { map.get self.old.nodes number ≡ None }
+        requires absent { map.get self.old.nodes number ≡ None }
+        requires desks { length node.node.views ≡ self.old.desks }
         ensures ok { OnOk result (self.new ≡ over_with self.old number node) }
         ensures fault { IfErr result (λ e. e.0 ≡ faults.Refused Memory) }
         ensures given { IfErr result (λ e. e.1 ≡ node.keeper) }
@@ -123,7 +131,7 @@ impl<K: Keeper> Nodes<K> {
         if self.has(number) {
             return Err((Fault::WrongNode, keeper));
         }
-        let node = Node::open(alloc, keeper, number)?;
+        let node = Node::open(alloc, keeper, number, self.desks())?;
         if let Some(name) = self.clash(node.saved()) {
             return Err((Fault::Clash(name), node.into_keeper()));
         }

@@ -1,5 +1,5 @@
 //! The nodes of a world, call by call.
-ghost use Rattle.std.specs.Prelude.{◌≡◌, true, false};
+ghost use Rattle.std.specs.Prelude.{◌≡◌, ◌<◌, true, false};
 ghost use Rattle.std.specs.FinMap as map;
 ghost use Rattle.std.specs.Option.{option_copied};
 ghost use Rattle.fl_system.specs.declared.event.Event.TheVariants as event;
@@ -8,7 +8,6 @@ ghost use Rattle.fl_nodes.specs.Over.{empty_over};
 ghost use Rattle.fl_nodes.specs.Goes.{Goes};
 ghost use Rattle.fl_nodes.specs.Failing.{FailsAt, IsBrokenAt, LoadsBadRowOf};
 ghost use Rattle.fl_nodes.specs.Texts.{TextAt};
-ghost use Rattle.fl_nodes.specs.Whole.{IsWhole};
 ghost use Rattle.fl_nodes.specs.parts.There.{IsNoSuch, IsThere};
 ghost use Rattle.fl_nodes.specs.parts.Published.{published_reply};
 
@@ -16,7 +15,7 @@ use crate::highest::raised;
 use fl_jobs::job::{Job, let_go};
 use fl_labels::name::NodeNumber;
 use fl_node::node::Node;
-use fl_notes::working::work;
+use fl_notes::working::{Look, work};
 use fl_sink::sink::WriteFault;
 use fl_store::keeper::Keeper;
 use fl_system::admission::Admission;
@@ -49,18 +48,19 @@ fn lacks<K: Keeper>(node: &Node<K>, desk: u8, job: &Job) -> bool
     if let Job::Arrive(_) = job {
         return true;
     }
-    let desks = node.desks();
-    if desk == desks {
-        return false;
+    if desk == 0 {
+        return true;
     }
-    true
+    node.desks() < desk
 }
 
-/// Nodes by their numbers, each of one desk over a keeper of its own; every packet that they sent; and what they admitted.
+/// Nodes by their numbers, each over a keeper of its own, and of as many desks; every packet that they sent; and what they
+/// admitted.
 ///
 /// A contract of a call says which step of the world it is: where the keepers are honest, what the next openings may find
 /// comes by that step from what they might have found before.
 pub struct Nodes<K: Keeper> {
+    pub(crate) desks: u8,
     pub(crate) all: BTreeMap<NodeNumber, Node<K>>,
     pub(crate) sent: Vec<Sent>,
     pub(crate) audit: Vec<Admission>,
@@ -71,25 +71,28 @@ pub struct Nodes<K: Keeper> {
 impl<K: Keeper> Model for Nodes<K> {
     ghost use Rattle.std.specs.FinMap as map;
     ghost use Rattle.fl_nodes.specs.Over.{WorldOver, coded_world_over};
-    ghost use Rattle.fl_nodes.specs.parts.Highest.{AreUpTo};
+    ghost use Rattle.std.specs.Prelude.{◌<◌};
+    ghost use Rattle.fl_nodes.specs.parts.Highest.{AreWithin};
 
     ghost Value = { WorldOver K };
 
     ghost coded = { coded_world_over K.code };
 
     ghost view = { λ n. record {
-      desks = 1;
+      desks = n.desks;
       nodes = map.from_entries n.all.entries;
       packets = n.sent.items;
       audit = n.audit.items;
     } };
 
-    ghost invariant = { λ n. AreUpTo n.highest (map.from_entries n.all.entries) };
+    ghost invariant = { λ n. (0 < n.desks)
+        × AreWithin n.highest n.desks (map.from_entries n.all.entries) };
 }
 
 impl<K: Keeper + Drop> Drop for Nodes<K> {
     fn drop(self) {
         let Nodes {
+            desks: _,
             all: _,
             sent: _,
             audit: _,
@@ -99,11 +102,13 @@ impl<K: Keeper + Drop> Drop for Nodes<K> {
 }
 
 impl<K: Keeper> Nodes<K> {
-    /// No node and no packet. Takes no memory.
-    pub fn new(alloc: Global) -> Nodes<K>
-        ensures { result ≡ empty_over 1 }
+    /// No node and no packet; each node that joins will have so many desks. Takes no memory.
+    pub fn new(alloc: Global, desks: u8) -> Nodes<K>
+        requires { 0 < desks }
+        ensures { result ≡ empty_over desks }
     {
         Nodes {
+            desks,
             all: BTreeMap::new(alloc),
             sent: Vec::new(alloc),
             audit: Vec::new(alloc),
@@ -205,25 +210,26 @@ impl<K: Keeper> Nodes<K> {
         answer
     }
 
-    /// Does the job at the desk of the node, which first looks at the whole list, as `Node::job` has it; sends the message that it
-    /// may answer, and notes what is admitted. An arrival is not handed in so, and answers `NoSuch`.
+    /// Does the job at a desk of the node, which first looks at the list up to a length, as `Node::job` has it; sends the message
+    /// that it may answer, and notes what is admitted. An arrival is not handed in so, and answers `NoSuch`, as does a desk that
+    /// is not there.
     ///
     /// Refused with `Memory` too where there is no room for what would be noted or sent. For a job of which something is noted the
     /// labels of the process are copied, and what it owns where that has changed since it was noted last.
-    pub fn job(&mut self, alloc: Global, number: NodeNumber, desk: u8, job: Job) -> Reply
-        ensures { (upto : _) → IsWhole self.old number upto
-            → Goes K.custody self.old self.new
-            (λ w w'. Step w (event.Job number desk upto job) result w') }
+    pub fn job(&mut self, alloc: Global, number: NodeNumber, look: Look, job: Job) -> Reply
+        ensures { Goes K.custody self.old self.new
+            (λ w w'. Step w (event.Job number look.desk look.upto job) result w') }
     {
         let Some(node) = self.all.get_mut(&number) else {
             let_go(job);
             return Reply::NoSuch;
         };
-        if lacks(node, desk, &job) {
+        if lacks(node, look.desk, &job) {
             let_go(job);
             return Reply::NoSuch;
         }
-        let answer = work(alloc, number, node, job, &mut self.audit, &mut self.sent);
+        let (audit, sent) = (&mut self.audit, &mut self.sent);
+        let answer = work(alloc, number, node, look, job, audit, sent);
         self.highest = raised(self.highest, node.saved());
         answer
     }

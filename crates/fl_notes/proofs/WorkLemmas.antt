@@ -1,5 +1,5 @@
 -- A job at a node.
-use Rattle.std.proofs.Common.{◌≡◌, ◌≤◌, ◌<◌, ◌++◌, ◌∙◌, refl, sym, ap, subst, ℕ, suc, List, [], ◌∷◌, length, Option, Some, None, Result, Ok, Err, arith, inl}
+use Rattle.std.proofs.Common.{◌≡◌, ◌≤◌, ◌<◌, ◌++◌, ◌∙◌, refl, sym, ap, subst, ℕ, zero, suc, List, [], ◌∷◌, length, Option, Some, None, Result, Ok, Err, arith, inl}
 use Rattle.std.specs.Prelude.{◌+◌, min, max, IsSome, OnOk}
 use Rattle.std.specs.List.{Contains}
 use Rattle.std.proofs.lemmas.List.{append-nil}
@@ -41,6 +41,7 @@ use Rattle.fl_audit.specs.Drafts.{asker_of, drafted, listed}
 use Rattle.fl_audit.specs.Senders.{sender_of}
 use Rattle.fl_audit.specs.declared.draft.Draft.{Draft}
 use Rattle.fl_audit.specs.declared.draft.Draft.TheVariants.{Nothing, Always, IfYes, IfEntered}
+use Rattle.fl_node.specs.Desks.{IsDeskOf}
 use Rattle.fl_notes.specs.Working.{HasRoom, IsNotable, IsUnready, Shows, Works, Worked}
 
 -- ---- drafts
@@ -82,37 +83,23 @@ has_room (IfEntered p login secret) a entry len capacity e h = h
 pub listed_is : {A : Type 0} (o : Option A) (x : A) (l : List A) → o ≡ Some x → listed o ≡ l → x ∷ [] ≡ l
 listed_is o x l is e = ap listed (sym is) ∙ e
 
--- ---- one desk
+-- ---- a desk
 
-record OneView (views : List ℕ) : Type 0 where
+record HasView (views : List ℕ) (desk : ℕ) : Type 0 where
   seen : ℕ
-  at : item_at views 1 ≡ Some seen
-  same : with_item views 1 seen ≡ views
+  at : item_at views desk ≡ Some seen
+  same : with_item views desk seen ≡ views
 
-one_view : (views : List ℕ) → length views ≡ 1 → OneView views
-one_view [] e = absurd (omega (arith, e))
-one_view (x ∷ xs) e = record { seen = x; at = refl; same = refl }
+view_at : (views : List ℕ) (k : ℕ) → suc k ≤ length views → HasView views (suc k)
+view_at [] k few = absurd (omega (arith, few))
+view_at (x ∷ xs) zero few = record { seen = x; at = refl; same = refl }
+view_at (x ∷ xs) (suc k) few =
+    let rest = view_at xs k (omega (arith, few)) in
+    record { seen = rest.seen; at = rest.at; same = ap (λ ys. x ∷ ys) rest.same }
 
--- what the whole list shows is seen by who looks further too
-abbrev looks_upto : (n : NodeState) (desk upto v : ℕ) → length n.published ≤ upto → Looks n desk (length n.published) v → Looks n desk upto v
-looks_upto n desk upto v whole look =
-    let same : min (length n.published) (length n.published) ≡ min upto (length n.published) = omega (arith, whole) in
-    record { running = look.running; seen = look.seen; has_seen = look.has_seen; sees = look.sees ∙ ap (max look.seen) same }
-
-pub jobs_upto : (n : NodeState) (desk upto : ℕ) (job : Job) (result : Result Answer Fault) (n' : NodeState) → length n.published ≤ upto
-    → Jobs n desk (length n.published) job result n' → Jobs n desk upto job result n'
-jobs_upto n desk upto job result n' whole (Jobs.stopped h) = Jobs.stopped h
-jobs_upto n desk upto job result n' whole (Jobs.no_room look less seen) = Jobs.no_room (looks_upto n desk upto _ whole look) less seen
-jobs_upto n desk upto job result n' whole (Jobs.refused look h) = Jobs.refused (looks_upto n desk upto _ whole look) h
-jobs_upto n desk upto job result n' whole (Jobs.replied look h) = Jobs.replied (looks_upto n desk upto _ whole look) h
-jobs_upto n desk upto job result n' whole (Jobs.sent look h) = Jobs.sent (looks_upto n desk upto _ whole look) h
-jobs_upto n desk upto job result n' whole (Jobs.begun look h b) = Jobs.begun (looks_upto n desk upto _ whole look) h b
-jobs_upto n desk upto job result n' whole (Jobs.not_begun look h b) = Jobs.not_begun (looks_upto n desk upto _ whole look) h b
-
--- of the same node
-pub jobs_same : (n m : NodeState) (job : Job) (result : Result Answer Fault) (n' : NodeState) → n ≡ m
-    → Jobs n 1 (length n.published) job result n' → Jobs m 1 (length m.published) job result n'
-jobs_same n m job result n' e h = subst (λ x. Jobs x 1 (length x.published) job result n') e h
+has_view : (n : NodeState) (desk : ℕ) → IsDeskOf n desk → HasView n.views desk
+has_view n zero is = absurd (omega (arith, is.first))
+has_view n (suc k) is = view_at n.views k is.last
 
 -- ---- who sends
 
@@ -196,9 +183,9 @@ is_running (Stopped doubt) h = h doubt refl
 pub not_running : (s : State) (doubt : Option Batch) → s ≡ Stopped doubt → NotRunning s faults.Stopped
 not_running s doubt e = subst (λ s. NotRunning s faults.Stopped) (sym e) refl
 
-module _ (number : ℕ) (n : NodeState) (upto : ℕ) (job : Job) (packets : List Sent) (audit : List Admission) where
+module _ (number : ℕ) (n : NodeState) (desk upto : ℕ) (job : Job) (packets : List Sent) (audit : List Admission) where
   unsent : (packets_after : List Sent) (audit_after : List Admission) (result : Reply) (n' : NodeState) → packets_after ≡ packets → audit_after ≡ audit
-      → Works number n 1 upto job (length packets) result n' [] [] → Worked number n 1 upto job result n' packets packets_after audit audit_after
+      → Works number n desk upto job (length packets) result n' [] [] → Worked number n desk upto job result n' packets packets_after audit audit_after
   unsent packets_after audit_after result n' same_packets same_audit works = record {
     sent = [];
     admitted = [];
@@ -208,33 +195,33 @@ module _ (number : ℕ) (n : NodeState) (upto : ℕ) (job : Job) (packets : List
   }
 
   no_room : (packets_after : List Sent) (audit_after : List Admission) → packets_after ≡ packets → audit_after ≡ audit
-      → IsRunning n.state → length n.views ≡ 1 → MayBeNoted n job
-      → Worked number n 1 upto job (reply.Refused (faults.Refused Memory)) n packets packets_after audit audit_after
-  no_room packets_after audit_after same_packets same_audit running one noted =
-      let view = one_view n.views one in
-      let look : Looks n 1 upto (max view.seen (min upto (length n.published))) = record { running = running; seen = view.seen; has_seen = view.at; sees = refl } in
+      → IsRunning n.state → IsDeskOf n desk → MayBeNoted n job
+      → Worked number n desk upto job (reply.Refused (faults.Refused Memory)) n packets packets_after audit audit_after
+  no_room packets_after audit_after same_packets same_audit running is noted =
+      let view = has_view n desk is in
+      let look : Looks n desk upto (max view.seen (min upto (length n.published))) = record { running = running; seen = view.seen; has_seen = view.at; sees = refl } in
       unsent packets_after audit_after _ n same_packets same_audit
-      (subst (λ (views : List ℕ). Works number n 1 upto job (length packets) (reply.Refused (faults.Refused Memory)) (record n { views = views }) [] [])
+      (subst (λ (views : List ℕ). Works number n desk upto job (length packets) (reply.Refused (faults.Refused Memory)) (record n { views = views }) [] [])
       view.same (Works.no_room look (inl refl) noted))
 
   pub unready : (packets_after : List Sent) (audit_after : List Admission) (fault : Fault) → packets_after ≡ packets → audit_after ≡ audit
-      → length n.views ≡ 1 → IsUnready n job fault
-      → Worked number n 1 upto job (reply.Refused fault) n packets packets_after audit audit_after
-  unready packets_after audit_after fault same_packets same_audit one (IsUnready.stopped h) =
+      → IsDeskOf n desk → IsUnready n job fault
+      → Worked number n desk upto job (reply.Refused fault) n packets packets_after audit audit_after
+  unready packets_after audit_after fault same_packets same_audit is (IsUnready.stopped h) =
       unsent packets_after audit_after _ n same_packets same_audit (Works.refused (Jobs.stopped h))
-  unready packets_after audit_after fault same_packets same_audit one (IsUnready.no_room running noted) =
-      no_room packets_after audit_after same_packets same_audit running one noted
+  unready packets_after audit_after fault same_packets same_audit is (IsUnready.no_room running noted) =
+      no_room packets_after audit_after same_packets same_audit running is noted
 
   pub not_done : (packets_after : List Sent) (audit_after : List Admission) (fault : Fault) (n' : NodeState) → packets_after ≡ packets → audit_after ≡ audit
-      → Jobs n 1 upto job (Err fault) n' → Worked number n 1 upto job (reply.Refused fault) n' packets packets_after audit audit_after
+      → Jobs n desk upto job (Err fault) n' → Worked number n desk upto job (reply.Refused fault) n' packets packets_after audit audit_after
   not_done packets_after audit_after fault n' same_packets same_audit h = unsent packets_after audit_after _ n' same_packets same_audit (Works.refused h)
 
   pub done : (packets_room packets_after : List Sent) (audit_after : List Admission) (a : Answer) (n' : NodeState) (result : Reply) (sender : Option Party)
-      → packets_room ≡ packets → Jobs n 1 upto job (Ok a) n' → sender ≡ sender_of (asker_of n job) job
+      → packets_room ≡ packets → Jobs n desk upto job (Ok a) n' → sender ≡ sender_of (asker_of n job) job
       → audit_after ≡ audit ++ entries n job a → Shows number sender packets_room a result packets_after
-      → Worked number n 1 upto job result n' packets packets_after audit audit_after
+      → Worked number n desk upto job result n' packets packets_after audit audit_after
   done packets_room packets_after audit_after (answers.Reply r) n' result sender same did known noted shown =
-      subst (λ x. Worked number n 1 upto job x n' packets packets_after audit audit_after) (sym shown.0) (record {
+      subst (λ x. Worked number n desk upto job x n' packets packets_after audit audit_after) (sym shown.0) (record {
         sent = [];
         admitted = entries n job (answers.Reply r);
         sent_is = shown.1 ∙ same ∙ sym (append-nil packets);
@@ -242,7 +229,7 @@ module _ (number : ℕ) (n : NodeState) (upto : ℕ) (job : Job) (packets : List
         works = Works.replied did;
       })
   done packets_room packets_after audit_after (answers.Begun name) n' result sender same did known noted shown =
-      subst (λ x. Worked number n 1 upto job x n' packets packets_after audit audit_after) (sym shown.0) (record {
+      subst (λ x. Worked number n desk upto job x n' packets packets_after audit audit_after) (sym shown.0) (record {
         sent = [];
         admitted = entries n job (answers.Begun name);
         sent_is = shown.1 ∙ same ∙ sym (append-nil packets);
@@ -250,8 +237,8 @@ module _ (number : ℕ) (n : NodeState) (upto : ℕ) (job : Job) (packets : List
         works = Works.begun did;
       })
   done packets_room packets_after audit_after (answers.Out d) n' result sender same did known noted shown =
-      let party_is : sender ≡ party_at d.sender (process_of n d.sender) = known ∙ sender_is n 1 upto job d n' did in
-      subst (λ x. Worked number n 1 upto job x n' packets packets_after audit audit_after)
+      let party_is : sender ≡ party_at d.sender (process_of n d.sender) = known ∙ sender_is n desk upto job d n' did in
+      subst (λ x. Worked number n desk upto job x n' packets packets_after audit audit_after)
       (sym (shown.0 ∙ ap (λ (l : List Sent). reply.Sent (suc (length l)) 1) same)) (record {
         sent = sent_message number n d ∷ [];
         admitted = entries n job (answers.Out d);

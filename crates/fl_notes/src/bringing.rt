@@ -1,5 +1,5 @@
 //! What a node does with a packet that comes to it.
-ghost use Rattle.std.specs.Prelude.{◌≡◌, ◌<◌, ◌++◌, IfOk, IfErr};
+ghost use Rattle.std.specs.Prelude.{◌≡◌, ◌<◌, ◌++◌, length, IfOk, IfErr};
 ghost use Rattle.std.specs.Vec.{vec_len, vec_capacity};
 ghost use Rattle.fl_labels.specs.SetBy as set;
 ghost use Rattle.fl_ops.specs.OpOrder.{op_cmp};
@@ -8,6 +8,7 @@ ghost use Rattle.fl_system.specs.Audit.{message_entries};
 ghost use Rattle.fl_system.specs.Processes.{process_of};
 ghost use Rattle.fl_audit.specs.Drafts.{listed};
 ghost use Rattle.fl_node.specs.Telling.{TellsNothing};
+ghost use Rattle.fl_node.specs.Desks.{IsDeskOf};
 ghost use Rattle.fl_notes.specs.Bringing.{Brought, Takes};
 
 use fl_audit::message::arrival;
@@ -117,8 +118,10 @@ pub fn bring<K: Keeper>(
     message: &Data,
     audit: &mut Vec<Admission>,
 ) -> Reply
+    requires { IsDeskOf node.old.node 1 }
     ensures brings { Brought node.old.node sender.now message.now result node.new.node
         audit.old.items audit.new.items }
+    ensures desks { length node.new.node.views ≡ length node.old.node.views }
     ensures keeper { node.new.keeper ≡ node.old.keeper }
 {
     let Ready { message, entry } = match prepare(alloc, node, sender, message, audit) {
@@ -137,6 +140,7 @@ pub fn bring<K: Keeper>(
 /// Has the node take the operations of a packet, as `Node::receive` has it: those that are new are then to be saved. Answers how
 /// many are new, or why none is taken.
 pub fn receive<K: Keeper>(alloc: Global, node: &mut Node<K>, packet: &Packet) -> Reply
+    ensures desks { length node.new.node.views ≡ length node.old.node.views }
     ensures takes { let ops = set.of_list {R = op_cmp} (ops_of packet.now) in
         Takes node.old.node ops result node.new.node }
     ensures keeper { node.new.keeper ≡ node.old.keeper }

@@ -1,5 +1,5 @@
 //! A job at a node, with what it sends and what is noted of it.
-ghost use Rattle.std.specs.Prelude.{◌≡◌, ◌≤◌, ◌<◌, ◌++◌, length, IfOk, IfErr, OnOk, OnErr};
+ghost use Rattle.std.specs.Prelude.{◌≡◌, ◌<◌, ◌++◌, length, IfOk, IfErr, OnOk, OnErr};
 ghost use Rattle.std.specs.Option.{option_copied};
 ghost use Rattle.std.specs.Vec.{vec_len, vec_capacity};
 ghost use Rattle.fl_system.specs.declared.answer.Answer.TheVariants as answers;
@@ -8,6 +8,7 @@ ghost use Rattle.fl_system.specs.WorldJobs.{MayBeNoted};
 ghost use Rattle.fl_audit.specs.Drafts.{asker_of, drafted};
 ghost use Rattle.fl_audit.specs.Noted.{IsNotedWith};
 ghost use Rattle.fl_audit.specs.Senders.{sender_of};
+ghost use Rattle.fl_node.specs.Desks.{IsDeskOf};
 ghost use Rattle.fl_notes.specs.Working.{HasRoom, IsNotable, IsUnready, Shows, Worked};
 
 use fl_audit::draft::{Draft, names_asker};
@@ -169,9 +170,16 @@ fn prepare<K: Keeper>(
     }
 }
 
-/// Has the node of this number do the job at its desk, under all that is published: gives the answer as it is shown, sends the
-/// message that it may be, and notes what is admitted. What would be noted and sent is made and has its room before. Copies what
-/// who asks owns only where that has changed since it was noted last.
+/// A desk, and up to what length it looks at the list.
+#[derive(Clone, Copy, Debug, PartialEq, Eq)]
+pub struct Look {
+    pub desk: u8,
+    pub upto: u64,
+}
+
+/// Has the node of this number do the job at a desk, which looks first: gives the answer as it is shown, sends the message that it
+/// may be, and notes what is admitted. What would be noted and sent is made and has its room before. Copies what who asks owns
+/// only where that has changed since it was noted last.
 ///
 /// Refused as `Node::job` has it; `Stopped` where the node is stopped, and `Memory` where there is no room for what would be
 /// noted or sent. Nothing is sent or noted then.
@@ -179,14 +187,15 @@ pub fn work<K: Keeper>(
     alloc: Global,
     number: NodeNumber,
     node: &mut Node<K>,
+    look: Look,
     job: Job,
     audit: &mut Vec<Admission>,
     sent: &mut Vec<Sent>,
 ) -> Reply
-    requires { length node.old.node.views ≡ 1 }
-    ensures works { (upto : _) → length node.old.node.published ≤ upto
-        → Worked number node.old.node 1 upto job result node.new.node
+    requires { IsDeskOf node.old.node look.desk }
+    ensures works { Worked number node.old.node look.desk look.upto job result node.new.node
         sent.old.items sent.new.items audit.old.items audit.new.items }
+    ensures desks { length node.new.node.views ≡ length node.old.node.views }
     ensures keeper { node.new.keeper ≡ node.old.keeper }
 {
     let Prepared { draft, sender } = match prepare(alloc, node, &job, audit, sent) {
@@ -196,7 +205,7 @@ pub fn work<K: Keeper>(
             return Reply::Refused(fault);
         }
     };
-    match node.job(alloc, job) {
+    match node.job(alloc, look.desk, look.upto, job) {
         Ok(answer) => {
             note(audit, draft, &answer);
             show(number, sender, sent, answer)

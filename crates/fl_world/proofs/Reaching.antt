@@ -19,7 +19,6 @@ use Rattle.fl_world_laws.specs.Places.{IsKnown, IsNameRefusal}
 use Rattle.fl_node.specs.Over.{NodeOver}
 use Rattle.fl_nodes.specs.Over.{WorldOver, empty_over}
 use Rattle.fl_nodes.specs.Joining.{DoesJoin, DoesNotJoin, GivesBack, HasNoStray, IsRefused, ReturnsOver, TakesIn}
-use Rattle.fl_nodes.specs.Whole.{IsWhole}
 use Rattle.fl_nodes.specs.Goes.{Goes}
 use Rattle.fl_nodes.specs.laws.Nothing.{none_is}
 use Rattle.fl_world.specs.Reached.{InEach}
@@ -78,18 +77,6 @@ never_named custody old new event reply none reached goes = record {
       let before = goes.comes honest after is in
       none before.0 after event reply (reached.each (goes.honest honest) before.0 before.1) before.2;
 }
-
--- how far a desk looks that looks at the whole list of the node of this number
-pub whole_look : {K : Type 0} (over : WorldOver K) (number : ℕ) → (upto : ℕ) × IsWhole over number upto
-whole_look {K} over number = by_node (map.get over.nodes number) refl
-  where
-    by_node : (o : Option (NodeOver K)) → map.get over.nodes number ≡ o → (upto : ℕ) × IsWhole over number upto
-    by_node None e = (0, λ n is. absurd (cc))
-    by_node (Some m) e = (
-      length m.node.published,
-      λ n is. let same : m ≡ n = cc in
-          subst (λ x. length x.node.published ≤ length m.node.published) same (omega arith),
-    )
 
 -- in a world that a run leads to each operation that is saved is known to the node whose number it has
 pub no_stray : ((w : World) (op : Op) (s : KeptNode) → IsReached w → IsKnown w op → IsAt w op.name.node s → In s.node.saved op)

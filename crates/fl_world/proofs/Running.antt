@@ -1,17 +1,13 @@
 -- Events that happen one after another.
-use Rattle.std.proofs.Common.{◌≡◌, ◌≤◌, ◌<◌, ◌+◌, ◌^◌, ℕ, refl, sym, subst, List, [], ◌∷◌, ◌++◌, arith}
+use Rattle.std.proofs.Common.{◌≡◌, ◌≤◌, ◌+◌, ℕ, refl, sym, subst, List, [], ◌∷◌, ◌++◌, arith}
 use Rattle.fl_store.specs.Custody.{Custody}
 use Rattle.fl_system.specs.World.{World}
 use Rattle.fl_system.specs.WorldSteps.{Step}
 use Rattle.fl_system.specs.Runs.{Run}
-use Rattle.fl_jobs.specs.declared.job.Job.{Job as AnyJob}
 use Rattle.fl_system.specs.declared.event.Event.{Event}
-use Rattle.fl_system.specs.declared.event.Event.TheVariants as event_of
 use Rattle.fl_system.specs.declared.reply.Reply.{Reply}
 use Rattle.fl_nodes.specs.Over.{WorldOver}
 use Rattle.fl_nodes.specs.Goes.{Goes}
-use Rattle.fl_nodes.specs.Whole.{IsWhole}
-use Rattle.fl_world.specs.Looking.{LooksFar}
 
 -- a run goes on by one more event
 run_then : (w between w' : World) (events : List Event) (replies : List Reply) (event : Event) (reply : Reply)
@@ -58,10 +54,3 @@ module _ {K : Type 0} (custody : Custody K) where
       → Goes custody old new (λ w w'. Run w all replies w')
   all_done old new events all replies len capacity left so_far is =
       subst (λ e. Goes custody old new (λ w w'. Run w e replies w')) is so_far.goes
-
--- a job that looks as far as can be looks at the whole list
-pub job_far : {K : Type 0} (over : WorldOver K) (number desk upto bound : ℕ) (job : AnyJob) (event : Event)
-    → event ≡ event_of.Job number desk upto job → LooksFar event → IsWhole over number bound → bound < 2 ^ 64 → IsWhole over number upto
-job_far over number desk upto bound job event is far whole less = λ n at.
-    let all : upto ≡ 18446744073709551615 = subst LooksFar is far in
-    omega (arith, whole n at, less, all)

@@ -2,4 +2,3 @@ pub mod Reached
 pub mod Headline
 pub mod Lasting
 pub mod Along
-pub mod Looking

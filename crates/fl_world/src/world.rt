@@ -1,5 +1,5 @@
 //! A world, event by event.
-ghost use Rattle.std.specs.Prelude.{◌≡◌, ◌<◌, All, IfOk, IfErr, OnErr, None, Some};
+ghost use Rattle.std.specs.Prelude.{◌≡◌, ◌<◌, IfOk, IfErr, OnErr, None, Some};
 ghost use Rattle.std.specs.FinMap as map;
 ghost use Rattle.std.specs.Fn.{FnOnceReturnsAtMut};
 ghost use Rattle.std.specs.Option.{option_copied};
@@ -19,8 +19,6 @@ ghost use Rattle.fl_nodes.specs.Failing.{FailsAt, IsBrokenAt, LoadsBadRowOf};
 ghost use Rattle.fl_nodes.specs.Joining.{GivesBack, IsRefused, TakesIn};
 ghost use Rattle.fl_nodes.specs.Joining.{ReturnsOver, TakesOver};
 ghost use Rattle.fl_nodes.specs.Texts.{TextAt};
-ghost use Rattle.fl_nodes.specs.Whole.{IsWhole};
-ghost use Rattle.fl_world.specs.Looking.{LooksFar};
 ghost use Rattle.fl_world.specs.Reached.{InEach};
 ghost use Rattle.fl_world.specs.Headline.{HasSafeAudit, IsSafeWorld};
 ghost use Rattle.fl_world.specs.Lasting.{IsLastingWorld};
@@ -32,6 +30,7 @@ use fl_jobs::job::Job;
 use fl_labels::name::NodeNumber;
 use fl_node::node::Node;
 use fl_nodes::nodes::Nodes;
+use fl_notes::working::Look;
 use fl_sink::sink::WriteFault;
 use fl_store::keeper::Keeper;
 use fl_system::admission::Admission;
@@ -56,9 +55,7 @@ impl<K: Keeper> Model for World<K> {
     ghost use Rattle.fl_system.specs.Runs.{IsReached};
     ghost use Rattle.fl_nodes.specs.Over.{WorldOver, coded_world_over};
     ghost use Rattle.fl_nodes.specs.Texts.{TextAt};
-    ghost use Rattle.fl_nodes.specs.Whole.{IsWhole};
-    ghost use Rattle.fl_world.specs.Looking.{LooksFar};
-    ghost use Rattle.fl_world.specs.Reached.{InEach};
+            ghost use Rattle.fl_world.specs.Reached.{InEach};
 
     ghost Value = { WorldOver K };
 
@@ -76,12 +73,13 @@ impl<K: Keeper + Drop> Drop for World<K> {
 }
 
 impl<K: Keeper> World<K> {
-    /// Without a node. Takes no memory.
-    pub fn new(alloc: Global) -> World<K>
-        ensures { result ≡ empty_over 1 }
+    /// Without a node; each that joins will have so many desks, and as many benches. Takes no memory.
+    pub fn new(alloc: Global, desks: u8) -> World<K>
+        requires { 0 < desks }
+        ensures { result ≡ empty_over desks }
     {
         World {
-            nodes: Nodes::new(alloc),
+            nodes: Nodes::new(alloc, desks),
         }
     }
 
@@ -169,13 +167,13 @@ impl<K: Keeper> World<K> {
         self.nodes.reopen_with(alloc, number, make)
     }
 
-    /// Has the node do a job at its desk, under all that it published, as `Nodes::job` has it. What the job lets pass is noted.
-    pub fn job(&mut self, alloc: Global, number: NodeNumber, desk: u8, job: Job) -> Reply
-        ensures { (upto : _) → IsWhole self.old number upto
-            → Goes K.custody self.old self.new
-            (λ w w'. Step w (event.Job number desk upto job) result w') }
+    /// Has the node do a job at a desk, which first looks at the list up to a length, as `Nodes::job` has it. What the job lets
+    /// pass is noted.
+    pub fn job(&mut self, alloc: Global, number: NodeNumber, look: Look, job: Job) -> Reply
+        ensures { Goes K.custody self.old self.new
+            (λ w w'. Step w (event.Job number look.desk look.upto job) result w') }
     {
-        self.nodes.job(alloc, number, desk, job)
+        self.nodes.job(alloc, number, look, job)
     }
 
     /// Saves what is to be saved at the node, as `Nodes::save` has it.
@@ -231,31 +229,17 @@ impl<K: Keeper> World<K> {
         self.nodes.deliver(alloc, packet, number)
     }
 
-    // How long the list of the node of this number is, or 0 where it is not there.
-    fn whole(&self, number: NodeNumber) -> u64
-        ensures { IsWhole self.now number result }
-    {
-        match self.node(number) {
-            Some(node) => node.published().len() as u64,
-            None => 0,
-        }
-    }
-
-    // The event happens. A job looks at the whole list of its node.
+    // The event happens.
     fn turn(&mut self, alloc: Global, event: Event) -> Reply
-        requires { LooksFar event }
         ensures { Goes K.custody self.old self.new (λ w w'. Step w event result w') }
     {
         match event {
             Event::Job {
                 node,
                 desk,
+                upto,
                 job,
-                ..
-            } => {
-                let _whole = self.whole(node);
-                self.job(alloc, node, desk, job)
-            }
+            } => self.job(alloc, node, Look { desk, upto }, job),
             Event::Save(node) => self.save(node),
             Event::Publish(node) => self.publish(alloc, node),
             Event::Cancel(node) => self.cancel(node),
@@ -265,10 +249,8 @@ impl<K: Keeper> World<K> {
         }
     }
 
-    /// Has the event happen, and gives what it is answered. A job looks at the whole list of its node, so far: it is handed in to
-    /// look as far as can be. It is never answered `Clash` or `Impostor`.
+    /// Has the event happen, and gives what it is answered. It is never answered `Clash` or `Impostor`.
     pub fn step(&mut self, alloc: Global, event: Event) -> Reply
-        requires { LooksFar event }
         ensures goes { Goes K.custody self.old self.new (λ w w'. Step w event result w') }
         ensures named { InEach K.custody self.new (λ w. ¬ IsNameRefusal result) }
     {
@@ -283,7 +265,6 @@ impl<K: Keeper> World<K> {
     /// All along the run no yes is withdrawn, nodes that published the same have one text, desks
     /// that see the same answer alike, and a tag is confined.
     pub fn run(&mut self, alloc: Global, events: Vec<Event>) -> Result<Vec<Reply>, AllocError>
-        requires { All LooksFar events.items }
         ensures ok { IfOk result (λ replies. Goes K.custody self.old self.new
             (λ w w'. Run w events.items replies.items w')) }
         ensures lasting { IfOk result (λ replies. Goes K.custody self.old self.new

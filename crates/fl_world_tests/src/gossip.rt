@@ -12,7 +12,7 @@ use std::test::Fail;
 #[test]
 fn gossip_teaches_a_tag(rt: HostRuntime) -> Result<(), Fail> {
     let alloc = rt.alloc();
-    let mut world = World::new(alloc);
+    let mut world = World::new(alloc, 1);
     joins(&mut world, alloc, 1, MemKeeper::new(alloc, 1))?;
     joins(&mut world, alloc, 2, MemKeeper::new(alloc, 2))?;
     tag_is_begun(&mut world, alloc, 1)?;
@@ -141,7 +141,7 @@ fn is_packet(
 #[test]
 fn gap_is_filled(rt: HostRuntime) -> Result<(), Fail> {
     let alloc = rt.alloc();
-    let mut world = World::new(alloc);
+    let mut world = World::new(alloc, 1);
     gap(&mut world, alloc)?;
     let window =
         "f2020000000100000001ffffffffffffffff0002000000010000000100000001000000010000000300000003";

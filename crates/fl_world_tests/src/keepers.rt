@@ -40,7 +40,7 @@ fn last_name_is_spent(rt: HostRuntime) -> Result<(), Fail> {
         },
         body: Body::MakeGroup,
     };
-    let mut world = World::new(alloc);
+    let mut world = World::new(alloc, 1);
     joins(&mut world, alloc, 1, keeper_with(alloc, last_but_one)?)?;
     let made = Reply::Job(Answer::Made(MAKER));
     happens(&mut world, alloc, job(Job::Proc), &made)?;
@@ -61,7 +61,7 @@ fn last_name_is_spent(rt: HostRuntime) -> Result<(), Fail> {
 #[test]
 fn keeper_of_another_node(rt: HostRuntime) -> Result<(), Fail> {
     let alloc = rt.alloc();
-    let mut world = World::new(alloc);
+    let mut world = World::new(alloc, 1);
     let Err((fault, keeper)) = world.join(alloc, 2, MemKeeper::new(alloc, 1)) else {
         return Err(Fail::from("joined"));
     };

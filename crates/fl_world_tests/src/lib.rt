@@ -8,6 +8,8 @@ mod hiccup;
 #[cfg(test)]
 mod keepers;
 #[cfg(test)]
+mod lagging;
+#[cfg(test)]
 mod mending;
 #[cfg(test)]
 mod reopening;

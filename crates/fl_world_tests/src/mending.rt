@@ -66,7 +66,7 @@ fn begun(alloc: Global, writes: u64) -> Result<Option<World<FileKeeper<Hiccup<Me
     let Some(keeper) = opened(alloc, files(alloc, writes)) else {
         return Ok(None);
     };
-    let mut world = World::new(alloc);
+    let mut world = World::new(alloc, 1);
     if world.join(alloc, 1, keeper).is_err() {
         return Ok(None);
     }

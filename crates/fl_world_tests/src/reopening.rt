@@ -12,7 +12,7 @@ use std::test::Fail;
 
 // A world with node 1, whose keeper broke as it saved its first order, and kept nothing of it.
 fn broken_world(alloc: Global) -> Result<World<MemKeeper>, Fail> {
-    let mut world = World::new(alloc);
+    let mut world = World::new(alloc, 1);
     let mut keeper = MemKeeper::new(alloc, 1);
     keeper.break_at(1, false);
     joins(&mut world, alloc, 1, keeper)?;

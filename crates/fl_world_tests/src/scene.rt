@@ -1,6 +1,5 @@
 //! What the tests of worlds do.
 ghost use Rattle.std.specs.Prelude.{◌<◌};
-ghost use Rattle.fl_world.specs.Looking.{LooksFar};
 
 use fl_jobs::answer::Reply as Answer;
 use fl_jobs::job::{Act, Job, Order};
@@ -37,7 +36,6 @@ pub fn happens<K: Keeper>(
     event: Event,
     wanted: &Reply,
 ) -> Result<(), Fail>
-    requires { LooksFar event }
 {
     if world.step(alloc, event) == *wanted {
         Ok(())
@@ -47,9 +45,7 @@ pub fn happens<K: Keeper>(
 }
 
 /// A job at node 1.
-pub fn job(job: Job) -> Event
-    ensures { LooksFar result }
-{
+pub fn job(job: Job) -> Event {
     Event::Job {
         node: 1,
         desk: 1,
@@ -78,7 +74,8 @@ pub fn tag_is_made(world: &mut World<MemKeeper>, alloc: Global) -> Result<(), Fa
     is_made(world, alloc, Name { node: 1, seq: 1 })
 }
 
-fn is_made(world: &mut World<MemKeeper>, alloc: Global, name: Name) -> Result<(), Fail> {
+/// What is begun at node 1, under this name, is saved and published.
+pub fn is_made(world: &mut World<MemKeeper>, alloc: Global, name: Name) -> Result<(), Fail> {
     happens(world, alloc, Event::Save(1), &Reply::Done)?;
     happens(world, alloc, Event::Publish(1), &Reply::Published(name))
 }

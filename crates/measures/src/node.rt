@@ -53,7 +53,7 @@ fn restart_all(alloc: Global, first: Node<MemKeeper>, count: u32) -> Node<MemKee
 /// Orders so many operations, and restarts the node so many times.
 pub fn measure(rt: &HostRuntime, orders: u32, restarts: u32) -> Result<(), Fail> {
     let alloc = rt.alloc();
-    let Ok(mut node) = Node::open(alloc, MemKeeper::new(alloc, 1), 1) else {
+    let Ok(mut node) = Node::open(alloc, MemKeeper::new(alloc, 1), 1, 1) else {
         println!(rt; "not opened")?;
         return Ok(());
     };

@@ -1,5 +1,5 @@
 -- What comes of an order that the bench admits.
-use Rattle.std.specs.Prelude.{◌≡◌}
+use Rattle.std.specs.Prelude.{◌≡◌, ℕ}
 use Rattle.std.specs.declared.option.Option.TheVariants.{Some}
 use Rattle.std.specs.declared.result.Result.{Result}
 use Rattle.std.specs.declared.result.Result.TheVariants.{Ok, Err}
@@ -11,12 +11,12 @@ use Rattle.fl_system.specs.declared.answer.Answer.{Answer}
 use Rattle.fl_system.specs.declared.answer.Answer.TheVariants as answer
 use Rattle.fl_system.specs.declared.answer.Fault.{Fault}
 use Rattle.fl_system.specs.State.{NodeState}
-use Rattle.fl_system.specs.Numbered.{change_item}
+use Rattle.fl_system.specs.Publishes.{at_bench_of}
 use Rattle.fl_system.specs.Begins.{Begins}
 
--- its operation is begun at desk 1, or bench 1 goes on without it
-abbrev pub Orders : NodeState → Body → Pid → Result Answer Fault → NodeState → Type 0
-Orders n body pid (Ok result) n' =
-    (name : Name) × (result ≡ answer.Begun name) × Begins n body (Some pid) (Some 1) (Ok name) n'
-Orders n body pid (Err fault) n' = Begins n body (Some pid) (Some 1) (Err fault) n
-    × (n' ≡ record n { benches = change_item (λ b. cancelled b pid) n.benches 1 })
+-- its operation is begun at the desk, or the bench of its maker goes on without it
+abbrev pub Orders : NodeState → Body → Pid → ℕ → Result Answer Fault → NodeState → Type 0
+Orders n body pid desk (Ok result) n' =
+    (name : Name) × (result ≡ answer.Begun name) × Begins n body (Some pid) (Some desk) (Ok name) n'
+Orders n body pid desk (Err fault) n' = Begins n body (Some pid) (Some desk) (Err fault) n
+    × (n' ≡ record n { benches = at_bench_of pid (λ b. cancelled b pid) n.benches })

@@ -9,4 +9,4 @@ returns-in_err-batch-clause-cancels g c =
     rw (p.1, p.2, ← c.self.view_is) (Cancels.none c.in_err-batch.ensures.err)
 
 pub returns-clause-cancels : goal.returns-clause-cancels
-returns-clause-cancels g c = rw (c.release.ensures, ← c.self.view_is) (Cancels.given_up c.in_ok-batch.ensures.ok)
+returns-clause-cancels g c = rw (c.release.ensures.procs, c.release.ensures.benches, ← c.self.view_is) (Cancels.given_up c.in_ok-batch.ensures.ok)

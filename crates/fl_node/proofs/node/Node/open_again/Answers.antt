@@ -1,17 +1,19 @@
-use Rattle.std.proofs.Common.{◌≡◌, ◌∙◌, length}
+use Rattle.std.proofs.Common.{◌≡◌, ◌∙◌, sym, length}
 use Rattle.fl_system.specs.Openings.{OpensAgain}
 use Rattle.fl_node.proofs.node.Node.open_again.Goals as goal
 
 pub returns-in-Ok-clause-opens : goal.returns-in-Ok-clause-opens
 returns-in-Ok-clause-opens g c =
-    let seen : c.len.result ≡ length c.in-Ok.recovered.published.items = c.len.ensures ∙ c.in-Ok.recovered.published.ok.0 in
-    rw (c.new.ensures, seen, ← c.self.view_is, ← c.doubt-doubt.ensures) (λ honest.
-    let held = c.in-Ok.ensures.ok honest in
+    let ok = rw (← c.desks-desks.ensures) at c.in-Ok.ensures.ok in
+    rw (c.in-Ok.ensures.listing, c.in-Ok.ensures.benches, ← c.desks-desks.ensures, ← c.self.view_is, ← c.doubt-doubt.ensures) (λ honest.
+    let held = ok honest in
     (held.0, λ after is. let b = held.1 after is in (b.0, b.1, OpensAgain.opens b.2)))
 
 pub returns-in-Err-clause-opens : goal.returns-in-Err-clause-opens
-returns-in-Err-clause-opens g c = rw (c.halt.ensures, ← c.self.view_is, ← c.doubt-doubt.ensures) (λ honest.
-    let held = c.in-Err.ensures.err honest in
+returns-in-Err-clause-opens g c =
+    let err = rw (← c.desks-desks.ensures) at c.in-Err.ensures.err in
+    rw (c.halt.ensures, ← c.self.view_is, ← c.doubt-doubt.ensures) (λ honest.
+    let held = err honest in
     (held.0, λ after is. let b = held.1 after is in (b.0, b.1, OpensAgain.stays b.2)))
 
 pub returns-in-Err-clause-cause : goal.returns-in-Err-clause-cause

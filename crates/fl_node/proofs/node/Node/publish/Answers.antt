@@ -1,9 +1,8 @@
-use Rattle.std.proofs.Common.{length, ◌≤◌, ◌∙◌, ◌≡◌, sym, subst}
+use Rattle.std.proofs.Common.{length, ◌∙◌, ◌≡◌, sym, subst}
 use Rattle.std.proofs.lemmas.Result.{err_from_is_err_and}
 use Rattle.fl_system.specs.Publishes.{Publishes}
 use Rattle.fl_system.specs.Waiting.{IsRunning}
-use Rattle.fl_node.proofs.Sounds.{publishes_on}
-use Rattle.fl_node.proofs.Alone.{told_within, longer}
+use Rattle.fl_node.proofs.Sounds.{rests_on}
 use Rattle.fl_node.proofs.node.Node.publish.Goals as goal
 
 pub returns-in_err-batch-clause-publishes : goal.returns-in_err-batch-clause-publishes
@@ -12,15 +11,12 @@ returns-in_err-batch-clause-publishes g c =
     rw (p.1, p.2, ← c.self.view_is) (Publishes.none c.in_err-batch.ensures.err)
 
 pub returns-in_default-clause-publishes : goal.returns-in_default-clause-publishes
-returns-in_default-clause-publishes g c = rw (← c.self.view_is, c.in_default.ensures.same_list) (Publishes.no_room c.in_ok-batch.ensures.ok)
+returns-in_default-clause-publishes g c = rw (← c.self.view_is, c.in_default.ensures.err) (Publishes.no_room c.in_ok-batch.ensures.ok)
 
 pub invariant_of-self-2 : goal.invariant_of-self-2
 invariant_of-self-2 g c =
-    let count : c.len-count.result ≡ length c.append.new.list.items = c.len-count.ensures ∙ c.append.new.list.ok.0 in
-    let old : c.self.inside.seen ≤ length c.append.new.list.items = longer _ _ _ _ c.in-Ok.ensures.list c.self.invariant.sees in
-    publishes_on c.self.inside.state (subst IsRunning (sym c.in_ok-batch.ensures.ok) tt) (told_within c.in_ok-batch.batch.now _ _ _ (rw count at c.tell.ensures) old) c.in-Ok.ensures.index c.self.invariant
+    rests_on c.self.inside.state _ _ (subst IsRunning (sym c.in_ok-batch.ensures.ok) tt) c.in-Ok.ensures.desks c.give.ensures.count c.self.invariant
 
 pub returns-clause-publishes : goal.returns-clause-publishes
 returns-clause-publishes g c =
-    let count : c.len-count.result ≡ length c.append.new.list.items = c.len-count.ensures ∙ c.append.new.list.ok.0 in
-    rw (c.tell.ensures, count, c.in-Ok.ensures.list, c.give.ensures, ← c.self.view_is) (Publishes.published c.in_ok-batch.ensures.ok)
+    rw (c.list.ensures, c.in-Ok.ensures.ok, c.give.ensures.procs, c.give.ensures.benches, ← c.self.view_is) (Publishes.published c.in_ok-batch.ensures.ok)

@@ -1,4 +1,4 @@
-use Rattle.std.proofs.Common.{◌∙◌, sym, ap, subst, refl, ℕ, inl, inr}
+use Rattle.std.proofs.Common.{◌∙◌, sym, ap, subst, refl, ℕ, inl, inr, arith}
 use Rattle.std.specs.BTreeMap.{BTreeMap}
 use Rattle.fl_system.specs.declared.event.Event.TheVariants as event
 use Rattle.fl_node.specs.Over.{NodeOver}
@@ -7,7 +7,7 @@ use Rattle.fl_nodes.proofs.Entries.{held, unchanged}
 use Rattle.fl_nodes.proofs.CallLemmas.{no_such_left}
 use Rattle.fl_nodes.proofs.DeliverLemmas.{delivers_message, delivers_ops, delivers_window, no_packet, window_refused}
 use Rattle.fl_nodes.specs.parts.Highest.{IsUpTo}
-use Rattle.fl_nodes.proofs.Highs.{changed_up, looked_up}
+use Rattle.fl_nodes.proofs.Highs.{changed_up, looked_up, left_up, desked}
 use Rattle.fl_nodes.proofs.nodes.Nodes.deliver.Goals as goal
 use Rattle.fl_nodes.proofs.nodes.Nodes.deliver.Goals.{in-Full, in-Delta, in-Have+in-Ok, in-Have+in-Err, in-Data}
 
@@ -53,12 +53,29 @@ returns g c = elim c.match-sent.branch [
 ]
 
 pub invariant_of-self-in_default-packet_at : goal.invariant_of-self-in_default-packet_at
-invariant_of-self-in_default-packet_at g c =
-    looked_up c.self.inside.highest c.self.inside.all.entries _ c.args.number c.in-Some.node.now
-    (sym c.in-Some.ensures.value) (c.get_mut.follows.holds c.in-Some.node.now).0 c.self.invariant
+invariant_of-self-in_default-packet_at g c = (c.self.invariant.0,
+    looked_up c.self.inside.highest c.self.inside.desks c.self.inside.all.entries _ c.args.number c.in-Some.node.now
+    (sym c.in-Some.ensures.value) (c.get_mut.follows.holds c.in-Some.node.now).0 c.self.invariant.1)
 
 pub invariant_of-self-2 : goal.invariant_of-self-2
-invariant_of-self-2 g c =
-    changed_up c.self.inside.highest _ c.raised-self-inside.ensures.at_least c.self.inside.all.entries _ c.args.number c.in-Some.node.now c.match-sent.node
-    (sym c.in-Some.ensures.value) (c.get_mut.follows.holds c.match-sent.node).0 c.self.invariant
+invariant_of-self-2 g c = (c.self.invariant.0,
+    changed_up c.self.inside.highest _ c.self.inside.desks c.raised-self-inside.ensures.at_least c.self.inside.all.entries _ c.args.number c.in-Some.node.now c.match-sent.node
+    (sym c.in-Some.ensures.value) (c.get_mut.follows.holds c.match-sent.node).0 c.self.invariant.1
     (subst (IsUpTo c.raised-self-inside.result) c.saved.ensures.saved c.raised-self-inside.ensures.covers)
+    (elim c.match-sent.branch [
+      | in-Full w ↦ rw w.node-is w.receive-answer.ensures.desks
+      | in-Delta w ↦ rw w.node-is w.receive-answer-in-Delta.ensures.desks
+      | in-Have+in-Ok w ↦ rw w.node-is refl
+      | in-Have+in-Err w ↦ rw w.node-is refl
+      | in-Data w ↦ rw w.node-is w.bring-answer.ensures.desks
+    ]))
+
+pub invariant_of-self : goal.invariant_of-self
+invariant_of-self g c =
+    (c.self.invariant.0, left_up c.self.inside.highest c.self.inside.desks c.self.inside.all.entries _ (ap (λ (t : BTreeMap ℕ (NodeOver g.row.K.Denot)). t.entries) c.get_mut.follows.holds-at-none) c.self.invariant.1)
+
+pub bring-answer-requires : goal.bring-answer-requires
+bring-answer-requires g c =
+    let count = desked c.self.inside.highest c.self.inside.desks c.self.inside.all.entries c.args.number c.in-Some.node.now (sym c.in-Some.ensures.value) c.self.invariant.1 in
+    let some = c.self.invariant.0 in
+    record { first = omega arith; last = omega (arith, count, some) }

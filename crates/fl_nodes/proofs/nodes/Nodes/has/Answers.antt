@@ -3,8 +3,5 @@ use Rattle.std.specs.Prelude.{is_some}
 use Rattle.fl_nodes.proofs.Entries.{held}
 use Rattle.fl_nodes.proofs.nodes.Nodes.has.Goals as goal
 
-pub returns-clause-there : goal.returns-clause-there
-returns-clause-there g c = c.contains_key.ensures ∙ ap is_some (held c.self.inside.all.entries c.self.inside.all.entries c.self.inside.sent.items c.self.inside.audit.items c.args.self.now c.self.view_is c.args.number)
-
-pub returns-clause-desks : goal.returns-clause-desks
-returns-clause-desks g c = sym (ap (λ t. t.desks) c.self.view_is)
+pub returns : goal.returns
+returns g c = c.contains_key.ensures ∙ ap is_some (held c.self.inside.all.entries c.self.inside.all.entries c.self.inside.sent.items c.self.inside.audit.items c.args.self.now c.self.view_is c.args.number)

@@ -6,36 +6,38 @@ use Rattle.fl_nodes.proofs.Entries.{held, unchanged}
 use Rattle.fl_nodes.proofs.CallLemmas.{no_such_left}
 use Rattle.fl_nodes.proofs.JobLemmas.{no_such_job, worked}
 use Rattle.fl_nodes.specs.parts.Highest.{IsUpTo}
-use Rattle.fl_nodes.proofs.Highs.{changed_up, looked_up}
+use Rattle.fl_nodes.proofs.Highs.{changed_up, looked_up, left_up}
 use Rattle.fl_nodes.proofs.nodes.Nodes.job.Goals as goal
 
 pub returns-in_default : goal.returns-in_default
-returns-in_default g c upto whole =
-    no_such_left g.K.Keeper.custody c.args.self.now _ (event.Job c.args.number c.args.desk upto c.args.job)
+returns-in_default g c =
+    no_such_left g.K.Keeper.custody c.args.self.now _ (event.Job c.args.number c.args.look.desk c.args.look.upto c.args.job)
     (unchanged c.self.inside.all.entries _ c.self.inside.sent.items c.self.inside.audit.items c.args.self.now c.self.view_is (ap (λ (t : BTreeMap ℕ (NodeOver g.row.K.Denot)). t.entries) c.get_mut.follows.holds-at-none))
     (sym (held c.self.inside.all.entries c.self.inside.all.entries c.self.inside.sent.items c.self.inside.audit.items c.args.self.now c.self.view_is c.args.number) ∙ sym c.in_default.ensures.value)
 
 pub returns-then-lacks : goal.returns-then-lacks
-returns-then-lacks g c upto whole =
+returns-then-lacks g c =
     no_such_job g.K.Keeper.custody c.self.inside.all.entries _ c.self.inside.sent.items c.self.inside.audit.items c.args.self.now c.self.view_is
-    c.args.number c.args.desk upto c.args.job c.in-Some.node.now c.in-Some.node.now (sym c.in-Some.ensures.value) (c.get_mut.follows.holds c.in-Some.node.now).0
+    c.args.number c.args.look.desk c.args.look.upto c.args.job c.in-Some.node.now c.in-Some.node.now (sym c.in-Some.ensures.value) (c.get_mut.follows.holds c.in-Some.node.now).0
     refl (c.lacks.ensures.lacking c.if-lacks.true)
 
 pub returns : goal.returns
-returns g c upto whole =
+returns g c =
     worked g.K.Keeper.custody c.self.inside.all.entries _ c.self.inside.sent.items c.self.inside.audit.items c.args.self.now c.self.view_is
-    c.args.number c.args.desk upto c.args.job c.in-Some.node.now c.work-answer.new.node (sym c.in-Some.ensures.value) (c.get_mut.follows.holds c.work-answer.new.node).0
+    c.args.number c.args.look.desk c.args.look.upto c.args.job c.in-Some.node.now c.work-answer.new.node (sym c.in-Some.ensures.value) (c.get_mut.follows.holds c.work-answer.new.node).0
     _ _ _ c.work-answer.ensures.keeper (c.lacks.ensures.there c.if-lacks.false)
-    (c.work-answer.ensures.works upto (whole c.in-Some.node.now
-    (sym (held c.self.inside.all.entries c.self.inside.all.entries c.self.inside.sent.items c.self.inside.audit.items c.args.self.now c.self.view_is c.args.number) ∙ sym c.in-Some.ensures.value)))
+    c.work-answer.ensures.works
 
 pub invariant_of-self-then-lacks : goal.invariant_of-self-then-lacks
-invariant_of-self-then-lacks g c =
-    looked_up c.self.inside.highest c.self.inside.all.entries _ c.args.number c.in-Some.node.now
-    (sym c.in-Some.ensures.value) (c.get_mut.follows.holds c.in-Some.node.now).0 c.self.invariant
+invariant_of-self-then-lacks g c = (c.self.invariant.0,
+    looked_up c.self.inside.highest c.self.inside.desks c.self.inside.all.entries _ c.args.number c.in-Some.node.now
+    (sym c.in-Some.ensures.value) (c.get_mut.follows.holds c.in-Some.node.now).0 c.self.invariant.1)
 
 pub invariant_of-self-2 : goal.invariant_of-self-2
-invariant_of-self-2 g c =
-    changed_up c.self.inside.highest _ c.raised-self-inside.ensures.at_least c.self.inside.all.entries _ c.args.number c.in-Some.node.now c.work-answer.new.node
-    (sym c.in-Some.ensures.value) (c.get_mut.follows.holds c.work-answer.new.node).0 c.self.invariant
-    (subst (IsUpTo c.raised-self-inside.result) c.saved.ensures.saved c.raised-self-inside.ensures.covers)
+invariant_of-self-2 g c = (c.self.invariant.0, changed_up c.self.inside.highest _ c.self.inside.desks c.raised-self-inside.ensures.at_least c.self.inside.all.entries _ c.args.number c.in-Some.node.now c.work-answer.new.node
+    (sym c.in-Some.ensures.value) (c.get_mut.follows.holds c.work-answer.new.node).0 c.self.invariant.1
+    (subst (IsUpTo c.raised-self-inside.result) c.saved.ensures.saved c.raised-self-inside.ensures.covers) c.work-answer.ensures.desks)
+
+pub invariant_of-self : goal.invariant_of-self
+invariant_of-self g c =
+    (c.self.invariant.0, left_up c.self.inside.highest c.self.inside.desks c.self.inside.all.entries _ (ap (λ (t : BTreeMap ℕ (NodeOver g.row.K.Denot)). t.entries) c.get_mut.follows.holds-at-none) c.self.invariant.1)

@@ -5,7 +5,7 @@ use Rattle.fl_node.specs.Over.{NodeOver}
 use Rattle.fl_nodes.specs.parts.Highest.{IsUpTo}
 use Rattle.fl_nodes.proofs.Entries.{held, changed, unchanged}
 use Rattle.fl_nodes.proofs.CallLemmas.{no_such_left, published, not_published}
-use Rattle.fl_nodes.proofs.Highs.{changed_up}
+use Rattle.fl_nodes.proofs.Highs.{changed_up, left_up}
 use Rattle.fl_nodes.proofs.nodes.Nodes.publish.Goals as goal
 use Rattle.fl_nodes.proofs.nodes.Nodes.publish.Goals.{in-Ok, in-Err}
 
@@ -28,7 +28,10 @@ returns g c = elim c.match-publish.branch [
 ]
 
 pub invariant_of-self-2 : goal.invariant_of-self-2
-invariant_of-self-2 g c =
-    changed_up c.self.inside.highest _ c.raised-self-inside.ensures.at_least c.self.inside.all.entries _ c.args.number c.in-Some.node.now c.publish.new.self
-    (sym c.in-Some.ensures.value) (c.get_mut.follows.holds c.publish.new.self).0 c.self.invariant
-    (subst (IsUpTo c.raised-self-inside.result) c.saved.ensures.saved c.raised-self-inside.ensures.covers)
+invariant_of-self-2 g c = (c.self.invariant.0, changed_up c.self.inside.highest _ c.self.inside.desks c.raised-self-inside.ensures.at_least c.self.inside.all.entries _ c.args.number c.in-Some.node.now c.publish.new.self
+    (sym c.in-Some.ensures.value) (c.get_mut.follows.holds c.publish.new.self).0 c.self.invariant.1
+    (subst (IsUpTo c.raised-self-inside.result) c.saved.ensures.saved c.raised-self-inside.ensures.covers) c.publish.ensures.desks)
+
+pub invariant_of-self : goal.invariant_of-self
+invariant_of-self g c =
+    (c.self.invariant.0, left_up c.self.inside.highest c.self.inside.desks c.self.inside.all.entries _ (ap (λ (t : BTreeMap ℕ (NodeOver g.row.K.Denot)). t.entries) c.get_mut.follows.holds-at-none) c.self.invariant.1)

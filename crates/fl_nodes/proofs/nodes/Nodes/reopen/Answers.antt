@@ -5,7 +5,7 @@ use Rattle.fl_nodes.specs.parts.Highest.{IsUpTo}
 use Rattle.fl_nodes.proofs.Entries.{held, changed, unchanged}
 use Rattle.fl_nodes.proofs.JoinLemmas.{not_there, spare_none, reopened, is_spare}
 use Rattle.fl_nodes.proofs.FailLemmas.{no_refusal_missing, fails_as}
-use Rattle.fl_nodes.proofs.Highs.{changed_up}
+use Rattle.fl_nodes.proofs.Highs.{changed_up, left_up}
 use Rattle.fl_nodes.proofs.nodes.Nodes.reopen.Goals as goal
 
 pub returns-in_default-clause-reopens : goal.returns-in_default-clause-reopens
@@ -45,7 +45,10 @@ returns-clause-cause g c =
     _ _ c.opened.ensures c.reopen_over-result.ensures.cause
 
 pub invariant_of-self-2 : goal.invariant_of-self-2
-invariant_of-self-2 g c =
-    changed_up c.self.inside.highest _ c.raised-self-inside.ensures.at_least c.self.inside.all.entries _ c.args.number c.in-Some.node.now c.reopen_over-result.new.self
-    (sym c.in-Some.ensures.value) (c.get_mut.follows.holds c.reopen_over-result.new.self).0 c.self.invariant
-    (subst (IsUpTo c.raised-self-inside.result) c.saved.ensures.saved c.raised-self-inside.ensures.covers)
+invariant_of-self-2 g c = (c.self.invariant.0, changed_up c.self.inside.highest _ c.self.inside.desks c.raised-self-inside.ensures.at_least c.self.inside.all.entries _ c.args.number c.in-Some.node.now c.reopen_over-result.new.self
+    (sym c.in-Some.ensures.value) (c.get_mut.follows.holds c.reopen_over-result.new.self).0 c.self.invariant.1
+    (subst (IsUpTo c.raised-self-inside.result) c.saved.ensures.saved c.raised-self-inside.ensures.covers) c.reopen_over-result.ensures.desks)
+
+pub invariant_of-self : goal.invariant_of-self
+invariant_of-self g c =
+    (c.self.invariant.0, left_up c.self.inside.highest c.self.inside.desks c.self.inside.all.entries _ (ap (λ (t : BTreeMap ℕ (NodeOver g.row.K.Denot)). t.entries) c.get_mut.follows.holds-at-none) c.self.invariant.1)

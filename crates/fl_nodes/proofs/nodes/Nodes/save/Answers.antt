@@ -6,7 +6,7 @@ use Rattle.fl_nodes.specs.parts.Highest.{IsUpTo}
 use Rattle.fl_nodes.proofs.Entries.{held, changed, unchanged}
 use Rattle.fl_nodes.proofs.CallLemmas.{no_such_left, saved, not_saved}
 use Rattle.fl_nodes.proofs.FailLemmas.{no_refusal_missing, no_refusal_done, same_fault, broken_at}
-use Rattle.fl_nodes.proofs.Highs.{changed_up}
+use Rattle.fl_nodes.proofs.Highs.{changed_up, left_up}
 use Rattle.fl_nodes.proofs.nodes.Nodes.save.Goals as goal
 use Rattle.fl_nodes.proofs.nodes.Nodes.save.Goals.{in-Ok, in-Err}
 
@@ -40,7 +40,10 @@ returns-clause-cause g c = elim c.match-save.branch [
 ]
 
 pub invariant_of-self-2 : goal.invariant_of-self-2
-invariant_of-self-2 g c =
-    changed_up c.self.inside.highest _ c.raised-self-inside.ensures.at_least c.self.inside.all.entries _ c.args.number c.in-Some.node.now c.save.new.self
-    (sym c.in-Some.ensures.value) (c.get_mut.follows.holds c.save.new.self).0 c.self.invariant
-    (subst (IsUpTo c.raised-self-inside.result) c.saved.ensures.saved c.raised-self-inside.ensures.covers)
+invariant_of-self-2 g c = (c.self.invariant.0, changed_up c.self.inside.highest _ c.self.inside.desks c.raised-self-inside.ensures.at_least c.self.inside.all.entries _ c.args.number c.in-Some.node.now c.save.new.self
+    (sym c.in-Some.ensures.value) (c.get_mut.follows.holds c.save.new.self).0 c.self.invariant.1
+    (subst (IsUpTo c.raised-self-inside.result) c.saved.ensures.saved c.raised-self-inside.ensures.covers) c.save.ensures.desks)
+
+pub invariant_of-self : goal.invariant_of-self
+invariant_of-self g c =
+    (c.self.invariant.0, left_up c.self.inside.highest c.self.inside.desks c.self.inside.all.entries _ (ap (λ (t : BTreeMap ℕ (NodeOver g.row.K.Denot)). t.entries) c.get_mut.follows.holds-at-none) c.self.invariant.1)

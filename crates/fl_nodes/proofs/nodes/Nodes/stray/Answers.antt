@@ -1,6 +1,6 @@
 use Rattle.std.proofs.Common.{◌∙◌, sym, subst}
 use Rattle.fl_nodes.specs.Over.{WorldOver}
-use Rattle.fl_nodes.specs.parts.Highest.{AreUpTo}
+use Rattle.fl_nodes.specs.parts.Highest.{AreWithin}
 use Rattle.fl_nodes.proofs.Entries.{held}
 use Rattle.fl_nodes.proofs.Highs.{no_stray}
 use Rattle.fl_nodes.proofs.Meets.{stray_of_world}
@@ -14,6 +14,6 @@ returns g c w are =
 
 pub returns-then-self-number : goal.returns-then-self-number
 returns-then-self-number g c w are =
-    no_stray c.args.self.now w are c.self.inside.highest c.args.number
-    (subst (λ (over : WorldOver g.row.K.Denot). AreUpTo c.self.inside.highest over.nodes) c.self.view_is c.self.invariant)
+    no_stray c.args.self.now w are c.self.inside.highest c.args.number c.self.inside.desks
+    (subst (λ (over : WorldOver g.row.K.Denot). AreWithin c.self.inside.highest c.self.inside.desks over.nodes) c.self.view_is c.self.invariant.1)
     c.if-self-number.true c.args.saved.now (sym c.len.ensures ∙ c.if-len-eq0.true)

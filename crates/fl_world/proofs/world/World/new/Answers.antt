@@ -7,4 +7,4 @@ use Rattle.fl_world.proofs.world.World.new.Goals as goal
 pub invariant_of-result : goal.invariant_of-result
 invariant_of-result g c =
     subst (λ o. InEach g.K.Keeper.custody o IsReached) (sym c.new.ensures)
-    (none_reached g.K.Keeper.custody 1)
+    (none_reached g.K.Keeper.custody c.args.desks)

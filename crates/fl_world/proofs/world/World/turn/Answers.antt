@@ -1,14 +1,12 @@
 use Rattle.std.proofs.Common.{subst, sym}
 use Rattle.fl_system.specs.WorldSteps.{Step}
 use Rattle.fl_nodes.specs.Goes.{Goes}
-use Rattle.fl_world.proofs.Running.{job_far}
 use Rattle.fl_world.proofs.world.World.turn.Goals as goal
 
 pub returns-in-Job : goal.returns-in-Job
 returns-in-Job g c =
     subst (λ e. Goes g.K.Keeper.custody c.args.self.now c.job.new.self (λ w w'. Step w e c.job.result w'))
-    (sym c.in-Job.is) (c.job.ensures c.in-Job.upto
-    (job_far c.args.self.now c.in-Job.node c.in-Job.desk _ _ c.in-Job.job _ c.in-Job.is c.requires c.whole-whole.ensures c.whole-whole.type_inv))
+    (sym c.in-Job.is) c.job.ensures
 
 pub returns-in-Save : goal.returns-in-Save
 returns-in-Save g c =

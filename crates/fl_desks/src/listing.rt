@@ -1,0 +1,289 @@
+//! The published list of a node, and its desks.
+ghost use Rattle.std.specs.Prelude.{◌≡◌, ◌<◌, ◌≤◌, ◌++◌, ◌∷◌, [], All, length, take, min, max, not, IfOk, OnOk, OnErr};
+ghost use Rattle.fl_labels.specs.SetBy as set;
+ghost use Rattle.fl_bench.specs.Jobs.{Does};
+ghost use Rattle.fl_system.specs.declared.state.Batch.TheVariants.{Ordered};
+ghost use Rattle.fl_system.specs.State.{first_ops};
+ghost use Rattle.fl_system.specs.Numbered.{items_to};
+ghost use Rattle.fl_desks.specs.Listing.{listing_of, IsDesk, HasSeen, seen_then, with_seen, extended};
+ghost use Rattle.fl_desks.specs.parts.Fronts.{IsFront, views_of};
+
+use fl_cache::cached::CachedIndex;
+use fl_jobs::answer::{Outcome, Refusal};
+use fl_jobs::job::Job;
+use fl_monitor::bench::Bench;
+use fl_ops::op::Op;
+use fl_opset::set::OpSet;
+use fl_system::state::Batch;
+use std::alloc::{AllocError, Global};
+use std::cmp::min;
+use std::marker::Model;
+
+/// The operations of a list, as a set. Each costs what [`OpSet::add`] does.
+pub fn collected(alloc: Global, ops: &[Op]) -> Result<OpSet, AllocError>
+    ensures { IfOk result (λ all. all ≡ set.of_list ops.now) }
+{
+    let mut all = OpSet::new(alloc);
+    for op in ops {
+        all.add(*op)?;
+    }
+    Ok(all)
+}
+
+// Adds the operations of a list, all or none. One alone is put into no set before.
+fn absorb(alloc: Global, index: &mut CachedIndex, ops: &[Op]) -> Result<(), AllocError>
+    ensures ok { OnOk result (index.new ≡ set.union index.old (set.of_list ops.now)) }
+    ensures err { OnErr result (index.new ≡ index.old) }
+{
+    if let [op] = ops {
+        return index.absorb(op);
+    }
+    let all = collected(alloc, ops)?;
+    index.absorb_all(alloc, &all)
+}
+
+// What a desk has seen of the list, and the index of that.
+struct Desk {
+    index: CachedIndex,
+    seen: u64,
+}
+
+impl Drop for Desk {
+    fn drop(self) {
+        let Desk { index: _, seen: _ } = self;
+    }
+}
+
+impl Desk {
+    // A desk that sees all that is saved.
+    fn new(alloc: Global, saved: &OpSet) -> Result<Desk, AllocError>
+        ensures { IfOk result (λ desk. (desk.seen ≡ length (set.members saved.now))
+            × IsFront (set.members saved.now) desk) }
+    {
+        let mut index = CachedIndex::new(alloc);
+        index.absorb_all(alloc, saved)?;
+        let seen = saved.len() as u64;
+        Ok(Desk { index, seen })
+    }
+
+    // Sees as many operations of the list, if it has not. An error leaves the desk.
+    fn rise(&mut self, alloc: Global, list: &[Op], count: u64) -> Result<(), AllocError>
+        requires front { IsFront list.now self.old }
+        requires within { count ≤ length list.now }
+        ensures seen { OnOk result (self.new.seen ≡ max self.old.seen count) }
+        ensures front { OnOk result (IsFront list.now self.new) }
+        ensures err { OnErr result (self.new ≡ self.old) }
+        ensures wants { OnErr result (self.old.seen < count) }
+    {
+        if count <= self.seen {
+            return Ok(());
+        }
+        let more = &list[self.seen as usize..count as usize];
+        absorb(alloc, &mut self.index, more)?;
+        self.seen = count;
+        Ok(())
+    }
+}
+
+// So many desks, each of which sees all that is saved.
+fn desks_of(alloc: Global, saved: &OpSet, count: u8) -> Result<Vec<Desk>, AllocError>
+    ensures views { let all = set.members saved.now in IfOk result (λ desks.
+        views_of desks.items ≡ items_to count (λ desk. length all)) }
+    ensures fronts { IfOk result (λ desks. All (IsFront (set.members saved.now)) desks.items) }
+    ensures count { IfOk result (λ desks. length desks.items ≡ count) }
+{
+    let mut desks = Vec::new(alloc);
+    for _ in 0..count {
+        desks.push(Desk::new(alloc, saved)?)?;
+    }
+    Ok(desks)
+}
+
+// Puts one operation at the end of the list, and into the set, and says whether that is new there.
+// An error leaves both.
+fn append_one(list: &mut Vec<Op>, ops: &mut OpSet, op: &Op) -> Result<bool, AllocError>
+    ensures list { OnOk result (list.new.items ≡ list.old.items ++ op.now ∷ []) }
+    ensures ops { OnOk result (ops.new ≡ set.insert ops.old op.now) }
+    ensures new { IfOk result (λ new. new ≡ not (set.contains ops.old op.now)) }
+    ensures same_list { OnErr result (list.new.items ≡ list.old.items) }
+    ensures same_ops { OnErr result (ops.new ≡ ops.old) }
+{
+    list.push(*op)?;
+    let added = ops.add(*op);
+    if added.is_err() {
+        list.pop();
+    }
+    added
+}
+
+// Takes an operation out again that came last into a list that was so long, and into a set, where
+// it was new there.
+fn take_back(list: &mut Vec<Op>, before: usize, ops: &mut OpSet, op: &Op, new: bool)
+    ensures list { list.new.items ≡ take before list.old.items }
+    ensures ops { (was : _) → ops.old ≡ set.insert was op.now
+        → new ≡ not (set.contains was op.now) → ops.new ≡ was }
+{
+    list.truncate(before);
+    if new {
+        ops.remove(op);
+    }
+}
+
+// Puts operations at the end of the list, and into the set. An error leaves both.
+fn append_all(list: &mut Vec<Op>, ops: &mut OpSet, more: &OpSet) -> Result<(), AllocError>
+    ensures list { OnOk result (list.new.items ≡ list.old.items ++ set.members more.now) }
+    ensures ops { OnOk result (ops.new ≡ set.union ops.old more.now) }
+    ensures same_list { OnErr result (list.new.items ≡ list.old.items) }
+    ensures same_ops { OnErr result (ops.new ≡ ops.old) }
+{
+    let before = list.len();
+    list.extend_from_slice(more.as_slice())?;
+    let merged = ops.merge(more);
+    if merged.is_err() {
+        list.truncate(before);
+    }
+    merged
+}
+
+/// The operations that a node has published, in the order of publishing, and its desks, each of
+/// which sees so many of them, from the first one on.
+///
+/// An operation stands here twice, in the list and in a set of all, and once more for each desk that
+/// sees it, with what it leads to.
+pub struct Listing {
+    list: Vec<Op>,
+    ops: OpSet,
+    desks: Vec<Desk>,
+}
+
+impl Model for Listing {
+    ghost use Rattle.fl_desks.specs.Listing.{ListingState, coded_listing};
+    ghost use Rattle.fl_desks.specs.parts.Fronts.{IsListing, views_of};
+
+    ghost Value = { ListingState };
+
+    ghost coded = { coded_listing };
+
+    ghost view = { λ a. record { published = a.list.items; views = views_of a.desks.items } };
+
+    ghost invariant = { λ a. IsListing a.list.items a.ops a.desks.items };
+}
+
+impl Drop for Listing {
+    fn drop(self) {
+        let Listing {
+            list: _,
+            ops: _,
+            desks: _,
+        } = self;
+    }
+}
+
+impl Listing {
+    /// The list of what is saved, rising, with so many desks that see all of it. Copies it, and
+    /// absorbs it for each desk.
+    pub fn new(alloc: Global, saved: &OpSet, desks: u8) -> Result<Listing, AllocError>
+        ensures made { IfOk result (λ made. made ≡ listing_of saved.now desks) }
+        ensures desks { IfOk result (λ made. length made.views ≡ desks) }
+    {
+        let list = Vec::from_slice(alloc, saved.as_slice())?;
+        let ops = saved.copy(alloc)?;
+        let desks = desks_of(alloc, saved, desks)?;
+        Ok(Listing { list, ops, desks })
+    }
+
+    /// The operations, in the order of publishing.
+    pub fn list(&self) -> &[Op]
+        ensures { result.now ≡ self.now.published }
+    {
+        &self.list
+    }
+
+    /// The operations as a set, whatever desks see of them.
+    pub fn ops(&self) -> &OpSet
+        ensures { result.now ≡ set.of_list self.now.published }
+    {
+        &self.ops
+    }
+
+    /// How many desks there are.
+    pub fn desks(&self) -> u8
+        ensures { length self.now.views ≡ result }
+    {
+        self.desks.len() as u8
+    }
+
+    /// Has the desk look at the list up to a length: it then sees so many operations, or as many as
+    /// it saw before. An error, for want of memory, comes only where it is to see more, and leaves
+    /// it. Absorbs what it had not seen; where that is one operation alone, it is put into no set
+    /// before.
+    pub fn look(&mut self, alloc: Global, desk: u8, upto: u64) -> Result<(), AllocError>
+        requires { IsDesk self.old desk }
+        ensures ok { OnOk result ((seen : _) → HasSeen self.old desk seen
+            → self.new ≡ with_seen self.old desk (seen_then self.old seen upto)) }
+        ensures err { OnErr result (self.new ≡ self.old) }
+        ensures wants { OnErr result ((seen : _) → HasSeen self.old desk seen
+            → seen < min upto (length self.old.published)) }
+        ensures desks { length self.new.views ≡ length self.old.views }
+    {
+        let count = min(upto, self.list.len() as u64);
+        let it = &mut self.desks[desk as usize - 1];
+        it.rise(alloc, &self.list, count)
+    }
+
+    /// Has the bench do a job under what the desk sees, as [`Bench::job`] has it.
+    pub fn work(
+        &mut self,
+        alloc: Global,
+        desk: u8,
+        bench: &mut Bench,
+        job: Job,
+    ) -> Result<Outcome, Refusal>
+        requires { IsDesk self.old desk }
+        ensures does { (seen : _) → HasSeen self.old desk seen
+            → Does (first_ops seen self.old.published) bench.old job result bench.new }
+        ensures same { self.new ≡ self.old }
+    {
+        let it = &mut self.desks[desk as usize - 1];
+        bench.job(alloc, &mut it.index, job)
+    }
+
+    // Puts an order at the end, which its desk sees, if that is there. An error leaves the list.
+    fn order(&mut self, alloc: Global, op: &Op, desk: Option<u8>) -> Result<(), AllocError>
+        ensures desks { length self.new.views ≡ length self.old.views }
+        ensures ok { (maker : _) → OnOk result
+            (self.new ≡ extended self.old (Ordered op.now maker desk)) }
+        ensures err { OnErr result (self.new ≡ self.old) }
+    {
+        let before = self.list.len();
+        let new = append_one(&mut self.list, &mut self.ops, op)?;
+        let Some(desk) = desk else {
+            return Ok(());
+        };
+        if desk == 0 || self.desks.len() < desk as usize {
+            return Ok(());
+        }
+        let count = self.list.len() as u64;
+        let it = &mut self.desks[desk as usize - 1];
+        match it.rise(alloc, &self.list, count) {
+            Ok(()) => Ok(()),
+            Err(error) => {
+                take_back(&mut self.list, before, &mut self.ops, op, new);
+                Err(error)
+            }
+        }
+    }
+
+    /// Puts a batch at the end of the list. The desk of an order, if it has one, then sees the whole
+    /// list. An error, for want of memory, leaves the list.
+    pub fn extend(&mut self, alloc: Global, batch: &Batch) -> Result<(), AllocError>
+        ensures desks { length self.new.views ≡ length self.old.views }
+        ensures ok { OnOk result (self.new ≡ extended self.old batch.now) }
+        ensures err { OnErr result (self.new ≡ self.old) }
+    {
+        match batch {
+            Batch::Ordered(op, _, desk) => self.order(alloc, op, *desk),
+            Batch::Received(ops) => append_all(&mut self.list, &mut self.ops, ops),
+        }
+    }
+}
