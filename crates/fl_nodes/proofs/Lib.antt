@@ -3,6 +3,7 @@ pub mod Entries
 pub mod Highs
 pub mod CallLemmas
 pub mod FailLemmas
+pub mod Unfailing
 pub mod JobLemmas
 pub mod TellLemmas
 pub mod DeliverLemmas

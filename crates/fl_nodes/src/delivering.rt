@@ -1,5 +1,6 @@
 //! What the nodes of a world tell each other, and the packets that come to them.
-ghost use Rattle.std.specs.Prelude.{◌≡◌, Some, None, MatchOption};
+ghost use Rattle.std.specs.Prelude.{◌≡◌, ◌≢◌, Some, None, MatchOption};
+ghost use Rattle.fl_system.specs.declared.answer.Fault.TheVariants.{KeeperFailed};
 ghost use Rattle.fl_system.specs.declared.event.Event.TheVariants as event;
 ghost use Rattle.fl_system.specs.WorldSteps.{Step};
 ghost use Rattle.fl_nodes.specs.Goes.{Goes};
@@ -29,10 +30,12 @@ impl<K: Keeper> Nodes<K> {
     /// Has the node send what it has saved, as `Node::summary` has it, and answers the number of the first packet and how many
     /// there are, or why not: `NoSuch` where the node is not there.
     ///
-    /// Refused with `Memory` too where there is no room for the packets; then none is sent. Costs what `Node::summary` does.
+    /// Refused with `Memory` too where there is no room for the packets, and then none is sent; never
+    /// with `KeeperFailed`. Costs what `Node::summary` does.
     pub fn tell(&mut self, alloc: Global, number: NodeNumber) -> Reply
-        ensures { Goes K.custody self.old self.new
+        ensures goes { Goes K.custody self.old self.new
             (λ w w'. Step w (event.Tell number) result w') }
+        ensures cause { result ≢ Reply.Refused KeeperFailed }
     {
         let Some(node) = self.all.get(&number) else {
             return Reply::NoSuch;
@@ -51,11 +54,13 @@ impl<K: Keeper> Nodes<K> {
     /// - A message arrives as `Node::arrive` has it, and is noted with its sender as it was when it sent.
     ///
     /// Refused with `Memory` too where there is no room for a copy of the message, for what would be noted, or for the packets; then
-    /// nothing changes. Beside the node's own costs, a message is copied, with the labels of both its processes, and what its
-    /// receiver owns where that has changed since it was noted last.
+    /// nothing changes. Never with `KeeperFailed`. Beside the node's own costs, a message is copied,
+    /// with the labels of both its processes, and what its receiver owns where that has changed since
+    /// it was noted last.
     pub fn deliver(&mut self, alloc: Global, packet: u64, number: NodeNumber) -> Reply
-        ensures { Goes K.custody self.old self.new
+        ensures goes { Goes K.custody self.old self.new
             (λ w w'. Step w (event.Deliver packet number) result w') }
+        ensures cause { result ≢ Reply.Refused KeeperFailed }
     {
         let Some(node) = self.all.get_mut(&number) else {
             return Reply::NoSuch;

@@ -1,5 +1,5 @@
 //! The nodes of a world, call by call.
-ghost use Rattle.std.specs.Prelude.{◌≡◌, ◌<◌, true, false};
+ghost use Rattle.std.specs.Prelude.{◌≡◌, ◌≢◌, ◌<◌, true, false};
 ghost use Rattle.std.specs.FinMap as map;
 ghost use Rattle.std.specs.Option.{option_copied};
 ghost use Rattle.fl_system.specs.declared.event.Event.TheVariants as event;
@@ -156,10 +156,12 @@ impl<K: Keeper> Nodes<K> {
         answer
     }
 
-    /// Gives up what is to be saved at the node, as `Node::cancel` has it, and answers `Done`, or why not. Takes no memory.
+    /// Gives up what is to be saved at the node, as `Node::cancel` has it, and answers `Done`, or why
+    /// not: never `KeeperFailed`. Takes no memory.
     pub fn cancel(&mut self, number: NodeNumber) -> Reply
-        ensures { Goes K.custody self.old self.new
+        ensures goes { Goes K.custody self.old self.new
             (λ w w'. Step w (event.Cancel number) result w') }
+        ensures cause { result ≢ Reply.Refused Fault.KeeperFailed }
     {
         let Some(node) = self.all.get_mut(&number) else {
             return Reply::NoSuch;
@@ -173,10 +175,11 @@ impl<K: Keeper> Nodes<K> {
     }
 
     /// Publishes what is due at the node, as `Node::publish` has it, and answers the name of an order, or how many operations
-    /// were received, or why not.
+    /// were received, or why not: never `KeeperFailed`.
     pub fn publish(&mut self, alloc: Global, number: NodeNumber) -> Reply
-        ensures { Goes K.custody self.old self.new
+        ensures goes { Goes K.custody self.old self.new
             (λ w w'. Step w (event.Publish number) result w') }
+        ensures cause { result ≢ Reply.Refused Fault.KeeperFailed }
     {
         let Some(node) = self.all.get_mut(&number) else {
             return Reply::NoSuch;
@@ -214,11 +217,13 @@ impl<K: Keeper> Nodes<K> {
     /// that it may answer, and notes what is admitted. An arrival is not handed in so, and answers `NoSuch`, as does a desk that
     /// is not there.
     ///
-    /// Refused with `Memory` too where there is no room for what would be noted or sent. For a job of which something is noted the
-    /// labels of the process are copied, and what it owns where that has changed since it was noted last.
+    /// Refused with `Memory` too where there is no room for what would be noted or sent, and never
+    /// with `KeeperFailed`. For a job of which something is noted the labels of the process are
+    /// copied, and what it owns where that has changed since it was noted last.
     pub fn job(&mut self, alloc: Global, number: NodeNumber, look: Look, job: Job) -> Reply
-        ensures { Goes K.custody self.old self.new
+        ensures goes { Goes K.custody self.old self.new
             (λ w w'. Step w (event.Job number look.desk look.upto job) result w') }
+        ensures cause { result ≢ Reply.Refused Fault.KeeperFailed }
     {
         let Some(node) = self.all.get_mut(&number) else {
             let_go(job);

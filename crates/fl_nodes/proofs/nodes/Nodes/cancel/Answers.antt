@@ -6,17 +6,19 @@ use Rattle.fl_nodes.specs.parts.Highest.{IsUpTo}
 use Rattle.fl_nodes.proofs.Entries.{held, changed, unchanged}
 use Rattle.fl_nodes.proofs.CallLemmas.{no_such_left, given_up, not_given_up}
 use Rattle.fl_nodes.proofs.Highs.{changed_up, left_up}
+use Rattle.fl_nodes.proofs.FailLemmas.{no_refusal_missing, no_refusal_done}
+use Rattle.fl_nodes.proofs.Unfailing.{cancel_refused}
 use Rattle.fl_nodes.proofs.nodes.Nodes.cancel.Goals as goal
 use Rattle.fl_nodes.proofs.nodes.Nodes.cancel.Goals.{in-Ok, in-Err}
 
-pub returns-in_default : goal.returns-in_default
-returns-in_default g c =
+pub returns-in_default-clause-goes : goal.returns-in_default-clause-goes
+returns-in_default-clause-goes g c =
     no_such_left g.K.Keeper.custody c.args.self.now _ (event.Cancel c.args.number)
     (unchanged c.self.inside.all.entries _ c.self.inside.sent.items c.self.inside.audit.items c.args.self.now c.self.view_is (ap (λ (t : BTreeMap ℕ (NodeOver g.row.K.Denot)). t.entries) c.get_mut.follows.holds-at-none))
     (sym (held c.self.inside.all.entries c.self.inside.all.entries c.self.inside.sent.items c.self.inside.audit.items c.args.self.now c.self.view_is c.args.number) ∙ sym c.in_default.ensures.value)
 
-pub returns : goal.returns
-returns g c = elim c.match-cancel.branch [
+pub returns-clause-goes : goal.returns-clause-goes
+returns-clause-goes g c = elim c.match-cancel.branch [
   | in-Ok w ↦ rw w.answer-is (given_up g.K.Keeper.custody c.args.self.now _ c.args.number c.in-Some.node.now c.cancel.new.self
       (sym (held c.self.inside.all.entries c.self.inside.all.entries c.self.inside.sent.items c.self.inside.audit.items c.args.self.now c.self.view_is c.args.number) ∙ sym c.in-Some.ensures.value)
       (changed c.self.inside.all.entries _ c.self.inside.sent.items c.self.inside.audit.items c.args.self.now c.self.view_is c.args.number c.in-Some.node.now c.cancel.new.self (sym c.in-Some.ensures.value) (c.get_mut.follows.holds c.cancel.new.self).0)
@@ -25,6 +27,15 @@ returns g c = elim c.match-cancel.branch [
       (sym (held c.self.inside.all.entries c.self.inside.all.entries c.self.inside.sent.items c.self.inside.audit.items c.args.self.now c.self.view_is c.args.number) ∙ sym c.in-Some.ensures.value)
       (changed c.self.inside.all.entries _ c.self.inside.sent.items c.self.inside.audit.items c.args.self.now c.self.view_is c.args.number c.in-Some.node.now c.cancel.new.self (sym c.in-Some.ensures.value) (c.get_mut.follows.holds c.cancel.new.self).0)
       _ w.in-Err.ensures.keeper w.in-Err.ensures.cancels)
+]
+
+pub returns-in_default-clause-cause : goal.returns-in_default-clause-cause
+returns-in_default-clause-cause g c failed = no_refusal_missing _ failed
+
+pub returns-clause-cause : goal.returns-clause-cause
+returns-clause-cause g c = elim c.match-cancel.branch [
+  | in-Ok w ↦ rw w.answer-is (no_refusal_done _)
+  | in-Err w ↦ rw w.answer-is (cancel_refused _ _ _ w.in-Err.ensures.cancels)
 ]
 
 pub invariant_of-self-2 : goal.invariant_of-self-2

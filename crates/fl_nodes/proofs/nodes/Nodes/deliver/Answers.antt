@@ -5,26 +5,28 @@ use Rattle.fl_node.specs.Over.{NodeOver}
 use Rattle.fl_nodes.specs.parts.Delivering.{packet_of}
 use Rattle.fl_nodes.proofs.Entries.{held, unchanged}
 use Rattle.fl_nodes.proofs.CallLemmas.{no_such_left}
+use Rattle.fl_nodes.proofs.FailLemmas.{no_refusal_missing}
+use Rattle.fl_nodes.proofs.Unfailing.{tell_refused, bringing_replied, sending_replied, taking_replied}
 use Rattle.fl_nodes.proofs.DeliverLemmas.{delivers_message, delivers_ops, delivers_window, no_packet, window_refused}
 use Rattle.fl_nodes.specs.parts.Highest.{IsUpTo}
 use Rattle.fl_nodes.proofs.Highs.{changed_up, looked_up, left_up, desked}
 use Rattle.fl_nodes.proofs.nodes.Nodes.deliver.Goals as goal
 use Rattle.fl_nodes.proofs.nodes.Nodes.deliver.Goals.{in-Full, in-Delta, in-Have+in-Ok, in-Have+in-Err, in-Data}
 
-pub returns-in_default : goal.returns-in_default
-returns-in_default g c =
+pub returns-in_default-clause-goes : goal.returns-in_default-clause-goes
+returns-in_default-clause-goes g c =
     no_such_left g.K.Keeper.custody c.args.self.now _ (event.Deliver c.args.packet c.args.number)
     (unchanged c.self.inside.all.entries _ c.self.inside.sent.items c.self.inside.audit.items c.args.self.now c.self.view_is (ap (λ (t : BTreeMap ℕ (NodeOver g.row.K.Denot)). t.entries) c.get_mut.follows.holds-at-none))
     (sym (held c.self.inside.all.entries c.self.inside.all.entries c.self.inside.sent.items c.self.inside.audit.items c.args.self.now c.self.view_is c.args.number) ∙ sym c.in_default.ensures.value)
 
-pub returns-in_default-packet_at : goal.returns-in_default-packet_at
-returns-in_default-packet_at g c =
+pub returns-in_default-packet_at-clause-goes : goal.returns-in_default-packet_at-clause-goes
+returns-in_default-packet_at-clause-goes g c =
     no_packet g.K.Keeper.custody c.self.inside.all.entries _ c.self.inside.sent.items c.self.inside.audit.items c.args.self.now c.self.view_is
     c.args.number c.in-Some.node.now c.in-Some.node.now (sym c.in-Some.ensures.value) (c.get_mut.follows.holds c.in-Some.node.now).0
     c.args.packet refl (ap (λ l. packet_of l c.args.packet) (sym c.deref.ensures.value) ∙ c.in_default-packet_at.ensures)
 
-pub returns : goal.returns
-returns g c = elim c.match-sent.branch [
+pub returns-clause-goes : goal.returns-clause-goes
+returns-clause-goes g c = elim c.match-sent.branch [
   | in-Full w ↦ rw (w.answer-is, w.node-is, w.self-inside-is) (delivers_ops g.K.Keeper.custody c.self.inside.all.entries _ c.self.inside.sent.items c.self.inside.audit.items c.args.self.now c.self.view_is
       c.args.number c.in-Some.node.now w.receive-answer.new.node (sym c.in-Some.ensures.value) (c.get_mut.follows.holds w.receive-answer.new.node).0
       c.args.packet c.in-Some-packet_at.sent.now
@@ -50,6 +52,21 @@ returns g c = elim c.match-sent.branch [
       c.args.packet c.in-Some-packet_at.sent.now
       (ap (λ l. packet_of l c.args.packet) (sym c.deref.ensures.value) ∙ c.in-Some-packet_at.ensures)
       w.in-Data.message w.bring-answer.result w.bring-answer.new.audit.items w.in-Data.is w.bring-answer.ensures.keeper w.bring-answer.ensures.brings)
+]
+
+pub returns-in_default-clause-cause : goal.returns-in_default-clause-cause
+returns-in_default-clause-cause g c failed = no_refusal_missing _ failed
+
+pub returns-in_default-packet_at-clause-cause : goal.returns-in_default-packet_at-clause-cause
+returns-in_default-packet_at-clause-cause g c failed = no_refusal_missing _ failed
+
+pub returns-clause-cause : goal.returns-clause-cause
+returns-clause-cause g c = elim c.match-sent.branch [
+  | in-Full w ↦ rw w.answer-is (taking_replied _ _ _ _ w.receive-answer.ensures.takes)
+  | in-Delta w ↦ rw w.answer-is (taking_replied _ _ _ _ w.receive-answer-in-Delta.ensures.takes)
+  | in-Have+in-Ok w ↦ rw w.answer-is (sending_replied _ _ _ _ _ w.send_all.ensures)
+  | in-Have+in-Err w ↦ rw w.answer-is (tell_refused _ _ w.in-Err.ensures.err)
+  | in-Data w ↦ rw w.answer-is (bringing_replied _ _ _ _ _ _ _ w.bring-answer.ensures.brings)
 ]
 
 pub invariant_of-self-in_default-packet_at : goal.invariant_of-self-in_default-packet_at

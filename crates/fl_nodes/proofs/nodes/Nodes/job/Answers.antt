@@ -1,32 +1,44 @@
-use Rattle.std.proofs.Common.{◌∙◌, sym, ap, ℕ, refl, subst}
+use Rattle.std.proofs.Common.{◌∙◌, sym, ap, ℕ, refl, subst, length, arith}
 use Rattle.std.specs.BTreeMap.{BTreeMap}
 use Rattle.fl_system.specs.declared.event.Event.TheVariants as event
 use Rattle.fl_node.specs.Over.{NodeOver}
 use Rattle.fl_nodes.proofs.Entries.{held, unchanged}
 use Rattle.fl_nodes.proofs.CallLemmas.{no_such_left}
+use Rattle.fl_nodes.proofs.FailLemmas.{no_refusal_missing}
+use Rattle.fl_nodes.proofs.Unfailing.{job_replied}
 use Rattle.fl_nodes.proofs.JobLemmas.{no_such_job, worked}
 use Rattle.fl_nodes.specs.parts.Highest.{IsUpTo}
 use Rattle.fl_nodes.proofs.Highs.{changed_up, looked_up, left_up}
 use Rattle.fl_nodes.proofs.nodes.Nodes.job.Goals as goal
 
-pub returns-in_default : goal.returns-in_default
-returns-in_default g c =
+pub returns-in_default-clause-goes : goal.returns-in_default-clause-goes
+returns-in_default-clause-goes g c =
     no_such_left g.K.Keeper.custody c.args.self.now _ (event.Job c.args.number c.args.look.desk c.args.look.upto c.args.job)
     (unchanged c.self.inside.all.entries _ c.self.inside.sent.items c.self.inside.audit.items c.args.self.now c.self.view_is (ap (λ (t : BTreeMap ℕ (NodeOver g.row.K.Denot)). t.entries) c.get_mut.follows.holds-at-none))
     (sym (held c.self.inside.all.entries c.self.inside.all.entries c.self.inside.sent.items c.self.inside.audit.items c.args.self.now c.self.view_is c.args.number) ∙ sym c.in_default.ensures.value)
 
-pub returns-then-lacks : goal.returns-then-lacks
-returns-then-lacks g c =
+pub returns-then-lacks-clause-goes : goal.returns-then-lacks-clause-goes
+returns-then-lacks-clause-goes g c =
     no_such_job g.K.Keeper.custody c.self.inside.all.entries _ c.self.inside.sent.items c.self.inside.audit.items c.args.self.now c.self.view_is
     c.args.number c.args.look.desk c.args.look.upto c.args.job c.in-Some.node.now c.in-Some.node.now (sym c.in-Some.ensures.value) (c.get_mut.follows.holds c.in-Some.node.now).0
     refl (c.lacks.ensures.lacking c.if-lacks.true)
 
-pub returns : goal.returns
-returns g c =
+pub returns-clause-goes : goal.returns-clause-goes
+returns-clause-goes g c =
     worked g.K.Keeper.custody c.self.inside.all.entries _ c.self.inside.sent.items c.self.inside.audit.items c.args.self.now c.self.view_is
     c.args.number c.args.look.desk c.args.look.upto c.args.job c.in-Some.node.now c.work-answer.new.node (sym c.in-Some.ensures.value) (c.get_mut.follows.holds c.work-answer.new.node).0
     _ _ _ c.work-answer.ensures.keeper (c.lacks.ensures.there c.if-lacks.false)
     c.work-answer.ensures.works
+
+pub returns-in_default-clause-cause : goal.returns-in_default-clause-cause
+returns-in_default-clause-cause g c failed = no_refusal_missing _ failed
+
+pub returns-then-lacks-clause-cause : goal.returns-then-lacks-clause-cause
+returns-then-lacks-clause-cause g c failed = no_refusal_missing _ failed
+
+pub returns-clause-cause : goal.returns-clause-cause
+returns-clause-cause g c =
+    job_replied _ _ _ _ _ _ _ _ _ _ _ c.work-answer.ensures.works
 
 pub invariant_of-self-then-lacks : goal.invariant_of-self-then-lacks
 invariant_of-self-then-lacks g c = (c.self.invariant.0,
