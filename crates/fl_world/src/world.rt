@@ -1,5 +1,5 @@
 //! A world, event by event.
-ghost use Rattle.std.specs.Prelude.{◌≡◌, ◌<◌, IfOk, IfErr, OnErr, None, Some};
+ghost use Rattle.std.specs.Prelude.{◌≡◌, ◌≢◌, ◌<◌, IfOk, IfErr, OnErr, None, Some};
 ghost use Rattle.std.specs.FinMap as map;
 ghost use Rattle.std.specs.Fn.{FnOnceReturnsAtMut};
 ghost use Rattle.std.specs.Option.{option_copied};
@@ -15,7 +15,7 @@ ghost use Rattle.fl_node.specs.Causes.{KeeperFails};
 ghost use Rattle.fl_node.specs.Over.{NodeOver};
 ghost use Rattle.fl_nodes.specs.Over.{empty_over};
 ghost use Rattle.fl_nodes.specs.Goes.{Goes};
-ghost use Rattle.fl_nodes.specs.Failing.{FailsAt, IsBrokenAt, LoadsBadRowOf};
+ghost use Rattle.fl_nodes.specs.Failing.{FailsAt, FailsIn, IsBrokenAt, LoadsBadRowOf};
 ghost use Rattle.fl_nodes.specs.Joining.{GivesBack, IsRefused, TakesIn};
 ghost use Rattle.fl_nodes.specs.Joining.{ReturnsOver, TakesOver};
 ghost use Rattle.fl_nodes.specs.Texts.{TextAt};
@@ -170,8 +170,9 @@ impl<K: Keeper> World<K> {
     /// Has the node do a job at a desk, which first looks at the list up to a length, as `Nodes::job` has it. What the job lets
     /// pass is noted.
     pub fn job(&mut self, alloc: Global, number: NodeNumber, look: Look, job: Job) -> Reply
-        ensures { Goes K.custody self.old self.new
+        ensures goes { Goes K.custody self.old self.new
             (λ w w'. Step w (event.Job number look.desk look.upto job) result w') }
+        ensures cause { result ≢ replies.Refused Fault.KeeperFailed }
     {
         self.nodes.job(alloc, number, look, job)
     }
@@ -188,16 +189,18 @@ impl<K: Keeper> World<K> {
 
     /// Gives up what is to be saved at the node, as `Nodes::cancel` has it.
     pub fn cancel(&mut self, number: NodeNumber) -> Reply
-        ensures { Goes K.custody self.old self.new
+        ensures goes { Goes K.custody self.old self.new
             (λ w w'. Step w (event.Cancel number) result w') }
+        ensures cause { result ≢ replies.Refused Fault.KeeperFailed }
     {
         self.nodes.cancel(number)
     }
 
     /// Publishes what is due at the node, as `Nodes::publish` has it.
     pub fn publish(&mut self, alloc: Global, number: NodeNumber) -> Reply
-        ensures { Goes K.custody self.old self.new
+        ensures goes { Goes K.custody self.old self.new
             (λ w w'. Step w (event.Publish number) result w') }
+        ensures cause { result ≢ replies.Refused Fault.KeeperFailed }
     {
         self.nodes.publish(alloc, number)
     }
@@ -215,23 +218,27 @@ impl<K: Keeper> World<K> {
 
     /// Has the node send what it has saved, as `Nodes::tell` has it.
     pub fn tell(&mut self, alloc: Global, number: NodeNumber) -> Reply
-        ensures { Goes K.custody self.old self.new
+        ensures goes { Goes K.custody self.old self.new
             (λ w w'. Step w (event.Tell number) result w') }
+        ensures cause { result ≢ replies.Refused Fault.KeeperFailed }
     {
         self.nodes.tell(alloc, number)
     }
 
     /// Has the packet of this number come to the node of this number, as `Nodes::deliver` has it; it may come again.
     pub fn deliver(&mut self, alloc: Global, packet: u64, number: NodeNumber) -> Reply
-        ensures { Goes K.custody self.old self.new
+        ensures goes { Goes K.custody self.old self.new
             (λ w w'. Step w (event.Deliver packet number) result w') }
+        ensures cause { result ≢ replies.Refused Fault.KeeperFailed }
     {
         self.nodes.deliver(alloc, packet, number)
     }
 
     // The event happens.
     fn turn(&mut self, alloc: Global, event: Event) -> Reply
-        ensures { Goes K.custody self.old self.new (λ w w'. Step w event result w') }
+        ensures goes { Goes K.custody self.old self.new (λ w w'. Step w event result w') }
+        ensures cause { result ≡ replies.Refused Fault.KeeperFailed
+            → FailsIn K.custody self.old self.new event }
     {
         match event {
             Event::Job {
@@ -249,10 +256,14 @@ impl<K: Keeper> World<K> {
         }
     }
 
-    /// Has the event happen, and gives what it is answered. It is never answered `Clash` or `Impostor`.
+    /// Has the event happen, and gives what it is answered. A job looks at the whole list of its node, so far: it is handed in to
+    /// look as far as can be. It is never answered `Clash` or `Impostor`, and `KeeperFailed` only as
+    /// `save` and `restart` are.
     pub fn step(&mut self, alloc: Global, event: Event) -> Reply
         ensures goes { Goes K.custody self.old self.new (λ w w'. Step w event result w') }
         ensures named { InEach K.custody self.new (λ w. ¬ IsNameRefusal result) }
+        ensures cause { result ≡ replies.Refused Fault.KeeperFailed
+            → FailsIn K.custody self.old self.new event }
     {
         let _nodes = &self.nodes;
         law_names();

@@ -8,9 +8,9 @@ use Rattle.fl_world.proofs.world.World.publish.Goals as goal
 
 pub invariant_of-self : goal.invariant_of-self
 invariant_of-self g c =
-    each_reached g.K.Keeper.custody _ _ (Happens (event.Publish c.args.number)) _ c.publish.ensures c.self.invariant
+    each_reached g.K.Keeper.custody _ _ (Happens (event.Publish c.args.number)) _ c.publish.ensures.goes c.self.invariant
 
-pub returns : goal.returns
-returns g c =
+pub returns-clause-goes : goal.returns-clause-goes
+returns-clause-goes g c =
     subst (λ old. Goes g.K.Keeper.custody old c.publish.new.self (λ w w'. Step w (event.Publish c.args.number) c.publish.result w'))
-    c.self.view_is c.publish.ensures
+    c.self.view_is c.publish.ensures.goes

@@ -8,9 +8,9 @@ use Rattle.fl_world.proofs.world.World.tell.Goals as goal
 
 pub invariant_of-self : goal.invariant_of-self
 invariant_of-self g c =
-    each_reached g.K.Keeper.custody _ _ (Happens (event.Tell c.args.number)) _ c.tell.ensures c.self.invariant
+    each_reached g.K.Keeper.custody _ _ (Happens (event.Tell c.args.number)) _ c.tell.ensures.goes c.self.invariant
 
-pub returns : goal.returns
-returns g c =
+pub returns-clause-goes : goal.returns-clause-goes
+returns-clause-goes g c =
     subst (λ old. Goes g.K.Keeper.custody old c.tell.new.self (λ w w'. Step w (event.Tell c.args.number) c.tell.result w'))
-    c.self.view_is c.tell.ensures
+    c.self.view_is c.tell.ensures.goes
