@@ -1,5 +1,5 @@
 -- Why a node says that its keeper failed, over the calls that an opening goes through.
-use Rattle.std.proofs.Common.{◌≡◌, ◌⊎◌, inl, inr, ◌∙◌, refl, sym, ap, ℕ, Ok, Err, Result}
+use Rattle.std.proofs.Common.{◌≡◌, ◌⊎◌, inl, inr, ◌∙◌, refl, sym, ap, Ok, Err, Result}
 use Rattle.std.specs.Prelude.{IfErr}
 use Rattle.fl_store.specs.Custody.{Custody}
 use Rattle.fl_store.specs.Kept.{Kept, with_batch}

@@ -1,11 +1,11 @@
 -- What an opening finds, from what the keeper's calls leave.
-use Rattle.std.proofs.Common.{◌≡◌, ◌≢◌, ◌⊎◌, ◌≤◌, inl, inr, ◌∙◌, refl, sym, ap, subst, arith, ℕ, Bool, IsTrue, Ok, Err, Result}
+use Rattle.std.proofs.Common.{◌≡◌, ◌≢◌, ◌⊎◌, ◌≤◌, inl, inr, ◌∙◌, refl, sym, subst, arith, ℕ, Bool, IsTrue, Ok, Err}
 use Rattle.fl_labels.specs.SetBy.{SetBy}
 use Rattle.fl_ops.specs.OpOrder.{op_cmp}
 use Rattle.fl_jobs.specs.declared.answer.Refusal.TheVariants as refusal
 use Rattle.fl_store.specs.declared.keeper.KeeperFault.{KeeperFault}
 use Rattle.fl_store.specs.declared.keeper.KeeperFault.TheVariants.{Memory, Broken, WrongNode as IsOther, BadRow, NamesSpent}
-use Rattle.fl_store.specs.Kept.{Kept, raised}
+use Rattle.fl_store.specs.Kept.{Kept}
 use Rattle.fl_store.specs.Keeping.{Held, Follows, Stays, AfterLoad, AfterBoot, LoadFails, BootFails}
 use Rattle.fl_system.specs.declared.answer.Fault.{Fault}
 use Rattle.fl_system.specs.declared.answer.Fault.TheVariants.{Refused, KeeperFailed, WrongNode}

@@ -1,5 +1,5 @@
 -- The operations of a node, and their names.
-use Rattle.std.proofs.Common.{◌≡◌, ◌≢◌, ◌≤◌, ◌<◌, ◌+◌, ◌∙◌, refl, sym, ap, ℕ, List, [], ◌∷◌, subst, arith, Result, Err}
+use Rattle.std.proofs.Common.{◌≡◌, ◌≤◌, ◌<◌, ◌+◌, ◌∙◌, sym, ap, ℕ, [], ◌∷◌, subst, arith, Result, Err}
 use Rattle.std.proofs.Common.{inl, inr}
 use Rattle.std.specs.Cmp.{Equal-is}
 use Rattle.std.proofs.lemmas.Bool.{or_cases, false≢true}

@@ -1,7 +1,7 @@
 -- What is received of a packet.
-use Rattle.std.proofs.Common.{Result, ◌≡◌, ◌≢◌, ◌⊎◌, inl, inr, ◌∙◌, refl, sym, ap, subst, ℕ, ◌<◌, List, [], ◌∷◌, length, get_or, Bool, true, false, not, arith, Ok, Err, Less, Equal}
+use Rattle.std.proofs.Common.{Result, ◌≡◌, inl, inr, ◌∙◌, refl, sym, ap, subst, ℕ, ◌<◌, List, [], ◌∷◌, length, get_or, Bool, true, false, not, arith, Ok, Err, Less, Equal}
 use Rattle.std.specs.Cmp.{tied_itself}
-use Rattle.std.specs.List.{Contains, filter, All}
+use Rattle.std.specs.List.{Contains, filter}
 use Rattle.std.specs.List.Sorted.{IsStrictlySortedBy}
 use Rattle.std.proofs.lemmas.Bool.{false≢true, cases_lt}
 use Rattle.std.proofs.lemmas.List.{get_or_default}
@@ -30,9 +30,6 @@ use Rattle.fl_gossip.specs.Taking.{ops_of, AreTaken, IsLeastOffence, Refuses}
 use Rattle.fl_jobs.specs.declared.answer.Refusal.TheVariants.{Memory}
 use Rattle.fl_system.specs.declared.answer.Fault.{Fault}
 use Rattle.fl_system.specs.declared.answer.Fault.TheVariants.{Refused, Clash, Impostor}
-use Rattle.fl_system.specs.declared.state.Batch.TheVariants.{Received}
-use Rattle.fl_system.specs.declared.state.Pending.TheVariants.{Nothing}
-use Rattle.fl_system.specs.declared.state.State.TheVariants.{Running}
 use Rattle.fl_system.specs.State.{NodeState}
 use Rattle.fl_system.specs.Waiting.{IsRunning, IsTaken}
 use Rattle.fl_system.specs.Receives.{Receives, IsImpostor, IsClash, IsFirstRefused, CanTake, AreLacking}

@@ -1,16 +1,14 @@
 -- What a node gets back.
-use Rattle.std.proofs.Common.{◌≡◌, ◌⊎◌, inl, inr, ◌∙◌, refl, sym, ap, subst, ℕ, List, [], ◌∷◌, Bool, true, false, Ok, Err, Result, None, Some}
-use Rattle.std.specs.Cmp.{IsTotalOrder, tied_itself}
+use Rattle.std.proofs.Common.{◌≡◌, ◌⊎◌, inl, inr, ◌∙◌, refl, sym, ap, subst, ℕ, List, [], Bool, true, false, Ok, Result}
+use Rattle.std.specs.Cmp.{tied_itself}
 use Rattle.std.specs.Cmp.Lexicographic.{slice_cmp, lists_total}
 use Rattle.std.specs.FinMap.{slice_cmp-IsAntisymmetric}
 use Rattle.std.specs.Prelude.{◌||◌}
 use Rattle.std.specs.Ordering.{is_eq}
 use Rattle.std.specs.declared.cmp.Ordering.{Ordering}
 use Rattle.std.specs.declared.cmp.Ordering.TheVariants.{Less, Equal, Greater}
-use Rattle.std.specs.declared.option.Option.{Option}
 use Rattle.std.proofs.lemmas.Bool.{false≢true}
 use Rattle.fl_labels.specs.Found.{Tells}
-use Rattle.fl_labels.specs.SetBy as set
 use Rattle.fl_labels.specs.SetBy.{SetBy, members, of_list, contains, same_set, contains-union, contains-empty}
 use Rattle.fl_ops.specs.declared.op.Op.{Op}
 use Rattle.fl_ops.specs.OpOrder.{op_cmp}
@@ -19,14 +17,13 @@ use Rattle.fl_store.specs.Custody.{Custody}
 use Rattle.fl_store.specs.Kept.{Kept, with_ops}
 use Rattle.fl_store.specs.Keeping.{Follows}
 use Rattle.fl_system.specs.declared.answer.Fault.{Fault}
-use Rattle.fl_system.specs.declared.state.Batch.{Batch}
 use Rattle.fl_system.specs.declared.state.Pending.TheVariants.{Nothing, Unsaved, Due}
 use Rattle.fl_system.specs.declared.state.State.{State}
 use Rattle.fl_system.specs.declared.state.State.TheVariants.{Running, Stopped}
-use Rattle.fl_system.specs.State.{NodeState, kept_of}
+use Rattle.fl_system.specs.State.{NodeState}
 use Rattle.fl_system.specs.Saves.{Saves}
 use Rattle.fl_system.specs.Waiting.{NoneUnsaved, NotRunning}
-use Rattle.fl_system.specs.Openings.{Opens, IsOwn, OpensAgain, Reopens, Restarts, doubt_of}
+use Rattle.fl_system.specs.Openings.{OpensAgain, Reopens, Restarts, doubt_of}
 use Rattle.fl_node.proofs.NodeLemmas.{same_registry}
 
 is_equal : (o : Ordering) → is_eq o ≡ true → o ≡ Equal

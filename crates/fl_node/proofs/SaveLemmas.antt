@@ -1,6 +1,6 @@
 -- What saving leaves.
-use Rattle.std.proofs.Common.{◌≡◌, ◌⊎◌, inl, inr, ◌∙◌, refl, sym, ap, subst, ℕ, List, [], ◌∷◌, ◌++◌, Ok, Err, Some, Bool, true, false}
-use Rattle.std.specs.Prelude.{◌≢◌, IsTrue, not, ◌&&◌, ◌||◌}
+use Rattle.std.proofs.Common.{◌≡◌, ◌⊎◌, ◌∙◌, refl, sym, ap, subst, ℕ, List, [], ◌∷◌, ◌++◌, Ok, Err, Some, Bool, true, false}
+use Rattle.std.specs.Prelude.{IsTrue, not, ◌&&◌, ◌||◌}
 use Rattle.std.specs.List.{list_any}
 use Rattle.std.specs.Ordering.{eq_by_cmp}
 use Rattle.fl_labels.specs.SetBy.{SetBy, contains, remove, of_list, same_set, contains-remove, contains-union, contains-of_list}
@@ -10,7 +10,7 @@ use Rattle.fl_ops.specs.OpLaws.{op_total, op_exact}
 use Rattle.fl_jobs.specs.declared.answer.Refusal.TheVariants as refusal
 use Rattle.fl_store.specs.declared.keeper.KeeperFault.{KeeperFault}
 use Rattle.fl_store.specs.declared.keeper.KeeperFault.TheVariants.{Memory, Broken, WrongNode, BadRow, NamesSpent}
-use Rattle.fl_store.specs.Kept.{Kept, AreNew, with_ops, with_batch}
+use Rattle.fl_store.specs.Kept.{AreNew, with_ops, with_batch}
 use Rattle.fl_store.specs.Keeping.{Held, Follows, Stays, AfterSave, SaveFails}
 use Rattle.fl_system.specs.declared.answer.Fault.TheVariants.{Refused, KeeperFailed}
 use Rattle.fl_system.specs.declared.state.Batch.{Batch}

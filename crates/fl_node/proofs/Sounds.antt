@@ -13,7 +13,7 @@ use Rattle.fl_system.specs.declared.state.State.{State}
 use Rattle.fl_system.specs.declared.state.State.TheVariants.{Running, Stopped}
 use Rattle.fl_system.specs.State.{ops_of}
 use Rattle.fl_system.specs.Waiting.{IsRunning}
-use Rattle.fl_node.specs.Sound.{IsSound, IsFresh, IsKeptOwn}
+use Rattle.fl_node.specs.Sound.{IsSound, IsFresh}
 
 module _ {honest : Type 0} {held : Held} {number boot : ℕ} {saved : SetBy op_cmp} {desks benches : ℕ} where
   -- what is on its way moves on

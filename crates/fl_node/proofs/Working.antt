@@ -1,12 +1,11 @@
 -- A job at a node, of any number of desks and benches.
-use Rattle.std.proofs.Common.{◌+◌, ◌++◌, None, length-append, ◌≡◌, ◌≤◌, ◌<◌, ◌%◌, ◌-◌, ◌∙◌, refl, sym, ap, subst, ℕ, zero, suc, List, [], ◌∷◌, length, arith, Ok, Err, Result, Some, inl, inr}
+use Rattle.std.proofs.Common.{◌≡◌, ◌≤◌, ◌<◌, ◌∙◌, refl, sym, ap, subst, ℕ, zero, suc, List, [], ◌∷◌, length, arith, Ok, Err, Result, Some, inl}
 use Rattle.std.specs.Prelude.{min, max}
 use Rattle.fl_labels.specs.declared.pid.Pid.{Pid}
-use Rattle.fl_ops.specs.declared.op.Op.{Op}
 use Rattle.fl_ops.specs.declared.op.Body.{Body}
 use Rattle.fl_ops.specs.Registry.{Registry}
 use Rattle.fl_jobs.specs.declared.job.Job.{Job}
-use Rattle.fl_jobs.specs.declared.job.Job.TheVariants.{Proc, By, Member, Arrive}
+use Rattle.fl_jobs.specs.declared.job.Job.TheVariants.{By, Arrive}
 use Rattle.fl_jobs.specs.declared.job.Act.TheVariants as act
 use Rattle.fl_jobs.specs.declared.answer.Refusal.{Refusal}
 use Rattle.fl_jobs.specs.declared.answer.Refusal.TheVariants.{Memory}
@@ -22,16 +21,13 @@ use Rattle.fl_system.specs.declared.answer.Answer.{Answer}
 use Rattle.fl_system.specs.declared.answer.Answer.TheVariants as answer
 use Rattle.fl_system.specs.declared.answer.Fault.{Fault}
 use Rattle.fl_system.specs.declared.answer.Fault.TheVariants.{Refused}
-use Rattle.fl_system.specs.declared.state.Batch.{Batch}
-use Rattle.fl_system.specs.declared.state.Batch.TheVariants.{Ordered, Received}
-use Rattle.fl_system.specs.declared.state.State.{State}
 use Rattle.fl_system.specs.Numbered.{item_at, change_item, with_item}
 use Rattle.fl_system.specs.State.{NodeState, first_ops}
 use Rattle.fl_system.specs.Waiting.{IsRunning}
-use Rattle.fl_system.specs.Publishes.{told, at_bench_of}
+use Rattle.fl_system.specs.Publishes.{at_bench_of}
 use Rattle.fl_system.specs.Begins.{Begins}
-use Rattle.fl_system.specs.Jobs.{Looks, Decides, Jobs, bench_of, place_of, procs_after, looking, worked, turned_away}
-use Rattle.fl_system.specs.Arrives.{Arrives, ArrivesAt, Unasked, delivered}
+use Rattle.fl_system.specs.Jobs.{Looks, Decides, Jobs, bench_of, place_of, procs_after, looking, worked}
+use Rattle.fl_system.specs.Arrives.{Arrives, ArrivesAt, Unasked}
 use Rattle.fl_desks.specs.Benches.{BenchesState, DoesAt}
 use Rattle.fl_node.specs.Desks.{IsDeskOf}
 use Rattle.fl_node.specs.parts.Ordering.{Orders}
@@ -69,11 +65,6 @@ changed_length f [] k = refl
 changed_length f (x ∷ xs) zero = refl
 changed_length f (x ∷ xs) (suc zero) = refl
 changed_length f (x ∷ xs) (suc (suc k)) = ap suc (changed_length f xs (suc k))
-
-pub told_length : (batch : Batch) (count : ℕ) (views : List ℕ) → length (told batch count views) ≡ length views
-told_length (Ordered op maker None) count views = refl
-told_length (Ordered op maker (Some desk)) count views = changed_length _ views desk
-told_length (Received ops) count views = refl
 
 -- the desk has seen some
 pub record HasView (views : List ℕ) (desk : ℕ) : Type 0 where
@@ -127,8 +118,8 @@ cancelled_back n desk v job body pid left at d =
     let count : length (with_item n.benches (place_of n job) left) ≡ length n.benches = changed_length _ n.benches (place_of n job) in
     let there : bench_of (length (with_item n.benches (place_of n job) left)) pid.serial ≡ place_of n job = ap (λ k. bench_of k pid.serial) count ∙ sym place in
     let back : at_bench_of pid (λ b. cancelled b pid) (with_item n.benches (place_of n job) left) ≡ n.benches =
-        ap (change_item (λ b. cancelled b pid) (with_item n.benches (place_of n job) left)) there
-        ∙ change_back (λ b. cancelled b pid) n.benches (place_of n job) d.bench left d.stands (cancel_back d.does) in
+    ap (change_item (λ b. cancelled b pid) (with_item n.benches (place_of n job) left)) there
+    ∙ change_back (λ b. cancelled b pid) n.benches (place_of n job) d.bench left d.stands (cancel_back d.does) in
     λ i. record n {
       views = same_item n.views desk v at i;
       procs = (ap (procs_after (length n.benches) n.procs) asked) i;
@@ -144,8 +135,8 @@ orders_at n desk v job body pid mid (Ok a) after at d h =
     (WorksAt.begun d.decides (subst (λ m. Begins m body (Some pid) (Some desk) (Ok h.0) after) d.leaves h.2))
 orders_at n desk v job body pid mid (Err fault) after at d h =
     let back : after ≡ n =
-        h.1 ∙ ap (λ (m : NodeState). record m { benches = at_bench_of pid (λ b. cancelled b pid) m.benches }) d.leaves
-        ∙ cancelled_back n desk v job body pid d.left at d.decides in
+    h.1 ∙ ap (λ (m : NodeState). record m { benches = at_bench_of pid (λ b. cancelled b pid) m.benches }) d.leaves
+    ∙ cancelled_back n desk v job body pid d.left at d.decides in
     subst (λ m. WorksAt n desk v job (Err fault) m) (sym back)
     (WorksAt.not_begun d.decides (subst (λ m. Begins m body (Some pid) (Some desk) (Err fault) m) d.leaves h.0))
 

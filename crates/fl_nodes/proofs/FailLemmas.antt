@@ -1,5 +1,5 @@
 -- Why a call says that a keeper failed, from the node to the nodes.
-use Rattle.std.proofs.Common.{◌≡◌, ◌⊎◌, inl, inr, ℕ, sym, ap, subst, [], Option, Some, Result, Ok, Err}
+use Rattle.std.proofs.Common.{◌≡◌, ◌⊎◌, inl, inr, ℕ, sym, subst, [], Some, Result, Ok, Err}
 use Rattle.std.specs.Prelude.{IfErr, IsTrue}
 use Rattle.std.specs.FinMap as map
 use Rattle.fl_jobs.specs.declared.answer.Refusal.TheVariants.{Memory}

@@ -1,5 +1,5 @@
 -- A job at a node as a step of the world.
-use Rattle.std.proofs.Common.{◌<◌, ◌≤◌, ltb, true, false, ◌≡◌, ◌≢◌, ◌++◌, ◌∙◌, refl, sym, ap, subst, ℕ, zero, suc, List, [], ◌∷◌, length, Some, None, arith}
+use Rattle.std.proofs.Common.{◌<◌, ◌≤◌, ltb, false, ◌≡◌, ◌++◌, ◌∙◌, refl, sym, ap, subst, ℕ, zero, suc, List, [], ◌∷◌, length, Some, None, arith}
 use Rattle.std.proofs.lemmas.Bool.Decides.{nat_tests}
 use Rattle.std.proofs.lemmas.Cmp.{nat_cmp_total}
 use Rattle.std.proofs.lemmas.List.{append-nil}
@@ -33,9 +33,6 @@ use Rattle.fl_nodes.specs.parts.There.{IsNoSuch, IsThere}
 use Rattle.fl_notes.specs.Working.{Works, Worked}
 use Rattle.fl_nodes.proofs.Lifting.{StandsAs, lifts_kept, node_there, over_went, stays, with_kept}
 use Rattle.fl_nodes.proofs.Entries.{changed, held, of_entries}
-
-pub below : (m n : ℕ) → ltb m n ≡ true → m < n
-below m n e = grind (arith, nat_tests)
 
 pub not_below : (m n : ℕ) → ltb m n ≡ false → n ≤ m
 not_below m n e = grind (arith, nat_tests)

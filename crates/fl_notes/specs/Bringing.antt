@@ -1,13 +1,10 @@
 -- What a node does with a packet that comes to it.
-use Rattle.std.specs.Prelude.{◌≡◌, ◌<◌, ◌++◌, ℕ, zero, suc, List, [], length}
-use Rattle.std.specs.List.{slice_get}
+use Rattle.std.specs.Prelude.{◌≡◌, ◌<◌, ◌++◌, ℕ, List, []}
 use Rattle.std.specs.declared.option.Option.{Option}
-use Rattle.std.specs.declared.option.Option.TheVariants.{None}
 use Rattle.std.specs.declared.result.Result.TheVariants.{Ok, Err}
 use Rattle.fl_labels.specs.SetBy.{SetBy}
 use Rattle.fl_ops.specs.OpOrder.{op_cmp}
 use Rattle.fl_message.specs.declared.message.Data.{Data}
-use Rattle.fl_wire.specs.declared.packet.Packet.{Packet}
 use Rattle.fl_jobs.specs.declared.answer.Reply as jobs
 use Rattle.fl_jobs.specs.declared.answer.Refusal.TheVariants.{Memory}
 use Rattle.fl_system.specs.declared.admission.Admission.{Admission}
@@ -16,11 +13,9 @@ use Rattle.fl_system.specs.declared.answer.Fault.{Fault}
 use Rattle.fl_system.specs.declared.answer.Fault.TheVariants as faults
 use Rattle.fl_system.specs.declared.reply.Reply.{Reply}
 use Rattle.fl_system.specs.declared.reply.Reply.TheVariants.{Taking, Took, Refused}
-use Rattle.fl_system.specs.declared.reply.Reply.TheVariants.{Job as Answered, Sent as HasSent}
-use Rattle.fl_system.specs.declared.sent.Sent.{Sent}
+use Rattle.fl_system.specs.declared.reply.Reply.TheVariants.{Job as Answered}
 use Rattle.fl_system.specs.Arrives.{Arrives}
 use Rattle.fl_system.specs.Audit.{message_entries}
-use Rattle.fl_system.specs.Gossip.{told_by}
 use Rattle.fl_system.specs.Processes.{process_of}
 use Rattle.fl_system.specs.Receives.{Receives}
 use Rattle.fl_system.specs.State.{NodeState}

@@ -1,18 +1,12 @@
 -- A run of events is a run of moments, along which all lasts.
 use Rattle.std.proofs.Common.{◌≡◌, ◌≤◌, ◌<◌, ◌∙◌, ℕ, zero, suc, refl, sym, ap, subst, arith}
-use Rattle.std.proofs.Common.{List, [], ◌∷◌, map, take, Some, None, slice_get}
+use Rattle.std.proofs.Common.{List, [], ◌∷◌, map, take, Some, slice_get}
 use Rattle.fl_bench.specs.laws.Puts.{none_some, same_found}
-use Rattle.fl_jobs.specs.declared.answer.Reply.TheVariants.{Emitted}
-use Rattle.fl_jobs.specs.declared.job.Act.TheVariants.{Emit}
-use Rattle.fl_jobs.specs.declared.job.Job.TheVariants.{By}
 use Rattle.fl_store.specs.Custody.{Custody}
-use Rattle.fl_labels.specs.declared.pid.Pid.{Pid}
 use Rattle.fl_system.specs.declared.event.Event.{Event}
-use Rattle.fl_system.specs.declared.event.Event.TheVariants.{Job}
 use Rattle.fl_system.specs.declared.reply.Reply.{Reply}
-use Rattle.fl_system.specs.declared.reply.Reply.TheVariants.{Job as Answered}
 use Rattle.fl_system.specs.Runs.{Move, Happens, Moment, Moves, IsRun, IsReached, Run, end}
-use Rattle.fl_system.specs.Taint.{world_at, IsEmission}
+use Rattle.fl_system.specs.Taint.{world_at}
 use Rattle.fl_system.specs.World.{World}
 use Rattle.fl_system.specs.WorldSteps.{Step}
 use Rattle.fl_nodes.specs.Over.{WorldOver}

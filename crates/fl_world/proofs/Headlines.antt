@@ -7,7 +7,7 @@ use Rattle.fl_bench.specs.Bench.{BenchState}
 use Rattle.fl_bench.specs.Process.{effective}
 use Rattle.fl_bench.specs.declared.process.Process.{Process}
 use Rattle.fl_system.specs.Numbered.{item_at}
-use Rattle.fl_system.specs.Processes.{process_at, process_of}
+use Rattle.fl_system.specs.Processes.{process_at}
 use Rattle.fl_system.specs.Union.{Union}
 use Rattle.fl_system.specs.World.{World, KeptNode}
 use Rattle.fl_system.specs.WorldSteps.{IsAt}

@@ -19,7 +19,7 @@ use Rattle.fl_system.specs.declared.event.Event.{Event}
 use Rattle.fl_system.specs.declared.event.Event.TheVariants.{Job}
 use Rattle.fl_system.specs.declared.reply.Reply.{Reply}
 use Rattle.fl_system.specs.declared.reply.Reply.TheVariants.{Job as Answered}
-use Rattle.fl_system.specs.Runs.{Move, Happens, Moment, IsRun, Run, end}
+use Rattle.fl_system.specs.Runs.{Happens, Moment, IsRun, Run, end}
 use Rattle.fl_system.specs.Taint.{world_at, Lives, IsPure}
 use Rattle.fl_system.specs.World.{World, KeptNode}
 use Rattle.fl_system.specs.WorldSteps.{IsAt}

@@ -1,6 +1,5 @@
 -- What is true of a world at each moment of each run.
 use Rattle.std.specs.Prelude.{◌≡◌, ℕ, List}
-use Rattle.std.specs.FinMap as map
 use Rattle.std.specs.List.{Contains}
 use Rattle.std.specs.declared.option.Option.TheVariants.{Some}
 use Rattle.fl_labels.specs.Found.{Within}

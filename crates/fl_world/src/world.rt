@@ -55,7 +55,7 @@ impl<K: Keeper> Model for World<K> {
     ghost use Rattle.fl_system.specs.Runs.{IsReached};
     ghost use Rattle.fl_nodes.specs.Over.{WorldOver, coded_world_over};
     ghost use Rattle.fl_nodes.specs.Texts.{TextAt};
-            ghost use Rattle.fl_world.specs.Reached.{InEach};
+    ghost use Rattle.fl_world.specs.Reached.{InEach};
 
     ghost Value = { WorldOver K };
 
@@ -256,8 +256,7 @@ impl<K: Keeper> World<K> {
         }
     }
 
-    /// Has the event happen, and gives what it is answered. A job looks at the whole list of its node, so far: it is handed in to
-    /// look as far as can be. It is never answered `Clash` or `Impostor`, and `KeeperFailed` only as
+    /// Has the event happen, and gives what it is answered. It is never answered `Clash` or `Impostor`, and `KeeperFailed` only as
     /// `save` and `restart` are.
     pub fn step(&mut self, alloc: Global, event: Event) -> Reply
         ensures goes { Goes K.custody self.old self.new (λ w w'. Step w event result w') }

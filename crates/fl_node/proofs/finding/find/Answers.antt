@@ -1,6 +1,5 @@
-use Rattle.std.proofs.Common.{◌≡◌, ◌⊎◌, inl, inr, ◌∙◌, sym, ap, Err}
+use Rattle.std.proofs.Common.{inl, inr, ◌∙◌, sym, ap, Err}
 use Rattle.fl_store.specs.Breaking.{was_broken, loading}
-use Rattle.fl_node.specs.parts.Finding.{FailsToFind}
 use Rattle.fl_node.proofs.FindLemmas.{found, load_failed, not_loaded, other_node}
 use Rattle.fl_node.proofs.finding.find.Goals as goal
 

@@ -1,4 +1,4 @@
-use Rattle.std.proofs.Common.{◌≡◌, ◌∙◌, sym, ap, subst, Err}
+use Rattle.std.proofs.Common.{◌∙◌, sym, ap, subst, Err}
 use Rattle.fl_system.specs.State.{ops_of}
 use Rattle.fl_node.specs.parts.Keeping.{Keeps, unkept_of, without}
 use Rattle.fl_node.proofs.NodeLemmas.{err_same}

@@ -1,4 +1,4 @@
-use Rattle.std.proofs.Common.{◌≡◌, ◌⊎◌, inl, inr, ◌∙◌, ◌≤◌, refl, sym, arith}
+use Rattle.std.proofs.Common.{inl, inr, ◌∙◌, ◌≤◌, refl, sym, arith}
 use Rattle.std.specs.Option.{option_copied}
 use Rattle.fl_system.specs.declared.answer.Fault.TheVariants.{WrongNode}
 use Rattle.fl_system.specs.Openings.{IsOwn, FailsToOpen}

@@ -1,8 +1,9 @@
 use Rattle.std.proofs.Common.{◌≡◌, sym, subst, arith, ℕ, None}
+use Rattle.std.proofs.lemmas.Bool.{ltb-true}
 use Rattle.fl_system.specs.Numbered.{item_at}
 use Rattle.fl_system.specs.WorldSteps.{IsArrival}
 use Rattle.fl_nodes.specs.parts.There.{IsNoSuch}
-use Rattle.fl_nodes.proofs.JobLemmas.{below, not_below, no_desk_zero, no_desk_beyond, not_arrival}
+use Rattle.fl_nodes.proofs.JobLemmas.{not_below, no_desk_zero, no_desk_beyond, not_arrival}
 use Rattle.fl_nodes.proofs.nodes.lacks.Goals as goal
 
 pub returns-in-Arrive-clause-lacking : goal.returns-in-Arrive-clause-lacking
@@ -14,7 +15,7 @@ returns-then-desk-eq0-clause-lacking g c _ =
 
 pub returns-clause-lacking : goal.returns-clause-lacking
 returns-clause-lacking g c less =
-    let beyond = below c.desks.result c.args.desk less in
+    let beyond = ltb-true c.desks.result c.args.desk less in
     IsNoSuch.no_desk (no_desk_beyond c.args.node.now.node.views c.args.desk (omega (arith, beyond, c.desks.ensures)))
 
 pub returns-clause-there : goal.returns-clause-there

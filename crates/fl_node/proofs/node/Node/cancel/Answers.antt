@@ -1,4 +1,3 @@
-use Rattle.std.proofs.Common.{◌≡◌}
 use Rattle.std.proofs.lemmas.Result.{err_from_is_err_and}
 use Rattle.fl_system.specs.Publishes.{Cancels}
 use Rattle.fl_node.proofs.node.Node.cancel.Goals as goal

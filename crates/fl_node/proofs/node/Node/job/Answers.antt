@@ -1,4 +1,4 @@
-use Rattle.std.proofs.Common.{◌≡◌, refl}
+use Rattle.std.proofs.Common.{refl}
 use Rattle.fl_system.specs.Jobs.{Jobs}
 use Rattle.fl_node.proofs.Working.{has_view, item_here, jobs_then, turned}
 use Rattle.fl_node.proofs.node.Node.job.Goals as goal

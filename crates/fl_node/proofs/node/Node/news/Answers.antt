@@ -1,4 +1,4 @@
-use Rattle.std.proofs.Common.{◌≡◌, ◌∙◌, ap, subst}
+use Rattle.std.proofs.Common.{◌∙◌, ap, subst}
 use Rattle.fl_labels.specs.SetBy.{of_list}
 use Rattle.fl_gossip.specs.Taking.{ops_of, AreTaken}
 use Rattle.fl_node.specs.Checking.{AreRefused}

@@ -1,4 +1,4 @@
-use Rattle.std.proofs.Common.{inl, inr, length, ◌≡◌, ◌⊎◌, ◌∙◌, refl, sym, ap, Err}
+use Rattle.std.proofs.Common.{inl, inr, ◌∙◌, refl, sym, ap, Err}
 use Rattle.fl_store.specs.Breaking.{raising}
 use Rattle.fl_system.specs.Openings.{IsOf}
 use Rattle.fl_node.proofs.OpenLemmas.{not_found, found_no_room, no_room_after, not_raised, opens, kept_opened}

@@ -1,4 +1,3 @@
-use Rattle.std.proofs.Common.{◌≡◌, ◌∙◌, sym, length}
 use Rattle.fl_system.specs.Openings.{OpensAgain}
 use Rattle.fl_node.proofs.node.Node.open_again.Goals as goal
 

@@ -1,9 +1,8 @@
-use Rattle.std.proofs.Common.{◌≡◌, ◌∙◌, ap}
+use Rattle.std.proofs.Common.{◌∙◌, ap}
 use Rattle.fl_bench.specs.Gifts.{cancelled}
 use Rattle.fl_system.specs.Publishes.{at_bench_of}
 use Rattle.fl_system.specs.State.{NodeState}
 use Rattle.fl_node.proofs.JobLemmas.{not_begun_here}
-use Rattle.fl_node.proofs.Sounds.{counts_on}
 use Rattle.fl_node.proofs.node.Node.order.Goals as goal
 
 pub returns-in-Err-clause-orders : goal.returns-in-Err-clause-orders

@@ -1,4 +1,4 @@
-use Rattle.std.proofs.Common.{◌≡◌, ◌∙◌, sym, subst, arith}
+use Rattle.std.proofs.Common.{◌∙◌, sym, arith}
 use Rattle.std.proofs.lemmas.Result.{err_from_is_err_and}
 use Rattle.fl_system.specs.Receives.{Receives}
 use Rattle.fl_node.proofs.ReceiveLemmas.{refused_as, nothing_new, is_taken}

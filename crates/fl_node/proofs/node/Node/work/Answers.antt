@@ -1,4 +1,4 @@
-use Rattle.std.proofs.Common.{◌≡◌, refl}
+use Rattle.std.proofs.Common.{refl}
 use Rattle.fl_node.proofs.Sounds.{counts_on}
 use Rattle.fl_node.proofs.Working.{decided, orders_at, refused_at, replied_at, sent_at}
 use Rattle.fl_node.proofs.node.Node.work.Goals as goal

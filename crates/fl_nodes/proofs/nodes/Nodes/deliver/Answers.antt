@@ -70,22 +70,26 @@ returns-clause-cause g c = elim c.match-sent.branch [
 ]
 
 pub invariant_of-self-in_default-packet_at : goal.invariant_of-self-in_default-packet_at
-invariant_of-self-in_default-packet_at g c = (c.self.invariant.0,
-    looked_up c.self.inside.highest c.self.inside.desks c.self.inside.all.entries _ c.args.number c.in-Some.node.now
-    (sym c.in-Some.ensures.value) (c.get_mut.follows.holds c.in-Some.node.now).0 c.self.invariant.1)
+invariant_of-self-in_default-packet_at g c = (
+  c.self.invariant.0,
+  looked_up c.self.inside.highest c.self.inside.desks c.self.inside.all.entries _ c.args.number c.in-Some.node.now
+      (sym c.in-Some.ensures.value) (c.get_mut.follows.holds c.in-Some.node.now).0 c.self.invariant.1,
+)
 
 pub invariant_of-self-2 : goal.invariant_of-self-2
-invariant_of-self-2 g c = (c.self.invariant.0,
-    changed_up c.self.inside.highest _ c.self.inside.desks c.raised-self-inside.ensures.at_least c.self.inside.all.entries _ c.args.number c.in-Some.node.now c.match-sent.node
-    (sym c.in-Some.ensures.value) (c.get_mut.follows.holds c.match-sent.node).0 c.self.invariant.1
-    (subst (IsUpTo c.raised-self-inside.result) c.saved.ensures.saved c.raised-self-inside.ensures.covers)
-    (elim c.match-sent.branch [
-      | in-Full w ↦ rw w.node-is w.receive-answer.ensures.desks
-      | in-Delta w ↦ rw w.node-is w.receive-answer-in-Delta.ensures.desks
-      | in-Have+in-Ok w ↦ rw w.node-is refl
-      | in-Have+in-Err w ↦ rw w.node-is refl
-      | in-Data w ↦ rw w.node-is w.bring-answer.ensures.desks
-    ]))
+invariant_of-self-2 g c = (
+  c.self.invariant.0,
+  changed_up c.self.inside.highest _ c.self.inside.desks c.raised-self-inside.ensures.at_least c.self.inside.all.entries _ c.args.number c.in-Some.node.now c.match-sent.node
+      (sym c.in-Some.ensures.value) (c.get_mut.follows.holds c.match-sent.node).0 c.self.invariant.1
+      (subst (IsUpTo c.raised-self-inside.result) c.saved.ensures.saved c.raised-self-inside.ensures.covers)
+      (elim c.match-sent.branch [
+        | in-Full w ↦ rw w.node-is w.receive-answer.ensures.desks
+        | in-Delta w ↦ rw w.node-is w.receive-answer-in-Delta.ensures.desks
+        | in-Have+in-Ok w ↦ rw w.node-is refl
+        | in-Have+in-Err w ↦ rw w.node-is refl
+        | in-Data w ↦ rw w.node-is w.bring-answer.ensures.desks
+      ]),
+)
 
 pub invariant_of-self : goal.invariant_of-self
 invariant_of-self g c =

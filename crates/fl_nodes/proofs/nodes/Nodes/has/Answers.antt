@@ -1,4 +1,4 @@
-use Rattle.std.proofs.Common.{◌∙◌, sym, ap}
+use Rattle.std.proofs.Common.{◌∙◌, ap}
 use Rattle.std.specs.Prelude.{is_some}
 use Rattle.fl_nodes.proofs.Entries.{held}
 use Rattle.fl_nodes.proofs.nodes.Nodes.has.Goals as goal

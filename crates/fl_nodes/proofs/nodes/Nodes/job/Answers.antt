@@ -1,4 +1,4 @@
-use Rattle.std.proofs.Common.{◌∙◌, sym, ap, ℕ, refl, subst, length, arith}
+use Rattle.std.proofs.Common.{◌∙◌, sym, ap, ℕ, refl, subst}
 use Rattle.std.specs.BTreeMap.{BTreeMap}
 use Rattle.fl_system.specs.declared.event.Event.TheVariants as event
 use Rattle.fl_node.specs.Over.{NodeOver}
@@ -41,14 +41,19 @@ returns-clause-cause g c =
     job_replied _ _ _ _ _ _ _ _ _ _ _ c.work-answer.ensures.works
 
 pub invariant_of-self-then-lacks : goal.invariant_of-self-then-lacks
-invariant_of-self-then-lacks g c = (c.self.invariant.0,
-    looked_up c.self.inside.highest c.self.inside.desks c.self.inside.all.entries _ c.args.number c.in-Some.node.now
-    (sym c.in-Some.ensures.value) (c.get_mut.follows.holds c.in-Some.node.now).0 c.self.invariant.1)
+invariant_of-self-then-lacks g c = (
+  c.self.invariant.0,
+  looked_up c.self.inside.highest c.self.inside.desks c.self.inside.all.entries _ c.args.number c.in-Some.node.now
+      (sym c.in-Some.ensures.value) (c.get_mut.follows.holds c.in-Some.node.now).0 c.self.invariant.1,
+)
 
 pub invariant_of-self-2 : goal.invariant_of-self-2
-invariant_of-self-2 g c = (c.self.invariant.0, changed_up c.self.inside.highest _ c.self.inside.desks c.raised-self-inside.ensures.at_least c.self.inside.all.entries _ c.args.number c.in-Some.node.now c.work-answer.new.node
-    (sym c.in-Some.ensures.value) (c.get_mut.follows.holds c.work-answer.new.node).0 c.self.invariant.1
-    (subst (IsUpTo c.raised-self-inside.result) c.saved.ensures.saved c.raised-self-inside.ensures.covers) c.work-answer.ensures.desks)
+invariant_of-self-2 g c = (
+  c.self.invariant.0,
+  changed_up c.self.inside.highest _ c.self.inside.desks c.raised-self-inside.ensures.at_least c.self.inside.all.entries _ c.args.number c.in-Some.node.now c.work-answer.new.node
+      (sym c.in-Some.ensures.value) (c.get_mut.follows.holds c.work-answer.new.node).0 c.self.invariant.1
+      (subst (IsUpTo c.raised-self-inside.result) c.saved.ensures.saved c.raised-self-inside.ensures.covers) c.work-answer.ensures.desks,
+)
 
 pub invariant_of-self : goal.invariant_of-self
 invariant_of-self g c =

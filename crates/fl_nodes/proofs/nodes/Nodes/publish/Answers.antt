@@ -39,9 +39,12 @@ returns-clause-cause g c = elim c.match-publish.branch [
 ]
 
 pub invariant_of-self-2 : goal.invariant_of-self-2
-invariant_of-self-2 g c = (c.self.invariant.0, changed_up c.self.inside.highest _ c.self.inside.desks c.raised-self-inside.ensures.at_least c.self.inside.all.entries _ c.args.number c.in-Some.node.now c.publish.new.self
-    (sym c.in-Some.ensures.value) (c.get_mut.follows.holds c.publish.new.self).0 c.self.invariant.1
-    (subst (IsUpTo c.raised-self-inside.result) c.saved.ensures.saved c.raised-self-inside.ensures.covers) c.publish.ensures.desks)
+invariant_of-self-2 g c = (
+  c.self.invariant.0,
+  changed_up c.self.inside.highest _ c.self.inside.desks c.raised-self-inside.ensures.at_least c.self.inside.all.entries _ c.args.number c.in-Some.node.now c.publish.new.self
+      (sym c.in-Some.ensures.value) (c.get_mut.follows.holds c.publish.new.self).0 c.self.invariant.1
+      (subst (IsUpTo c.raised-self-inside.result) c.saved.ensures.saved c.raised-self-inside.ensures.covers) c.publish.ensures.desks,
+)
 
 pub invariant_of-self : goal.invariant_of-self
 invariant_of-self g c =

@@ -54,9 +54,12 @@ returns-clause-cause g c =
     (λ k made. FnOnceReturnsAtMut g.F.FnOnce c.args.make k tt made) g.K.Keeper.custody.has_bad_row (λ made gives row. (made, gives, row)) _ _ c.opened.ensures c.reopen_with-result.ensures.cause
 
 pub invariant_of-self-2 : goal.invariant_of-self-2
-invariant_of-self-2 g c = (c.self.invariant.0, changed_up c.self.inside.highest _ c.self.inside.desks c.raised-self-inside.ensures.at_least c.self.inside.all.entries _ c.args.number c.in-Some.node.now c.reopen_with-result.new.self
-    (sym c.in-Some.ensures.value) (c.get_mut.follows.holds c.reopen_with-result.new.self).0 c.self.invariant.1
-    (subst (IsUpTo c.raised-self-inside.result) c.saved.ensures.saved c.raised-self-inside.ensures.covers) c.reopen_with-result.ensures.desks)
+invariant_of-self-2 g c = (
+  c.self.invariant.0,
+  changed_up c.self.inside.highest _ c.self.inside.desks c.raised-self-inside.ensures.at_least c.self.inside.all.entries _ c.args.number c.in-Some.node.now c.reopen_with-result.new.self
+      (sym c.in-Some.ensures.value) (c.get_mut.follows.holds c.reopen_with-result.new.self).0 c.self.invariant.1
+      (subst (IsUpTo c.raised-self-inside.result) c.saved.ensures.saved c.raised-self-inside.ensures.covers) c.reopen_with-result.ensures.desks,
+)
 
 pub invariant_of-self : goal.invariant_of-self
 invariant_of-self g c =

@@ -2,11 +2,10 @@ use Rattle.std.proofs.Common.{◌∙◌, sym, ap, subst, length, arith}
 use Rattle.std.proofs.lemmas.Iterator.Adapters.{YieldsList-from_vec}
 use Rattle.std.proofs.lemmas.Iterator.Consumers.{YieldsList-end}
 use Rattle.std.proofs.lemmas.List.{map-id}
-use Rattle.std.specs.Vec.{vec_len, vec_capacity}
 use Rattle.fl_system.specs.Runs.{IsReached}
 use Rattle.fl_world.specs.Reached.{InEach}
 use Rattle.fl_world.proofs.Along.{run_lasts}
-use Rattle.fl_world.proofs.Running.{RunsTo, none_yet, one_more, all_done}
+use Rattle.fl_world.proofs.Running.{none_yet, one_more, all_done}
 use Rattle.fl_world.proofs.world.World.run.Goals as goal
 
 pub loop-event-init : goal.loop-event-init
