@@ -39,9 +39,10 @@ use Rattle.fl_calls.specs.Calls.{Says, said_of, brings_ops, Delivers, BeginsToTa
 use Rattle.fl_calls.specs.Completing.{Completes}
 use Rattle.fl_calls.specs.Entering.{Openings, Enters, is_there, joins, is_refused, OnceOpen, shut, opened}
 use Rattle.fl_calls.specs.Over.{ClusterOver, openings_of, GoesOn}
-use Rattle.fl_calls.specs.parts.Coming.{coming, is_message, sent_at}
+use Rattle.fl_calls.specs.parts.Coming.{coming, is_message, sent_at, IsSentAs}
 use Rattle.fl_calls.specs.laws.Widening.{opens_more, enters_more}
 use Rattle.fl_calls.proofs.Going.{goes_as}
+use Rattle.fl_calls.proofs.Messages.{once_open_with}
 use Rattle.fl_calls.proofs.Opening.{goes_on_as, rests, once_open, once_shut, both_open}
 
 -- ---- packets
@@ -271,22 +272,27 @@ module _ {K M : Type 0} (custody : Custody K) (making : Making M) where
 
   -- the packet came
   pub delivered : (old mid : ClusterOver K M) (here new : WorldOver K) (maker : M) (number packet : ℕ) (result : Result (Unit {0}) Fault)
-      (u : Unit {0}) (sent : AnySent) (b : Bool) (e : Event) (reply : Reply) (r : Response) → record { world = here; maker = maker } ≡ mid
-      → result ≡ Ok u → item_at old.world.packets packet ≡ Some sent → b ≡ is_message sent.packet → e ≡ event.Deliver packet number
-      → r ≡ coming b reply
+      (u : Unit {0}) (sent : AnySent) (b : Bool) (reply : Reply) (r : Response) → record { world = here; maker = maker } ≡ mid
+      → result ≡ Ok u → item_at old.world.packets packet ≡ Some sent → b ≡ is_message sent.packet → r ≡ coming b reply
       → GoesOn custody making old mid (λ openings w w'. Enters openings w number result w')
-      → Goes custody here new (λ w w'. Completes w e reply w')
+      → Goes custody here new (λ w w'. IsSentAs w packet b → Completes w (event.Deliver packet number) reply w')
       → GoesOn custody making old (record { world = new; maker = maker })
       (λ openings w w'. Delivers openings w number packet (shown new r) w')
-  delivered old mid here new maker number packet result u sent b e reply r is ok at message arrival said enters goes =
+  delivered old mid here new maker number packet result u sent b reply r is ok at message said enters goes =
+      let does : World → Answer → World → Type 0 = λ v. Says (said_of sent.packet) (Completes v (event.Deliver packet number)) in
       let says : shown new r ≡ said_of sent.packet reply =
       ap (λ x. shown new x) (said ∙ ap (λ m. coming m reply) message) ∙ comes_as new sent.packet reply in
-      delivers_once old (record { world = new; maker = maker }) number packet sent (shown new r) at
-      (once_open custody making old mid here new maker number result u
-      (λ v. Says (said_of sent.packet) (Completes v (event.Deliver packet number))) (shown new r) is ok enters
-      (goes_as custody here new (λ w w'. Completes w e reply w')
-      (λ w w'. Says (said_of sent.packet) (Completes w (event.Deliver packet number)) (shown new r) w')
-      (λ w w' done. (reply, says, subst (λ f. Completes w f reply w') arrival done)) goes))
+      goes_on_as custody making old (record { world = new; maker = maker })
+      (λ openings w w'. OnceOpen openings w number (λ v a v'. IsSentAs v packet b → does v a v') (shown new r) w')
+      (λ openings w w'. Delivers openings w number packet (shown new r) w')
+      (λ openings w w' may o.
+      let there : item_at w.packets packet ≡ Some sent = ap (λ l. item_at l packet) may.packets ∙ at in
+      Delivers.comes there (once_open_with openings w number packet b does (shown new r) w'
+      (record { sent = sent; there = there; kind = sym message }) o))
+      (once_open custody making old mid here new maker number result u (λ v a v'. IsSentAs v packet b → does v a v') (shown new r) is ok enters
+      (goes_as custody here new (λ w w'. IsSentAs w packet b → Completes w (event.Deliver packet number) reply w')
+      (λ w w'. IsSentAs w packet b → does w (shown new r) w')
+      (λ w w' done sent_as. (reply, says, done sent_as)) goes))
 
   -- the node was not opened
   pub not_come : (old mid : ClusterOver K M) (number packet : ℕ) (result : Result (Unit {0}) Fault) (fault : Fault) (sent : AnySent)

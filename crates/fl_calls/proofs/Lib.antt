@@ -1,5 +1,7 @@
 pub mod Going
 pub mod Finishing
+pub mod Messages
 pub mod Opening
 pub mod Bringing
 pub mod AskingLemmas
+pub mod Failures

@@ -3,5 +3,6 @@ pub mod Entering
 pub mod Completing
 pub mod Calls
 pub mod Over
+pub mod Failing
 pub mod parts
 pub mod laws

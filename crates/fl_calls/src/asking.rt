@@ -6,6 +6,7 @@ ghost use Rattle.fl_system.specs.WorldSteps.{IsAt};
 ghost use Rattle.fl_nodes.specs.Goes.{MayBe};
 ghost use Rattle.fl_calls.specs.Answer.{shown};
 ghost use Rattle.fl_calls.specs.Calls.{counted, Tells, Unites, ChecksAt};
+ghost use Rattle.fl_calls.specs.Failing.{SaysFailed};
 
 use crate::response::{Check, Response};
 use fl_jobs::answer::Refusal;
@@ -36,8 +37,9 @@ fn starved() -> Response
 
 /// Has the text of the node of this number be written, where it is there. `Stopped` of a stopped one.
 pub fn tell<K: Keeper>(world: &World<K>, number: NodeNumber) -> Response
-    ensures { (w : AnyWorld) (s : KeptNode) → MayBe K.custody world.now w → IsAt w number s
+    ensures tells { (w : AnyWorld) (s : KeptNode) → MayBe K.custody world.now w → IsAt w number s
         → Tells w number (shown world.now result) w }
+    ensures cause { ¬ SaysFailed result }
 {
     let Some(node) = world.node(number) else {
         return Response::Unknown;
@@ -78,8 +80,9 @@ pub fn unite<K: Keeper>(
     first: NodeNumber,
     second: NodeNumber,
 ) -> Response
-    ensures { (w : AnyWorld) (s t : KeptNode) → MayBe K.custody world.now w → IsAt w first s
+    ensures unites { (w : AnyWorld) (s t : KeptNode) → MayBe K.custody world.now w → IsAt w first s
         → IsAt w second t → Unites w first second (shown world.now result) w }
+    ensures cause { ¬ SaysFailed result }
 {
     let (Some(one), Some(other)) = (world.node(first), world.node(second)) else {
         return Response::Unknown;
@@ -117,8 +120,9 @@ pub fn check<K: Keeper>(
     number: NodeNumber,
     bytes: &[u8],
 ) -> Response
-    ensures { (w : AnyWorld) (s : KeptNode) → MayBe K.custody world.now w → IsAt w number s
+    ensures checks { (w : AnyWorld) (s : KeptNode) → MayBe K.custody world.now w → IsAt w number s
         → ChecksAt w number bytes.now (shown world.now result) w }
+    ensures cause { ¬ SaysFailed result }
 {
     let Some(node) = world.node(number) else {
         return Response::Unknown;

@@ -1,22 +1,26 @@
 //! A world with who makes the keepers of its nodes.
-ghost use Rattle.std.specs.Prelude.{◌≡◌, ◌<◌, None, Some, Ok, Err, MatchOption, IfOk, IfErr, OnErr};
+ghost use Rattle.std.specs.Prelude.{◌≡◌, ◌≢◌, ◌<◌, None, Some, Ok, Err};
+ghost use Rattle.std.specs.Prelude.{MatchOption, IfOk, IfErr, OnErr};
 ghost use Rattle.std.specs.FinMap as map;
 ghost use Rattle.fl_opset.specs.RegistryText.{registry_text};
 ghost use Rattle.fl_sink.specs.Sink.{Puts};
 ghost use Rattle.fl_system.specs.Numbered.{item_at};
 ghost use Rattle.fl_system.specs.World.{World as AnyWorld};
 ghost use Rattle.fl_system.specs.WorldSteps.{node_of};
+ghost use Rattle.fl_node.specs.Over.{NodeOver};
+ghost use Rattle.fl_nodes.specs.Failing.{FailsIn, IsBrokenAt};
 ghost use Rattle.fl_nodes.specs.Goes.{MayBe};
 ghost use Rattle.fl_calls.specs.Answer.{registry_of, shown};
 ghost use Rattle.fl_calls.specs.Entering.{Enters};
 ghost use Rattle.fl_calls.specs.Over.{begun_over, GoesOn};
+ghost use Rattle.fl_calls.specs.Failing.{FailsCompleting, FailsOnceOpen, SaysFailed};
 ghost use Rattle.fl_calls.specs.Calls.{Asks, AsksToBegin, Delivers, BeginsToTake};
 ghost use Rattle.fl_calls.specs.Calls.{AsksForText, AsksForUnion, AsksToCheck, AsksForAudit};
 ghost use Rattle.fl_calls.specs.Calls.{brings_ops};
 ghost use Rattle.fl_calls.specs.parts.Coming.{coming, is_message, sent_at};
 
 use crate::asking::{check, tell, unite};
-use crate::completing::{complete, number_of};
+use crate::completing::{arrival, come, complete, number_of};
 use crate::response::Response;
 use fl_labels::name::NodeNumber;
 use fl_makers::maker::MakesKeepers;
@@ -91,16 +95,6 @@ fn said(is_message: bool, reply: Reply) -> Response
     Response::Reply(reply)
 }
 
-// That the packet of this number comes to the node.
-fn arrival(number: NodeNumber, packet: u32) -> Event
-    ensures { result ≡ Event.Deliver packet number }
-{
-    Event::Deliver {
-        packet: packet as u64,
-        node: number,
-    }
-}
-
 /// A world whose nodes are opened by the first line that names them, over keepers that are made then.
 ///
 /// A contract of a call says what it does to the world: where the keepers are honest, each world that it may be now comes so from
@@ -148,8 +142,10 @@ impl<M: MakesKeepers> Cluster<M> {
     fn open(&mut self, alloc: Global, number: NodeNumber) -> Result<(), Fault>
         requires known { 0 < number }
         requires absent { map.get self.old.world.nodes number ≡ None }
-        ensures { GoesOn M.K.custody M.making self.old self.new
+        ensures goes { GoesOn M.K.custody M.making self.old self.new
             (λ openings w w'. Enters openings w number result w') }
+        ensures cause { result ≡ Err Fault.KeeperFailed
+            → M.making.refuses self.old.maker number Fault.KeeperFailed }
     {
         match self.maker.make(alloc, number) {
             Ok(keeper) => outcome(self.world.join(alloc, number, keeper)),
@@ -160,8 +156,13 @@ impl<M: MakesKeepers> Cluster<M> {
     // Opens the node of this number where it is not there. An error leaves the world.
     fn enter(&mut self, alloc: Global, number: NodeNumber) -> Result<(), Fault>
         requires { 0 < number }
-        ensures { GoesOn M.K.custody M.making self.old self.new
+        ensures goes { GoesOn M.K.custody M.making self.old self.new
             (λ openings w w'. Enters openings w number result w') }
+        ensures there { (n : NodeOver M.K) → map.get self.old.world.nodes number ≡ Some n
+            → self.new ≡ self.old }
+        ensures cause { result ≡ Err Fault.KeeperFailed
+            → (map.get self.old.world.nodes number ≡ None)
+            × M.making.refuses self.old.maker number Fault.KeeperFailed }
     {
         match self.world.node(number) {
             Some(_) => Ok(()),
@@ -175,8 +176,11 @@ impl<M: MakesKeepers> Cluster<M> {
     #[inline(always)]
     pub fn ask(&mut self, alloc: Global, event: Event) -> Response
         requires { 0 < node_of event }
-        ensures { GoesOn M.K.custody M.making self.old self.new
+        ensures goes { GoesOn M.K.custody M.making self.old self.new
             (λ openings w w'. Asks openings w event (shown self.new.world result) w') }
+        ensures cause { SaysFailed result
+            → FailsOnceOpen M.K.custody M.making self.old self.new (node_of event)
+            (λ between. FailsCompleting M.K.custody between.world self.new.world event) }
     {
         match self.enter(alloc, number_of(&event)) {
             Ok(()) => Response::Reply(complete(alloc, &mut self.world, event)),
@@ -188,8 +192,11 @@ impl<M: MakesKeepers> Cluster<M> {
     /// further events.
     pub fn begin(&mut self, alloc: Global, event: Event) -> Response
         requires { 0 < node_of event }
-        ensures { GoesOn M.K.custody M.making self.old self.new
+        ensures goes { GoesOn M.K.custody M.making self.old self.new
             (λ openings w w'. AsksToBegin openings w event (shown self.new.world result) w') }
+        ensures cause { SaysFailed result
+            → FailsOnceOpen M.K.custody M.making self.old self.new (node_of event)
+            (λ between. FailsIn M.K.custody between.world self.new.world event) }
     {
         match self.enter(alloc, number_of(&event)) {
             Ok(()) => Response::Reply(self.world.step(alloc, event)),
@@ -210,8 +217,12 @@ impl<M: MakesKeepers> Cluster<M> {
     /// opened.
     pub fn deliver(&mut self, alloc: Global, number: NodeNumber, packet: u32) -> Response
         requires { 0 < number }
-        ensures { GoesOn M.K.custody M.making self.old self.new
+        ensures goes { GoesOn M.K.custody M.making self.old self.new
             (λ openings w w'. Delivers openings w number packet (shown self.new.world result) w') }
+        ensures cause { SaysFailed result
+            → FailsOnceOpen M.K.custody M.making self.old self.new number
+            (λ between. IsBrokenAt M.K.custody self.new.world number) }
+        ensures dropped { result ≢ Response.Dropped Fault.KeeperFailed }
     {
         let Some(sent) = self.packet(packet) else {
             return Response::Unknown;
@@ -219,7 +230,7 @@ impl<M: MakesKeepers> Cluster<M> {
         let is_message = is_message(&sent.packet);
         match self.enter(alloc, number) {
             Ok(()) => {
-                let reply = complete(alloc, &mut self.world, arrival(number, packet));
+                let reply = come(alloc, &mut self.world, number, packet, is_message);
                 said(is_message, reply)
             }
             Err(fault) => shut(fault),
@@ -231,8 +242,11 @@ impl<M: MakesKeepers> Cluster<M> {
     /// no node is opened.
     pub fn begin_to_take(&mut self, alloc: Global, number: NodeNumber, packet: u32) -> Response
         requires { 0 < number }
-        ensures { GoesOn M.K.custody M.making self.old self.new
+        ensures goes { GoesOn M.K.custody M.making self.old self.new
             (λ openings w w'. BeginsToTake openings w number packet (shown self.new.world result) w') }
+        ensures cause { SaysFailed result
+            → FailsOnceOpen M.K.custody M.making self.old self.new number
+            (λ between. ⊥) }
     {
         let Some(sent) = self.packet(packet) else {
             return Response::Unknown;
@@ -249,8 +263,11 @@ impl<M: MakesKeepers> Cluster<M> {
     /// Has the text of the node be written, which is opened where it is not there. `Stopped` of a stopped one.
     pub fn text(&mut self, alloc: Global, number: NodeNumber) -> Response
         requires { 0 < number }
-        ensures { GoesOn M.K.custody M.making self.old self.new
+        ensures goes { GoesOn M.K.custody M.making self.old self.new
             (λ openings w w'. AsksForText openings w number (shown self.new.world result) w') }
+        ensures cause { SaysFailed result
+            → FailsOnceOpen M.K.custody M.making self.old self.new number
+            (λ between. ⊥) }
     {
         match self.enter(alloc, number) {
             Ok(()) => tell(&self.world, number),
@@ -263,8 +280,11 @@ impl<M: MakesKeepers> Cluster<M> {
     pub fn union(&mut self, alloc: Global, first: NodeNumber, second: NodeNumber) -> Response
         requires first { 0 < first }
         requires second { 0 < second }
-        ensures { GoesOn M.K.custody M.making self.old self.new
+        ensures goes { GoesOn M.K.custody M.making self.old self.new
             (λ openings w w'. AsksForUnion openings w first second (shown self.new.world result) w') }
+        ensures cause { SaysFailed result
+            → FailsOnceOpen M.K.custody M.making self.old self.new first
+            (λ between. FailsOnceOpen M.K.custody M.making between self.new second (λ _. ⊥)) }
     {
         match self.enter(alloc, first) {
             Ok(()) => match self.enter(alloc, second) {
@@ -279,8 +299,11 @@ impl<M: MakesKeepers> Cluster<M> {
     /// none, and else as `Node::check` has it.
     pub fn check(&mut self, alloc: Global, number: NodeNumber, bytes: &[u8]) -> Response
         requires { 0 < number }
-        ensures { GoesOn M.K.custody M.making self.old self.new
+        ensures goes { GoesOn M.K.custody M.making self.old self.new
             (λ openings w w'. AsksToCheck openings w number bytes.now (shown self.new.world result) w') }
+        ensures cause { SaysFailed result
+            → FailsOnceOpen M.K.custody M.making self.old self.new number
+            (λ between. ⊥) }
     {
         match self.enter(alloc, number) {
             Ok(()) => check(alloc, &self.world, number, bytes),
@@ -290,8 +313,9 @@ impl<M: MakesKeepers> Cluster<M> {
 
     /// How much was admitted.
     pub fn audit(&self) -> Response
-        ensures { (w : AnyWorld) → MayBe M.K.custody self.now.world w
+        ensures counts { (w : AnyWorld) → MayBe M.K.custody self.now.world w
             → AsksForAudit w (shown self.now.world result) w }
+        ensures cause { ¬ SaysFailed result }
     {
         Response::Admitted(self.world.audit().len() as u64)
     }

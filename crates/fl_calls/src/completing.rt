@@ -1,8 +1,11 @@
 //! Events of a world, with what they begin.
 ghost use Rattle.std.specs.Prelude.{◌≡◌, ◌≢◌, false, true};
 ghost use Rattle.fl_system.specs.WorldSteps.{node_of};
+ghost use Rattle.fl_nodes.specs.Failing.{IsBrokenAt};
 ghost use Rattle.fl_nodes.specs.Goes.{Goes};
 ghost use Rattle.fl_calls.specs.Completing.{begins, starved, Finishes, Completes};
+ghost use Rattle.fl_calls.specs.Failing.{FailsCompleting};
+ghost use Rattle.fl_calls.specs.parts.Coming.{IsSentAs};
 
 use fl_jobs::answer::Refusal;
 use fl_labels::name::NodeNumber;
@@ -48,7 +51,9 @@ fn is_starved(reply: &Reply) -> bool
 
 // Saves what is to be saved at the node, and publishes it. Where saving wants memory, it is given up.
 fn finish<K: Keeper>(alloc: Global, world: &mut World<K>, number: NodeNumber) -> Reply
-    ensures { Goes K.custody world.old world.new (λ w w'. Finishes w number result w') }
+    ensures goes { Goes K.custody world.old world.new (λ w w'. Finishes w number result w') }
+    ensures cause { result ≡ Reply.Refused Fault.KeeperFailed
+        → IsBrokenAt K.custody world.new number }
 {
     let reply = world.save(number);
     if is_done(&reply) {
@@ -63,7 +68,9 @@ fn finish<K: Keeper>(alloc: Global, world: &mut World<K>, number: NodeNumber) ->
 /// Has the event happen, and saves and publishes what it begins. Gives what the last of it is answered.
 #[inline(always)]
 pub fn complete<K: Keeper>(alloc: Global, world: &mut World<K>, event: Event) -> Reply
-    ensures { Goes K.custody world.old world.new (λ w w'. Completes w event result w') }
+    ensures goes { Goes K.custody world.old world.new (λ w w'. Completes w event result w') }
+    ensures cause { result ≡ Reply.Refused Fault.KeeperFailed
+        → FailsCompleting K.custody world.old world.new event }
 {
     let number = number_of(&event);
     let reply = world.step(alloc, event);
@@ -71,4 +78,35 @@ pub fn complete<K: Keeper>(alloc: Global, world: &mut World<K>, event: Event) ->
         return finish(alloc, world, number);
     }
     reply
+}
+
+/// That the packet of this number comes to the node.
+pub fn arrival(number: NodeNumber, packet: u32) -> Event
+    ensures { result ≡ Event.Deliver packet number }
+{
+    Event::Deliver {
+        packet: packet as u64,
+        node: number,
+    }
+}
+
+/// Has the packet of this number come to the node, and saves and publishes what it brings. A
+/// message begins nothing, so no keeper fails with it.
+pub fn come<K: Keeper>(
+    alloc: Global,
+    world: &mut World<K>,
+    number: NodeNumber,
+    packet: u32,
+    is_message: bool,
+) -> Reply
+    ensures goes { Goes K.custody world.old world.new (λ w w'. IsSentAs w packet is_message
+        → Completes w (Event.Deliver packet number) result w') }
+    ensures cause { result ≡ Reply.Refused Fault.KeeperFailed
+        → (is_message ≡ false) × IsBrokenAt K.custody world.new number }
+{
+    let event = arrival(number, packet);
+    if is_message {
+        return world.step(alloc, event);
+    }
+    complete(alloc, world, event)
 }

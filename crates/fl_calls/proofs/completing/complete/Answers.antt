@@ -1,12 +1,20 @@
-use Rattle.std.proofs.Common.{sym, ◌∙◌}
+use Rattle.std.proofs.Common.{inl, sym, ◌∙◌}
+use Rattle.fl_calls.proofs.Failures.{once_finished}
 use Rattle.fl_calls.proofs.Finishing.{goes_in_steps, goes_at_once}
 use Rattle.fl_calls.proofs.completing.complete.Goals as goal
 
-pub returns-then-begins : goal.returns-then-begins
-returns-then-begins g c =
+pub returns-then-begins-clause-goes : goal.returns-then-begins-clause-goes
+returns-then-begins-clause-goes g c =
     goes_in_steps g.K.Keeper.custody _ _ _ _ _ _ _ (sym c.begins.ensures ∙ c.if-begins.true)
-    c.number_of-number.ensures c.step-reply.ensures.goes c.finish.ensures
+    c.number_of-number.ensures c.step-reply.ensures.goes c.finish.ensures.goes
 
-pub returns : goal.returns
-returns g c =
+pub returns-clause-goes : goal.returns-clause-goes
+returns-clause-goes g c =
     goes_at_once g.K.Keeper.custody _ _ _ _ (sym c.begins.ensures ∙ c.if-begins.false) c.step-reply.ensures.goes
+
+pub returns-then-begins-clause-cause : goal.returns-then-begins-clause-cause
+returns-then-begins-clause-cause g c failed =
+    once_finished g.K.Keeper.custody _ _ c.args.event _ c.number_of-number.ensures (c.finish.ensures.cause failed)
+
+pub returns-clause-cause : goal.returns-clause-cause
+returns-clause-cause g c failed = inl (c.step-reply.ensures.cause failed)

@@ -1,20 +1,34 @@
 use Rattle.std.proofs.Common.{refl}
+use Rattle.fl_calls.specs.Failing.{FailsCompleting}
 use Rattle.fl_calls.specs.Answer.{replied}
 use Rattle.fl_calls.specs.Completing.{Completes}
 use Rattle.fl_calls.specs.Calls.{Says}
+use Rattle.fl_calls.proofs.Failures.{once_asked, once_refused, says_reply}
 use Rattle.fl_calls.proofs.Going.{goes_as}
 use Rattle.fl_calls.proofs.Opening.{once_open, once_shut}
 use Rattle.fl_calls.proofs.cluster.Cluster.ask.Goals as goal
 
-pub returns-in-Ok : goal.returns-in-Ok
-returns-in-Ok g c =
+pub returns-in-Ok-clause-goes : goal.returns-in-Ok-clause-goes
+returns-in-Ok-clause-goes g c =
     once_open g.M.K.Keeper.custody g.M.MakesKeepers.making _ _ _ _ _ _ _ _
     (λ v. Says replied (Completes v c.args.event)) (replied c.complete.result) c.self.view_is c.in-Ok.is
-    (rw c.number_of.ensures at c.enter.ensures)
-    (goes_as g.M.K.Keeper.custody _ _ _ _ (λ w w' done. (c.complete.result, refl, done)) c.complete.ensures)
+    (rw c.number_of.ensures at c.enter.ensures.goes)
+    (goes_as g.M.K.Keeper.custody _ _ _ _ (λ w w' done. (c.complete.result, refl, done)) c.complete.ensures.goes)
 
-pub returns-in-Err : goal.returns-in-Err
-returns-in-Err g c =
+pub returns-in-Err-clause-goes : goal.returns-in-Err-clause-goes
+returns-in-Err-clause-goes g c =
     rw c.turned_away.ensures
     (once_shut g.M.K.Keeper.custody g.M.MakesKeepers.making _ _ _ _ _
-    (λ v. Says replied (Completes v c.args.event)) c.in-Err.is (rw c.number_of.ensures at c.enter.ensures))
+    (λ v. Says replied (Completes v c.args.event)) c.in-Err.is (rw c.number_of.ensures at c.enter.ensures.goes))
+
+pub returns-in-Ok-clause-cause : goal.returns-in-Ok-clause-cause
+returns-in-Ok-clause-cause g c says =
+    once_asked g.M.K.Keeper.custody g.M.MakesKeepers.making _ _ _ _ _ _ _ _ _
+    (λ between. FailsCompleting g.M.K.Keeper.custody between c.complete.new.world c.args.event) c.self.view_is c.in-Ok.is
+    (rw c.number_of.ensures at c.enter.ensures.goes) (rw c.number_of.ensures at c.enter.ensures.there)
+    c.complete.ensures.goes (c.complete.ensures.cause (says_reply _ says))
+
+pub returns-in-Err-clause-cause : goal.returns-in-Err-clause-cause
+returns-in-Err-clause-cause g c =
+    once_refused g.M.K.Keeper.custody g.M.MakesKeepers.making _ _ _ _ _ _ _ c.in-Err.is c.turned_away.ensures
+    (rw c.number_of.ensures at c.enter.ensures.cause)

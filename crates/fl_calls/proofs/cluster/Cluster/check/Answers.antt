@@ -1,13 +1,23 @@
+use Rattle.std.proofs.Common.{subst}
 use Rattle.fl_calls.specs.Calls.{ChecksAt}
+use Rattle.fl_calls.specs.Failing.{SaysFailed}
+use Rattle.fl_calls.proofs.Failures.{once_refused}
 use Rattle.fl_calls.proofs.Bringing.{told, told_why}
 use Rattle.fl_calls.proofs.cluster.Cluster.check.Goals as goal
 use Rattle.fl_calls.proofs.cluster.Cluster.check.Goals.{in-Ok, in-Err}
 
-pub returns : goal.returns
-returns g c = elim c.match-enter.branch [
+pub returns-clause-goes : goal.returns-clause-goes
+returns-clause-goes g c = elim c.match-enter.branch [
   | in-Ok w ↦ told g.M.K.Keeper.custody g.M.MakesKeepers.making _ _ _ _ _ _ _
-      (λ v. ChecksAt v c.args.number c.args.bytes.now) _ _ c.self.view_is w.in-Ok.is w.result-is c.enter.ensures
-      (λ x s may at. w.check.ensures x s may at)
+      (λ v. ChecksAt v c.args.number c.args.bytes.now) _ _ c.self.view_is w.in-Ok.is w.result-is c.enter.ensures.goes
+      (λ x s may at. w.check.ensures.checks x s may at)
   | in-Err w ↦ told_why g.M.K.Keeper.custody g.M.MakesKeepers.making _ _ _ _ _
-      (λ v. ChecksAt v c.args.number c.args.bytes.now) _ _ w.in-Err.is w.result-is w.shut.ensures c.enter.ensures
+      (λ v. ChecksAt v c.args.number c.args.bytes.now) _ _ w.in-Err.is w.result-is w.shut.ensures c.enter.ensures.goes
+]
+
+pub returns-clause-cause : goal.returns-clause-cause
+returns-clause-cause g c says = elim c.match-enter.branch [
+  | in-Ok w ↦ absurd (w.check.ensures.cause (subst SaysFailed w.result-is says))
+  | in-Err w ↦ once_refused g.M.K.Keeper.custody g.M.MakesKeepers.making _ _ _ _ _ _ _ w.in-Err.is w.shut.ensures
+      c.enter.ensures.cause (subst SaysFailed w.result-is says)
 ]

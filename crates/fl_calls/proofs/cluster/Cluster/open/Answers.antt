@@ -1,10 +1,11 @@
 use Rattle.fl_store.specs.Breaking.{IsLeftBroken}
+use Rattle.fl_calls.proofs.Failures.{not_joined, not_made}
 use Rattle.fl_calls.proofs.Going.{unmade, joins_or_not}
 use Rattle.fl_calls.proofs.Opening.{opens_as}
 use Rattle.fl_calls.proofs.cluster.Cluster.open.Goals as goal
 
-pub returns-in-Ok : goal.returns-in-Ok
-returns-in-Ok g c =
+pub returns-in-Ok-clause-goes : goal.returns-in-Ok-clause-goes
+returns-in-Ok-clause-goes g c =
     opens_as g.M.K.Keeper.custody g.M.MakesKeepers.making _ _ _ _ _ _ _
     c.self.view_is
     (joins_or_not g.M.K.Keeper.custody _ _ (λ left. IsLeftBroken g.M.K.Keeper.custody c.in-Ok.keeper left) _ _ _ _ c.in-Ok.keeper _ _
@@ -13,10 +14,20 @@ returns-in-Ok g c =
     c.join.ensures.same)
     c.make.ensures.same_finds c.make.ensures.same_refuses
 
-pub returns-in-Err : goal.returns-in-Err
-returns-in-Err g c =
+pub returns-in-Err-clause-goes : goal.returns-in-Err-clause-goes
+returns-in-Err-clause-goes g c =
     opens_as g.M.K.Keeper.custody g.M.MakesKeepers.making _ _ _ _ _ _ _
     c.self.view_is
     (unmade g.M.K.Keeper.custody _ _ _ _ _ (rw (← c.self.view_is) at c.requires.absent)
     (g.M.MakesKeepers.told _ _ _ (rw c.in-Err.is at c.make.ensures.why)))
     c.make.ensures.same_finds c.make.ensures.same_refuses
+
+pub returns-in-Ok-clause-cause : goal.returns-in-Ok-clause-cause
+returns-in-Ok-clause-cause g c =
+    rw (← c.self.view_is) (not_joined g.M.K.Keeper.custody (λ left. IsLeftBroken g.M.K.Keeper.custody c.in-Ok.keeper left) _ _ _ _
+    (rw c.in-Ok.is at c.make.ensures.fails) c.outcome.ensures.ok c.outcome.ensures.err c.join.ensures.cause)
+
+pub returns-in-Err-clause-cause : goal.returns-in-Err-clause-cause
+returns-in-Err-clause-cause g c =
+    rw (← c.self.view_is) (not_made (g.M.MakesKeepers.making.refuses _ c.args.number) _
+    (g.M.MakesKeepers.told _ _ _ (rw c.in-Err.is at c.make.ensures.why)))
