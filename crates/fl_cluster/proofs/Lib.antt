@@ -1,3 +1,4 @@
 pub mod Naming
 pub mod Saying
 pub mod Turning
+pub mod Failures

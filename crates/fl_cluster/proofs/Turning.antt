@@ -23,6 +23,7 @@ use Rattle.fl_calls.specs.Over.{ClusterOver, GoesOn}
 use Rattle.fl_calls.specs.declared.response.Response.{Response as Said}
 use Rattle.fl_turns.specs.Answer.{Answer, silence, listed, bad_line, starved_line}
 use Rattle.fl_turns.specs.AnswerText.{text_of}
+use Rattle.fl_turns.specs.Failing.{FailsRead}
 use Rattle.fl_turns.specs.Naming.{renamed}
 use Rattle.fl_turns.specs.Over.{SessionOver, TurnOver, TurnsOver}
 use Rattle.fl_turns.specs.Run.{output_of}
@@ -154,26 +155,34 @@ module _ {K M : Type 0} (custody : Custody K) (making : Making M) where
   pub passes_answer : {before after : Option (List ℕ)} {pending rest : List ℕ} (number : ℕ) (old new : SessionOver K M)
       (line : List ℕ) (r : Response) (status : ℕ) → status ≡ status_said r
       → TurnOver custody making old line (shown new r) new
+      → (status_said r ≡ 3 → FailsRead custody making old.aliases old.cluster new.cluster line)
       → Passes before after pending (text_of number (shown new r)) rest
       → AnswerPasses (TurnsOver custody making) number old line status new before after pending rest
-  passes_answer number old new line r status is turn passed = record {
+  passes_answer number old new line r status is turn cause passed = record {
     text = text_of number (shown new r);
     turn = record {
       answer = shown new r;
       turn = turn;
       output_is = rw (is, ← same_status new r) refl;
+      cause = λ three. cause (sym (same_status new r) ∙ three);
     };
     passed = passed;
   }
 
   -- a front of the answer's text was written
   pub cuts_answer : {before after : Option (List ℕ)} {pending : List ℕ} (number : ℕ) (old new : SessionOver K M)
-      (line : List ℕ) (answer : Answer)
-      → TurnOver custody making old line answer new
-      → Cuts before after pending (text_of number answer)
+      (line : List ℕ) (r : Response)
+      → TurnOver custody making old line (shown new r) new
+      → (status_said r ≡ 3 → FailsRead custody making old.aliases old.cluster new.cluster line)
+      → Cuts before after pending (text_of number (shown new r))
       → AnswerCuts (TurnsOver custody making) number old line new before after pending
-  cuts_answer number old new line answer turn cut = record {
-    output = output_of number answer;
-    turn = record { answer = answer; turn = turn; output_is = refl };
+  cuts_answer number old new line r turn cause cut = record {
+    output = output_of number (shown new r);
+    turn = record {
+      answer = shown new r;
+      turn = turn;
+      output_is = refl;
+      cause = λ three. cause (sym (same_status new r) ∙ three);
+    };
     cut = cut;
   }

@@ -2,8 +2,11 @@
 ghost use Rattle.std.specs.Prelude.{◌≡◌, ◌<◌, All};
 ghost use Rattle.fl_script.specs.Grammar.{nodes_of};
 ghost use Rattle.fl_calls.specs.Answer.{shown};
+ghost use Rattle.fl_calls.specs.Failing.{FailsOnceOpen, SaysFailed};
 ghost use Rattle.fl_calls.specs.Over.{GoesOn};
+ghost use Rattle.fl_turns.specs.Failing.{FailsAsked, FailsSaid};
 ghost use Rattle.fl_turns.specs.Turn.{AsksNode, job_at};
+ghost use Rattle.fl_cluster.specs.Shown.{status_said};
 ghost use Rattle.fl_cluster.specs.parts.Answering.{RespondsTo};
 
 use crate::response::Response;
@@ -41,8 +44,11 @@ fn respond_for<M: MakesKeepers>(
     request: Request,
 ) -> Said
     requires { 0 < node }
-    ensures { GoesOn M.K.custody M.making cluster.old cluster.new
+    ensures goes { GoesOn M.K.custody M.making cluster.old cluster.new
         (λ openings w w'. AsksNode openings w node request (shown cluster.new.world result) w') }
+    ensures cause { SaysFailed result
+        → FailsOnceOpen M.K.custody M.making cluster.old cluster.new node
+        (λ between. FailsAsked M.K.custody between.world cluster.new.world node request) }
 {
     match request {
         Request::Job(job) => cluster.ask(alloc, job_at(node, job)),
@@ -65,8 +71,10 @@ fn respond_for<M: MakesKeepers>(
 #[inline(always)]
 pub fn respond_to<M: MakesKeepers>(alloc: Global, cluster: &mut Cluster<M>, line: Line) -> Response
     requires { All (λ node. 0 < node) (nodes_of line) }
-    ensures { RespondsTo M.K.custody M.making
+    ensures responds { RespondsTo M.K.custody M.making
         cluster.old line result cluster.new }
+    ensures cause { status_said result ≡ 3
+        → FailsSaid M.K.custody M.making cluster.old cluster.new line }
 {
     match line {
         Line::Node { node, request } => {

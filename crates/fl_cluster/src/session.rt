@@ -4,8 +4,9 @@ ghost use Rattle.fl_aliases.specs.Table.{Table, target_of};
 ghost use Rattle.fl_script.specs.Grammar.{nodes_of};
 ghost use Rattle.fl_script.specs.Reading.{IsReading, makes};
 ghost use Rattle.fl_turns.specs.Naming.{IsPlaced, renamed};
+ghost use Rattle.fl_turns.specs.Failing.{FailsRead, FailsSaid};
 ghost use Rattle.fl_turns.specs.Over.{TurnOver, begun_over};
-ghost use Rattle.fl_cluster.specs.Shown.{shown};
+ghost use Rattle.fl_cluster.specs.Shown.{shown, status_said};
 ghost use Rattle.fl_cluster.specs.parts.Answering.{Names, NamesOrStarves};
 
 use crate::answers::write_response;
@@ -100,8 +101,10 @@ impl<M: MakesKeepers> Session<M> {
 
     /// What is answered to the line. Where memory is wanted before anything is asked of the world, nothing changes.
     pub(crate) fn respond(&mut self, alloc: Global, line: &[u8]) -> Response
-        ensures { TurnOver M.K.custody M.making
+        ensures turns { TurnOver M.K.custody M.making
             self.old line.now (shown self.new result) self.new }
+        ensures cause { status_said result ≡ 3 → FailsRead M.K.custody M.making
+            self.old.aliases self.old.cluster self.new.cluster line.now }
     {
         match read_line(alloc, &self.aliases, line) {
             Ok(reading) => self.answer_reading(alloc, reading),
@@ -112,9 +115,12 @@ impl<M: MakesKeepers> Session<M> {
     // Answers what was read of a line.
     fn answer_reading(&mut self, alloc: Global, reading: Reading) -> Response
         requires { (bytes : List ℕ) × IsReading self.old.aliases bytes reading }
-        ensures { (bytes : List ℕ) → IsReading self.old.aliases bytes reading
+        ensures turns { (bytes : List ℕ) → IsReading self.old.aliases bytes reading
             → TurnOver M.K.custody M.making
             self.old bytes (shown self.new result) self.new }
+        ensures cause { (bytes : List ℕ) → IsReading self.old.aliases bytes reading
+            → status_said result ≡ 3 → FailsRead M.K.custody M.making
+            self.old.aliases self.old.cluster self.new.cluster bytes }
     {
         match reading {
             Reading::Quiet => Response::Silence,
@@ -129,8 +135,10 @@ impl<M: MakesKeepers> Session<M> {
     // Answers the line, which has no alias.
     fn answer(&mut self, alloc: Global, line: Line) -> Response
         requires nodes { All (λ node. 0 < node) (nodes_of line) }
-        ensures { Names M.K.custody M.making
+        ensures names { Names M.K.custody M.making
             self.old line None result self.new }
+        ensures cause { status_said result ≡ 3
+            → FailsSaid M.K.custody M.making self.old.cluster self.new.cluster line }
     {
         respond_to(alloc, &mut self.cluster, line)
     }
@@ -141,8 +149,10 @@ impl<M: MakesKeepers> Session<M> {
         requires nodes { All (λ node. 0 < node) (nodes_of line) }
         requires makes { makes line ≡ true }
         requires room { length self.old.aliases < 1024 }
-        ensures { NamesOrStarves M.K.custody M.making
+        ensures names { NamesOrStarves M.K.custody M.making
             self.old line (Some alias) result self.new }
+        ensures cause { status_said result ≡ 3
+            → FailsSaid M.K.custody M.making self.old.cluster self.new.cluster line }
     {
         let Ok(is_new) = self.aliases.place(alias, UNMADE) else {
             let_go(line);

@@ -4,6 +4,7 @@ pub mod Naming
 pub mod Session
 pub mod Turn
 pub mod Run
+pub mod Failing
 pub mod Over
 pub mod Answered
 pub mod Script

@@ -10,7 +10,8 @@ use Rattle.fl_makers.specs.Making.{Making}
 use Rattle.fl_system.specs.declared.answer.Fault.{Fault}
 use Rattle.fl_system.specs.World.{World}
 use Rattle.fl_calls.specs.Over.{ClusterOver, begun_over as begun_cluster, coded_cluster_over, GoesOn}
-use Rattle.fl_turns.specs.Answer.{Answer}
+use Rattle.fl_turns.specs.Answer.{Answer, status_of}
+use Rattle.fl_turns.specs.Failing.{FailsRead}
 use Rattle.fl_turns.specs.Run.{output_of}
 use Rattle.fl_turns.specs.Session.{Session}
 use Rattle.fl_turns.specs.Turn.{Turn}
@@ -44,7 +45,8 @@ TurnOver custody making old line answer new =
     (λ openings w w'. Turn openings (record { world = w; aliases = old.aliases }) line answer
     (record { world = w'; aliases = new.aliases }))
 
--- the line of this number has an answer, with this text and status
+-- The line of this number has an answer, with this text and status. Where it says that a keeper
+-- failed, one did.
 pub record TurnsOver {K M : Type 0} (custody : Custody K)
     (making : Making M) (number : ℕ)
     (old : SessionOver K M) (line : List ℕ) (output : LineOutput) (new : SessionOver K M)
@@ -52,3 +54,5 @@ pub record TurnsOver {K M : Type 0} (custody : Custody K)
   pub answer : Answer
   pub turn : TurnOver custody making old line answer new
   pub output_is : output ≡ output_of number answer
+  pub cause : status_of answer ≡ 3
+      → FailsRead custody making old.aliases old.cluster new.cluster line

@@ -5,9 +5,9 @@ use Rattle.fl_cluster.proofs.session.SessionMachine.answer.Goals as goal
 pub returns-clause-ok : goal.returns-clause-ok
 returns-clause-ok g c =
     passes_answer g.M.K.Keeper.custody g.M.MakesKeepers.making
-    _ _ _ _ _ _ c.status.ensures c.respond-response.ensures c.in_ok-write_response.ensures.puts.is
+    _ _ _ _ _ _ c.status.ensures c.respond-response.ensures.turns c.respond-response.ensures.cause c.in_ok-write_response.ensures.puts.is
 
 pub returns-in_err-write_response-clause-err : goal.returns-in_err-write_response-clause-err
 returns-in_err-write_response-clause-err g c =
     on_err_always _ (cuts_answer g.M.K.Keeper.custody g.M.MakesKeepers.making
-    _ _ _ _ _ c.respond-response.ensures c.in_err-write_response.ensures.puts.is)
+    _ _ _ _ c.respond-response.result c.respond-response.ensures.turns c.respond-response.ensures.cause c.in_err-write_response.ensures.puts.is)
