@@ -156,6 +156,14 @@ impl<S: Alter> SqlKeeper<S> {
         }
     }
 
+    /// Whose it is, how many faults there were since the opening, and whether it is broken: in one
+    /// call, since each call is dear to prove where the store is known.
+    pub fn standing(&self) -> (NodeNumber, u64, bool)
+        ensures { result ≡ (self.now.number, self.now.failures, self.now.is_broken) }
+    {
+        (self.number, self.failures, self.is_broken)
+    }
+
     /// Whether it is broken.
     pub fn is_broken(&self) -> bool
         ensures { result ≡ self.now.is_broken }
