@@ -4,7 +4,8 @@ ghost use Rattle.sqlite.specs.State.{HasCleanDisk};
 ghost use Rattle.sqlite.specs.Files.{file_state};
 ghost use Rattle.fl_store.specs.Keeping.{Stays};
 ghost use Rattle.fl_sql_store.specs.SqlKeeping.{held_in};
-ghost use Rattle.fl_file_store.specs.FileKeeping.{number_of, is_broken_of, IsHonest, MayHold};
+ghost use Rattle.fl_file_store.specs.FileKeeping.{number_of, failed_of, is_broken_of};
+ghost use Rattle.fl_file_store.specs.FileKeeping.{IsHonest, MayHold};
 ghost use Rattle.fl_file_store.specs.FileKeeping.{file_custody, file_holds, file_numbered};
 ghost use Rattle.fl_file_store.specs.FileKeeping.{Reopens, Mends};
 
@@ -43,14 +44,15 @@ impl<D: Disk + Drop> Drop for FileKeeper<D> {
 fn reopened<D: Disk + Drop>(
     alloc: Global,
     broken: SqlKeeper<FileStore<D>>,
+    number: NodeNumber,
     options: Options,
 ) -> (FileKeeper<D>, Result<(), Unmended>)
+    requires { number ≡ broken.number }
     ensures reopens { Reopens broken result.0 result.1 }
     ensures honest { IsHonest result.0 → HasCleanDisk (file_state broken.conn) }
     ensures held { IsHonest result.0
         → Stays (held_in broken.number (file_state broken.conn)) (MayHold result.0) }
 {
-    let number = broken.number();
     match opened_again(alloc, broken.into_connection(), options) {
         Ok(conn) => {
             let (keeper, outcome) = SqlKeeper::open_or_broken(alloc, conn, number);
@@ -64,14 +66,21 @@ fn reopened<D: Disk + Drop>(
 }
 
 impl<D: Disk> FileKeeper<D> {
+    // Whose it is, how many faults there were, and whether it is broken.
+    fn standing(&self) -> (NodeNumber, u64, bool)
+        ensures { result ≡ (number_of self.now, failed_of self.now, is_broken_of self.now) }
+    {
+        match self {
+            FileKeeper::Open(keeper) => keeper.standing(),
+            FileKeeper::Lost(number) => (*number, 1, true),
+        }
+    }
+
     /// Whether it is broken.
     pub fn is_broken(&self) -> bool
         ensures { result ≡ is_broken_of self.now }
     {
-        match self {
-            FileKeeper::Open(keeper) => keeper.is_broken(),
-            FileKeeper::Lost(_) => true,
-        }
+        self.standing().2
     }
 }
 
@@ -82,8 +91,9 @@ impl<D: Disk + Drop> FileKeeper<D> {
         ensures honest { IsHonest result.0 → IsHonest self }
         ensures held { IsHonest result.0 → Stays (MayHold self) (MayHold result.0) }
     {
+        let number = self.number();
         match self {
-            FileKeeper::Open(broken) => reopened(alloc, broken, options),
+            FileKeeper::Open(broken) => reopened(alloc, broken, number, options),
             FileKeeper::Lost(number) => (FileKeeper::Lost(number), Err(Unmended::GivenUp)),
         }
     }
@@ -121,17 +131,11 @@ impl<D: Disk> Keeper for FileKeeper<D> {
     ghost numbered = { file_numbered };
 
     fn number(&self) -> NodeNumber {
-        match self {
-            FileKeeper::Open(keeper) => keeper.number(),
-            FileKeeper::Lost(number) => *number,
-        }
+        self.standing().0
     }
 
     fn failures(&self) -> u64 {
-        match self {
-            FileKeeper::Open(keeper) => keeper.failures(),
-            FileKeeper::Lost(_) => 1,
-        }
+        self.standing().1
     }
 
     fn load(&mut self, alloc: Global) -> Result<OpSet, KeeperFault> {

@@ -3,7 +3,7 @@ use fl_store::keeper::KeeperFault;
 use sqlite::Error;
 
 /// Why a keeper over files was not opened again.
-#[derive(Clone, Copy, Debug, PartialEq, Eq)]
+#[derive(Clone, Copy)]
 pub enum Unmended {
     /// A sync of its files failed, so nothing may be asked of them any more. They are given up.
     Unusable,
