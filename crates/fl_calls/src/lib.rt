@@ -5,4 +5,5 @@
 mod asking;
 pub mod cluster;
 mod completing;
+pub mod laws;
 pub mod response;

@@ -80,7 +80,12 @@ fn lagging_view_in_a_world(rt: HostRuntime) -> Result<(), Fail> {
     ] {
         happens(&mut world, alloc, asked(1, desk, upto), wanted)?;
     }
-    happens(&mut world, alloc, Event::Restart(1, false), &Reply::Booted(2))?;
+    happens(
+        &mut world,
+        alloc,
+        Event::Restart(1, false),
+        &Reply::Booted(2),
+    )?;
     happens(&mut world, alloc, asked(1, 2, 0), &yes)
 }
 

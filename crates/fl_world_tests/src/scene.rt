@@ -35,8 +35,7 @@ pub fn happens<K: Keeper>(
     alloc: Global,
     event: Event,
     wanted: &Reply,
-) -> Result<(), Fail>
-{
+) -> Result<(), Fail> {
     if world.step(alloc, event) == *wanted {
         Ok(())
     } else {
