@@ -25,7 +25,8 @@ fn is_alias(bytes: &[u8]) -> bool
         && bytes.iter().all(|byte| is_letter(*byte))
 }
 
-/// What a line calls something by: 1 to 32 letters, written behind a `$`. Contracts see the letters.
+/// What a line calls something by: 1 to 32 letters, written behind a `$`. Contracts see the
+/// letters.
 #[derive(Clone, Copy)]
 pub struct Alias {
     // Zeros from `len` on, so that equal aliases are equal values.

@@ -52,9 +52,10 @@ fn push_target(buffer: &mut String, target: Target) -> Result<(), AllocError>
     write!(buffer, "{target}").map_err(|_| AllocError)
 }
 
-/// Writes into the buffer, behind what it holds, the line with each alias in it replaced by the text of what it stands for, and
-/// answers whether this could be done: not where a `$` has no 1 to 32 letters behind it, or these are an alias that is not set.
-/// What was replaced is not looked at again. One look at each byte.
+/// Writes into the buffer, behind what it holds, the line with each alias in it replaced by the
+/// text of what it stands for, and answers whether this could be done: not where a `$` has no 1 to
+/// 32 letters behind it, or these are an alias that is not set. What was replaced is not looked at
+/// again. One look at each byte.
 ///
 /// An error is want of memory for the buffer. After an error or `false` the buffer holds any text.
 pub fn expand(aliases: &Aliases, line: &str, buffer: &mut String) -> Result<bool, AllocError>

@@ -37,8 +37,9 @@ pub fn law_comment()
         Expands table line out → (slice_get line 0 ≡ Some 35) ↔ (slice_get out 0 ≡ Some 35) }
 {}
 
-/// Where an alias that was not set is placed last, it stands for what it was placed with, and the others for what they did. Set
-/// then, it is as if it had been placed so; and where the last one is taken back, the table is as it was before.
+/// Where an alias that was not set is placed last, it stands for what it was placed with, and the
+/// others for what they did. Set then, it is as if it had been placed so; and where the last one is
+/// taken back, the table is as it was before.
 pub fn law_place()
     ensures found { (table : Table) (letters : List ℕ) (target : Target) →
         target_of table letters ≡ None → target_of (table ++ (letters, target) ∷ []) letters ≡ Some target }
@@ -51,8 +52,8 @@ pub fn law_place()
         before ++ placed ∷ [] ≡ after ++ last ∷ [] → after ≡ before }
 {}
 
-/// Where an alias that is set is set again, it stands for the new target, the others stand for what they did, and all keep their
-/// places.
+/// Where an alias that is set is set again, it stands for the new target, the others stand for what
+/// they did, and all keep their places.
 pub fn law_set()
     ensures found { (table : Table) (letters : List ℕ) (target : Target) →
         IsSome (target_of table letters) → target_of (retargeted table letters target) letters ≡ Some target }

@@ -1,4 +1,5 @@
-//! The aliases of a script: what its lines name, and how these names are replaced in the lines after.
+//! The aliases of a script: what its lines name, and how these names are replaced in the lines
+//! after.
 #![tactic(auto)]
 
 pub mod alias;

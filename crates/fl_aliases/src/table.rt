@@ -16,7 +16,8 @@ use std::marker::Model;
 /// The most aliases that are set.
 pub const MOST_ALIASES: usize = 1024;
 
-/// What the aliases of a script stand for, in the order of their first setting. At most [`MOST_ALIASES`] are set.
+/// What the aliases of a script stand for, in the order of their first setting. At most
+/// [`MOST_ALIASES`] are set.
 #[derive(Drop)]
 pub struct Aliases {
     targets: IndexMap<Alias, Target>,
@@ -71,8 +72,8 @@ impl Aliases {
         self.targets.get(alias).copied()
     }
 
-    /// Sets an alias that is not set, as the last one, and answers whether it did: one that is set is left.
-    /// An error leaves all.
+    /// Sets an alias that is not set, as the last one, and answers whether it did: one that is set
+    /// is left. An error leaves all.
     pub fn place(&mut self, alias: Alias, target: Target) -> Result<bool, AllocError>
         requires room { target_of self.old alias ≡ None → length self.old < 1024 }
         ensures new { let found = target_of self.old alias in
@@ -105,9 +106,11 @@ impl Aliases {
         self.targets.pop();
     }
 
-    /// Puts the text of the aliases into a sink, a line for each in order: `$a p1.1.1`. Takes no memory but the sink's.
+    /// Puts the text of the aliases into a sink, a line for each in order: `$a p1.1.1`. Takes no
+    /// memory but the sink's.
     ///
-    /// At a fault a front of what waited and the text was written, and the sink may not be used again.
+    /// At a fault a front of what waited and the text was written, and the sink may not be used
+    /// again.
     pub fn write_text<W: Writer>(&self, sink: &mut Sink, output: &mut W) -> Result<(), WriteFault>
         ensures puts { let text = table_text self.now in
             Puts (W.contents output.old) (W.contents output.new) sink.old text sink.new result }

@@ -1,5 +1,5 @@
-//! Replies and refusals, a line each. Writing takes no memory but the sink's, and does without.
-//! At a fault a front of what waited and of the line was written, and the sink may not be used again.
+//! Replies and refusals, a line each. Writing takes no memory but the sink's, and does without. At
+//! a fault a front of what waited and of the line was written, and the sink may not be used again.
 ghost use Rattle.std.specs.Prelude.{◌≡◌, ◌++◌, ◌∷◌, [], codes, OnErr};
 ghost use Rattle.std.specs.Fmt.{decimal};
 ghost use Rattle.std.specs.List.{flat_map};
@@ -20,8 +20,9 @@ use fl_sink::writer::Writer;
 use hex::encode_to_slice;
 use itoa::Buffer;
 
-/// Puts the line of a reply into the sink: `p1.1.1`, `ok`, `yes`, `not-yet`, `ok -1.1`, `out 6869`, `ok e1`, `message p1.1.1 {*1.4} 6869`,
-/// `empty`, `arrived p1.1.1`. Looks at each byte of a payload once.
+/// Puts the line of a reply into the sink: `p1.1.1`, `ok`, `yes`, `not-yet`, `ok -1.1`, `out 6869`,
+/// `ok e1`, `message p1.1.1 {*1.4} 6869`, `empty`, `arrived p1.1.1`. Looks at each byte of a
+/// payload once.
 pub fn write_reply<W: Writer>(
     reply: &Reply,
     sink: &mut Sink,

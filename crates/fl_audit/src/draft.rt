@@ -39,7 +39,8 @@ pub enum Draft {
     Always(Admission),
     /// This, where the answer is yes.
     IfYes(Admission),
-    /// That this process entered the login of this name by this secret, where the answer is the login's capability.
+    /// That this process entered the login of this name by this secret, where the answer is the
+    /// login's capability.
     IfEntered(Party, Name, Secret),
 }
 
@@ -88,8 +89,8 @@ fn notes_act(process: &Process, act: &Act) -> bool
     }
 }
 
-/// Whether the job, which this process asks for, or none that is there, may be noted, with what the process owns. Takes no memory;
-/// looks at no more than one endpoint.
+/// Whether the job, which this process asks for, or none that is there, may be noted, with what the
+/// process owns. Takes no memory; looks at no more than one endpoint.
 pub fn names_asker(asker: Option<&Process>, job: &Job) -> bool
     ensures noted { result ≡ asker_noted (option_copied asker.entry) job.now }
     ensures may_be { result ≡ true → (number boot : ℕ) (n : NodeState) →
@@ -234,10 +235,11 @@ fn draft_act(
 }
 
 impl Draft {
-    /// What is noted of the job if it is admitted at a node of this number and boot: the job is asked for by this process, or by
-    /// none that is there, which owns this, where that is noted. Nothing is copied where nothing would be noted, and memory is
-    /// wanted only where something may be: then at most the labels of the process, and the label or the capabilities that the job
-    /// names.
+    /// What is noted of the job if it is admitted at a node of this number and boot: the job is
+    /// asked for by this process, or by none that is there, which owns this, where that is noted.
+    /// Nothing is copied where nothing would be noted, and memory is wanted only where something
+    /// may be: then at most the labels of the process, and the label or the capabilities that the
+    /// job names.
     pub fn new(
         alloc: Global,
         number: NodeNumber,

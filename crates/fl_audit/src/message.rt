@@ -12,8 +12,9 @@ use fl_labels::pid::Pid;
 use fl_system::admission::{Admission, Party};
 use std::alloc::{AllocError, Global};
 
-/// What is noted where a message of this sender arrives at the process that stands as this pid, if there is one, which owns this.
-/// Fails only where there is not enough memory, and there is the process. Copies the labels of both.
+/// What is noted where a message of this sender arrives at the process that stands as this pid, if
+/// there is one, which owns this. Fails only where there is not enough memory, and there is the
+/// process. Copies the labels of both.
 pub fn arrival(
     alloc: Global,
     sender: &Party,

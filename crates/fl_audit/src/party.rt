@@ -14,8 +14,8 @@ use fl_labels::pid::Pid;
 use fl_system::admission::Party;
 use std::alloc::{AllocError, Global};
 
-/// The process, which stands as this pid, with its labels and what it owns now. Fails only where there is not enough memory. Copies
-/// the labels.
+/// The process, which stands as this pid, with its labels and what it owns now. Fails only where
+/// there is not enough memory. Copies the labels.
 pub fn party(
     alloc: Global,
     pid: Pid,
@@ -63,8 +63,9 @@ pub fn copy_party(alloc: Global, party: &Party) -> Result<Party, AllocError>
     })
 }
 
-/// Who sends a message by the job, if one is sent by it, as it is now: the job is asked for by this process, or by none that is
-/// there, which owns this, where that is noted. Wants memory only where a message is sent. Copies the labels.
+/// Who sends a message by the job, if one is sent by it, as it is now: the job is asked for by this
+/// process, or by none that is there, which owns this, where that is noted. Wants memory only where
+/// a message is sent. Copies the labels.
 pub fn sender(
     alloc: Global,
     asker: Option<&Process>,

@@ -11,8 +11,8 @@ use fl_labels::roomy::RoomyCapSet;
 use std::alloc::{AllocError, Global};
 use std::marker::Model;
 
-/// What a process owns: a set of capabilities. Whoever notes it shares it, and a copy is made only where it has
-/// changed since it was shared last.
+/// What a process owns: a set of capabilities. Whoever notes it shares it, and a copy is made only
+/// where it has changed since it was shared last.
 #[derive(Drop)]
 pub struct Owned {
     caps: CapSet,
@@ -90,8 +90,8 @@ impl Owned {
         &self.caps
     }
 
-    /// The capabilities, for one more holder. Fails only where there is not enough memory. Copies them where they have
-    /// changed since this was asked last, and nothing else.
+    /// The capabilities, for one more holder. Fails only where there is not enough memory. Copies
+    /// them where they have changed since this was asked last, and nothing else.
     pub fn share(&mut self, alloc: Global) -> Result<SharedCaps, AllocError>
         ensures shared { IfOk result (λ made. made ≡ self.old) }
         ensures same { self.new ≡ self.old }
@@ -146,7 +146,8 @@ impl Owned {
         result
     }
 
-    /// The same set with room for two more. An error says that there was not enough memory, and gives the set back.
+    /// The same set with room for two more. An error says that there was not enough memory, and
+    /// gives the set back.
     pub fn with_room(self) -> Result<RoomyOwned, Owned>
         ensures ok { IfOk result (λ roomy. roomy ≡ self) }
         ensures err { IfErr result (λ owned. owned ≡ self) }

@@ -24,7 +24,8 @@ pub enum Holding {
     Ordering(RoomyOwned),
 }
 
-/// A process: its labels, the capabilities that it owns, its open endpoints, and the messages that wait for it.
+/// A process: its labels, the capabilities that it owns, its open endpoints, and the messages that
+/// wait for it.
 pub struct Process {
     pub labels: Labels,
     pub owned: Holding,
@@ -49,7 +50,8 @@ impl Holding {
         replace(self, Holding::Idle(Owned::new(CapSet::new(alloc))))
     }
 
-    // With an operation under way, or as before where none was and there is no room for what it may give.
+    // With an operation under way, or as before where none was and there is no room for what it may
+    // give.
     fn begun(self) -> (Self, Result<(), AllocError>)
         ensures ok { OnOk result.1 (result.0 ≡ Ordering (held self)) }
         ensures err { OnErr result.1 (result.0 ≡ self) }
@@ -64,8 +66,8 @@ impl Holding {
         }
     }
 
-    /// With an operation under way. An error says that none was and that there is no room for what it may give, and
-    /// leaves them.
+    /// With an operation under way. An error says that none was and that there is no room for what
+    /// it may give, and leaves them.
     pub fn begin(&mut self, alloc: Global) -> Result<(), AllocError>
         ensures ok { OnOk result (self.new ≡ Ordering (held self.old)) }
         ensures err { OnErr result (self.new ≡ self.old) }
@@ -120,8 +122,8 @@ impl Process {
         }
     }
 
-    /// What the process owns, for whoever notes it. Fails only where there is not enough memory. Copies it where it has
-    /// changed since this was asked last, and nothing else.
+    /// What the process owns, for whoever notes it. Fails only where there is not enough memory.
+    /// Copies it where it has changed since this was asked last, and nothing else.
     pub fn share(&mut self, alloc: Global) -> Result<SharedCaps, AllocError>
         ensures shared { IfOk result (λ made. made ≡ owns self.old) }
         ensures same { self.new ≡ self.old }

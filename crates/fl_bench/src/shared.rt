@@ -59,7 +59,8 @@ impl SharedCaps {
         })
     }
 
-    /// The same set for one more holder, without a copy of it. Fails only where there are too many holders.
+    /// The same set for one more holder, without a copy of it. Fails only where there are too many
+    /// holders.
     pub fn copy(&self) -> Result<Self, AllocError>
         ensures { IfOk result (λ made. made ≡ self.now) }
     {

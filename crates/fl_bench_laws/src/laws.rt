@@ -165,8 +165,9 @@ pub fn law_taken_back()
         Does (Listed ops) b job (Err refusal) after → after ≡ b }
 {}
 
-/// A job is refused for want of memory only where all of its checks pass and it needs room: a birth, an order, an entry
-/// for what is not owned yet, an endpoint that is opened, and a message that goes or comes.
+/// A job is refused for want of memory only where all of its checks pass and it needs room: a
+/// birth, an order, an entry for what is not owned yet, an endpoint that is opened, and a message
+/// that goes or comes.
 pub fn law_memory()
     ensures { (ops : List Op) (b after : BenchState) (job : Job) →
         Does (Listed ops) b job (Err Memory) after → TakesMemory (Listed ops) b job }

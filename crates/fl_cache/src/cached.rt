@@ -101,7 +101,8 @@ impl CachedIndex {
         self.index.absorb_all(alloc, ops)
     }
 
-    /// Whether the owner of the one capability reaches the other, as [`YesCache::ask`] answers. Never fails.
+    /// Whether the owner of the one capability reaches the other, as [`YesCache::ask`] answers.
+    /// Never fails.
     pub fn reaches(&mut self, root: Cap, cap: Cap) -> bool
         ensures answer { Tells result (Reach (In self.old) (From root) cap) }
         ensures same { self.new ≡ self.old }

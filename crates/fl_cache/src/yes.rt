@@ -21,8 +21,9 @@ struct Question {
     cap: Cap,
 }
 
-/// Questions that had the answer yes, which they keep as long as operations are only added: the most recent ones, so many
-/// at most. Contracts see the operations of the index that was asked last.
+/// Questions that had the answer yes, which they keep as long as operations are only added: the
+/// most recent ones, so many at most. Contracts see the operations of the index that was asked
+/// last.
 #[derive(Drop)]
 pub struct YesCache {
     // None where there was no memory for it.
@@ -62,8 +63,8 @@ fn answer(yes: &mut LruCache<Question, ()>, index: &Index, question: Question) -
 }
 
 impl YesCache {
-    /// A cache of nothing, for so many questions. Takes memory as questions are kept; where there is none, none
-    /// are kept.
+    /// A cache of nothing, for so many questions. Takes memory as questions are kept; where there
+    /// is none, none are kept.
     pub fn new(alloc: Global, capacity: usize) -> Self
         requires least { 1 ≤ capacity }
         requires most { capacity ≤ 65536 }
@@ -78,9 +79,10 @@ impl YesCache {
         }
     }
 
-    /// Whether the owner of the one capability reaches the other, by what the index has, which is to have what it had
-    /// when the cache was asked before. A look into the cache, and where it does not have the question, what
-    /// [`Index::reaches`] costs. Never fails: where there is no memory to keep a yes, it is answered all the same.
+    /// Whether the owner of the one capability reaches the other, by what the index has, which is
+    /// to have what it had when the cache was asked before. A look into the cache, and where it
+    /// does not have the question, what [`Index::reaches`] costs. Never fails: where there is no
+    /// memory to keep a yes, it is answered all the same.
     pub fn ask(&mut self, index: &Index, root: Cap, cap: Cap) -> bool
         requires { Within (In self.old) (In index.now) }
         ensures answer { Tells result (Reach (In index.now) (From root) cap) }

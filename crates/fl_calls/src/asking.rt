@@ -35,7 +35,8 @@ fn starved() -> Response
     refused(Fault::Refused(Refusal::Memory))
 }
 
-/// Has the text of the node of this number be written, where it is there. `Stopped` of a stopped one.
+/// Has the text of the node of this number be written, where it is there. `Stopped` of a stopped
+/// one.
 pub fn tell<K: Keeper>(world: &World<K>, number: NodeNumber) -> Response
     ensures tells { (w : AnyWorld) (s : KeptNode) → MayBe K.custody world.now w → IsAt w number s
         → Tells w number (shown world.now result) w }
@@ -72,8 +73,8 @@ fn united(alloc: Global, first: &OpSet, second: &OpSet) -> Result<OpSet, AllocEr
     Ok(all)
 }
 
-/// Copies what both nodes have published into one set, where they are there. `Stopped` where one is stopped, and `Memory` only
-/// where there are operations.
+/// Copies what both nodes have published into one set, where they are there. `Stopped` where one is
+/// stopped, and `Memory` only where there are operations.
 pub fn unite<K: Keeper>(
     alloc: Global,
     world: &World<K>,
@@ -112,8 +113,8 @@ fn counted(packet: &Packet, count: u64) -> Check
     }
 }
 
-/// What a packet of these bytes would bring to the node of this number, where it is there: `BadPacket` where the bytes are none, and
-/// else as `Node::check` has it.
+/// What a packet of these bytes would bring to the node of this number, where it is there:
+/// `BadPacket` where the bytes are none, and else as `Node::check` has it.
 pub fn check<K: Keeper>(
     alloc: Global,
     world: &World<K>,

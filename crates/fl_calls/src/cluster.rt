@@ -95,10 +95,11 @@ fn said(is_message: bool, reply: Reply) -> Response
     Response::Reply(reply)
 }
 
-/// A world whose nodes are opened by the first line that names them, over keepers that are made then.
+/// A world whose nodes are opened by the first line that names them, over keepers that are made
+/// then.
 ///
-/// A contract of a call says what it does to the world: where the keepers are honest, each world that it may be now comes so from
-/// one that it might have been before.
+/// A contract of a call says what it does to the world: where the keepers are honest, each world
+/// that it may be now comes so from one that it might have been before.
 pub struct Cluster<M: MakesKeepers> {
     world: World<M::K>,
     maker: M,
@@ -170,9 +171,10 @@ impl<M: MakesKeepers> Cluster<M> {
         }
     }
 
-    /// Has the event happen at its node, which is opened where it is not there, and saves and publishes what it begins. Gives what
-    /// the last of it is answered, or why the node was not opened, with which nothing has changed. Where saving wants memory what
-    /// was begun is given up, and where publishing does it stays due: `Memory`.
+    /// Has the event happen at its node, which is opened where it is not there, and saves and
+    /// publishes what it begins. Gives what the last of it is answered, or why the node was not
+    /// opened, with which nothing has changed. Where saving wants memory what was begun is given
+    /// up, and where publishing does it stays due: `Memory`.
     #[inline(always)]
     pub fn ask(&mut self, alloc: Global, event: Event) -> Response
         requires { 0 < node_of event }
@@ -188,8 +190,8 @@ impl<M: MakesKeepers> Cluster<M> {
         }
     }
 
-    /// Has the event happen at its node, which is opened where it is not there. What it begins is to be saved and published by
-    /// further events.
+    /// Has the event happen at its node, which is opened where it is not there. What it begins is
+    /// to be saved and published by further events.
     pub fn begin(&mut self, alloc: Global, event: Event) -> Response
         requires { 0 < node_of event }
         ensures goes { GoesOn M.K.custody M.making self.old self.new
@@ -212,9 +214,9 @@ impl<M: MakesKeepers> Cluster<M> {
         packet_at(self.world.packets(), number)
     }
 
-    /// Has the packet of this number, counted from 1, come to the node, which is opened where it is not there, and saves and
-    /// publishes what it brings. A message that does not arrive is `Dropped`. `Unknown` where fewer were sent, and then no node is
-    /// opened.
+    /// Has the packet of this number, counted from 1, come to the node, which is opened where it is
+    /// not there, and saves and publishes what it brings. A message that does not arrive is
+    /// `Dropped`. `Unknown` where fewer were sent, and then no node is opened.
     pub fn deliver(&mut self, alloc: Global, number: NodeNumber, packet: u32) -> Response
         requires { 0 < number }
         ensures goes { GoesOn M.K.custody M.making self.old self.new
@@ -237,9 +239,9 @@ impl<M: MakesKeepers> Cluster<M> {
         }
     }
 
-    /// Has the packet of this number, counted from 1, come to the node, which is opened where it is not there. What it brings is to
-    /// be saved and published by further events. `Unknown` where fewer were sent, or where it is not one of operations, and then
-    /// no node is opened.
+    /// Has the packet of this number, counted from 1, come to the node, which is opened where it is
+    /// not there. What it brings is to be saved and published by further events. `Unknown` where
+    /// fewer were sent, or where it is not one of operations, and then no node is opened.
     pub fn begin_to_take(&mut self, alloc: Global, number: NodeNumber, packet: u32) -> Response
         requires { 0 < number }
         ensures goes { GoesOn M.K.custody M.making self.old self.new
@@ -260,7 +262,8 @@ impl<M: MakesKeepers> Cluster<M> {
         }
     }
 
-    /// Has the text of the node be written, which is opened where it is not there. `Stopped` of a stopped one.
+    /// Has the text of the node be written, which is opened where it is not there. `Stopped` of a
+    /// stopped one.
     pub fn text(&mut self, alloc: Global, number: NodeNumber) -> Response
         requires { 0 < number }
         ensures goes { GoesOn M.K.custody M.making self.old self.new
@@ -275,8 +278,8 @@ impl<M: MakesKeepers> Cluster<M> {
         }
     }
 
-    /// What both nodes have published, copied into one set. The first is opened and then the second, where they are not there.
-    /// `Stopped` where one is stopped.
+    /// What both nodes have published, copied into one set. The first is opened and then the
+    /// second, where they are not there. `Stopped` where one is stopped.
     pub fn union(&mut self, alloc: Global, first: NodeNumber, second: NodeNumber) -> Response
         requires first { 0 < first }
         requires second { 0 < second }
@@ -295,8 +298,8 @@ impl<M: MakesKeepers> Cluster<M> {
         }
     }
 
-    /// What a packet of these bytes would bring to the node, which is opened where it is not there: `BadPacket` where they are
-    /// none, and else as `Node::check` has it.
+    /// What a packet of these bytes would bring to the node, which is opened where it is not there:
+    /// `BadPacket` where they are none, and else as `Node::check` has it.
     pub fn check(&mut self, alloc: Global, number: NodeNumber, bytes: &[u8]) -> Response
         requires { 0 < number }
         ensures goes { GoesOn M.K.custody M.making self.old self.new
@@ -320,7 +323,8 @@ impl<M: MakesKeepers> Cluster<M> {
         Response::Admitted(self.world.audit().len() as u64)
     }
 
-    /// Puts the lines of what the node has published into the sink, and nothing where it is stopped or not there.
+    /// Puts the lines of what the node has published into the sink, and nothing where it is stopped
+    /// or not there.
     pub fn write_text<W: Writer>(
         &self,
         number: NodeNumber,

@@ -49,7 +49,8 @@ fn is_starved(reply: &Reply) -> bool
     matches!(reply, Reply::Refused(Fault::Refused(Refusal::Memory)))
 }
 
-// Saves what is to be saved at the node, and publishes it. Where saving wants memory, it is given up.
+// Saves what is to be saved at the node, and publishes it. Where saving wants memory, it is given
+// up.
 fn finish<K: Keeper>(alloc: Global, world: &mut World<K>, number: NodeNumber) -> Reply
     ensures goes { Goes K.custody world.old world.new (λ w w'. Finishes w number result w') }
     ensures cause { result ≡ Reply.Refused Fault.KeeperFailed
@@ -65,7 +66,8 @@ fn finish<K: Keeper>(alloc: Global, world: &mut World<K>, number: NodeNumber) ->
     reply
 }
 
-/// Has the event happen, and saves and publishes what it begins. Gives what the last of it is answered.
+/// Has the event happen, and saves and publishes what it begins. Gives what the last of it is
+/// answered.
 #[inline(always)]
 pub fn complete<K: Keeper>(alloc: Global, world: &mut World<K>, event: Event) -> Reply
     ensures goes { Goes K.custody world.old world.new (λ w w'. Completes w event result w') }

@@ -1,5 +1,5 @@
-//! What the lines of a script ask of a world: nodes are opened by the first line that names them, and what a line begins is saved
-//! and published before it is answered, or left pending.
+//! What the lines of a script ask of a world: nodes are opened by the first line that names them,
+//! and what a line begins is saved and published before it is answered, or left pending.
 #![tactic(auto)]
 
 mod asking;

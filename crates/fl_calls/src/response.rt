@@ -32,7 +32,8 @@ pub enum Response {
     BadPacket(u64),
     /// So much was admitted.
     Admitted(u64),
-    /// The line names a packet that was not sent, or one of which it cannot speak. Nothing has changed.
+    /// The line names a packet that was not sent, or one of which it cannot speak. Nothing has
+    /// changed.
     Unknown,
 }
 

@@ -190,8 +190,8 @@ impl Index {
     /// Whether the owner of these capabilities has this one in effect: reaches it from what it
     /// owns, or from what everybody has. Takes no memory.
     ///
-    /// A binary search in what is owned, and a search by hash in what everybody reaches. Where it is
-    /// in neither, then two searches by order for each use of a group that is owned.
+    /// A binary search in what is owned, and a search by hash in what everybody reaches. Where it
+    /// is in neither, then two searches by order for each use of a group that is owned.
     pub fn effective(&self, owned: &CapSet, cap: Cap) -> bool
         ensures { Tells result (InEffect (In self.now) (In owned.now) cap) }
     {

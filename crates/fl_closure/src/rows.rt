@@ -149,8 +149,8 @@ impl Rows {
     }
 
     /// Those of these capabilities that the owner's row lacks. One walk along both, or where these
-    /// are far fewer a search by order for each; for everybody a search by hash for each. Fails only
-    /// where there is not enough memory.
+    /// are far fewer a search by order for each; for everybody a search by hash for each. Fails
+    /// only where there is not enough memory.
     pub fn lacking(&self, owner: Owner, caps: &BTreeSet<Cap>) -> Result<Vec<Cap>, AllocError>
         ensures { IfOk result (λ lacking. (c : Cap) →
             Contains lacking.items c ↔ (Contains caps.now.keys c × ¬ Holds self.now owner c)) }

@@ -35,7 +35,8 @@ fn job_at(node: NodeNumber, job: Job) -> Event
     }
 }
 
-// What is asked of the node is answered. Inlined, as its caller is, so that no job is copied on its way down.
+// What is asked of the node is answered. Inlined, as its caller is, so that no job is copied on its
+// way down.
 #[inline(always)]
 fn respond_for<M: MakesKeepers>(
     alloc: Global,

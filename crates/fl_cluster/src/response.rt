@@ -57,7 +57,8 @@ impl Response {
         Response::Said(Said::Reply(Reply::Refused(fault)))
     }
 
-    /// The status of its line: 1 where it is none of the script, 3 where a keeper failed, and else 0.
+    /// The status of its line: 1 where it is none of the script, 3 where a keeper failed, and else
+    /// 0.
     pub fn status(&self) -> u8
         ensures { result ≡ status_said self.now }
     {
@@ -70,7 +71,8 @@ impl Response {
         }
     }
 
-    /// The process, the endpoint or the operation that the line made, for which its alias is to stand.
+    /// The process, the endpoint or the operation that the line made, for which its alias is to
+    /// stand.
     pub fn made(&self) -> Option<Target>
         ensures { result ≡ made_said self.now }
     {

@@ -17,17 +17,20 @@ use std::io::{Read, Write};
 
 /// Hears a script of at most 16,777,216 bytes, and says the answers to its lines.
 ///
-/// More is heard only where what was said is exactly the answers to all lines that have ended: [`Conversation::hear`]
-/// requires it. To hear no bytes is the end of the script. The status is 3 where some line was answered that a keeper failed,
-/// else 1 where some line was none of the script, and else 0. A node is opened by the first line that names it, over the keeper that
-/// is made for it then.
+/// More is heard only where what was said is exactly the answers to all lines that have ended:
+/// [`Conversation::hear`] requires it. To hear no bytes is the end of the script. The status is 3
+/// where some line was answered that a keeper failed, else 1 where some line was none of the
+/// script, and else 0. A node is opened by the first line that names it, over the keeper that is
+/// made for it then.
 ///
-/// At a fault a front of the answers to the first lines is written: `Read` only where hearing fails or the script is
-/// longer; `Write` where a write fails or takes no bytes, or sending fails; `Memory` where there is no room for the 64 KiB
-/// that are heard at once, or for a line that has not ended. Want of memory in a line's own work is that line's answer.
+/// At a fault a front of the answers to the first lines is written: `Read` only where hearing fails
+/// or the script is longer; `Write` where a write fails or takes no bytes, or sending fails;
+/// `Memory` where there is no room for the 64 KiB that are heard at once, or for a line that has
+/// not ended. Want of memory in a line's own work is that line's answer.
 ///
-/// The session is given back as the lines that were begun left it, at a fault too. Where its keepers are honest, the text is
-/// that of one run of the definitions (`one_run`), and at a fault a front of one's (`first_run`).
+/// The session is given back as the lines that were begun left it, at a fault too. Where its
+/// keepers are honest, the text is that of one run of the definitions (`one_run`), and at a fault a
+/// front of one's (`first_run`).
 pub fn converse<RT: AllocGlobal, C: Conversation<W>, W: Writer, M: MakesKeepers + Drop>(
     rt: &RT,
     input: &mut C,
@@ -71,17 +74,21 @@ pub fn converse<RT: AllocGlobal, C: Conversation<W>, W: Writer, M: MakesKeepers 
     fl_stream::run::converse(alloc, Session::new(alloc, keepers), input, output)
 }
 
-/// Reads a script of at most 16,777,216 bytes, by at most 16,777,217 reads, and writes the answers to its lines.
+/// Reads a script of at most 16,777,216 bytes, by at most 16,777,217 reads, and writes the answers
+/// to its lines.
 ///
-/// It is [`converse`] with a reader and a writer: before each read but the first, all lines that have ended are answered,
-/// and the answers are written and flushed. A read of no bytes is the end of the script.
+/// It is [`converse`] with a reader and a writer: before each read but the first, all lines that
+/// have ended are answered, and the answers are written and flushed. A read of no bytes is the end
+/// of the script.
 ///
-/// At a fault a front of the answers to the first lines is written: `Read` where a read fails or the script is longer;
-/// `Write` where a write fails or takes no bytes, or a flush fails; `Memory` where there is no room for the 64 KiB that a
-/// read fills, or for a line that has not ended. Want of memory in a line's own work is that line's answer.
+/// At a fault a front of the answers to the first lines is written: `Read` where a read fails or
+/// the script is longer; `Write` where a write fails or takes no bytes, or a flush fails; `Memory`
+/// where there is no room for the 64 KiB that a read fills, or for a line that has not ended. Want
+/// of memory in a line's own work is that line's answer.
 ///
-/// The session is given back as the lines that were begun left it, at a fault too. Where its keepers are honest, the text is
-/// that of one run of the definitions (`one_run`), and at a fault a front of one's (`first_run`).
+/// The session is given back as the lines that were begun left it, at a fault too. Where its
+/// keepers are honest, the text is that of one run of the definitions (`one_run`), and at a fault a
+/// front of one's (`first_run`).
 pub fn run<RT: AllocGlobal, R: Read, W: Write, M: MakesKeepers + Drop>(
     rt: &RT,
     input: &mut R,
@@ -99,7 +106,8 @@ pub fn run<RT: AllocGlobal, R: Read, W: Write, M: MakesKeepers + Drop>(
         RunsFirst M.K.custody M.making keepers
         (W.contents output.old) (W.contents output.new) script result.0)) }
 
-    // Whatever the keepers are, the lines were answered one after another, up to the session at the end.
+    // Whatever the keepers are, the lines were answered one after another, up to the session at the
+    // end.
     ensures ok { IfOk result.1 (λ status. IfSome (R.remaining input.old) (λ script.
         WritesOutput (TurnsOver M.K.custody M.making) (begun_over keepers)
         (W.contents output.old) (W.contents output.new) script status result.0)) }

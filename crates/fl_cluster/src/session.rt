@@ -32,8 +32,8 @@ const UNMADE: Target = Target::Operation(Name { node: 1, seq: 1 });
 // Lets go of a line that is not answered.
 fn let_go(_line: Line) {}
 
-// Has an alias that was placed for a line stand for what the line made. Where it made nothing, all aliases are as they
-// were.
+// Has an alias that was placed for a line stand for what the line made. Where it made nothing, all
+// aliases are as they were.
 fn settle(aliases: &mut Aliases, alias: Alias, is_new: bool, made: Option<Target>)
     requires { IsSome (target_of aliases.old alias) }
     ensures { (before : Table) → IsPlaced before alias is_new aliases.old →
@@ -49,7 +49,8 @@ fn settle(aliases: &mut Aliases, alias: Alias, is_new: bool, made: Option<Target
     }
 }
 
-/// The world of a script with who makes its keepers, and the aliases of what its lines made. A run gives it back.
+/// The world of a script with who makes its keepers, and the aliases of what its lines made. A run
+/// gives it back.
 pub struct Session<M: MakesKeepers> {
     cluster: Cluster<M>,
     aliases: Aliases,
@@ -99,7 +100,8 @@ impl<M: MakesKeepers> Session<M> {
         &self.aliases
     }
 
-    /// What is answered to the line. Where memory is wanted before anything is asked of the world, nothing changes.
+    /// What is answered to the line. Where memory is wanted before anything is asked of the world,
+    /// nothing changes.
     pub(crate) fn respond(&mut self, alloc: Global, line: &[u8]) -> Response
         ensures turns { TurnOver M.K.custody M.making
             self.old line.now (shown self.new result) self.new }
@@ -143,8 +145,8 @@ impl<M: MakesKeepers> Session<M> {
         respond_to(alloc, &mut self.cluster, line)
     }
 
-    // Answers the line, and has the alias stand for what it made. The alias is placed first, so that there is room for it once
-    // something is made.
+    // Answers the line, and has the alias stand for what it made. The alias is placed first, so
+    // that there is room for it once something is made.
     fn answer_named(&mut self, alloc: Global, line: Line, alias: Alias) -> Response
         requires nodes { All (λ node. 0 < node) (nodes_of line) }
         requires makes { makes line ≡ true }

@@ -106,8 +106,8 @@ impl Benches {
     }
 
     /// Does a job at its bench under what the desk sees, as [`Bench::job`] has it: who asks for it
-    /// or receives has its bench, a new process is made on each in turn, and a question of groups is
-    /// asked at the first one.
+    /// or receives has its bench, a new process is made on each in turn, and a question of groups
+    /// is asked at the first one.
     pub fn job(
         &mut self,
         alloc: Global,

@@ -148,8 +148,8 @@ fn append_all(list: &mut Vec<Op>, ops: &mut OpSet, more: &OpSet) -> Result<(), A
 /// The operations that a node has published, in the order of publishing, and its desks, each of
 /// which sees so many of them, from the first one on.
 ///
-/// An operation stands here twice, in the list and in a set of all, and once more for each desk that
-/// sees it, with what it leads to.
+/// An operation stands here twice, in the list and in a set of all, and once more for each desk
+/// that sees it, with what it leads to.
 pub struct Listing {
     list: Vec<Op>,
     ops: OpSet,
@@ -274,8 +274,8 @@ impl Listing {
         }
     }
 
-    /// Puts a batch at the end of the list. The desk of an order, if it has one, then sees the whole
-    /// list. An error, for want of memory, leaves the list.
+    /// Puts a batch at the end of the list. The desk of an order, if it has one, then sees the
+    /// whole list. An error, for want of memory, leaves the list.
     pub fn extend(&mut self, alloc: Global, batch: &Batch) -> Result<(), AllocError>
         ensures desks { length self.new.views ≡ length self.old.views }
         ensures ok { OnOk result (self.new ≡ extended self.old batch.now) }

@@ -58,9 +58,9 @@ impl<'a> MakesKeepers for DirMaker<'a> {
 
     /// The keeper over the node's file, which is made if it is missing.
     ///
-    /// Refused with `Memory`; with `WrongNode` where the file is another node's; and with `KeeperFailed` where the file cannot be
-    /// opened, is open already, or is no keeper's database. The first time of that last one, the path and the cause are written
-    /// to standard error.
+    /// Refused with `Memory`; with `WrongNode` where the file is another node's; and with
+    /// `KeeperFailed` where the file cannot be opened, is open already, or is no keeper's database.
+    /// The first time of that last one, the path and the cause are written to standard error.
     fn make(
         &mut self,
         alloc: Global,

@@ -25,8 +25,8 @@ fn connect(rt: &HostRuntime, path: &str) -> Result<Connection<FileStore<File>>, 
     }
 }
 
-/// The keeper of this node over its file in some directory, which is made if it is missing. It is not
-/// broken.
+/// The keeper of this node over its file in some directory, which is made if it is missing. It is
+/// not broken.
 pub fn open(
     rt: &HostRuntime,
     path: &str,

@@ -26,9 +26,9 @@ fn first_clash(ops: &[Op], others: &OpSet) -> Option<Name>
     None
 }
 
-/// The least name under which an operation of the one set and one of the other differ, or none where there is no such name.
-/// Several operations of a set may have one name. A binary search in the longer set for each operation of the shorter one, up to
-/// that name.
+/// The least name under which an operation of the one set and one of the other differ, or none
+/// where there is no such name. Several operations of a set may have one name. A binary search in
+/// the longer set for each operation of the shorter one, up to that name.
 pub fn least_clash(ours: &OpSet, theirs: &OpSet) -> Option<Name>
     ensures { FindsLeast (IsClashOf (In ours.now) (In theirs.now)) result }
 {
@@ -66,9 +66,9 @@ fn of_number(ops: &[Op], number: NodeNumber) -> &[Op]
     of
 }
 
-/// The least name of an operation whose name has this number, which the one set has and the other, its owner's, has not; or none
-/// where there is no such operation. Two binary searches, and then one in the owner's set for each operation of that number, up
-/// to that name.
+/// The least name of an operation whose name has this number, which the one set has and the other,
+/// its owner's, has not; or none where there is no such operation. Two binary searches, and then
+/// one in the owner's set for each operation of that number, up to that name.
 pub fn least_stray(there: &OpSet, owner: &OpSet, number: NodeNumber) -> Option<Name>
     ensures { FindsLeast (IsStrayOf (In there.now) (In owner.now) number) result }
 {
@@ -81,8 +81,8 @@ pub fn least_stray(there: &OpSet, owner: &OpSet, number: NodeNumber) -> Option<N
     None
 }
 
-/// The lesser of two names, or the one that is there. Of the least names of which two tests hold, it is the least of which
-/// one of them holds.
+/// The lesser of two names, or the one that is there. Of the least names of which two tests hold,
+/// it is the least of which one of them holds.
 pub fn lesser(a: Option<Name>, b: Option<Name>) -> Option<Name>
     ensures value { result ≡ lesser_of a b }
     ensures least { (p q : Name → Bool)

@@ -62,8 +62,10 @@ fn is_of_nothing(window: &Intervals) -> bool
         && rank(window.to) == GREATEST_RANK
 }
 
-/// What the window lacks of the set, which has each name once: deltas of 64 operations, the last one shorter, rising. Linear in what is
-/// lacking, which is copied once where the window has nothing, and else twice, after two searches a span. An error says that there was no memory for it.
+/// What the window lacks of the set, which has each name once: deltas of 64 operations, the last
+/// one shorter, rising. Linear in what is lacking, which is copied once where the window has
+/// nothing, and else twice, after two searches a span. An error says that there was no memory for
+/// it.
 pub fn reply(alloc: Global, saved: &OpSet, window: &Intervals) -> Result<Vec<Packet>, AllocError>
     requires { HaveNoClash (In saved.now) (In saved.now) }
     ensures { IfOk result (λ packets. AreInDeltas (lacking saved.now window.now) packets.items) }

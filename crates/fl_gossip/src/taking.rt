@@ -44,7 +44,8 @@ fn bound(ops: &[Op], name: Name) -> usize
     ops.len()
 }
 
-// The operations whose name is not below this one. A search in steps that double, so that it costs little where few are below.
+// The operations whose name is not below this one. A search in steps that double, so that it costs
+// little where few are below.
 fn from_name(ops: &[Op], name: Name) -> &[Op]
     requires { IsStrictlySortedBy op_cmp ops.now }
     ensures { IsFrom ops.now name result.now }
@@ -64,7 +65,8 @@ fn begin_with(ops: &[Op], name: Name) -> bool
     }
 }
 
-// Whether an operation that a node may take is new. The members from its name on are enough to tell.
+// Whether an operation that a node may take is new. The members from its name on are enough to
+// tell.
 fn is_new(members: &[Op], me: NodeNumber, op: &Op) -> Result<bool, GossipFault>
     requires rise { IsStrictlySortedBy op_cmp members.now }
     requires from { All (NotBelow op.now.name) members.now }
@@ -92,7 +94,8 @@ fn is_new(members: &[Op], me: NodeNumber, op: &Op) -> Result<bool, GossipFault>
 /// name. `Memory` only where there was not enough for an operation that the set lacks: where it
 /// lacks none of the packet's, nothing is allocated.
 ///
-/// Goes through the set with the packet, by a search for each operation, in steps that double from where the one before ended.
+/// Goes through the set with the packet, by a search for each operation, in steps that double from
+/// where the one before ended.
 pub fn take(
     alloc: Global,
     saved: &OpSet,

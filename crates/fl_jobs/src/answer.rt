@@ -19,7 +19,8 @@ pub enum Refusal {
     MissingCap(Cap),
     /// The endpoint is not open.
     NoEndpoint(Endpoint),
-    /// The least endpoint that would not be safe, and its least tag that may not be both added and removed.
+    /// The least endpoint that would not be safe, and its least tag that may not be both added and
+    /// removed.
     UnsafeEndpoint(Endpoint, Name),
     /// The process has 64 endpoints.
     EndpointsFull,

@@ -113,5 +113,6 @@ pub enum Job {
     Arrive(Data),
 }
 
-/// Lets go of a job that is not done. A call where a job is let go at many exits, so that each is proved in one step.
+/// Lets go of a job that is not done. A call where a job is let go at many exits, so that each is
+/// proved in one step.
 pub fn let_go(_job: Job) {}

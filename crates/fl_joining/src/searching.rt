@@ -12,8 +12,9 @@ use fl_opset::set::OpSet;
 use fl_store::keeper::Keeper;
 use std::collections::BTreeMap;
 
-/// The least name under which an operation of the set and one of these nodes clash, or none. Costs a binary search for each
-/// operation of the smaller of the set and a node's own, for each node. Takes no memory.
+/// The least name under which an operation of the set and one of these nodes clash, or none. Costs
+/// a binary search for each operation of the smaller of the set and a node's own, for each node.
+/// Takes no memory.
 pub fn least_clash_with<K: Keeper>(
     all: &BTreeMap<NodeNumber, Node<K>>,
     saved: &OpSet,
@@ -28,7 +29,8 @@ pub fn least_clash_with<K: Keeper>(
     least
 }
 
-// The least name of an operation of a newcomer that has the number of this node and is not saved there, or the other way round.
+// The least name of an operation of a newcomer that has the number of this node and is not saved
+// there, or the other way round.
 fn stray_between<K: Keeper>(
     other: NodeNumber,
     node: &Node<K>,
@@ -43,9 +45,10 @@ fn stray_between<K: Keeper>(
     lesser(brought, awaited)
 }
 
-/// The least name of an operation of a newcomer of this number, which has saved these, that has the number of one of these nodes and
-/// is not saved there; or the other way round. None where there is no such operation. Costs two binary searches in each set
-/// for each node, and one for each operation of the one that has the number of the other. Takes no memory.
+/// The least name of an operation of a newcomer of this number, which has saved these, that has the
+/// number of one of these nodes and is not saved there; or the other way round. None where there is
+/// no such operation. Costs two binary searches in each set for each node, and one for each
+/// operation of the one that has the number of the other. Takes no memory.
 pub fn least_stray_with<K: Keeper>(
     all: &BTreeMap<NodeNumber, Node<K>>,
     number: NodeNumber,

@@ -8,7 +8,8 @@ use crate::name::Name;
 use std::cmp::Ordering;
 use std::fmt;
 
-/// What may be done with a tag (add, remove) or a group (use, grow). Ordered by name, then in the order of the variants.
+/// What may be done with a tag (add, remove) or a group (use, grow). Ordered by name, then in the
+/// order of the variants.
 #[derive(Clone, Copy, Debug, PartialEq, Eq, Hash)]
 pub enum Cap {
     /// To add the tag, `+1.4`.

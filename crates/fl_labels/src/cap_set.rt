@@ -95,8 +95,9 @@ impl CapSet {
         }
     }
 
-    /// The set of some capabilities, in any order, repeated or not. Fails only where there is not enough memory for the uses of
-    /// groups among them. Linear where they rise, and else a sort in place.
+    /// The set of some capabilities, in any order, repeated or not. Fails only where there is not
+    /// enough memory for the uses of groups among them. Linear where they rise, and else a sort in
+    /// place.
     pub fn from_vec(mut caps: Vec<Cap>) -> Result<Self, AllocError>
         ensures { IfOk result (λ made. made ≡ set.of_list caps.items) }
     {
@@ -107,8 +108,8 @@ impl CapSet {
 
     /// Reads a text such as `{+1.1,-1.4}`: capabilities in any order, a repeated one once.
     ///
-    /// `BadText` of a text that lists no capabilities in braces, `Memory`. Linear in a text that lists rising capabilities, and
-    /// else with a sort.
+    /// `BadText` of a text that lists no capabilities in braces, `Memory`. Linear in a text that
+    /// lists rising capabilities, and else with a sort.
     pub fn from_text(alloc: Global, text: &str) -> Result<Self, SetError>
         ensures ok { IfOk result (λ caps. IsListing cap_text caps text.now) }
         ensures bad_text { IsErrOf result SetError.BadText
@@ -139,8 +140,8 @@ impl CapSet {
         &self.uses
     }
 
-    /// Adds a capability, and answers whether it is new. Fails only of a new one for which there is not enough memory, and then
-    /// leaves the set. Moves the capabilities above it.
+    /// Adds a capability, and answers whether it is new. Fails only of a new one for which there is
+    /// not enough memory, and then leaves the set. Moves the capabilities above it.
     pub fn insert(&mut self, cap: Cap) -> Result<bool, AllocError>
         ensures ok { OnOk result (self.new ≡ set.insert self.old cap) }
         ensures new { IfOk result (λ new. new ≡ not (set.contains self.old cap)) }
@@ -158,7 +159,8 @@ impl CapSet {
         }
     }
 
-    /// Removes a capability, and answers whether it was a member. Takes no memory. Moves the capabilities above it.
+    /// Removes a capability, and answers whether it was a member. Takes no memory. Moves the
+    /// capabilities above it.
     pub fn remove(&mut self, cap: Cap) -> bool
         ensures after { self.new ≡ set.remove self.old cap }
         ensures was { result ≡ set.contains self.old cap }
@@ -173,7 +175,8 @@ impl CapSet {
         }
     }
 
-    /// The least capability that the other set lacks, or `None` where it has each. One walk along the two.
+    /// The least capability that the other set lacks, or `None` where it has each. One walk along
+    /// the two.
     pub fn first_missing(&self, other: &CapSet) -> Option<Cap>
         ensures { Found cap_cmp (set.In self.now) (set.In other.now) result }
     {
@@ -217,9 +220,10 @@ impl CapSet {
         other.caps.iter().all(|cap| self.contains(*cap))
     }
 
-    /// Adds each member of the other set, in place. Fails only where one of them is new and there is not enough
-    /// memory, and then leaves the set. Where none is new it takes no memory. Two binary searches for each member of
-    /// the other; each that is new moves the capabilities above it, and so is appended where it is above all.
+    /// Adds each member of the other set, in place. Fails only where one of them is new and there
+    /// is not enough memory, and then leaves the set. Where none is new it takes no memory. Two
+    /// binary searches for each member of the other; each that is new moves the capabilities above
+    /// it, and so is appended where it is above all.
     pub fn insert_all(&mut self, other: &CapSet) -> Result<(), AllocError>
         ensures ok { OnOk result (self.new ≡ set.union self.old other.now) }
         ensures err { OnErr result (self.new ≡ self.old) }
@@ -235,9 +239,10 @@ impl CapSet {
         Ok(())
     }
 
-    /// Removes a capability where the judge is content with the rest, and else leaves the set. Answers what the judge
-    /// answers, which is asked once, also of a capability that is no member. Takes no memory of its own. A binary
-    /// search; moves the capabilities above, and back where the judge refuses.
+    /// Removes a capability where the judge is content with the rest, and else leaves the set.
+    /// Answers what the judge answers, which is asked once, also of a capability that is no member.
+    /// Takes no memory of its own. A binary search; moves the capabilities above, and back where
+    /// the judge refuses.
     pub fn remove_if<C, E, J: FnOnce(&mut C, &CapSet) -> Result<(), E>>(
         &mut self,
         cap: Cap,
@@ -264,7 +269,8 @@ impl CapSet {
         Ok(())
     }
 
-    /// The same set with room for two more. An error says that there was not enough memory, and gives the set back.
+    /// The same set with room for two more. An error says that there was not enough memory, and
+    /// gives the set back.
     pub fn with_room(self) -> Result<RoomyCapSet, CapSet>
         ensures ok { IfOk result (λ roomy. roomy ≡ self) }
         ensures err { IfErr result (λ caps. caps ≡ self) }

@@ -92,8 +92,8 @@ impl Label {
         }
     }
 
-    /// The set of some tags, in any order, repeated or not. `TooLong` where they are more than 256, each counted once.
-    /// Linear where they rise, and else a sort in place. Takes no memory.
+    /// The set of some tags, in any order, repeated or not. `TooLong` where they are more than 256,
+    /// each counted once. Linear where they rise, and else a sort in place. Takes no memory.
     pub fn from_vec(mut tags: Vec<Name>) -> Result<Self, SetError>
         ensures ok { IfOk result (λ label. label ≡ set.of_list tags.items) }
         ensures short { IfOk result (λ label. set.len label ≤ 256) }
@@ -110,8 +110,8 @@ impl Label {
 
     /// Reads a text such as `{1.1,1.4}`: tags in any order, a repeated one once.
     ///
-    /// `BadText` of a text that lists no names in braces, `TooLong` where it lists more than 256, `Memory`. Linear in a text that
-    /// lists rising tags, and else with a sort.
+    /// `BadText` of a text that lists no names in braces, `TooLong` where it lists more than 256,
+    /// `Memory`. Linear in a text that lists rising tags, and else with a sort.
     pub fn from_text(alloc: Global, text: &str) -> Result<Self, SetError>
         ensures ok { IfOk result (λ label. IsListing name_text label text.now) }
         ensures short { IfOk result (λ label. set.len label ≤ 256) }
@@ -137,8 +137,9 @@ impl Label {
         &self.tags
     }
 
-    /// Adds a tag, and answers whether it is new. `TooLong` of a new tag where there are 256, `Memory` of a new one where there are
-    /// fewer; either leaves the label. Moves the tags above it.
+    /// Adds a tag, and answers whether it is new. `TooLong` of a new tag where there are 256,
+    /// `Memory` of a new one where there are fewer; either leaves the label. Moves the tags above
+    /// it.
     pub fn insert(&mut self, tag: Name) -> Result<bool, SetError>
         ensures ok { OnOk result (self.new ≡ set.insert self.old tag) }
         ensures new { IfOk result (λ new. new ≡ not (set.contains self.old tag)) }
@@ -176,7 +177,8 @@ impl Label {
         }
     }
 
-    /// The least tag that the other label lacks, or `None` where it has each. One walk along the two.
+    /// The least tag that the other label lacks, or `None` where it has each. One walk along the
+    /// two.
     pub fn first_missing(&self, other: &Label) -> Option<Name>
         ensures { Found name_cmp (set.In self.now) (set.In other.now) result }
     {

@@ -41,8 +41,8 @@ pub fn law_equality()
     ensures cap_sets { (s t : SetBy cap_cmp) → IsTrue (⟦<CapSet as PartialEq>⟧.eq s t) ↔ (s ≡ t) }
 {}
 
-/// What a set holds after each change; its members rise; and where only equal items tie, two sets with the same members are
-/// equal.
+/// What a set holds after each change; its members rise; and where only equal items tie, two sets
+/// with the same members are equal.
 pub fn law_set<T: Ord>()
     ensures empty { (q : T) → set.contains (set.empty {R = T.cmp}) q ≡ false }
     ensures insert { (s : SetBy T.cmp) (k q : T)

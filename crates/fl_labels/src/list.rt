@@ -73,7 +73,8 @@ fn read_parts<T: Item>(alloc: Global, inner: &str) -> Result<Vec<T>, SetError>
 
 /// The items that a text such as `{1.1,1.4}` spells, in their order.
 ///
-/// `BadText` of a text that is no list of such items in braces with commas between them and no spaces, `Memory`.
+/// `BadText` of a text that is no list of such items in braces with commas between them and no
+/// spaces, `Memory`.
 pub fn read_items<T: Item>(alloc: Global, text: &str) -> Result<Vec<T>, SetError>
     ensures ok { IfOk result (λ items. text.now ≡ braces T.text items.items) }
     ensures bad_text { IsErrOf result SetError.BadText → (items : List T) → text.now ≢ braces T.text items }

@@ -4,8 +4,8 @@ ghost use Rattle.std.specs.Prelude.{◌<◌, ◌^◌};
 use crate::name::NodeNumber;
 use std::fmt;
 
-/// What a process is called: its node, the node's boot in which it was born, and its number in that boot, all from 1 on.
-/// Ordered by these three in turn. Written `p1.1.1`.
+/// What a process is called: its node, the node's boot in which it was born, and its number in that
+/// boot, all from 1 on. Ordered by these three in turn. Written `p1.1.1`.
 #[derive(Clone, Copy, Debug, PartialEq, Eq, PartialOrd, Ord, Hash)]
 pub struct Pid {
     /// From 1 to 4294967295.

@@ -75,7 +75,8 @@ impl RoomyCapSet {
         &self.caps
     }
 
-    /// With both capabilities, in the room that is there: takes no memory. Moves the capabilities above them.
+    /// With both capabilities, in the room that is there: takes no memory. Moves the capabilities
+    /// above them.
     pub fn with_both(self, first: Cap, second: Cap) -> CapSet
         ensures { result ≡ set.insert_all self (first ∷ second ∷ []) }
     {

@@ -14,7 +14,8 @@ pub fn rises<T: Ord>(items: &[T]) -> bool
     items.is_sorted_by(|a, b| a.cmp(b).is_lt())
 }
 
-/// Puts the items in order, each once. Linear where they rise already, and else sorts them in place; takes no memory.
+/// Puts the items in order, each once. Linear where they rise already, and else sorts them in
+/// place; takes no memory.
 pub fn arrange<T: Ord + Drop>(items: &mut Vec<T>)
     ensures { IsArranged T.cmp items.old.items items.new.items }
 {
@@ -24,7 +25,8 @@ pub fn arrange<T: Ord + Drop>(items: &mut Vec<T>)
     }
 }
 
-/// The least of these items that is not among those, or `None` where each is. Both rise. One walk along the two.
+/// The least of these items that is not among those, or `None` where each is. Both rise. One walk
+/// along the two.
 pub fn first_outside<T: Ord + Copy + Drop>(these: &[T], those: &[T]) -> Option<T>
     requires these { IsStrictlySortedBy T.cmp these.now }
     requires those { IsStrictlySortedBy T.cmp those.now }

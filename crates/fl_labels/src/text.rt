@@ -9,7 +9,8 @@ use crate::endpoint::{Endpoint, LAST_ENDPOINT};
 use crate::name::Name;
 use crate::pid::Pid;
 
-/// The number from 1 to 4294967295 that a word spells: decimal, with no sign and no leading zero. `None` of any other word.
+/// The number from 1 to 4294967295 that a word spells: decimal, with no sign and no leading zero.
+/// `None` of any other word.
 pub fn read_number(text: &str) -> Option<u32>
     ensures { Finds result (λ n. IsNumber n text.now) }
 {
@@ -38,7 +39,8 @@ fn read_signed(text: &str, sign: char) -> Option<Name>
     read_name(text.strip_prefix(sign)?)
 }
 
-/// The capability that a word such as `+1.4` spells; the signs are `+`, `-`, `*` (use) and `^` (grow). `None` of any other word.
+/// The capability that a word such as `+1.4` spells; the signs are `+`, `-`, `*` (use) and `^`
+/// (grow). `None` of any other word.
 pub fn read_cap(text: &str) -> Option<Cap>
     ensures { Finds result (λ cap. text.now ≡ cap_text cap) }
 {

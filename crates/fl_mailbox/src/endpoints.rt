@@ -97,8 +97,8 @@ impl Endpoints {
         None
     }
 
-    /// Opens an endpoint, in the place of an open one that is called so. Fails only where there is not enough memory, and leaves
-    /// all as it was then.
+    /// Opens an endpoint, in the place of an open one that is called so. Fails only where there is
+    /// not enough memory, and leaves all as it was then.
     pub fn insert(&mut self, endpoint: Endpoint, opened: OpenEndpoint) -> Result<(), AllocError>
         ensures ok { OnOk result (self.new ≡ map.insert self.old endpoint opened) }
         ensures err { OnErr result (self.new ≡ self.old) }
@@ -107,7 +107,8 @@ impl Endpoints {
         Ok(())
     }
 
-    /// Gives an open endpoint these labels in the place of its own. Leaves all as it was where it is not open. Takes no memory.
+    /// Gives an open endpoint these labels in the place of its own. Leaves all as it was where it
+    /// is not open. Takes no memory.
     pub fn set_labels(&mut self, endpoint: Endpoint, labels: Labels)
         ensures there { (opened : OpenEndpoint) → map.get self.old endpoint ≡ Some opened →
             self.new ≡ map.insert self.old endpoint (record opened { labels = labels }) }

@@ -47,7 +47,8 @@ impl Inbox {
         self.letters.len() >= MOST_LETTERS
     }
 
-    /// Has a message wait behind the others. Fails only where there is not enough memory, and lets the message go then.
+    /// Has a message wait behind the others. Fails only where there is not enough memory, and lets
+    /// the message go then.
     pub fn push(&mut self, letter: Letter) -> Result<(), AllocError>
         ensures ok { OnOk result (self.new ≡ self.old ++ letter ∷ []) }
         ensures err { OnErr result (self.new ≡ self.old) }
@@ -56,9 +57,9 @@ impl Inbox {
         Ok(())
     }
 
-    /// Has the owner receive a message, which then waits behind the others: both, or an error. The room is taken first,
-    /// so that after an error the others wait as before, and the owner is as what received left it, or as it was where
-    /// there was no memory for the room.
+    /// Has the owner receive a message, which then waits behind the others: both, or an error. The
+    /// room is taken first, so that after an error the others wait as before, and the owner is as
+    /// what received left it, or as it was where there was no memory for the room.
     pub fn push_with<C, F: FnOnce(&mut C, &Letter) -> Result<(), AllocError>>(
         &mut self,
         letter: Letter,

@@ -7,8 +7,8 @@ ghost use Rattle.fl_mailbox.specs.Offenders.{AllSafe, CrossesAt, DualAt};
 
 use fl_rules::has::Has;
 
-/// Each open endpoint is safe exactly where each tag that one of them crosses may be both added and removed: so `first_unsafe`
-/// answers none exactly where each is safe.
+/// Each open endpoint is safe exactly where each tag that one of them crosses may be both added and
+/// removed: so `first_unsafe` answers none exactly where each is safe.
 pub fn law_open_endpoints<H: Has>()
     ensures { (h : H) (process : Labels) (table : Table)
         → AllSafe (H.effective h) process table

@@ -18,8 +18,9 @@ pub struct Offender {
     pub tag: Name,
 }
 
-/// The least of the process's open endpoints that is not safe, with the least tag that makes it so, or none where each is safe.
-/// At most four walks for each endpoint, each along two labels. Takes no memory.
+/// The least of the process's open endpoints that is not safe, with the least tag that makes it so,
+/// or none where each is safe. At most four walks for each endpoint, each along two labels. Takes
+/// no memory.
 pub fn first_unsafe<H: Has>(
     has: &mut H,
     process: LabelsRef<'_>,

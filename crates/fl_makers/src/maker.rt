@@ -12,8 +12,8 @@ use std::alloc::Global;
 
 /// Makes keepers for the nodes of a script.
 ///
-/// A contract knows what a keeper that is made from now on may hold, why none may be made, and why a
-/// node may not be opened for its keeper's sake: a call makes no more possible than was before.
+/// A contract knows what a keeper that is made from now on may hold, why none may be made, and why
+/// a node may not be opened for its keeper's sake: a call makes no more possible than was before.
 pub trait MakesKeepers {
     /// What it makes.
     type K: Keeper + Drop;

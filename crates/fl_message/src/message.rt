@@ -36,7 +36,8 @@ impl Drop for Message {
 }
 
 impl Message {
-    /// The message of these capabilities and bytes. `None` where they are more than 64 or more than 1024. Takes no memory.
+    /// The message of these capabilities and bytes. `None` where they are more than 64 or more than
+    /// 1024. Takes no memory.
     pub fn new(caps: CapSet, payload: Payload) -> Option<Self>
         ensures { MatchOption result
             ((64 < len caps) ⊎ (1024 < length payload))

@@ -40,7 +40,8 @@ pub(crate) fn reply_of(yes: bool) -> Reply
     if yes { Reply::Yes } else { Reply::NotYet }
 }
 
-/// Does what the process asks for by itself, unless an operation of it is under way, and answers what follows.
+/// Does what the process asks for by itself, unless an operation of it is under way, and answers
+/// what follows.
 pub(crate) fn act_alone<V: View>(
     process: &mut Process,
     alloc: Global,

@@ -41,7 +41,8 @@ fn refused_entry(endpoint: Endpoint, fault: PairFault) -> Refusal
     }
 }
 
-// Makes the message wait, once its capabilities are owned: both, or an error, which leaves all as it was.
+// Makes the message wait, once its capabilities are owned: both, or an error, which leaves all as
+// it was.
 fn take_in(inbox: &mut Inbox, owned: &mut Owned, letter: Letter) -> Result<(), AllocError>
     ensures waits { OnOk result (inbox.new ≡ inbox.old ++ letter ∷ []) }
     ensures owns { OnOk result (owned.new ≡ set.union owned.old letter.message.caps) }
@@ -57,8 +58,9 @@ fn take_in(inbox: &mut Inbox, owned: &mut Owned, letter: Letter) -> Result<(), A
     )
 }
 
-/// Takes a message in, where it may enter the endpoint that it is for: its capabilities are then owned, and it waits
-/// behind those that came before. Looks along the labels of both ends, and copies nothing that is owned.
+/// Takes a message in, where it may enter the endpoint that it is for: its capabilities are then
+/// owned, and it waits behind those that came before. Looks along the labels of both ends, and
+/// copies nothing that is owned.
 pub(crate) fn arrive(process: &mut Process, data: Data) -> Result<Outcome, Refusal>
     ensures { Arrives process.old «data» result process.new }
 {

@@ -57,8 +57,9 @@ impl Model for Bench {
 }
 
 impl Bench {
-    /// A bench with no process, as one of `stride` benches at this boot of the node: its processes get the
-    /// serials `index`, `index + stride` and so on, so that no two benches give the same. Takes no memory.
+    /// A bench with no process, as one of `stride` benches at this boot of the node: its processes
+    /// get the serials `index`, `index + stride` and so on, so that no two benches give the same.
+    /// Takes no memory.
     pub fn new(alloc: Global, node: NodeNumber, boot: u32, index: u32, stride: u32) -> Self
         requires node_known { 0 < node }
         requires boot_known { 0 < boot }
@@ -75,8 +76,8 @@ impl Bench {
         }
     }
 
-    /// Each process stands under a pid that this bench gave: of its node and boot, with a serial below the next one
-    /// and some strides away from it.
+    /// Each process stands under a pid that this bench gave: of its node and boot, with a serial
+    /// below the next one and some strides away from it.
     pub fn law_orderly(&self)
         ensures { IsOrderly self.now }
     {
@@ -90,8 +91,9 @@ impl Bench {
         self.processes.get(pid)
     }
 
-    /// What the process owns, for whoever notes it, or none where it does not stand here. Fails only where there is not
-    /// enough memory. Copies what is owned where it has changed since this was asked last, and nothing else.
+    /// What the process owns, for whoever notes it, or none where it does not stand here. Fails
+    /// only where there is not enough memory. Copies what is owned where it has changed since this
+    /// was asked last, and nothing else.
     pub fn share(&mut self, alloc: Global, pid: Pid) -> Result<Option<SharedCaps>, AllocError>
         ensures ok { IfOk result (λ made. made ≡ owned_by (map.get self.old.processes pid)) }
         ensures err { OnErr result (IsSome (map.get self.old.processes pid)) }
@@ -143,37 +145,41 @@ impl Bench {
         }
     }
 
-    /// Does a job under the view's registry, or says why not and leaves the bench as it was. The reasons, in
-    /// the order in which they are looked for:
+    /// Does a job under the view's registry, or says why not and leaves the bench as it was. The
+    /// reasons, in the order in which they are looked for:
     ///
     /// - `NoProcess`: who asks, or is to receive a message, does not stand here.
-    /// - `Busy`: an operation of that process is under way: it was ordered, and neither finished nor cancelled.
+    /// - `Busy`: an operation of that process is under way: it was ordered, and neither finished
+    ///   nor cancelled.
     /// - `LabelTooLong`: a label that is asked for has more than 256 tags.
     /// - `EndpointsFull`: the process has 64 endpoints.
     /// - `NoEndpoint`: the endpoint is not open.
     /// - `NotWritable`, `NotReadable`: it is not for sending from, or not for receiving at.
-    /// - `MissingCap`: the least capability that the job takes and that is not in effect for who asks. The
-    ///   change of a label takes one for each tag that it gains or loses, a put the right to grow the group,
-    ///   and the capability itself, a new login its capability, a birth what the child is to own, and a
-    ///   message what it brings.
+    /// - `MissingCap`: the least capability that the job takes and that is not in effect for who
+    ///   asks. The change of a label takes one for each tag that it gains or loses, a put the right
+    ///   to grow the group, and the capability itself, a new login its capability, a birth what the
+    ///   child is to own, and a message what it brings.
     /// - `NotOwned`: the capability that is to be dropped is not owned.
-    /// - `UnsafeEndpoint`: the least endpoint that would not be safe, with its least tag that may not be both
-    ///   added and removed: the one that is opened or tuned, and of all of them where a label changes or a
-    ///   capability is dropped.
-    /// - `NoLogin` and `WrongSecret`: there is no login of the name, or the least one has another secret.
-    /// - `Secrecy`: the least tag of the secrecy that who lets bytes out may not both add and remove, or that
-    ///   a message has and the receiver's endpoint has not.
-    /// - `Integrity`: the least tag of integrity that the receiver's endpoint has and a message has not.
+    /// - `UnsafeEndpoint`: the least endpoint that would not be safe, with its least tag that may
+    ///   not be both added and removed: the one that is opened or tuned, and of all of them where a
+    ///   label changes or a capability is dropped.
+    /// - `NoLogin` and `WrongSecret`: there is no login of the name, or the least one has another
+    ///   secret.
+    /// - `Secrecy`: the least tag of the secrecy that who lets bytes out may not both add and
+    ///   remove, or that a message has and the receiver's endpoint has not.
+    /// - `Integrity`: the least tag of integrity that the receiver's endpoint has and a message has
+    ///   not.
     /// - `InboxFull`: 256 messages wait for the receiver.
     /// - `NamesSpent`: the next process would get a serial above 4,294,967,295.
-    /// - `Memory`: all of this passed, and there was not enough for a new process, an order, an entry for what is
-    ///   not owned yet, a new endpoint, or a message that goes or comes. No other job takes memory.
+    /// - `Memory`: all of this passed, and there was not enough for a new process, an order, an
+    ///   entry for what is not owned yet, a new endpoint, or a message that goes or comes. No other
+    ///   job takes memory.
     ///
-    /// An order becomes the body of an operation and its maker, whose operation is then under way, to be
-    /// finished or cancelled: there is room for what it gives. The change of a label, a drop, a birth, an emission,
-    /// an endpoint and a message ask the view once for each tag or capability that they take, and twice for a tag
-    /// that has to be both added and removed; any other job asks it two questions at most. A message that comes
-    /// looks along the labels of both ends.
+    /// An order becomes the body of an operation and its maker, whose operation is then under way,
+    /// to be finished or cancelled: there is room for what it gives. The change of a label, a drop,
+    /// a birth, an emission, an endpoint and a message ask the view once for each tag or capability
+    /// that they take, and twice for a tag that has to be both added and removed; any other job
+    /// asks it two questions at most. A message that comes looks along the labels of both ends.
     pub fn job<V: View>(
         &mut self,
         alloc: Global,
@@ -191,17 +197,18 @@ impl Bench {
         }
     }
 
-    /// Ends the operation of its maker that is under way, and gives what it gives: of a tag, to add and to
-    /// remove it; of a group, to use and to grow it; of a put or a login, nothing. Where no operation of that
-    /// process is under way, or it does not stand here, nothing changes. Takes no memory.
+    /// Ends the operation of its maker that is under way, and gives what it gives: of a tag, to add
+    /// and to remove it; of a group, to use and to grow it; of a put or a login, nothing. Where no
+    /// operation of that process is under way, or it does not stand here, nothing changes. Takes no
+    /// memory.
     pub fn finish(&mut self, pid: Pid, op: &Op)
         ensures { self.new ≡ finished self.old pid op.now }
     {
         self.processes.finish(pid, op)
     }
 
-    /// Ends the operation of the process that is under way, and gives nothing: the bench is as before the
-    /// order. Where there is none, nothing changes. Takes no memory.
+    /// Ends the operation of the process that is under way, and gives nothing: the bench is as
+    /// before the order. Where there is none, nothing changes. Takes no memory.
     pub fn cancel(&mut self, pid: Pid)
         ensures { self.new ≡ cancelled self.old pid }
     {

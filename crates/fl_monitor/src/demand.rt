@@ -25,7 +25,8 @@ use fl_rules::pair::EndRef;
 /// What something takes of the capabilities of who asks for it.
 #[derive(Clone, Copy)]
 pub enum Demand<'a, 'b> {
-    /// The change of the first label into the second: to add what it gains, and to remove what it loses.
+    /// The change of the first label into the second: to add what it gains, and to remove what it
+    /// loses.
     Change(&'a Label, &'b Label),
     /// Bytes that go out under this label: to add and to remove each of its tags.
     Emission(&'a Label),
@@ -33,7 +34,8 @@ pub enum Demand<'a, 'b> {
     Order(Order),
     /// Capabilities that are handed on: each of them.
     Grant(&'a CapSet),
-    /// An endpoint beside a process of these labels: to add and to remove each tag that crosses between them.
+    /// An endpoint beside a process of these labels: to add and to remove each tag that crosses
+    /// between them.
     Endpoint(LabelsRef<'a>, Endpoint, EndRef<'b>),
     /// The same, of each of these endpoints.
     Endpoints(LabelsRef<'a>, &'b Endpoints),

@@ -25,7 +25,8 @@ const FEW: usize = 64;
 // How many capabilities count as near.
 const NEAR: usize = 4;
 
-// Where the capability stands among these, or where it would. Those from this place on are looked at first, since questions rise.
+// Where the capability stands among these, or where it would. Those from this place on are looked
+// at first, since questions rise.
 fn seek(caps: &[Cap], place: usize, cap: Cap) -> Result<usize, usize>
     requires { IsStrictlySortedBy cap_cmp caps.now }
     ensures { is_ok result ≡ set.contains (set.of_list {R = cap_cmp} caps.now) cap }

@@ -94,8 +94,8 @@ impl Processes {
         act_alone(process, alloc, view, pid, act)
     }
 
-    /// What the process owns, for whoever notes it, or none where it is not there. Fails only where there is not enough
-    /// memory, as `Process::share` does.
+    /// What the process owns, for whoever notes it, or none where it is not there. Fails only where
+    /// there is not enough memory, as `Process::share` does.
     pub fn share(&mut self, alloc: Global, pid: Pid) -> Result<Option<SharedCaps>, AllocError>
         ensures ok { IfOk result (λ made. made ≡ owned_by (map.get self.old pid)) }
         ensures err { OnErr result (IsSome (map.get self.old pid)) }
@@ -117,7 +117,8 @@ impl Processes {
         arrive(process, data)
     }
 
-    /// Gives a process what the operation gives its maker, if there is that process and its operation is under way.
+    /// Gives a process what the operation gives its maker, if there is that process and its
+    /// operation is under way.
     pub fn finish(&mut self, pid: Pid, op: &Op)
         ensures { self.new ≡ receives self.old pid (given op.now) (map.get self.old pid) }
     {

@@ -26,8 +26,8 @@ fn child_with(alloc: Global, labels: &Labels, caps: CapSet) -> Result<Process, A
     })
 }
 
-/// A process with these labels that owns the second capabilities is to be born, where the owner of the first ones has
-/// them in effect.
+/// A process with these labels that owns the second capabilities is to be born, where the owner of
+/// the first ones has them in effect.
 pub(crate) fn spawn<V: View>(
     alloc: Global,
     view: &mut V,

@@ -13,9 +13,10 @@ use fl_system::answer::Fault;
 use std::alloc::Global;
 
 impl<K: Keeper> Node<K> {
-    /// Hands a message that came to its receiver, as `Bench::job` has it, and says to whom. No operation is asked for, so that
-    /// nothing but the receiver's inbox changes, or, where the message is refused, nothing. A stopped node answers `Stopped`. A node without a
-    /// desk is given none.
+    /// Hands a message that came to its receiver, as `Bench::job` has it, and says to whom. No
+    /// operation is asked for, so that nothing but the receiver's inbox changes, or, where the
+    /// message is refused, nothing. A stopped node answers `Stopped`. A node without a desk is
+    /// given none.
     pub fn arrive(&mut self, alloc: Global, message: Data) -> Result<Reply, Fault>
         requires { IsDeskOf self.old.node 1 }
         ensures desks { length self.new.node.views ≡ length self.old.node.views }

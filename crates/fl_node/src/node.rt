@@ -47,10 +47,11 @@ use std::io::Write;
 use std::marker::Model;
 use std::mem::replace;
 
-/// A node: its keeper, what is saved and published of it, how much of that each of its desks sees, what is on its way, and the
-/// benches of its processes, as many as there are desks.
+/// A node: its keeper, what is saved and published of it, how much of that each of its desks sees,
+/// what is on its way, and the benches of its processes, as many as there are desks.
 ///
-/// An operation stands in it three times, and once more for each desk that sees it, with what it leads to there.
+/// An operation stands in it three times, and once more for each desk that sees it, with what it
+/// leads to there.
 pub struct Node<K: Keeper> {
     pub(crate) keeper: K,
     pub(crate) number: NodeNumber,
@@ -103,16 +104,17 @@ impl<K: Keeper + Drop> Drop for Node<K> {
 }
 
 impl<K: Keeper> Node<K> {
-    /// Opens the node of this number over its keeper, which is given back where that is refused, with so many desks and benches.
-    /// All that is saved is published, in rising order, each desk sees all of it, and there is no process.
+    /// Opens the node of this number over its keeper, which is given back where that is refused,
+    /// with so many desks and benches. All that is saved is published, in rising order, each desk
+    /// sees all of it, and there is no process.
     ///
     /// - `WrongNode`: the keeper is another node's.
     /// - `KeeperFailed`: it is broken, or one of its rows is bad.
     /// - `NamesSpent`: it was opened 4,294,967,295 times.
     /// - `Memory`: there was not enough.
     ///
-    /// A refused opening may have raised the boot. Loads what is saved, and copies it twice, and once more for each desk, into its
-    /// index; there each put costs a search by order.
+    /// A refused opening may have raised the boot. Loads what is saved, and copies it twice, and
+    /// once more for each desk, into its index; there each put costs a search by order.
     pub fn open(
         alloc: Global,
         mut keeper: K,
@@ -198,8 +200,9 @@ impl<K: Keeper> Node<K> {
         self.benches.process(pid)
     }
 
-    /// What the process owns, for whoever notes it, or none where it does not stand here. Fails only where there is not
-    /// enough memory. Copies what is owned where it has changed since this was asked last, and nothing else.
+    /// What the process owns, for whoever notes it, or none where it does not stand here. Fails
+    /// only where there is not enough memory. Copies what is owned where it has changed since this
+    /// was asked last, and nothing else.
     pub fn share(&mut self, alloc: Global, pid: Pid) -> Result<Option<SharedCaps>, AllocError>
         ensures ok { IfOk result (λ made. made ≡ owned_by (process_of self.old.node pid)) }
         ensures err { OnErr result (IsSome (process_of self.old.node pid)) }
@@ -220,8 +223,9 @@ impl<K: Keeper> Node<K> {
         }
     }
 
-    /// Writes the text of the published operations, a line for each, rising: `1.1 tag export`, `1.2 group`. A stopped node
-    /// answers `Stopped`, and writes nothing. At a fault of the writer a front of the text was written.
+    /// Writes the text of the published operations, a line for each, rising: `1.1 tag export`, `1.2
+    /// group`. A stopped node answers `Stopped`, and writes nothing. At a fault of the writer a
+    /// front of the text was written.
     pub fn text<W: Write>(&self, output: &mut W) -> Result<Result<(), WriteFault>, Fault>
         ensures running { IfOk result (λ written. IsRunning self.now.node.state) }
         ensures ok { let text = registry_text (set.of_list self.now.node.published) in
@@ -236,8 +240,9 @@ impl<K: Keeper> Node<K> {
         }
     }
 
-    /// Begins an operation of this body for its maker, where nothing is on its way, and gives its name: the next one after the
-    /// saved operations of this node. It is then to be saved, or cancelled. A binary search; takes no memory.
+    /// Begins an operation of this body for its maker, where nothing is on its way, and gives its
+    /// name: the next one after the saved operations of this node. It is then to be saved, or
+    /// cancelled. A binary search; takes no memory.
     ///
     /// - `Stopped`: the node is stopped.
     /// - `Busy`: something is on its way.
@@ -279,12 +284,13 @@ impl<K: Keeper> Node<K> {
         }
     }
 
-    /// Does a job at a desk, which first looks at the list up to a length: it sees so many operations then, or as many as it saw
-    /// before. The job is done at its bench under what the desk sees, as `Bench::job` has it; a new process is made on each bench
-    /// in turn. An order begins its operation, as `begin` has it; where that is refused, the benches are as before. A stopped node
-    /// answers `Stopped`, and `Memory` comes too where the desk is to see more and there is no room for that: the desk and the
-    /// benches are then as before. Costs what the bench does, and for each operation that the desk has not seen what
-    /// `CachedIndex::absorb` does.
+    /// Does a job at a desk, which first looks at the list up to a length: it sees so many
+    /// operations then, or as many as it saw before. The job is done at its bench under what the
+    /// desk sees, as `Bench::job` has it; a new process is made on each bench in turn. An order
+    /// begins its operation, as `begin` has it; where that is refused, the benches are as before. A
+    /// stopped node answers `Stopped`, and `Memory` comes too where the desk is to see more and
+    /// there is no room for that: the desk and the benches are then as before. Costs what the bench
+    /// does, and for each operation that the desk has not seen what `CachedIndex::absorb` does.
     pub fn job(&mut self, alloc: Global, desk: u8, upto: u64, job: Job) -> Result<Answer, Fault>
         requires { IsDeskOf self.old.node desk }
         ensures desks { length self.new.node.views ≡ length self.old.node.views }
@@ -317,7 +323,8 @@ impl<K: Keeper> Node<K> {
         }
     }
 
-    /// Gives up what is to be saved: its maker, if it has one, goes on with nothing. Takes no memory.
+    /// Gives up what is to be saved: its maker, if it has one, goes on with nothing. Takes no
+    /// memory.
     ///
     /// - `Stopped`: the node is stopped.
     /// - `Busy`: there is nothing to save.
@@ -332,14 +339,16 @@ impl<K: Keeper> Node<K> {
         Ok(())
     }
 
-    /// Publishes what is saved and due, and gives the length of the list. The maker of a tag or a group has its two capabilities
-    /// from then on, and the desk of an order sees the whole list; other desks see what they saw.
+    /// Publishes what is saved and due, and gives the length of the list. The maker of a tag or a
+    /// group has its two capabilities from then on, and the desk of an order sees the whole list;
+    /// other desks see what they saw.
     ///
     /// - `Stopped`: the node is stopped.
     /// - `Busy`: nothing is due.
     /// - `Memory`: there was not enough; it stays due.
     ///
-    /// Costs what the batch does, as `Listing::extend` has it; nothing that was published is copied for it but where that moves it.
+    /// Costs what the batch does, as `Listing::extend` has it; nothing that was published is copied
+    /// for it but where that moves it.
     pub fn publish(&mut self, alloc: Global) -> Result<u64, Fault>
         ensures desks { length self.new.node.views ≡ length self.old.node.views }
         ensures publishes { Publishes self.old.node result self.new.node }
@@ -360,8 +369,8 @@ impl<K: Keeper> Node<K> {
     /// - `Stopped`: the node is stopped.
     /// - `Busy`: there is nothing to save.
     /// - `Memory`: there was not enough; it is still to be saved.
-    /// - `KeeperFailed`: the keeper broke. The node is stopped, its saved operations are as before, and at the next opening the
-    ///   keeper has those, or those with what was to be saved.
+    /// - `KeeperFailed`: the keeper broke. The node is stopped, its saved operations are as before,
+    ///   and at the next opening the keeper has those, or those with what was to be saved.
     pub fn save(&mut self) -> Result<(), Fault>
         ensures number { self.new.node.number ≡ self.old.node.number }
         ensures keeper { K.custody.number self.new.keeper ≡ K.custody.number self.old.keeper }
@@ -426,13 +435,15 @@ impl<K: Keeper> Node<K> {
         }
     }
 
-    /// Restarts the node in place: processes and what is pending are forgotten, what is saved is loaded and published, and the
-    /// boot raised by one, which is the answer. Where it is to be kept, what is pending is saved first; refused for memory, that
-    /// leaves the node as it was. After any later refusal the node is stopped, with its saved operations.
+    /// Restarts the node in place: processes and what is pending are forgotten, what is saved is
+    /// loaded and published, and the boot raised by one, which is the answer. Where it is to be
+    /// kept, what is pending is saved first; refused for memory, that leaves the node as it was.
+    /// After any later refusal the node is stopped, with its saved operations.
     ///
-    /// As `open`; `WrongNode` is answered too where what is kept is neither what the node had saved nor that with what was in
-    /// doubt, or was not opened as often. A stopped node whose own keeper is still broken answers `KeeperFailed`; no node does so
-    /// unless its keeper is broken or has a bad row.
+    /// As `open`; `WrongNode` is answered too where what is kept is neither what the node had saved
+    /// nor that with what was in doubt, or was not opened as often. A stopped node whose own keeper
+    /// is still broken answers `KeeperFailed`; no node does so unless its keeper is broken or has a
+    /// bad row.
     pub fn come_back(&mut self, alloc: Global, keeps: bool) -> Result<u32, Fault>
         ensures number { self.new.node.number ≡ self.old.node.number }
         ensures cause { let node = self.old.node in
@@ -477,8 +488,9 @@ impl<K: Keeper> Node<K> {
         (node, result)
     }
 
-    /// Opens a stopped node again over another keeper, as `come_back` does, and gives the one that it had. A node that runs
-    /// answers `Busy` and is left as it is, and the other keeper comes back.
+    /// Opens a stopped node again over another keeper, as `come_back` does, and gives the one that
+    /// it had. A node that runs answers `Busy` and is left as it is, and the other keeper comes
+    /// back.
     pub fn reopen_over(&mut self, alloc: Global, keeper: K) -> (Result<u32, Fault>, K)
         ensures running { IsRunning self.old.node.state → (self.new ≡ self.old)
             × (result.0 ≡ Err (Fault.Refused Refusal.Busy)) × (result.1 ≡ keeper) }
@@ -503,8 +515,9 @@ impl<K: Keeper> Node<K> {
         (result, old)
     }
 
-    /// Has the keeper of a stopped node changed, or another put in its place, and opens the node again over it, as `come_back`
-    /// does. A node that runs answers `Busy`, and is left as it is: its keeper is not shown then.
+    /// Has the keeper of a stopped node changed, or another put in its place, and opens the node
+    /// again over it, as `come_back` does. A node that runs answers `Busy`, and is left as it is:
+    /// its keeper is not shown then.
     pub fn reopen_with<F: FnOnce(&mut K)>(&mut self, alloc: Global, make: F) -> Result<u32, Fault>
         requires { F.IsAlwaysCallable make }
         ensures running { IsRunning self.old.node.state
@@ -532,8 +545,8 @@ impl<K: Keeper> Node<K> {
         self.open_again(alloc)
     }
 
-    /// Gives the keeper of a stopped node away, and opens the node again over the one that comes back, as `restart` does. A node
-    /// that runs answers `Busy`, and is left as it is.
+    /// Gives the keeper of a stopped node away, and opens the node again over the one that comes
+    /// back, as `restart` does. A node that runs answers `Busy`, and is left as it is.
     pub fn reopen<F: FnOnce(K) -> K>(self, alloc: Global, make: F) -> (Node<K>, Result<u32, Fault>)
         requires { F.IsAlwaysCallable make }
         ensures number { result.0.node.number ≡ self.node.number }

@@ -51,12 +51,13 @@ impl<K: Keeper> Node<K> {
         }
     }
 
-    /// Takes the operations of a packet that are not saved, which are then to be saved, and says how many; 0 where all of them
-    /// are, or the packet has none.
+    /// Takes the operations of a packet that are not saved, which are then to be saved, and says
+    /// how many; 0 where all of them are, or the packet has none.
     ///
     /// - `Stopped`: the node is stopped.
-    /// - `Impostor` and `Clash`, for the least name of an operation that may not be taken: it has the node's own number, and none
-    ///   of that name is saved; another operation of that name is saved.
+    /// - `Impostor` and `Clash`, for the least name of an operation that may not be taken: it has
+    ///   the node's own number, and none of that name is saved; another operation of that name is
+    ///   saved.
     /// - `Busy`: there is something new, and something else is on its way.
     /// - `Memory`: there was not enough.
     ///
@@ -92,9 +93,9 @@ impl<K: Keeper> Node<K> {
         }
     }
 
-    /// What a packet would bring, were it to come now: how many operations that are not saved, of a window how many that it lacks,
-    /// and 0 of a message. Refuses as [`Node::receive`] does, but never with `Busy`, and costs the same; of a window as
-    /// [`Node::reply`].
+    /// What a packet would bring, were it to come now: how many operations that are not saved, of a
+    /// window how many that it lacks, and 0 of a message. Refuses as [`Node::receive`] does, but
+    /// never with `Busy`, and costs the same; of a window as [`Node::reply`].
     pub fn check(&self, alloc: Global, packet: &Packet) -> Result<u64, Fault>
         ensures { Checks self.now.node packet.now result }
     {

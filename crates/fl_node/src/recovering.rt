@@ -69,7 +69,8 @@ fn is_own(
     Ok(same(found, &both))
 }
 
-/// What the node of this number gets back, which had this boot and these saved operations, with a batch in doubt.
+/// What the node of this number gets back, which had this boot and these saved operations, with a
+/// batch in doubt.
 pub fn recover<K: Keeper>(
     alloc: Global,
     keeper: &mut K,

@@ -27,8 +27,9 @@ fn packets_of(alloc: Global, windows: Vec<Intervals>) -> Result<Vec<Packet>, All
 }
 
 impl<K: Keeper> Node<K> {
-    /// What the node has saved, as a packet for each window of its names, to be answered by who has more. A stopped node answers
-    /// `Stopped`, and one with no memory for the packets `Memory`. Costs what `OpSet::have` does.
+    /// What the node has saved, as a packet for each window of its names, to be answered by who has
+    /// more. A stopped node answers `Stopped`, and one with no memory for the packets `Memory`.
+    /// Costs what `OpSet::have` does.
     pub fn summary(&self, alloc: Global) -> Result<Vec<Packet>, Fault>
         ensures running { IfOk result (λ told. IsRunning self.now.node.state) }
         ensures ok { IfOk result (λ told. IsSummary self.now.node.saved told.items) }
@@ -44,8 +45,9 @@ impl<K: Keeper> Node<K> {
         Ok(told)
     }
 
-    /// What is answered to a window: the saved operations that it lacks, rising, as deltas of 64, the last one shorter. A stopped
-    /// node answers `Stopped`, and one with no memory for the packets `Memory`. Costs what `fl_gossip::replying::reply` does.
+    /// What is answered to a window: the saved operations that it lacks, rising, as deltas of 64,
+    /// the last one shorter. A stopped node answers `Stopped`, and one with no memory for the
+    /// packets `Memory`. Costs what `fl_gossip::replying::reply` does.
     pub fn reply(&self, alloc: Global, window: &Intervals) -> Result<Vec<Packet>, Fault>
         ensures running { IfOk result (λ told. IsRunning self.now.node.state) }
         ensures ok { IfOk result (λ told. IsAnswer self.now.node.saved window.now told.items) }

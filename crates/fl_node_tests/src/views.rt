@@ -34,8 +34,8 @@ fn absorb(index: &mut Index, name: Name, body: Body) -> Result<(), Fail> {
     Ok(index.absorb(&Op { name, body })?)
 }
 
-// Whether the owner of the group's use has the capability in effect, whether the use reaches it, and
-// whether who owns nothing has it, before the group is opened and after.
+// Whether the owner of the group's use has the capability in effect, whether the use reaches it,
+// and whether who owns nothing has it, before the group is opened and after.
 fn told(alloc: Global, cap: Cap) -> Result<[bool; 4], Fail> {
     let mut index = known(alloc)?;
     let owned = CapSet::from_text(alloc, "{*1.2}")?;

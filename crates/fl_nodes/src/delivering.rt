@@ -27,11 +27,11 @@ fn packet_at(sent: &[Sent], number: u64) -> Option<&Sent>
 }
 
 impl<K: Keeper> Nodes<K> {
-    /// Has the node send what it has saved, as `Node::summary` has it, and answers the number of the first packet and how many
-    /// there are, or why not: `NoSuch` where the node is not there.
+    /// Has the node send what it has saved, as `Node::summary` has it, and answers the number of
+    /// the first packet and how many there are, or why not: `NoSuch` where the node is not there.
     ///
-    /// Refused with `Memory` too where there is no room for the packets, and then none is sent; never
-    /// with `KeeperFailed`. Costs what `Node::summary` does.
+    /// Refused with `Memory` too where there is no room for the packets, and then none is sent;
+    /// never with `KeeperFailed`. Costs what `Node::summary` does.
     pub fn tell(&mut self, alloc: Global, number: NodeNumber) -> Reply
         ensures goes { Goes K.custody self.old self.new
             (λ w w'. Step w (event.Tell number) result w') }
@@ -46,17 +46,19 @@ impl<K: Keeper> Nodes<K> {
         }
     }
 
-    /// Has the packet of this number, counted from 1, come to the node of this number; it may come again. `NoSuch` where either is
-    /// not there.
+    /// Has the packet of this number, counted from 1, come to the node of this number; it may come
+    /// again. `NoSuch` where either is not there.
     ///
-    /// - Operations are received as `Node::receive` has it: `Taking` says how many are new, and `Took(0)` that none is.
+    /// - Operations are received as `Node::receive` has it: `Taking` says how many are new, and
+    ///   `Took(0)` that none is.
     /// - A window is answered as `Node::reply` has it, in packets that are sent.
-    /// - A message arrives as `Node::arrive` has it, and is noted with its sender as it was when it sent.
+    /// - A message arrives as `Node::arrive` has it, and is noted with its sender as it was when it
+    ///   sent.
     ///
-    /// Refused with `Memory` too where there is no room for a copy of the message, for what would be noted, or for the packets; then
-    /// nothing changes. Never with `KeeperFailed`. Beside the node's own costs, a message is copied,
-    /// with the labels of both its processes, and what its receiver owns where that has changed since
-    /// it was noted last.
+    /// Refused with `Memory` too where there is no room for a copy of the message, for what would
+    /// be noted, or for the packets; then nothing changes. Never with `KeeperFailed`. Beside the
+    /// node's own costs, a message is copied, with the labels of both its processes, and what its
+    /// receiver owns where that has changed since it was noted last.
     pub fn deliver(&mut self, alloc: Global, packet: u64, number: NodeNumber) -> Reply
         ensures goes { Goes K.custody self.old self.new
             (λ w w'. Step w (event.Deliver packet number) result w') }

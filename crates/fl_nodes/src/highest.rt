@@ -5,7 +5,8 @@ ghost use Rattle.fl_nodes.specs.parts.Highest.{IsUpTo};
 use fl_labels::name::NodeNumber;
 use fl_opset::set::OpSet;
 
-/// The greatest of this number and those of the nodes that made the operations. Looks at the last of them alone.
+/// The greatest of this number and those of the nodes that made the operations. Looks at the last
+/// of them alone.
 pub(crate) fn raised(highest: NodeNumber, saved: &OpSet) -> NodeNumber
     ensures at_least { highest ≤ result }
     ensures covers { IsUpTo result saved.now }

@@ -68,8 +68,9 @@ impl<K: Keeper> Nodes<K> {
         least_clash_with(&self.all, saved)
     }
 
-    // The least name of an operation that comes with a newcomer of this number, which has saved these, and that the node of its
-    // number has not saved; or of one of the newcomer's number that is saved, though not by the newcomer.
+    // The least name of an operation that comes with a newcomer of this number, which has saved
+    // these, and that the node of its number has not saved; or of one of the newcomer's number that
+    // is saved, though not by the newcomer.
     fn stray(&self, number: NodeNumber, saved: &OpSet) -> Option<Name>
         ensures { (w : World) → AreNodes self.now w
             → FindsLeast (IsStrayWith w number saved.now) result }
@@ -80,7 +81,8 @@ impl<K: Keeper> Nodes<K> {
         least_stray_with(&self.all, number, saved)
     }
 
-    // Takes a node in, under a number that is not there, or gives its keeper back for want of memory.
+    // Takes a node in, under a number that is not there, or gives its keeper back for want of
+    // memory.
     fn take_in(&mut self, number: NodeNumber, node: Node<K>) -> Result<(), (Fault, K)>
         requires absent { map.get self.old.nodes number ≡ None }
         requires desks { length node.node.views ≡ self.old.desks }
@@ -103,19 +105,23 @@ impl<K: Keeper> Nodes<K> {
         }
     }
 
-    /// A node of this number joins the others over its keeper, and its boot is given; or the keeper comes back with the refusal,
-    /// and the nodes are as before.
+    /// A node of this number joins the others over its keeper, and its boot is given; or the keeper
+    /// comes back with the refusal, and the nodes are as before.
     ///
     /// - `WrongNode`: a node of this number is there, or the keeper is another node's.
     /// - `Clash`: something else is saved under one of its names, of which this is the least.
-    /// - `Impostor`: an operation of this name, the least, is saved, though not by the node whose number it has.
-    /// - As `Node::open`, and `KeeperFailed` from nothing else; `Memory` too where there was no room for one more node.
+    /// - `Impostor`: an operation of this name, the least, is saved, though not by the node whose
+    ///   number it has.
+    /// - As `Node::open`, and `KeeperFailed` from nothing else; `Memory` too where there was no
+    ///   room for one more node.
     ///
-    /// That all that is saved here is saved by the node whose number it has, if that is there, is not looked at again: it is so in
-    /// each world that a run leads to. A refused joining may have raised the boot, but where the number is a node's. Costs what the
-    /// opening does. Where nothing is saved by the newcomer, and nothing by anyone with its number or a greater one, no other node is
-    /// looked at; else for each node that is there a binary search for each operation of the smaller of its set and the new one's, two in
-    /// each of them, and one for each operation of the one that has the number of the other.
+    /// That all that is saved here is saved by the node whose number it has, if that is there, is
+    /// not looked at again: it is so in each world that a run leads to. A refused joining may have
+    /// raised the boot, but where the number is a node's. Costs what the opening does. Where
+    /// nothing is saved by the newcomer, and nothing by anyone with its number or a greater one, no
+    /// other node is looked at; else for each node that is there a binary search for each operation
+    /// of the smaller of its set and the new one's, two in each of them, and one for each operation
+    /// of the one that has the number of the other.
     pub fn join(&mut self, alloc: Global, number: NodeNumber, keeper: K) -> Result<u32, (Fault, K)>
         requires { 0 < number }
         ensures joins { IfOk result (λ boot. TakesIn K.custody self.old keeper self.new
@@ -143,9 +149,10 @@ impl<K: Keeper> Nodes<K> {
         Ok(boot)
     }
 
-    /// Opens a stopped node again over another keeper, as `Node::reopen_over` has it, and answers its boot, or why not: `NoSuch`
-    /// where it is not there, and `Busy` where it runs. Gives too the keeper that no node has then: the one that the stopped node
-    /// had, or else the one that was handed in.
+    /// Opens a stopped node again over another keeper, as `Node::reopen_over` has it, and answers
+    /// its boot, or why not: `NoSuch` where it is not there, and `Busy` where it runs. Gives too
+    /// the keeper that no node has then: the one that the stopped node had, or else the one that
+    /// was handed in.
     pub fn reopen(&mut self, alloc: Global, number: NodeNumber, keeper: K) -> (Reply, K)
         ensures reopens { GivesBack K.custody self.old keeper self.new result.1
             (λ w k w' k'. Reopening w number k result.0 w') }
@@ -161,12 +168,13 @@ impl<K: Keeper> Nodes<K> {
         (opened(result), given)
     }
 
-    /// Has the keeper of a stopped node changed, or another put in its place, and opens the node again over it, as
-    /// `Node::reopen_with` has it. Answers its boot, or why not: `NoSuch` where it is not there, and `Busy` where it runs; then
-    /// nothing is made, and the nodes are as before. After any other refusal the node stays stopped, over what was made.
+    /// Has the keeper of a stopped node changed, or another put in its place, and opens the node
+    /// again over it, as `Node::reopen_with` has it. Answers its boot, or why not: `NoSuch` where
+    /// it is not there, and `Busy` where it runs; then nothing is made, and the nodes are as
+    /// before. After any other refusal the node stays stopped, over what was made.
     ///
-    /// What is made is to be trusted no further than the keeper before it: as each call of a keeper has it, where it is honest then,
-    /// that was honest before.
+    /// What is made is to be trusted no further than the keeper before it: as each call of a keeper
+    /// has it, where it is honest then, that was honest before.
     pub fn reopen_with<F: FnOnce(&mut K)>(
         &mut self,
         alloc: Global,

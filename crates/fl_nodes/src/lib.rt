@@ -1,4 +1,5 @@
-//! The nodes of a world over their keepers, the packets between them and what was admitted, call by call.
+//! The nodes of a world over their keepers, the packets between them and what was admitted, call by
+//! call.
 #![tactic(auto)]
 
 mod delivering;

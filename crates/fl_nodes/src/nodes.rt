@@ -54,11 +54,11 @@ fn lacks<K: Keeper>(node: &Node<K>, desk: u8, job: &Job) -> bool
     node.desks() < desk
 }
 
-/// Nodes by their numbers, each over a keeper of its own, and of as many desks; every packet that they sent; and what they
-/// admitted.
+/// Nodes by their numbers, each over a keeper of its own, and of as many desks; every packet that
+/// they sent; and what they admitted.
 ///
-/// A contract of a call says which step of the world it is: where the keepers are honest, what the next openings may find
-/// comes by that step from what they might have found before.
+/// A contract of a call says which step of the world it is: where the keepers are honest, what the
+/// next openings may find comes by that step from what they might have found before.
 pub struct Nodes<K: Keeper> {
     pub(crate) desks: u8,
     pub(crate) all: BTreeMap<NodeNumber, Node<K>>,
@@ -137,8 +137,9 @@ impl<K: Keeper> Nodes<K> {
         &self.audit
     }
 
-    /// Saves what is to be saved at the node, as `Node::save` has it, and answers `Done`, or why not: `NoSuch` where the node is
-    /// not there, and `KeeperFailed` only where its keeper is broken then.
+    /// Saves what is to be saved at the node, as `Node::save` has it, and answers `Done`, or why
+    /// not: `NoSuch` where the node is not there, and `KeeperFailed` only where its keeper is
+    /// broken then.
     pub fn save(&mut self, number: NodeNumber) -> Reply
         ensures goes { Goes K.custody self.old self.new
             (λ w w'. Step w (event.Save number) result w') }
@@ -156,8 +157,8 @@ impl<K: Keeper> Nodes<K> {
         answer
     }
 
-    /// Gives up what is to be saved at the node, as `Node::cancel` has it, and answers `Done`, or why
-    /// not: never `KeeperFailed`. Takes no memory.
+    /// Gives up what is to be saved at the node, as `Node::cancel` has it, and answers `Done`, or
+    /// why not: never `KeeperFailed`. Takes no memory.
     pub fn cancel(&mut self, number: NodeNumber) -> Reply
         ensures goes { Goes K.custody self.old self.new
             (λ w w'. Step w (event.Cancel number) result w') }
@@ -174,8 +175,8 @@ impl<K: Keeper> Nodes<K> {
         answer
     }
 
-    /// Publishes what is due at the node, as `Node::publish` has it, and answers the name of an order, or how many operations
-    /// were received, or why not: never `KeeperFailed`.
+    /// Publishes what is due at the node, as `Node::publish` has it, and answers the name of an
+    /// order, or how many operations were received, or why not: never `KeeperFailed`.
     pub fn publish(&mut self, alloc: Global, number: NodeNumber) -> Reply
         ensures goes { Goes K.custody self.old self.new
             (λ w w'. Step w (event.Publish number) result w') }
@@ -193,8 +194,8 @@ impl<K: Keeper> Nodes<K> {
         answer
     }
 
-    /// Restarts the node, as `Node::restart` has it, and answers its boot, or why not: `KeeperFailed` only where its keeper is
-    /// broken then, or loads a bad row.
+    /// Restarts the node, as `Node::restart` has it, and answers its boot, or why not:
+    /// `KeeperFailed` only where its keeper is broken then, or loads a bad row.
     pub fn restart(&mut self, alloc: Global, number: NodeNumber, keeps: bool) -> Reply
         ensures goes { Goes K.custody self.old self.new
             (λ w w'. Step w (event.Restart number keeps) result w') }
@@ -213,9 +214,9 @@ impl<K: Keeper> Nodes<K> {
         answer
     }
 
-    /// Does the job at a desk of the node, which first looks at the list up to a length, as `Node::job` has it; sends the message
-    /// that it may answer, and notes what is admitted. An arrival is not handed in so, and answers `NoSuch`, as does a desk that
-    /// is not there.
+    /// Does the job at a desk of the node, which first looks at the list up to a length, as
+    /// `Node::job` has it; sends the message that it may answer, and notes what is admitted. An
+    /// arrival is not handed in so, and answers `NoSuch`, as does a desk that is not there.
     ///
     /// Refused with `Memory` too where there is no room for what would be noted or sent, and never
     /// with `KeeperFailed`. For a job of which something is noted the labels of the process are
@@ -239,7 +240,8 @@ impl<K: Keeper> Nodes<K> {
         answer
     }
 
-    /// Writes the text of the node's published operations, as `Node::text` has it, or nothing where it is not there.
+    /// Writes the text of the node's published operations, as `Node::text` has it, or nothing where
+    /// it is not there.
     pub fn text<W: Write>(
         &self,
         number: NodeNumber,

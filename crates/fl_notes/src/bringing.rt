@@ -106,11 +106,12 @@ fn note(audit: &mut Vec<Admission>, entry: Option<Admission>)
     }
 }
 
-/// Hands a message of this sender to its receiver at the node, and notes it where it arrives. What is noted is made and has its
-/// room before. Copies what the receiver owns only where that has changed since it was noted last.
+/// Hands a message of this sender to its receiver at the node, and notes it where it arrives. What
+/// is noted is made and has its room before. Copies what the receiver owns only where that has
+/// changed since it was noted last.
 ///
-/// Refused as `Node::arrive` has it; `Stopped` where the node is stopped, and `Memory` where there is no room for the message
-/// or for what would be noted. Nothing is noted then.
+/// Refused as `Node::arrive` has it; `Stopped` where the node is stopped, and `Memory` where there
+/// is no room for the message or for what would be noted. Nothing is noted then.
 pub fn bring<K: Keeper>(
     alloc: Global,
     node: &mut Node<K>,
@@ -137,8 +138,8 @@ pub fn bring<K: Keeper>(
     }
 }
 
-/// Has the node take the operations of a packet, as `Node::receive` has it: those that are new are then to be saved. Answers how
-/// many are new, or why none is taken.
+/// Has the node take the operations of a packet, as `Node::receive` has it: those that are new are
+/// then to be saved. Answers how many are new, or why none is taken.
 pub fn receive<K: Keeper>(alloc: Global, node: &mut Node<K>, packet: &Packet) -> Reply
     ensures desks { length node.new.node.views ≡ length node.old.node.views }
     ensures takes { let ops = set.of_list {R = op_cmp} (ops_of packet.now) in

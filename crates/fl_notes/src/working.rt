@@ -177,12 +177,13 @@ pub struct Look {
     pub upto: u64,
 }
 
-/// Has the node of this number do the job at a desk, which looks first: gives the answer as it is shown, sends the message that it
-/// may be, and notes what is admitted. What would be noted and sent is made and has its room before. Copies what who asks owns
-/// only where that has changed since it was noted last.
+/// Has the node of this number do the job at a desk, which looks first: gives the answer as it is
+/// shown, sends the message that it may be, and notes what is admitted. What would be noted and
+/// sent is made and has its room before. Copies what who asks owns only where that has changed
+/// since it was noted last.
 ///
-/// Refused as `Node::job` has it; `Stopped` where the node is stopped, and `Memory` where there is no room for what would be
-/// noted or sent. Nothing is sent or noted then.
+/// Refused as `Node::job` has it; `Stopped` where the node is stopped, and `Memory` where there is
+/// no room for what would be noted or sent. Nothing is sent or noted then.
 pub fn work<K: Keeper>(
     alloc: Global,
     number: NodeNumber,

@@ -100,7 +100,8 @@ pub fn cap_at(format: Format, bytes: &[u8], at: usize) -> Result<Cap, BadField>
     })
 }
 
-/// Adds the bytes of a name at the end, as the second format has them. Fails only where the vector has no room for them and cannot grow.
+/// Adds the bytes of a name at the end, as the second format has them. Fails only where the vector
+/// has no room for them and cannot grow.
 pub fn push_name(out: &mut Vec<u8>, name: Name) -> Result<(), AllocError>
     ensures ok { OnOk result (out.new.items ≡ out.old.items ++ name_bytes Two name) }
     ensures len { OnOk result (vec_len out.new ≡ vec_len out.old + name_size Two) }
@@ -111,7 +112,8 @@ pub fn push_name(out: &mut Vec<u8>, name: Name) -> Result<(), AllocError>
     out.extend_from_slice(&name.seq.to_be_bytes())
 }
 
-/// Adds the bytes of a capability at the end, as the second format has them. Fails only where the vector has no room for them and cannot grow.
+/// Adds the bytes of a capability at the end, as the second format has them. Fails only where the
+/// vector has no room for them and cannot grow.
 pub fn push_cap(out: &mut Vec<u8>, cap: Cap) -> Result<(), AllocError>
     ensures ok { OnOk result (out.new.items ≡ out.old.items ++ cap_bytes Two cap) }
     ensures len { OnOk result (vec_len out.new ≡ vec_len out.old + cap_size Two) }

@@ -21,7 +21,8 @@ ghost use Rattle.fl_ops.specs.Registry.{Effective, IsClosed, IsGlobal, OpensNone
 
 use crate::op::Op;
 
-/// Operations are ordered by name, and then by their bytes. Only equal ones tie, and `==` holds of those alone.
+/// Operations are ordered by name, and then by their bytes. Only equal ones tie, and `==` holds of
+/// those alone.
 pub fn law_order()
     ensures bytes { (a b : Op)
         → op_cmp a b ≡ ordering_then (name_cmp a.name b.name) (slice_cmp nat_cmp (op_bytes Two a) (op_bytes Two b)) }
@@ -29,7 +30,8 @@ pub fn law_order()
     ensures equality { (a b : Op) → IsTrue (⟦<Op as PartialEq>⟧.eq a b) ↔ (a ≡ b) }
 {}
 
-/// What an operation spells is read, in each format that has it, whatever follows it; and no spelling begins another.
+/// What an operation spells is read, in each format that has it, whatever follows it; and no
+/// spelling begins another.
 pub fn law_one_spelling()
     ensures read { (f : Format) (op : Op) (rest : List ℕ) → HasOp f op → op_fault (op_bytes f op ++ rest) ≡ None }
     ensures one { (f g : Format) (a b : Op) (x y : List ℕ) → HasOp f a → HasOp g b
@@ -37,8 +39,9 @@ pub fn law_one_spelling()
     ensures written { (op : Op) → HasOp Two op }
 {}
 
-/// What is reached through a registry is the least set that holds what is owned and, with the use of a group, all that the
-/// registry puts into the group. So more operations and more that is owned reach no less, and what is reached reaches no more.
+/// What is reached through a registry is the least set that holds what is owned and, with the use
+/// of a group, all that the registry puts into the group. So more operations and more that is owned
+/// reach no less, and what is reached reaches no more.
 pub fn law_reach()
     ensures roots { (ops : Op → Bool) (owned : Cap → Bool)
         → Within (Among owned) (Reached ops owned) }
@@ -54,8 +57,8 @@ pub fn law_reach()
         → Within (Reach (Among ops) (Reached ops owned)) (Reached ops owned) }
 {}
 
-/// What everybody has, what is in effect for an owner, and the tags that the owner may both add and remove: more operations and
-/// more that is owned take none of it away.
+/// What everybody has, what is in effect for an owner, and the tags that the owner may both add and
+/// remove: more operations and more that is owned take none of it away.
 pub fn law_effective()
     ensures global { (ops more : Op → Bool) → Within (Among ops) (Among more)
         → Within (IsGlobal (Among ops)) (IsGlobal (Among more)) }
@@ -67,14 +70,15 @@ pub fn law_effective()
         → Within (Dual (Effective ops owned)) (Dual (Effective more held)) }
 {}
 
-/// Where no group is opened, what is in effect for an owner is what is reached from what is owned, and what everybody has.
+/// Where no group is opened, what is in effect for an owner is what is reached from what is owned,
+/// and what everybody has.
 pub fn law_no_open()
     ensures { (ops : Op → Bool) (owned : Cap → Bool) → OpensNone (Among ops) → (c : Cap)
         → Effective ops owned c ↔ (Reached ops owned c ⊎ IsGlobal (Among ops) c) }
 {}
 
-/// A name has no more than one first login in a registry: one capability, and one digest. Registries with the same operations
-/// have the same.
+/// A name has no more than one first login in a registry: one capability, and one digest.
+/// Registries with the same operations have the same.
 pub fn law_login()
     ensures one { (ops : Op → Bool) (login : Name) (c d : Cap) (x y : Digest)
         → IsFirstLogin (Among ops) login c x → IsFirstLogin (Among ops) login d y

@@ -34,7 +34,8 @@ pub enum Body {
     MakeGroup,
     /// Puts the capability into the group: who may use the group has it.
     Put(Group, Cap),
-    /// Makes the login of the operation's name: who knows the secret of this digest gets the capability.
+    /// Makes the login of the operation's name: who knows the secret of this digest gets the
+    /// capability.
     MakeLogin(Cap, Digest),
     /// Opens the group: everybody may use it.
     Open(Group),

@@ -66,8 +66,9 @@ fn body_at(format: Format, bytes: &[u8], kind: u8) -> Result<Body, BadField>
     })
 }
 
-/// The operation that begins the bytes, in either format, and how many of them it takes; what follows it is not looked at. Where
-/// no operation begins them, the fault is at the first field that is cut off or out of its range. Takes no memory.
+/// The operation that begins the bytes, in either format, and how many of them it takes; what
+/// follows it is not looked at. Where no operation begins them, the fault is at the first field
+/// that is cut off or out of its range. Takes no memory.
 pub fn decode(bytes: &[u8]) -> Result<(Op, usize), BadField>
     ensures { MatchResult result
         (λ x. (op_fault bytes.now ≡ None) × (let f = format_of (slice_index bytes.now 0) in

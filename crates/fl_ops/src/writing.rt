@@ -31,7 +31,8 @@ fn push_body(out: &mut Vec<u8>, body: &Body) -> Result<(), AllocError>
     Ok(())
 }
 
-/// Adds the spelling of an operation at the end. Where the vector cannot grow for it, it is as before.
+/// Adds the spelling of an operation at the end. Where the vector cannot grow for it, it is as
+/// before.
 pub fn push_op(out: &mut Vec<u8>, op: &Op) -> Result<(), AllocError>
     ensures ok { OnOk result (out.new.items ≡ out.old.items ++ op_bytes Two op.now) }
     ensures err { OnErr result (out.new.items ≡ out.old.items) }

@@ -66,8 +66,8 @@ impl Eq for Spans {
     ghost laws = { lists_equiv span_equivalence };
 }
 
-/// A window, which is the names from one to another, and spans in it: rising, and between two of them a name at least that
-/// is in neither.
+/// A window, which is the names from one to another, and spans in it: rising, and between two of
+/// them a name at least that is in neither.
 #[derive(Debug, Drop, PartialEq, Eq)]
 pub struct Intervals {
     pub from: Name,

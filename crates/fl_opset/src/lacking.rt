@@ -10,7 +10,8 @@ use crate::rank::{last_rank_of, rank};
 use fl_ops::op::Op;
 use std::alloc::{AllocError, Global};
 
-// A place with none behind it that is below the rank, at most twice as far as the first of the others.
+// A place with none behind it that is below the rank, at most twice as far as the first of the
+// others.
 fn bound(ops: &[Op], low: u64) -> usize
     requires { IsNonDecreasingBy op_rank ops.now }
     ensures inside { result ≤ length ops.now }
@@ -26,7 +27,8 @@ fn bound(ops: &[Op], low: u64) -> usize
     ops.len()
 }
 
-// The operations below a rank, and the others. A search in steps that double, so that it costs little where there are few below.
+// The operations below a rank, and the others. A search in steps that double, so that it costs
+// little where there are few below.
 fn cut(ops: &[Op], low: u64) -> (&[Op], &[Op])
     requires { IsNonDecreasingBy op_rank ops.now }
     ensures whole { ops.now ≡ result.0.now ++ result.1.now }
@@ -39,8 +41,8 @@ fn cut(ops: &[Op], low: u64) -> (&[Op], &[Op])
     ops.split_at(near.partition_point(|op| rank(op.name) < low))
 }
 
-/// Those of the operations that the window lacks. Two searches a span, each in steps that double from where the one before
-/// ended, and then linear in what is lacking.
+/// Those of the operations that the window lacks. Two searches a span, each in steps that double
+/// from where the one before ended, and then linear in what is lacking.
 pub fn lacking_of(alloc: Global, ops: &[Op], window: &Intervals) -> Result<Vec<Op>, AllocError>
     requires { IsNonDecreasingBy op_rank ops.now }
     ensures { IfOk result (λ lacking. lacking.items ≡ filter (is_lacking window.now) ops.now) }

@@ -12,8 +12,8 @@ ghost use Rattle.fl_opset.specs.RegistryText.{registry_text};
 ghost use Rattle.fl_opset.specs.Windows.{AreWindows, in_window, lacking};
 ghost use Rattle.fl_opset.specs.Catching.{HaveNoClash, KnowsOwn, MayTake};
 
-/// A union is the least set that holds both, also of sets that clash. So neither the order, nor the grouping, nor the number of
-/// merges tells.
+/// A union is the least set that holds both, also of sets that clash. So neither the order, nor the
+/// grouping, nor the number of merges tells.
 pub fn law_join()
     ensures associative { (a b c : set.SetBy op_cmp)
         → set.union (set.union a b) c ≡ set.union a (set.union b c) }
@@ -37,8 +37,8 @@ pub fn law_windows()
         → (name : Name) → count_by (λ window. in_window window name) windows ≡ 1 }
 {}
 
-/// A set has one list of windows: its greatest runs of names, cut at each 512th. So what [`OpSet::have`] answers is a function
-/// of the set.
+/// A set has one list of windows: its greatest runs of names, cut at each 512th. So what
+/// [`OpSet::have`] answers is a function of the set.
 ///
 /// [`OpSet::have`]: crate::set::OpSet::have
 pub fn law_one_summary()
@@ -46,9 +46,9 @@ pub fn law_one_summary()
         → AreWindows (In a) windows → AreWindows (In a) others → windows ≡ others }
 {}
 
-/// Let the sets a and b not clash. Once b has answered all windows of a, and all these answers were taken, all of b is there.
-/// And where b has each name once and no operation of a's own node that a lacks, each of them may be taken, whatever was taken
-/// of b before.
+/// Let the sets a and b not clash. Once b has answered all windows of a, and all these answers were
+/// taken, all of b is there. And where b has each name once and no operation of a's own node that a
+/// lacks, each of them may be taken, whatever was taken of b before.
 pub fn law_caught_up()
     ensures caught_up { (a b taken : set.SetBy op_cmp) (windows : List Intervals)
         → AreWindows (In a) windows → HaveNoClash (In a) (In b) → Within (In a) (In taken)

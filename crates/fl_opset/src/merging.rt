@@ -23,8 +23,8 @@ pub fn all_below(left: &[Op], right: &[Op]) -> bool
     }
 }
 
-/// The operations of both lists, which rise, in order; one that both have stands there once. One walk over both, and one
-/// vector. An error says that there was no memory for it.
+/// The operations of both lists, which rise, in order; one that both have stands there once. One
+/// walk over both, and one vector. An error says that there was no memory for it.
 pub fn merged(alloc: Global, left: &[Op], right: &[Op]) -> Result<Vec<Op>, AllocError>
     ensures { IfOk result (λ ops. ops.items ≡ sorted_merge op_cmp true left.now right.now) }
 {

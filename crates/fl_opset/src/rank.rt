@@ -8,8 +8,8 @@ use fl_labels::name::Name;
 // By how much the ranks of one number at two neighbouring nodes differ.
 const NODE: u64 = 0x1_0000_0000;
 
-/// The rank of a name. Names are ordered by it. Those of a node stand next to each other, and between two nodes one rank is
-/// nobody's.
+/// The rank of a name. Names are ordered by it. Those of a node stand next to each other, and
+/// between two nodes one rank is nobody's.
 pub fn rank(name: Name) -> u64
     ensures { result ≡ name_rank name }
 {

@@ -13,8 +13,8 @@ use fl_labels::name::{Name, NodeNumber};
 use fl_ops::digest::Digest;
 use fl_ops::op::{Body, Op};
 
-/// The place of an operation, or the place at which it would stand. The last operation is asked first, since most are added
-/// at the end.
+/// The place of an operation, or the place at which it would stand. The last operation is asked
+/// first, since most are added at the end.
 pub fn place_of(ops: &[Op], op: &Op) -> Result<usize, usize>
     ensures bound { IsSearchInRange result (length ops.now) }
     ensures position { IsStrictlySortedBy op_cmp ops.now

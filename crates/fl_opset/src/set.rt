@@ -114,7 +114,8 @@ impl OpSet {
         last_seq(&self.ops, node)
     }
 
-    /// The name of the operation, where a member has that name and another body. A binary search; takes no memory.
+    /// The name of the operation, where a member has that name and another body. A binary search;
+    /// takes no memory.
     pub fn clash(&self, op: &Op) -> Option<Name>
         ensures some { IfSome result (λ name. (name ≡ op.now.name)
             × ((other : Op) × In self.now other × (other.name ≡ name) × (other ≢ op.now))) }
@@ -124,18 +125,21 @@ impl OpSet {
         has_other(&self.ops, op).then_some(op.name)
     }
 
-    /// The least login of this name, as its capability and the digest of its secret, or none. A binary search; takes no memory.
+    /// The least login of this name, as its capability and the digest of its secret, or none. A
+    /// binary search; takes no memory.
     pub fn first_login(&self, name: Name) -> Option<(Cap, Digest)>
         ensures { FindsLogin (In self.now) name result }
     {
         first_login(&self.ops, name)
     }
 
-    /// Adds an operation, and answers whether it is new. Only a new one can fail; an error leaves the set.
+    /// Adds an operation, and answers whether it is new. Only a new one can fail; an error leaves
+    /// the set.
     ///
-    /// One above all members costs one comparison, and none of them moves; else a binary search, and those above it move. The
-    /// spans of the names are kept at the cost of a binary search among them, or of a comparison where the last one grows. That
-    /// never fails: where there is no memory for one, they are not known until the next merge.
+    /// One above all members costs one comparison, and none of them moves; else a binary search,
+    /// and those above it move. The spans of the names are kept at the cost of a binary search
+    /// among them, or of a comparison where the last one grows. That never fails: where there is no
+    /// memory for one, they are not known until the next merge.
     pub fn add(&mut self, op: Op) -> Result<bool, AllocError>
         ensures ok { OnOk result (self.new ≡ set.insert self.old op) }
         ensures new { IfOk result (λ new. new ≡ not (set.contains self.old op)) }
@@ -153,8 +157,8 @@ impl OpSet {
         }
     }
 
-    /// Takes an operation out, and answers whether it was a member. Takes no memory. The members above it move, and the spans
-    /// are kept as [`OpSet::add`] keeps them.
+    /// Takes an operation out, and answers whether it was a member. Takes no memory. The members
+    /// above it move, and the spans are kept as [`OpSet::add`] keeps them.
     pub fn remove(&mut self, op: &Op) -> bool
         ensures after { self.new ≡ set.remove self.old op.now }
         ensures was { result ≡ set.contains self.old op.now }
@@ -210,7 +214,8 @@ impl OpSet {
         Ok(())
     }
 
-    // Walks the members for their spans, once. Where there is no memory for them, they are not known.
+    // Walks the members for their spans, once. Where there is no memory for them, they are not
+    // known.
     fn find_spans(&mut self)
         ensures { self.new ≡ self.old }
     {
@@ -221,9 +226,10 @@ impl OpSet {
         self.known = true;
     }
 
-    /// What names the members have, as windows that cover all names: each with at most 512 spans, all but the last with just so
-    /// many. Copies the spans, and walks no member; where there was no memory to keep the spans, it walks all of them, once. An
-    /// error says that there was no memory for the windows.
+    /// What names the members have, as windows that cover all names: each with at most 512 spans,
+    /// all but the last with just so many. Copies the spans, and walks no member; where there was
+    /// no memory to keep the spans, it walks all of them, once. An error says that there was no
+    /// memory for the windows.
     pub fn have(&self, alloc: Global) -> Result<Vec<Intervals>, AllocError>
         ensures { IfOk result (λ windows. AreWindows (In self.now) windows.items) }
     {
@@ -234,18 +240,21 @@ impl OpSet {
         windows_of(alloc, &spans)
     }
 
-    /// The members whose name is in the window and in none of its spans, rising. Finds the window by searches in steps that
-    /// double, walks no further than it, searches twice for each span, by the logarithm of the members in it, and is then linear
-    /// in what is lacking. An error says that there was no memory for it.
+    /// The members whose name is in the window and in none of its spans, rising. Finds the window
+    /// by searches in steps that double, walks no further than it, searches twice for each span, by
+    /// the logarithm of the members in it, and is then linear in what is lacking. An error says
+    /// that there was no memory for it.
     pub fn lacking(&self, alloc: Global, window: &Intervals) -> Result<Vec<Op>, AllocError>
         ensures { IfOk result (λ ops. ops.items ≡ lacking self.now window.now) }
     {
         lacking_of(alloc, &self.ops, window)
     }
 
-    /// Puts the text of the members into a sink, a line for each, rising: `1.1 tag export`, `1.2 group`. Takes no memory but the sink's.
+    /// Puts the text of the members into a sink, a line for each, rising: `1.1 tag export`, `1.2
+    /// group`. Takes no memory but the sink's.
     ///
-    /// At a fault a front of what waited and the text was written, and the sink may not be used again.
+    /// At a fault a front of what waited and the text was written, and the sink may not be used
+    /// again.
     pub fn write_text<W: Writer>(&self, sink: &mut Sink, output: &mut W) -> Result<(), WriteFault>
         ensures puts { let text = registry_text self.now in
             Puts (W.contents output.old) (W.contents output.new) sink.old text sink.new result }
@@ -254,7 +263,8 @@ impl OpSet {
         write_lines(&self.ops, sink, output)
     }
 
-    /// Writes the text of the members, as [`OpSet::write_text`] has it. At a fault a front of it was written.
+    /// Writes the text of the members, as [`OpSet::write_text`] has it. At a fault a front of it
+    /// was written.
     pub fn text<W: Writer>(&self, output: &mut W) -> Result<(), WriteFault>
         ensures writes { Writes (W.contents output.old) (W.contents output.new) (registry_text self.now) result }
         ensures cause { OnErr result (W.has_failed output.new) }

@@ -35,7 +35,8 @@ fn joined(span: Span, next: Span) -> Span
     }
 }
 
-// How many of the spans end below a rank. The last span is asked first, since most names come at the end; else a binary search.
+// How many of the spans end below a rank. The last span is asked first, since most names come at
+// the end; else a binary search.
 fn count_below(spans: &[Span], low: u64) -> usize
     requires { fit least_rank greatest_rank spans.now ≡ true }
     ensures bound { result ≤ length spans.now }
@@ -55,8 +56,9 @@ fn count_below(spans: &[Span], low: u64) -> usize
     spans.partition_point(|span| last_rank_of(span) < low)
 }
 
-/// Adds a name to the spans: one of them grows, two are joined, or there is one more. A binary search, and where there is one
-/// more or one less, those above it move. An error says that there was no memory for one more, and leaves them.
+/// Adds a name to the spans: one of them grows, two are joined, or there is one more. A binary
+/// search, and where there is one more or one less, those above it move. An error says that there
+/// was no memory for one more, and leaves them.
 pub fn add_name(spans: &mut Vec<Span>, name: Name) -> Result<(), AllocError>
     requires { fit least_rank greatest_rank spans.old.items ≡ true }
     ensures ok { OnOk result (ChangeAt (name_rank name) true spans.old.items spans.new.items) }
@@ -89,8 +91,8 @@ pub fn add_name(spans: &mut Vec<Span>, name: Name) -> Result<(), AllocError>
     Ok(())
 }
 
-/// Adds the names of operations, each as [`add_name`] does. An error says that there was no memory for them, and may leave some
-/// of them added.
+/// Adds the names of operations, each as [`add_name`] does. An error says that there was no memory
+/// for them, and may leave some of them added.
 pub fn add_names(spans: &mut Vec<Span>, ops: &[Op]) -> Result<(), AllocError>
     requires { fit least_rank greatest_rank spans.old.items ≡ true }
     ensures ok { OnOk result (AddNames ops.now spans.old.items spans.new.items) }
@@ -140,8 +142,9 @@ fn after(span: Span, name: Name) -> Span
     }
 }
 
-/// Takes a name out of the spans: one of them shrinks, goes, or becomes two. Takes no memory: an error says that there was no
-/// room for one more, and leaves them. A binary search, and where there is one more or one less, those above it move.
+/// Takes a name out of the spans: one of them shrinks, goes, or becomes two. Takes no memory: an
+/// error says that there was no room for one more, and leaves them. A binary search, and where
+/// there is one more or one less, those above it move.
 pub fn remove_name(spans: &mut Vec<Span>, name: Name) -> Result<(), AllocError>
     requires { fit least_rank greatest_rank spans.old.items ≡ true }
     ensures ok { OnOk result (ChangeAt (name_rank name) false spans.old.items spans.new.items) }

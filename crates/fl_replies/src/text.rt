@@ -1,5 +1,5 @@
-//! What a world answers, a line each. Writing takes no memory but the sink's, and does without.
-//! At a fault a front of what waited and of the line was written, and the sink may not be used again.
+//! What a world answers, a line each. Writing takes no memory but the sink's, and does without. At
+//! a fault a front of what waited and of the line was written, and the sink may not be used again.
 ghost use Rattle.std.specs.Prelude.{◌≡◌, ◌++◌, ◌∷◌, codes, OnErr};
 ghost use Rattle.std.specs.Fmt.{decimal};
 ghost use Rattle.std.specs.List.{range_with_len};
@@ -14,9 +14,9 @@ use fl_system::answer::Fault;
 use fl_system::reply::Reply;
 use itoa::Buffer;
 
-/// Puts the line of what an event of a world is answered into the sink: a job's reply, `begun 1.7` and `ok 1.7` of an
-/// operation by its name, `begun 3` and `took 3` of received operations, `boot 2`, `sent 2 3 4` or `sent none`, `ok`,
-/// `no-such`, or `refused` and the fault.
+/// Puts the line of what an event of a world is answered into the sink: a job's reply, `begun 1.7`
+/// and `ok 1.7` of an operation by its name, `begun 3` and `took 3` of received operations, `boot
+/// 2`, `sent 2 3 4` or `sent none`, `ok`, `no-such`, or `refused` and the fault.
 pub fn write_world_reply<W: Writer>(
     reply: &Reply,
     sink: &mut Sink,

@@ -34,8 +34,9 @@ fn first_wanting<H: Has>(has: &mut H, from: &[Name], to: &[Name]) -> Option<Cap>
     None
 }
 
-/// The least capability that the change of a label takes and that is not in effect, or none where all are. One walk along
-/// both labels, with one question for each tag that only one of them has. Takes no memory.
+/// The least capability that the change of a label takes and that is not in effect, or none where
+/// all are. One walk along both labels, with one question for each tag that only one of them has.
+/// Takes no memory.
 pub fn safe_change<H: Has>(has: &mut H, from: &Label, to: &Label) -> Option<Cap>
     ensures found { let E = H.effective has.old in
         Judges cap_cmp (SafeChange E from.now to.now) (Takes from.now to.now) E result }

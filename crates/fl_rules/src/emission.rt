@@ -24,8 +24,8 @@ fn first_kept<H: Has>(has: &mut H, tags: &[Name]) -> Option<Name>
     None
 }
 
-/// The least tag of the label that may not be both added and removed, and so may not leave for the outside, or none where the
-/// whole label may. At most two questions for each tag. Takes no memory.
+/// The least tag of the label that may not be both added and removed, and so may not leave for the
+/// outside, or none where the whole label may. At most two questions for each tag. Takes no memory.
 pub fn safe_emit<H: Has>(has: &mut H, secrecy: &Label) -> Option<Name>
     ensures found { let E = H.effective has.old in
         Judges name_cmp (SafeEmission E secrecy.now) (In secrecy.now) (Dual E) result }

@@ -60,7 +60,8 @@ fn tag_lost(cap: Option<Cap>) -> Option<Name>
     }
 }
 
-// The least tag of the first label that the second lacks and that may not be both added and removed.
+// The least tag of the first label that the second lacks and that may not be both added and
+// removed.
 fn first_lost<H: Has>(has: &mut H, from: &Label, to: &Label) -> Option<Name>
     ensures found { Found name_cmp (IsMissing from.now to.now) (Dual (H.effective has.old)) result }
     ensures same { H.keeps has.old has.new }
@@ -90,8 +91,8 @@ fn lesser(a: Option<Name>, b: Option<Name>) -> Option<Name>
     }
 }
 
-// The least tag of secrecy lost, or of integrity gained, on the way from the first labels to the second, that may not be both
-// added and removed.
+// The least tag of secrecy lost, or of integrity gained, on the way from the first labels to the
+// second, that may not be both added and removed.
 fn first_loosened<H: Has>(has: &mut H, from: LabelsRef<'_>, to: LabelsRef<'_>) -> Option<Name>
     ensures found { let D = Dual (H.effective has.old) in
         Found name_cmp (Loosens (sets_of from.entry) (sets_of to.entry)) D result }
@@ -102,8 +103,9 @@ fn first_loosened<H: Has>(has: &mut H, from: LabelsRef<'_>, to: LabelsRef<'_>) -
     lesser(lost, gained)
 }
 
-/// The least tag, over all differences that the mode looks at, that may not be both added and removed, or none where an endpoint
-/// with these labels is safe beside those of its process. At most four walks, each along two labels. Takes no memory.
+/// The least tag, over all differences that the mode looks at, that may not be both added and
+/// removed, or none where an endpoint with these labels is safe beside those of its process. At
+/// most four walks, each along two labels. Takes no memory.
 pub fn safe_endpoint<H: Has>(
     has: &mut H,
     mode: Mode,

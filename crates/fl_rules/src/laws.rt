@@ -17,8 +17,8 @@ pub fn law_endpoint<H: Has>()
         ↔ Within (Crosses mode process endpoint) (Dual (H.effective h)) }
 {}
 
-/// A message from a safe endpoint of p to a safe endpoint of q, where the pair is safe, is safe from p to q, also for who has more
-/// in effect than the endpoints were safe by.
+/// A message from a safe endpoint of p to a safe endpoint of q, where the pair is safe, is safe
+/// from p to q, also for who has more in effect than the endpoints were safe by.
 pub fn law_message<G: Has, H: Has>()
     ensures { (g more_g : G) (h more_h : H) (p q : Labels) (e f : End)
         → Within (G.effective g) (G.effective more_g) → Within (H.effective h) (H.effective more_h)

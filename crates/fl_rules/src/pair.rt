@@ -26,8 +26,9 @@ pub enum PairFault {
     Integrity(Name),
 }
 
-/// The first fault, in the order of `PairFault`, of a message from the sender's endpoint to the receiver's, or none where it is
-/// safe. One walk along the secrecy of both, and one along their integrity. Takes no memory.
+/// The first fault, in the order of `PairFault`, of a message from the sender's endpoint to the
+/// receiver's, or none where it is safe. One walk along the secrecy of both, and one along their
+/// integrity. Takes no memory.
 pub fn safe_pair(sender: EndRef<'_>, receiver: EndRef<'_>) -> Option<PairFault>
     ensures { let from = end_of sender.entry in let to = end_of receiver.entry in
         MatchOption result (SafePair from to) (PairFails from to) }

@@ -34,7 +34,8 @@ pub fn write_out<W: Writer>(output: &mut W, bytes: &[u8]) -> Result<(), WriteFau
     Ok(())
 }
 
-/// Bytes that wait to be written, in their order. It stands beside the writer that they are for. Where 64 KiB wait, they are written before any more.
+/// Bytes that wait to be written, in their order. It stands beside the writer that they are for.
+/// Where 64 KiB wait, they are written before any more.
 #[derive(Drop)]
 pub struct Sink {
     pending: Vec<u8>,
@@ -73,9 +74,9 @@ impl Sink {
 
     /// Takes the bytes, to be written after what waits.
     ///
-    /// They wait where less than 64 KiB do; else what waits is written first. Where there is no memory to wait in, all is
-    /// written now, so that want of memory is no fault. At a fault a front of what waited and the bytes was written, and
-    /// the sink may not be used again.
+    /// They wait where less than 64 KiB do; else what waits is written first. Where there is no
+    /// memory to wait in, all is written now, so that want of memory is no fault. At a fault a
+    /// front of what waited and the bytes was written, and the sink may not be used again.
     #[tactic(auto, using(crate::proofs::SinkLemmas::passes))]
     pub fn put<W: Writer>(&mut self, output: &mut W, bytes: &[u8]) -> Result<(), WriteFault>
         ensures puts { let text = bytes.now in

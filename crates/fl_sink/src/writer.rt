@@ -12,7 +12,8 @@ pub trait Writer {
     // The bytes that were written, where they are known.
     ghost contents: { Self → Option (List ℕ) };
 
-    // To write failed, or it took no bytes where there were some, or to send on what was written failed.
+    // To write failed, or it took no bytes where there were some, or to send on what was written
+    // failed.
     ghost has_failed: { Self → Type 0 };
 
     /// Writes a front of the bytes, and says how many.

@@ -23,8 +23,9 @@ use std::alloc::Global;
 
 /// The saved operations, whose names differ.
 ///
-/// Refused with `BadRow` only where a row is bad, and then none are given; with `Memory` for want of memory, where the connection
-/// serves on; and with `Broken` for an error of another cause, or where the connection serves no more.
+/// Refused with `BadRow` only where a row is bad, and then none are given; with `Memory` for want
+/// of memory, where the connection serves on; and with `Broken` for an error of another cause, or
+/// where the connection serves no more.
 pub fn load_on<S: Alter>(
     alloc: Global,
     conn: &mut Connection<S>,
@@ -58,8 +59,8 @@ pub fn load_on<S: Alter>(
 
 /// Adds the operations in one transaction, all or none.
 ///
-/// Refused with `Memory` for want of memory, where none is added and the connection serves on; and with `Broken` for an error of
-/// another cause, or where the connection serves no more.
+/// Refused with `Memory` for want of memory, where none is added and the connection serves on; and
+/// with `Broken` for an error of another cause, or where the connection serves no more.
 pub fn save_on<S: Alter>(
     alloc: Global,
     conn: &mut Connection<S>,
@@ -90,8 +91,9 @@ pub fn save_on<S: Alter>(
 
 /// Raises the boot by one and gives it.
 ///
-/// Refused with `NamesSpent` exactly where the boot is 4,294,967,295 and is read; with `Memory` for want of memory, where the
-/// boot stays and the connection serves on; and with `Broken` for an error of another cause, or where it serves no more.
+/// Refused with `NamesSpent` exactly where the boot is 4,294,967,295 and is read; with `Memory` for
+/// want of memory, where the boot stays and the connection serves on; and with `Broken` for an
+/// error of another cause, or where it serves no more.
 pub fn boot_on<S: Alter>(conn: &mut Connection<S>, number: NodeNumber) -> Result<u32, KeeperFault>
     requires idle { conn.old.in_transaction ≡ false }
     requires serving { IsServing number (state S.Store conn.old) }

@@ -7,7 +7,8 @@ ghost use Rattle.fl_sql_store.specs.Breaking.{Breaks, IsToldAs};
 use fl_store::keeper::KeeperFault;
 use sqlite::{Alter, Connection, Error, ErrorCode};
 
-/// What an error comes to: want of memory where it says so and the connection still serves, and else a break.
+/// What an error comes to: want of memory where it says so and the connection still serves, and
+/// else a break.
 pub fn fault_of<S: Alter>(conn: &mut Connection<S>, error: Error) -> KeeperFault
     requires { conn.old.in_transaction ≡ false }
     ensures idle { conn.new.in_transaction ≡ false }

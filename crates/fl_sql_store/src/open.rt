@@ -189,8 +189,8 @@ fn own_on<S: Alter>(
     }
 }
 
-/// Whether the database can be this node's. One that has no tables gets them, and one of the first format is rewritten in the
-/// second.
+/// Whether the database can be this node's. One that has no tables gets them, and one of the first
+/// format is rewritten in the second.
 pub fn check<S: Alter>(
     alloc: Global,
     conn: &mut Connection<S>,

@@ -19,7 +19,8 @@ use sqlite::{Alter, Connection};
 use std::alloc::Global;
 use std::marker::Model;
 
-/// A keeper over a database. Its calls are those of `calls` over its connection, up to the first that is `Broken`.
+/// A keeper over a database. Its calls are those of `calls` over its connection, up to the first
+/// that is `Broken`.
 pub struct SqlKeeper<S: Alter> {
     alloc: Global,
     conn: Connection<S>,
@@ -78,16 +79,18 @@ impl<S: Alter> SqlKeeper<S> {
         }
     }
 
-    /// Opens a keeper of this node over a database, which stays as it was; one that has no tables gets them, and the row of the
-    /// node with boot 0, in one transaction. One of the first format is rewritten in the second, in one transaction: all of its
-    /// rows are read and written, and stopped anywhere it is whole in the one or in the other. What an opening finds in it is the
+    /// Opens a keeper of this node over a database, which stays as it was; one that has no tables
+    /// gets them, and the row of the node with boot 0, in one transaction. One of the first format
+    /// is rewritten in the second, in one transaction: all of its rows are read and written, and
+    /// stopped anywhere it is whole in the one or in the other. What an opening finds in it is the
     /// same.
     ///
-    /// It hands the database back where it refuses: `WrongNode` where its one row of `self` is another node's; `BadRow` where it
-    /// has other tables than a keeper's, or not one row of `self` that a keeper writes, as one of a third format, or where it is
-    /// to be rewritten and a row of `ops` is bad; `Memory`; and `Broken` where a transaction is under way, or where the database
-    /// fails for another cause than memory. What an opening finds in it is then as before. Rows of `ops` of the second format are
-    /// not read before `load`.
+    /// It hands the database back where it refuses: `WrongNode` where its one row of `self` is
+    /// another node's; `BadRow` where it has other tables than a keeper's, or not one row of `self`
+    /// that a keeper writes, as one of a third format, or where it is to be rewritten and a row of
+    /// `ops` is bad; `Memory`; and `Broken` where a transaction is under way, or where the database
+    /// fails for another cause than memory. What an opening finds in it is then as before. Rows of
+    /// `ops` of the second format are not read before `load`.
     pub fn open(
         alloc: Global,
         conn: Connection<S>,
@@ -117,8 +120,8 @@ impl<S: Alter> SqlKeeper<S> {
     ghost use Rattle.fl_store.specs.Keeping.{Stays};
     ghost use Rattle.fl_sql_store.specs.SqlKeeping.{held_in};
 
-    /// Opens a keeper of this node over a database, as `open` does. Where that is refused, the keeper
-    /// is broken, over the database as it was left.
+    /// Opens a keeper of this node over a database, as `open` does. Where that is refused, the
+    /// keeper is broken, over the database as it was left.
     pub fn open_or_broken(
         alloc: Global,
         conn: Connection<S>,

@@ -9,8 +9,8 @@ ghost use Rattle.fl_sql_tables.specs.Failing.{IsFault, FailsToRaise};
 use fl_labels::name::NodeNumber;
 use sqlite::{Alter, Connection, Error, Transaction, params};
 
-/// The boot of the node itself. Refused only where memory is, or the disk fails, or the limit on steps is met: the row is there, and its
-/// boot in its range.
+/// The boot of the node itself. Refused only where memory is, or the disk fails, or the limit on
+/// steps is met: the row is there, and its boot in its range.
 pub fn read_boot<S: Alter>(conn: &mut Connection<S>, number: NodeNumber) -> Result<u32, Error>
     requires idle { conn.old.in_transaction ≡ false }
     requires serving { IsServing number (state S.Store conn.old) }
@@ -56,7 +56,8 @@ fn set_boot<S: Alter>(
     Ok(())
 }
 
-/// Sets the boot. Refused where memory is, or the disk fails, or the limit on steps is met, or where the table does not take it.
+/// Sets the boot. Refused where memory is, or the disk fails, or the limit on steps is met, or
+/// where the table does not take it.
 pub fn raise_boot<S: Alter>(
     conn: &mut Connection<S>,
     number: NodeNumber,

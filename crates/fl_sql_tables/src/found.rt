@@ -102,8 +102,9 @@ fn make_tables<S: Alter>(tx: &mut Transaction<'_, S>, number: NodeNumber) -> Res
     insert_self(tx, number)
 }
 
-/// Makes both tables and the row of the node, in one transaction. Refused, with nothing made, where memory is, or the disk fails, or the
-/// limit on steps is met, or where the table does not take the row of the node.
+/// Makes both tables and the row of the node, in one transaction. Refused, with nothing made, where
+/// memory is, or the disk fails, or the limit on steps is met, or where the table does not take the
+/// row of the node.
 pub fn found<S: Alter>(conn: &mut Connection<S>, number: NodeNumber) -> Result<(), Error>
     requires idle { conn.old.in_transaction ≡ false }
     requires blank { (state S.Store conn.old).now.schema ≡ no_schema }

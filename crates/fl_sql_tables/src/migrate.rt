@@ -108,9 +108,10 @@ fn rewrite<S: Alter>(
     set_format(tx)
 }
 
-/// Rewrites this node's database of the first format in the second, in one transaction: the table of operations is made anew with
-/// these, and the row of the node gets the format. Refused, with nothing written, where memory is, or the disk fails, or the limit
-/// on steps is met, or where a table does not take what is written. Takes as long as there are operations.
+/// Rewrites this node's database of the first format in the second, in one transaction: the table
+/// of operations is made anew with these, and the row of the node gets the format. Refused, with
+/// nothing written, where memory is, or the disk fails, or the limit on steps is met, or where a
+/// table does not take what is written. Takes as long as there are operations.
 pub fn migrate<S: Alter>(
     alloc: Global,
     conn: &mut Connection<S>,

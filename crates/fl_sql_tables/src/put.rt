@@ -62,8 +62,9 @@ pub(crate) fn put_ops<S: Alter>(
     Ok(())
 }
 
-/// Adds the operations in one transaction. Refused, with none added, where memory is, or the disk fails, or the limit on steps is met, or
-/// where the table does not take one of them after those before it.
+/// Adds the operations in one transaction. Refused, with none added, where memory is, or the disk
+/// fails, or the limit on steps is met, or where the table does not take one of them after those
+/// before it.
 pub fn save_ops<S: Alter>(alloc: Global, conn: &mut Connection<S>, ops: &[Op]) -> Result<(), Error>
     requires idle { conn.old.in_transaction ≡ false }
     requires some { 0 < length ops.now }

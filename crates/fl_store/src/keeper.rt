@@ -13,7 +13,8 @@ use std::alloc::Global;
 pub enum KeeperFault {
     /// There was not enough memory. Nothing has changed.
     Memory,
-    /// The keeper is broken until it is opened again. What was asked for is done as a whole, or not at all.
+    /// The keeper is broken until it is opened again. What was asked for is done as a whole, or not
+    /// at all.
     Broken,
     /// What is kept is another node's. Nothing has changed.
     WrongNode,
@@ -25,9 +26,10 @@ pub enum KeeperFault {
 
 /// What keeps the operations of one node over its restarts, and how often it was booted.
 ///
-/// A contract knows what the next opening may find, if the call or the process ends here: one thing while the keeper is not
-/// broken; where it breaks, what was kept before, or that with what was asked for, as a whole. This is promised as far as what
-/// was written is read back, and nobody else has written; a keeper in memory needs no such premise.
+/// A contract knows what the next opening may find, if the call or the process ends here: one thing
+/// while the keeper is not broken; where it breaks, what was kept before, or that with what was
+/// asked for, as a whole. This is promised as far as what was written is read back, and nobody else
+/// has written; a keeper in memory needs no such premise.
 ///
 /// It breaks, and counts one fault, only for a cause, and wants for memory only for one. What is a
 /// cause, each keeper says.
@@ -51,7 +53,8 @@ pub trait Keeper {
 
     /// The saved operations, whose names differ.
     ///
-    /// Refused for want of memory, where the keeper is or gets broken, or where a row is bad. Takes as long as there are operations.
+    /// Refused for want of memory, where the keeper is or gets broken, or where a row is bad. Takes
+    /// as long as there are operations.
     fn load(&mut self, alloc: Global) -> Result<OpSet, KeeperFault>
         ensures number { custody.number self.new ≡ custody.number self.old }
         ensures counts { custody.failed self.old ≤ custody.failed self.new }
@@ -76,7 +79,8 @@ pub trait Keeper {
 
     /// Raises the number of boots by one, and gives it.
     ///
-    /// Refused for want of memory, where the keeper is or gets broken, or where all boots are spent.
+    /// Refused for want of memory, where the keeper is or gets broken, or where all boots are
+    /// spent.
     fn boot(&mut self) -> Result<u32, KeeperFault>
         ensures number { custody.number self.new ≡ custody.number self.old }
         ensures positive { IfOk result (λ boot. 0 < boot) }
@@ -98,10 +102,12 @@ pub trait Keeper {
         ensures held { custody.is_honest self.new → custody.is_honest self.old
             × AfterBoot (custody.may_hold self.old) (custody.may_hold self.new) result };
 
-    /// Adds the operations, all or none. Their names differ, and no saved operation has one of them.
+    /// Adds the operations, all or none. Their names differ, and no saved operation has one of
+    /// them.
     ///
-    /// Refused for want of memory, or where the keeper is or gets broken. Takes as long as there are operations in the batch, or,
-    /// where these are not above all that are saved, as there are saved ones.
+    /// Refused for want of memory, or where the keeper is or gets broken. Takes as long as there
+    /// are operations in the batch, or, where these are not above all that are saved, as there are
+    /// saved ones.
     fn save(&mut self, ops: &[Op]) -> Result<(), KeeperFault>
         requires { custody.is_honest self.old
             → (k : Kept) → custody.may_hold self.old k → AreNew ops.now k.saved }

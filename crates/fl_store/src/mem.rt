@@ -69,7 +69,8 @@ fn add_all(alloc: Global, saved: &mut OpSet, ops: &[Op]) -> Result<(), AllocErro
     saved.merge(&batch)
 }
 
-// Adds the operations as a keeper of this health does, and answers its health then. An error leaves the set.
+// Adds the operations as a keeper of this health does, and answers its health then. An error leaves
+// the set.
 fn serve(alloc: Global, health: Health, saved: &mut OpSet, ops: &[Op]) -> Result<Health, AllocError>
     ensures health { IfOk result (λ after. after ≡ health_after health) }
     ensures saved { OnOk result (saved.new ≡ saved_after health saved.old ops.now) }
@@ -112,7 +113,8 @@ impl MemKeeper {
         }
     }
 
-    /// These operations are kept, whose names differ, of a node that was booted so many times. Refused for want of memory.
+    /// These operations are kept, whose names differ, of a node that was booted so many times.
+    /// Refused for want of memory.
     pub fn with(
         alloc: Global,
         number: NodeNumber,
@@ -135,9 +137,9 @@ impl MemKeeper {
         })
     }
 
-    /// From now on it breaks at the save of this count, whose batch it keeps or not: at the next one
-    /// for 1. A save that is refused for memory does not count, and no other call changes when it
-    /// breaks (`MemBecomes`). A broken keeper stays as it is.
+    /// From now on it breaks at the save of this count, whose batch it keeps or not: at the next
+    /// one for 1. A save that is refused for memory does not count, and no other call changes when
+    /// it breaks (`MemBecomes`). A broken keeper stays as it is.
     pub fn break_at(&mut self, save: u64, keeps: bool)
         requires { 0 < save }
         ensures { self.new ≡ record self.old { health = breaking self.old.health (save - 1) keeps } }

@@ -9,7 +9,8 @@ use std::io::{Read, Result, Write};
 
 /// The end at which a conversation is heard. What is said is written at its other end, and sent.
 ///
-/// Any reader is one, with any writer: there nothing is known of what was heard, and to send is to flush.
+/// Any reader is one, with any writer: there nothing is known of what was heard, and to send is to
+/// flush.
 pub trait Conversation<W: Writer> {
     // The bytes that will be heard from here on, where they are known.
     ghost remaining: { Self → Option (List ℕ) };
@@ -32,7 +33,8 @@ pub trait Conversation<W: Writer> {
     // Where these bytes were heard and those said, more may be heard.
     ghost may_hear: { List ℕ → Option (List ℕ) → Type 0 };
 
-    /// Hears more, at most 64 KiB, and says how many bytes. None are the end, where there is room for some.
+    /// Hears more, at most 64 KiB, and says how many bytes. None are the end, where there is room
+    /// for some.
     ///
     /// Fails where hearing does; what was heard is then not known.
     fn hear(&mut self, output: &W, chunk: &mut [u8]) -> Result<usize>
@@ -47,7 +49,8 @@ pub trait Conversation<W: Writer> {
         ensures count { hearings self.new ≤ hearings self.old + 1 }
         ensures deaf { OnErr result (is_deaf self.new) };
 
-    /// Sends what was written, so that it is said. Fails where sending does; it was not all said then.
+    /// Sends what was written, so that it is said. Fails where sending does; it was not all said
+    /// then.
     fn send(&self, output: &mut W) -> Result<()>
         ensures bytes { Keeps (W.contents output.old) (W.contents output.new) }
         ensures sent { OnOk result (said output.new ≡ W.contents output.new) }

@@ -23,10 +23,12 @@ pub struct Intake<M> {
 }
 
 impl<M: Machine> Intake<M> {
-    /// Hears more once, answers the lines that have ended, and sends the answers. Says whether there was anything to hear.
+    /// Hears more once, answers the lines that have ended, and sends the answers. Says whether
+    /// there was anything to hear.
     ///
-    /// `Read` where hearing fails or gives more than there is room for; `Write` where a write fails or takes no bytes, or
-    /// sending fails; `Memory` where what was heard ends in a line that has not ended, and there is no room for it.
+    /// `Read` where hearing fails or gives more than there is room for; `Write` where a write fails
+    /// or takes no bytes, or sending fails; `Memory` where what was heard ends in a line that has
+    /// not ended, and there is no room for it.
     pub fn turn<C: Conversation<W>, W: Writer>(
         &mut self,
         alloc: Global,
@@ -85,7 +87,8 @@ impl<M: Machine> Intake<M> {
         Ok(true)
     }
 
-    /// Answers the last line, where it did not end, and sends all. Gives the greatest status of a line.
+    /// Answers the last line, where it did not end, and sends all. Gives the greatest status of a
+    /// line.
     ///
     /// `Write` where a write fails or takes no bytes, or sending fails.
     pub fn close<C: Conversation<W>, W: Writer>(
@@ -112,8 +115,9 @@ impl<M: Machine> Intake<M> {
         Ok(status)
     }
 
-    /// Hears all there is, and answers it: one turn after another, and then the last line, where it did not end. Gives the
-    /// greatest status of a line. To be called once, before any turn. Its faults are those of a turn and of the end.
+    /// Hears all there is, and answers it: one turn after another, and then the last line, where it
+    /// did not end. Gives the greatest status of a line. To be called once, before any turn. Its
+    /// faults are those of a turn and of the end.
     pub fn hear_all<C: Conversation<W>, W: Writer>(
         &mut self,
         alloc: Global,

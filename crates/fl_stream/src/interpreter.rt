@@ -54,7 +54,8 @@ impl<M: Machine> Interpreter<M> {
 
     /// Answers the next line, given without its line feed. The answer may wait to be written.
     ///
-    /// At a fault a front of what waited and the answer was written, and the interpreter may not be used again.
+    /// At a fault a front of what waited and the answer was written, and the interpreter may not be
+    /// used again.
     pub fn answer<W: Writer>(
         &mut self,
         alloc: Global,

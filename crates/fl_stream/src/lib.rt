@@ -1,4 +1,5 @@
-//! Reads a script in pieces: each line is answered by a machine once it was read, before any more is read.
+//! Reads a script in pieces: each line is answered by a machine once it was read, before any more
+//! is read.
 #![tactic(auto)]
 
 pub mod conversation;

@@ -26,16 +26,17 @@ fn zeros(alloc: Global, count: usize) -> Result<Vec<u8>, RunFault>
 
 /// Hears a script of at most 16,777,216 bytes, and says what the machine answers to its lines.
 ///
-/// More is heard only where what was said is exactly the answers to all lines that have ended: [`Conversation::hear`]
-/// requires it. To hear no bytes is the end of the script. The status is the greatest of
-/// its lines', and 0 where there are none.
+/// More is heard only where what was said is exactly the answers to all lines that have ended:
+/// [`Conversation::hear`] requires it. To hear no bytes is the end of the script. The status is the
+/// greatest of its lines', and 0 where there are none.
 ///
-/// At a fault a front of the answers to the first lines is written: `Read` only where hearing fails or the script is
-/// longer; `Write` where a write fails or takes no bytes, or sending fails; `Memory` where there is no room for the 64 KiB
-/// that are heard at once, or for a line that has not ended.
+/// At a fault a front of the answers to the first lines is written: `Read` only where hearing fails
+/// or the script is longer; `Write` where a write fails or takes no bytes, or sending fails;
+/// `Memory` where there is no room for the 64 KiB that are heard at once, or for a line that has
+/// not ended.
 ///
-/// The machine is given back as it is after the lines that were begun: by these and no others it came from the one that was
-/// handed in.
+/// The machine is given back as it is after the lines that were begun: by these and no others it
+/// came from the one that was handed in.
 pub fn converse<M: Machine + Drop, C: Conversation<W>, W: Writer>(
     alloc: Global,
     machine: M,
@@ -80,15 +81,16 @@ pub fn converse<M: Machine + Drop, C: Conversation<W>, W: Writer>(
     (intake.into_machine(), result)
 }
 
-/// Reads a script of at most 16,777,216 bytes, by at most 16,777,217 reads, and writes what the machine answers to its lines.
+/// Reads a script of at most 16,777,216 bytes, by at most 16,777,217 reads, and writes what the
+/// machine answers to its lines.
 ///
-/// It is [`converse`] with a reader and a writer: before each read but the first, all lines that have ended are answered,
-/// and the answers are written and flushed. A read of no bytes is the end of the script. The status is the greatest of
-/// its lines', and 0 where there are none.
+/// It is [`converse`] with a reader and a writer: before each read but the first, all lines that
+/// have ended are answered, and the answers are written and flushed. A read of no bytes is the end
+/// of the script. The status is the greatest of its lines', and 0 where there are none.
 ///
-/// At a fault a front of the answers to the first lines is written: `Read` where a read fails or the script is longer;
-/// `Write` where a write fails or takes no bytes, or a flush fails; `Memory` where there is no room for the 64 KiB that a
-/// read fills, or for a line that has not ended.
+/// At a fault a front of the answers to the first lines is written: `Read` where a read fails or
+/// the script is longer; `Write` where a write fails or takes no bytes, or a flush fails; `Memory`
+/// where there is no room for the 64 KiB that a read fills, or for a line that has not ended.
 pub fn run<RT: AllocGlobal, M: Machine + Drop, R: Read, W: Write>(
     rt: &RT,
     machine: M,

@@ -17,7 +17,8 @@ use std::marker::Model;
 /// The most bytes that are taken at once.
 pub const AT_ONCE: usize = 65_536;
 
-/// An interpreter, and the line that has not ended yet, with room behind it for all that is taken at once.
+/// An interpreter, and the line that has not ended yet, with room behind it for all that is taken
+/// at once.
 #[derive(Drop)]
 pub struct Stream<M> {
     interpreter: Interpreter<M>,
@@ -49,8 +50,8 @@ impl<M: Machine> Stream<M> {
         }
     }
 
-    // Answers the line that ends with these bytes and a line feed. It is copied only where some of it came before, behind which
-    // there is room.
+    // Answers the line that ends with these bytes and a line feed. It is copied only where some of
+    // it came before, behind which there is room.
     fn end_line<W: Writer>(
         &mut self,
         alloc: Global,
@@ -105,11 +106,12 @@ impl<M: Machine> Stream<M> {
         Ok(())
     }
 
-    /// Answers the lines that end in these bytes, and keeps what follows the last of them. The answers may wait to be written.
+    /// Answers the lines that end in these bytes, and keeps what follows the last of them. The
+    /// answers may wait to be written.
     ///
-    /// `Write` where a write fails; `Memory` where the bytes end in a line that has not ended and there is no room for it. A
-    /// front of what waited and of the answers was written then, and the stream may not be used again. Each byte is looked at
-    /// once, and copied at most once.
+    /// `Write` where a write fails; `Memory` where the bytes end in a line that has not ended and
+    /// there is no room for it. A front of what waited and of the answers was written then, and the
+    /// stream may not be used again. Each byte is looked at once, and copied at most once.
     pub fn take<W: Writer>(
         &mut self,
         alloc: Global,
@@ -140,8 +142,8 @@ impl<M: Machine> Stream<M> {
         self.hold(rest)
     }
 
-    /// Writes the answers that wait. The writer is not flushed. At a fault a front of them was written, and the stream may
-    /// not be used again.
+    /// Writes the answers that wait. The writer is not flushed. At a fault a front of them was
+    /// written, and the stream may not be used again.
     pub fn write_answers<W: Writer>(&mut self, output: &mut W) -> Result<(), WriteFault>
         ensures ok { OnOk result (BytesPass M.turns self.old self.new
             (W.contents output.old) (W.contents output.new) []) }
@@ -172,8 +174,8 @@ impl<M: Machine> Stream<M> {
         self.interpreter.answer(alloc, &self.held, output)
     }
 
-    /// Answers the last line, where it did not end, and writes all. Gives the greatest status of a line. The
-    /// writer is not flushed. At a fault a front of the answers was written.
+    /// Answers the last line, where it did not end, and writes all. Gives the greatest status of a
+    /// line. The writer is not flushed. At a fault a front of the answers was written.
     pub fn finish<W: Writer>(&mut self, alloc: Global, output: &mut W) -> Result<u8, WriteFault>
         requires number { self.old.interpreter.number ≤ 16777217 }
         requires part { HasNoFeed self.old.held }

@@ -7,7 +7,8 @@ use fl_message::message::Data;
 /// Why a node refused a call.
 #[derive(Clone, Copy, Debug, PartialEq, Eq)]
 pub enum Fault {
-    /// As the bench refuses a job; also `Memory`, `Busy` and `NamesSpent` of any call. The node is as before.
+    /// As the bench refuses a job; also `Memory`, `Busy` and `NamesSpent` of any call. The node is
+    /// as before.
     Refused(Refusal),
     /// The keeper broke, or one of its rows is bad. The node is stopped.
     KeeperFailed,

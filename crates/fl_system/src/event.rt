@@ -19,7 +19,8 @@ pub enum Event {
     Publish(NodeNumber),
     /// What is to be saved at the node is given up.
     Cancel(NodeNumber),
-    /// The node is restarted. What is to be saved is saved first where it is to be kept, and else lost.
+    /// The node is restarted. What is to be saved is saved first where it is to be kept, and else
+    /// lost.
     Restart(NodeNumber, bool),
     /// The node sends windows of what it has saved.
     Tell(NodeNumber),

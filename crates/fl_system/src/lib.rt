@@ -1,5 +1,5 @@
-//! What a node and a world of nodes are, and what happens to them, as definitions: the types that they speak of, and no code
-//! that runs.
+//! What a node and a world of nodes are, and what happens to them, as definitions: the types that
+//! they speak of, and no code that runs.
 #![tactic(auto)]
 
 pub mod admission;

@@ -12,7 +12,8 @@ use fl_opset::set::OpSet;
 
 /// Operations on their way into the saved set and the published list.
 pub enum Batch {
-    /// What was ordered; the process that made the order, and the desk where it did, if there are any.
+    /// What was ordered; the process that made the order, and the desk where it did, if there are
+    /// any.
     Ordered(Op, Option<Pid>, Option<u8>),
     /// Operations of other nodes.
     Received(OpSet),
@@ -54,7 +55,8 @@ impl Drop for State {
 }
 
 impl State {
-    /// The state once what was to be saved is saved: it is to be published. Any other state is given back.
+    /// The state once what was to be saved is saved: it is to be published. Any other state is
+    /// given back.
     pub fn saved(self) -> Self
         ensures { (batch : Batch) → self ≡ Running (Unsaved batch) → result ≡ Running (Due batch) }
     {
@@ -64,7 +66,8 @@ impl State {
         }
     }
 
-    /// The state once what was to be saved may be so or not: it is in doubt. Any other state is given back.
+    /// The state once what was to be saved may be so or not: it is in doubt. Any other state is
+    /// given back.
     pub fn doubted(self) -> Self
         ensures { (batch : Batch) → self ≡ Running (Unsaved batch) → result ≡ Stopped (Some batch) }
     {

@@ -11,7 +11,8 @@ use fl_store::mem::MemKeeper;
 use fl_system::answer::Fault;
 use std::alloc::{AllocError, Global};
 
-/// Makes keepers in memory, but none where the first of these is of the node: then that is why, and the next is the first.
+/// Makes keepers in memory, but none where the first of these is of the node: then that is why, and
+/// the next is the first.
 #[derive(Drop)]
 pub struct RefusingMaker<'a> {
     pub refusals: &'a [(NodeNumber, Fault)],

@@ -46,8 +46,8 @@ refused F3 -1.1\nrefused F19 7\n$a p1.1.1\n$t 1.1\n",
     status: 1,
 };
 
-/// A message carries the labels that its endpoint has when it is sent. A packet that was not sent is
-/// no line.
+/// A message carries the labels that its endpoint has when it is sent. A packet that was not sent
+/// is no line.
 pub const TUNED_ENDPOINT_SENDS: Row<'static> = Row {
     script: b"1 proc\n1 tag p1.1.1 export\n1 label p1.1.1 S {1.1}\n1 open p1.1.1 w {1.1} {}\n2 proc\n2 open p2.1.1 r {} {}\n\
 1 send p1.1.1 e1 p2.1.1 e1 {} 6869\n2 deliver 1\n2 take p2.1.1\n1 tune p1.1.1 e1 {} {}\n\

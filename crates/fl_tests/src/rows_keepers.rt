@@ -1,7 +1,8 @@
 //! Rows of keepers that are not made, or that break.
 use crate::rows::Row;
 
-/// A node is not open where no keeper of it is made. The next line that asks something of it tries again, and no other line does.
+/// A node is not open where no keeper of it is made. The next line that asks something of it tries
+/// again, and no other line does.
 pub const UNMADE_KEEPERS: Row<'static> = Row {
     script: b"nonsense\n1 proc as $a\n1 deliver 1\n1 begin deliver 1\n1 proc as $a\naliases\naudit\n1 text\n\
 1 proc as $b\n2 tell\n2 tell\n1 deliver 1\naliases\n",
@@ -17,7 +18,8 @@ pub const KEEPER_FAILS_BEFORE_A_BAD_LINE: Row<'static> = Row {
     status: 3,
 };
 
-/// Each line of a node tells why there is no keeper. These reasons leave the status. A union opens its first node first.
+/// Each line of a node tells why there is no keeper. These reasons leave the status. A union opens
+/// its first node first.
 pub const OPENINGS_ARE_REFUSED: Row<'static> = Row {
     script: b"1 begin group p1.1.1\n1 save\n1 publish\n1 cancel\n1 restart kept\n1 check f1\n1 check none\nunion 1 2\n\
 union 1 2\n2 proc\n1 proc\nunion 1 2\n",
@@ -42,7 +44,8 @@ pub const KEEPER_BREAKS_AT_FIRST_SAVE: Row<'static> = Row {
     status: 3,
 };
 
-/// What a stopped node is asked, and what stops one: saving an order, what came, or what a restart is to keep.
+/// What a stopped node is asked, and what stops one: saving an order, what came, or what a restart
+/// is to keep.
 pub const STOPPED_NODES: Row<'static> = Row {
     script: b"1 proc as $a\n1 open $a r {} {}\n2 proc as $b\n2 open $b w {} {}\n2 send $b e1 $a e1 {} 00\n2 tell\n\
 1 tag $a export as $t\naliases\n1 begin group $a\n1 save\n1 publish\n1 cancel\n1 tell\n1 text\n1 check f1\n\

@@ -49,7 +49,8 @@ impl Write for FailingWriter {
     }
 }
 
-/// Gives a line at a time, and fails where the answers to the lines before were not written and flushed.
+/// Gives a line at a time, and fails where the answers to the lines before were not written and
+/// flushed.
 #[derive(Drop)]
 pub struct AskingReader<'a> {
     pub lines: &'a [&'a [u8]],

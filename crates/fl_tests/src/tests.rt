@@ -14,8 +14,8 @@ use std::io::{Read, Write};
 use std::process::Abort;
 use std::test::Fail;
 
-/// The row as it stands, and in pieces of all sizes, with each read and each byte of writing failing
-/// once.
+/// The row as it stands, and in pieces of all sizes, with each read and each byte of writing
+/// failing once.
 fn check_row(rt: &(impl Abort + AllocGlobal), row: &Row) -> Result<(), Fail> {
     check_over(rt, row, MemMaker)?;
     for piece in 1..=row.script.len() {

@@ -1,5 +1,6 @@
-//! Laws of scripts. A run is that of a script over the keepers of some maker, as `fl_cluster::run::run` answers it: `Writes`,
-//! by which `run` says what it wrote, ends at the session that `run` gives back.
+//! Laws of scripts. A run is that of a script over the keepers of some maker, as
+//! `fl_cluster::run::run` answers it: `Writes`, by which `run` says what it wrote, ends at the
+//! session that `run` gives back.
 ghost use Rattle.std.specs.Prelude.{◌≡◌, ◌≢◌, ◌++◌, ℕ, All, List, Option, None, Some, length, take};
 ghost use Rattle.fl_aliases.specs.declared.target.Target.{Target};
 ghost use Rattle.fl_calls.specs.Over.{openings_of};
@@ -30,11 +31,13 @@ use fl_makers::mem::MemMaker;
 use fl_wire::laws::law_one_packet;
 use fl_world::laws::{law_headline, law_lasting};
 
-/// Where all keepers are honest, the lines of a script were answered, in each world that its nodes may be at the end, from the
-/// world without a node on, with what the keepers may hold that the maker makes from the start.
+/// Where all keepers are honest, the lines of a script were answered, in each world that its nodes
+/// may be at the end, from the world without a node on, with what the keepers may hold that the
+/// maker makes from the start.
 ///
-/// `text` says so of what `fl_cluster::run::run` and `converse` write, and of the session that they give back: its premise is
-/// what their clauses `ok`, `served` and `err` give (`Writes`), and its conclusion their clauses `one_run` and `first_run`.
+/// `text` says so of what `fl_cluster::run::run` and `converse` write, and of the session that they
+/// give back: its premise is what their clauses `ok`, `served` and `err` give (`Writes`), and its
+/// conclusion their clauses `one_run` and `first_run`.
 pub fn law_script<M: MakesKeepers>()
     ensures text { (maker : M) (lines : List (List ℕ)) (text : List ℕ) (status : ℕ)
         (end : SessionOver M.K M) →
@@ -49,8 +52,8 @@ pub fn law_script<M: MakesKeepers>()
         1 begun lines outputs (record { world = w; aliases = end.aliases })) }
 {}
 
-/// The answer to a line is a run of worlds, by events and joinings alone: so is that to all lines of a script, and each law of
-/// worlds that a run leads to holds of scripts.
+/// The answer to a line is a run of worlds, by events and joinings alone: so is that to all lines
+/// of a script, and each law of worlds that a run leads to holds of scripts.
 pub fn law_worlds<M: MakesKeepers>()
     ensures turn { (maker : M) (old new : Session) (line : List ℕ) (answer : Answer) →
         Turn (openings_of M.K.custody M.making maker)
@@ -60,11 +63,13 @@ pub fn law_worlds<M: MakesKeepers>()
         begun lines answers end → IsReached end.world }
 {}
 
-/// The headline, and what lasts, of scripts: in each world that the nodes of a script may be after any of its lines, names are
-/// unique, what is published is saved, each open endpoint and each thing that was admitted is safe by all that is saved, whatever
-/// happens from then on, no yes is withdrawn, what is published grows by the node's own publications alone, and a tag is confined.
+/// The headline, and what lasts, of scripts: in each world that the nodes of a script may be after
+/// any of its lines, names are unique, what is published is saved, each open endpoint and each
+/// thing that was admitted is safe by all that is saved, whatever happens from then on, no yes is
+/// withdrawn, what is published grows by the node's own publications alone, and a tag is confined.
 ///
-/// The end is the session that `fl_cluster::run::run` gives back, of which `Writes` is what it says.
+/// The end is the session that `fl_cluster::run::run` gives back, of which `Writes` is what it
+/// says.
 pub fn law_script_safe<M: MakesKeepers>()
     ensures safe { (maker : M) (lines : List (List ℕ)) (text : List ℕ) (status : ℕ)
         (end : SessionOver M.K M) →
@@ -81,8 +86,9 @@ pub fn law_script_safe<M: MakesKeepers>()
     law_lasting();
 }
 
-/// What the first lines are answered is a run of them alone; and, where the keepers open one way and no line is answered that
-/// memory was wanting or a keeper failed, the same whatever comes later.
+/// What the first lines are answered is a run of them alone; and, where the keepers open one way
+/// and no line is answered that memory was wanting or a keeper failed, the same whatever comes
+/// later.
 pub fn law_first_lines<M: MakesKeepers>()
     ensures begins { (maker : M) (first later : List (List ℕ)) (outputs : List LineOutput)
         (end : SessionOver M.K M) → Lines (TurnsOver M.K.custody M.making)
@@ -101,8 +107,9 @@ pub fn law_first_lines<M: MakesKeepers>()
     law_one_packet();
 }
 
-/// Where the keepers of a script's nodes open one way, as those in memory do, and no line is answered that memory was wanting or
-/// a keeper failed, a script has one run: the same answers, whatever else they refuse, and the same nodes at the end.
+/// Where the keepers of a script's nodes open one way, as those in memory do, and no line is
+/// answered that memory was wanting or a keeper failed, a script has one run: the same answers,
+/// whatever else they refuse, and the same nodes at the end.
 pub fn law_output<M: MakesKeepers>()
     ensures { (maker : M) (lines : List (List ℕ)) (a b : List Answer) (m n : Session) →
         OpenOneWay M.K.custody M.making maker →
@@ -123,9 +130,9 @@ pub fn law_in_memory()
     law_output::<MemMaker>();
 }
 
-/// An alias stands for what its line made: a line sets its own alias alone, and only where it made something,
-/// in the place that the alias had, if it was set. Else a line leaves all aliases. Lines that say the same
-/// where these aliases are set are answered alike, unless memory is wanted.
+/// An alias stands for what its line made: a line sets its own alias alone, and only where it made
+/// something, in the place that the alias had, if it was set. Else a line leaves all aliases. Lines
+/// that say the same where these aliases are set are answered alike, unless memory is wanted.
 pub fn law_aliases<M: MakesKeepers>()
     ensures kept { (maker : M) (old new : Session) (line : List ℕ) (answer : Answer) →
         Turn (openings_of M.K.custody M.making maker)

@@ -1,4 +1,5 @@
-//! What holds of every run of a script, over any keepers: laws of its lines, and by which laws of worlds hold of scripts.
+//! What holds of every run of a script, over any keepers: laws of its lines, and by which laws of
+//! worlds hold of scripts.
 #![tactic(auto)]
 
 pub mod laws;

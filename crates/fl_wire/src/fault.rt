@@ -7,8 +7,8 @@ use std::alloc::{AllocError, AllocFailed};
 /// Why bytes are not read as a packet.
 #[derive(Clone, Copy, Debug, PartialEq, Eq)]
 pub enum ReadFault {
-    /// The place of the first byte of the first field that is cut off, out of its range or against a rule, or of the first byte
-    /// after the end.
+    /// The place of the first byte of the first field that is cut off, out of its range or against
+    /// a rule, or of the first byte after the end.
     BadPacket { place: usize },
     /// There was not enough memory for the sets and the payload.
     Memory,

@@ -40,7 +40,8 @@ fn ops_at(
     Ok(ops)
 }
 
-// How many operations there are, and each, which end the bytes. Takes no memory before it knows how many.
+// How many operations there are, and each, which end the bytes. Takes no memory before it knows how
+// many.
 pub(crate) fn batch_at(
     alloc: Global,
     format: Format,

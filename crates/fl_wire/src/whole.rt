@@ -84,8 +84,9 @@ fn digest_at(bytes: &[u8], at: usize) -> Result<Digest, BadField>
     Ok(Digest { bytes })
 }
 
-// Adds the operation of this name, kind, and body at a place, and answers where it ends. Each kind adds its own: the bodies
-// of several kinds, joined, would go over the stack in parts and come back as a whole, which waits for the parts.
+// Adds the operation of this name, kind, and body at a place, and answers where it ends. Each kind
+// adds its own: the bodies of several kinds, joined, would go over the stack in parts and come back
+// as a whole, which waits for the parts.
 fn push_body(
     ops: &mut Vec<Op>,
     name: (u32, u32),

@@ -67,7 +67,8 @@ fn spans_at(
     Ok(spans)
 }
 
-// The two ends of a window, how many spans it has, and each, which end the bytes. Takes no memory before it knows how many.
+// The two ends of a window, how many spans it has, and each, which end the bytes. Takes no memory
+// before it knows how many.
 pub(crate) fn window_at(
     alloc: Global,
     format: Format,

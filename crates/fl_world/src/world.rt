@@ -45,8 +45,8 @@ use std::marker::Model;
 
 /// A world that a run led to: nodes joined, and events happened, of any kind, in any order.
 ///
-/// A contract of a call says which step of the world it is, and so that a run leads to the world after it: where the keepers
-/// are honest, to each one that their next openings may find.
+/// A contract of a call says which step of the world it is, and so that a run leads to the world
+/// after it: where the keepers are honest, to each one that their next openings may find.
 pub struct World<K: Keeper> {
     nodes: Nodes<K>,
 }
@@ -73,7 +73,8 @@ impl<K: Keeper + Drop> Drop for World<K> {
 }
 
 impl<K: Keeper> World<K> {
-    /// Without a node; each that joins will have so many desks, and as many benches. Takes no memory.
+    /// Without a node; each that joins will have so many desks, and as many benches. Takes no
+    /// memory.
     pub fn new(alloc: Global, desks: u8) -> World<K>
         requires { 0 < desks }
         ensures { result ≡ empty_over desks }
@@ -83,8 +84,9 @@ impl<K: Keeper> World<K> {
         }
     }
 
-    /// The headline, of any world that a run led to: names are unique, what is published is saved, and each open endpoint and
-    /// each thing that was admitted is safe by all that is saved, whatever happens from then on.
+    /// The headline, of any world that a run led to: names are unique, what is published is saved,
+    /// and each open endpoint and each thing that was admitted is safe by all that is saved,
+    /// whatever happens from then on.
     pub fn law_safe(&self)
         ensures { InEach K.custody self.now IsSafeWorld }
     {
@@ -92,8 +94,9 @@ impl<K: Keeper> World<K> {
         law_headline();
     }
 
-    /// What lasts, of any world that a run led to: no yes is withdrawn, what is published grows by the node's own publications alone,
-    /// what is noted is of its moment, a tag is confined, and no event is refused for a name.
+    /// What lasts, of any world that a run led to: no yes is withdrawn, what is published grows by
+    /// the node's own publications alone, what is noted is of its moment, a tag is confined, and no
+    /// event is refused for a name.
     pub fn law_lasting(&self)
         ensures { InEach K.custody self.now IsLastingWorld }
     {
@@ -115,7 +118,8 @@ impl<K: Keeper> World<K> {
         self.nodes.packets()
     }
 
-    /// What was admitted, in the order of the run: each of it is safe by all that is saved, whatever happens from now on.
+    /// What was admitted, in the order of the run: each of it is safe by all that is saved,
+    /// whatever happens from now on.
     pub fn audit(&self) -> &[Admission]
         ensures audit { result.now ≡ self.now.audit }
         ensures safe { InEach K.custody self.now HasSafeAudit }
@@ -124,7 +128,8 @@ impl<K: Keeper> World<K> {
         self.nodes.audit()
     }
 
-    /// A node of this number joins over its keeper, as `Nodes::join` has it, or the keeper is given back with why not.
+    /// A node of this number joins over its keeper, as `Nodes::join` has it, or the keeper is given
+    /// back with why not.
     pub fn join(&mut self, alloc: Global, number: NodeNumber, keeper: K) -> Result<u32, (Fault, K)>
         requires { 0 < number }
         ensures joins { IfOk result (λ boot. TakesIn K.custody self.old keeper self.new
@@ -139,14 +144,15 @@ impl<K: Keeper> World<K> {
         self.nodes.join(alloc, number, keeper)
     }
 
-    /// Has the keeper of a stopped node changed, or another put in its place, and opens the node again over it, as
-    /// `Nodes::reopen_with` has it. Answers its boot, or why not: `NoSuch` where it is not there, and `Busy` where it runs; then
-    /// nothing is made, and the world is as before. After any other refusal the node stays stopped, over what was made: with
-    /// `WrongNode` where that is another node's, was not opened as often, or has not what the node saved, with or without what was
-    /// in doubt.
+    /// Has the keeper of a stopped node changed, or another put in its place, and opens the node
+    /// again over it, as `Nodes::reopen_with` has it. Answers its boot, or why not: `NoSuch` where
+    /// it is not there, and `Busy` where it runs; then nothing is made, and the world is as before.
+    /// After any other refusal the node stays stopped, over what was made: with `WrongNode` where
+    /// that is another node's, was not opened as often, or has not what the node saved, with or
+    /// without what was in doubt.
     ///
-    /// What is made is to be trusted no further than the keeper before it: as each call of a keeper has it, where it is honest then,
-    /// that was honest before.
+    /// What is made is to be trusted no further than the keeper before it: as each call of a keeper
+    /// has it, where it is honest then, that was honest before.
     pub fn reopen<F: FnOnce(&mut K)>(&mut self, alloc: Global, number: NodeNumber, make: F) -> Reply
         requires callable { F.IsAlwaysCallable make }
         requires trusted { (n : NodeOver K) (made : K) → map.get self.old.nodes number ≡ Some n
@@ -167,8 +173,8 @@ impl<K: Keeper> World<K> {
         self.nodes.reopen_with(alloc, number, make)
     }
 
-    /// Has the node do a job at a desk, which first looks at the list up to a length, as `Nodes::job` has it. What the job lets
-    /// pass is noted.
+    /// Has the node do a job at a desk, which first looks at the list up to a length, as
+    /// `Nodes::job` has it. What the job lets pass is noted.
     pub fn job(&mut self, alloc: Global, number: NodeNumber, look: Look, job: Job) -> Reply
         ensures goes { Goes K.custody self.old self.new
             (λ w w'. Step w (event.Job number look.desk look.upto job) result w') }
@@ -225,7 +231,8 @@ impl<K: Keeper> World<K> {
         self.nodes.tell(alloc, number)
     }
 
-    /// Has the packet of this number come to the node of this number, as `Nodes::deliver` has it; it may come again.
+    /// Has the packet of this number come to the node of this number, as `Nodes::deliver` has it;
+    /// it may come again.
     pub fn deliver(&mut self, alloc: Global, packet: u64, number: NodeNumber) -> Reply
         ensures goes { Goes K.custody self.old self.new
             (λ w w'. Step w (event.Deliver packet number) result w') }
@@ -256,8 +263,8 @@ impl<K: Keeper> World<K> {
         }
     }
 
-    /// Has the event happen, and gives what it is answered. It is never answered `Clash` or `Impostor`, and `KeeperFailed` only as
-    /// `save` and `restart` are.
+    /// Has the event happen, and gives what it is answered. It is never answered `Clash` or
+    /// `Impostor`, and `KeeperFailed` only as `save` and `restart` are.
     pub fn step(&mut self, alloc: Global, event: Event) -> Reply
         ensures goes { Goes K.custody self.old self.new (λ w w'. Step w event result w') }
         ensures named { InEach K.custody self.new (λ w. ¬ IsNameRefusal result) }
@@ -269,8 +276,9 @@ impl<K: Keeper> World<K> {
         self.turn(alloc, event)
     }
 
-    /// Has the events happen one after another, and gives what each is answered. Room for the answers is taken first: an error
-    /// says that there was not enough memory for them, and nothing has happened then.
+    /// Has the events happen one after another, and gives what each is answered. Room for the
+    /// answers is taken first: an error says that there was not enough memory for them, and nothing
+    /// has happened then.
     ///
     /// All along the run no yes is withdrawn, nodes that published the same have one text, desks
     /// that see the same answer alike, and a tag is confined.
@@ -291,7 +299,8 @@ impl<K: Keeper> World<K> {
         Ok(replies)
     }
 
-    /// Writes the text of the node's published operations, as `Nodes::text` has it, or nothing where it is not there.
+    /// Writes the text of the node's published operations, as `Nodes::text` has it, or nothing
+    /// where it is not there.
     pub fn text<W: Write>(
         &self,
         number: NodeNumber,

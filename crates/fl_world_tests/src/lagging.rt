@@ -40,7 +40,8 @@ fn is_ordered(
     is_made(world, alloc, name)
 }
 
-// A world of two desks, in which desk 1 of node 1 sees that the group has the tag, and desk 2 nothing.
+// A world of two desks, in which desk 1 of node 1 sees that the group has the tag, and desk 2
+// nothing.
 fn lagging_world(alloc: Global) -> Result<World<MemKeeper>, Fail> {
     let mut world = World::new(alloc, 2);
     joins(&mut world, alloc, 1, MemKeeper::new(alloc, 1))?;

@@ -1,4 +1,5 @@
-//! `flume-tags`: reads a script from standard input, and writes the answers to its lines to standard output.
+//! `flume-tags`: reads a script from standard input, and writes the answers to its lines to
+//! standard output.
 #![tactic(auto)]
 
 mod watched;
@@ -19,7 +20,8 @@ const BAD_WORDS: u8 = 2;
 /// The status where a read, a write or memory failed.
 const FAULT: u8 = 3;
 
-/// Runs the script of standard input over these keepers. Says on standard error where it is too long, which is a read fault too.
+/// Runs the script of standard input over these keepers. Says on standard error where it is too
+/// long, which is a read fault too.
 fn answered_over<M: MakesKeepers + Drop>(rt: &HostRuntime, keepers: M) -> Result<u8, RunFault> {
     let mut input = Watched::new(rt.reader());
     let mut output = io::writer(rt);

@@ -1,4 +1,5 @@
-//! A reader that is watched: its reads and its bytes are counted, and a script that is too long is told from a read that failed.
+//! A reader that is watched: its reads and its bytes are counted, and a script that is too long is
+//! told from a read that failed.
 ghost use Rattle.std.specs.Prelude.{◌≡◌, ◌+◌, ◌*◌, ◌≤◌, None, Some, OnErr, OnOk, IfOk, false, true, ⊤};
 
 use fl_stream::conversation::Conversation;

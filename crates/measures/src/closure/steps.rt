@@ -27,8 +27,8 @@ pub enum Step {
     /// The chain, and a hundred thousand times what is in effect for the owner of 50 tags, of which
     /// it owns nine of ten.
     Owned,
-    /// 10,000 groups, none of them opened, and five million times what is in effect for the owner of
-    /// one tag.
+    /// 10,000 groups, none of them opened, and five million times what is in effect for the owner
+    /// of one tag.
     NoneOpened,
     /// The same, with 100 of them opened.
     SomeOpened,
