@@ -16,3 +16,4 @@ pub mod Kept
 pub mod Whole
 pub mod CaughtUp
 pub mod Covers
+pub mod Outside

@@ -6,3 +6,4 @@ pub mod Windows
 pub mod Catching
 pub mod laws
 pub mod parts
+pub mod Without

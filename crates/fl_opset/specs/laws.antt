@@ -5,3 +5,4 @@ pub mod ByRank
 pub mod Members
 pub mod Once
 pub mod OneCut
+pub mod Withouts

@@ -9,6 +9,7 @@ ghost use Rattle.fl_ops.specs.Logins.{FindsLogin};
 ghost use Rattle.fl_sink.specs.Sink.{Puts, Writes};
 ghost use Rattle.fl_opset.specs.RegistryText.{registry_text};
 ghost use Rattle.fl_opset.specs.Windows.{AreWindows, lacking};
+ghost use Rattle.fl_opset.specs.Without.{without};
 
 use crate::intervals::Intervals;
 use crate::lacking::lacking_of;
@@ -16,7 +17,7 @@ use crate::merging::{all_below, merged};
 use crate::search::{first_login, has_other, last_seq, place_of};
 use crate::span::Span;
 use crate::spans::{add_name, add_names, remove_name, spans_of};
-use crate::text::write_lines;
+use crate::text::{write_lines, write_lines_but};
 use crate::windows::windows_of;
 use fl_labels::cap::Cap;
 use fl_labels::name::{Name, NodeNumber};
@@ -261,6 +262,33 @@ impl OpSet {
         ensures cause { OnErr result (W.has_failed output.new) }
     {
         write_lines(&self.ops, sink, output)
+    }
+
+    /// Puts the text of the members into a sink, but of those, as [`OpSet::write_text`] has it.
+    /// Compares each member with each of those.
+    pub fn write_text_but<W: Writer>(
+        &self,
+        those: &[Op],
+        sink: &mut Sink,
+        output: &mut W,
+    ) -> Result<(), WriteFault>
+        ensures puts { let text = registry_text (without self.now those.now) in
+            Puts (W.contents output.old) (W.contents output.new) sink.old text sink.new result }
+        ensures cause { OnErr result (W.has_failed output.new) }
+    {
+        write_lines_but(&self.ops, those, sink, output)
+    }
+
+    /// Writes the text of the members, but of those, as [`OpSet::write_text_but`] has it. At a
+    /// fault a front of it was written.
+    pub fn text_but<W: Writer>(&self, those: &[Op], output: &mut W) -> Result<(), WriteFault>
+        ensures writes { let text = registry_text (without self.now those.now) in
+            Writes (W.contents output.old) (W.contents output.new) text result }
+        ensures cause { OnErr result (W.has_failed output.new) }
+    {
+        let mut sink = Sink::new(*self.ops.allocator());
+        self.write_text_but(those, &mut sink, output)?;
+        sink.finish(output)
     }
 
     /// Writes the text of the members, as [`OpSet::write_text`] has it. At a fault a front of it

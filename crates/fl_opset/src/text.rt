@@ -1,10 +1,11 @@
 //! The text of a registry.
 ghost use Rattle.std.specs.Prelude.{◌≡◌, ◌∷◌, ◌++◌, [], OnErr};
-ghost use Rattle.std.specs.List.{flat_map};
+ghost use Rattle.std.specs.List.{flat_map, filter};
 ghost use Rattle.fl_labels.specs.Text.{name_text};
 ghost use Rattle.hex.specs.Hex.{encode_lower};
 ghost use Rattle.fl_sink.specs.Sink.{Puts};
 ghost use Rattle.fl_opset.specs.RegistryText.{op_line, put_line, login_line, open_line};
+ghost use Rattle.fl_opset.specs.Without.{is_outside};
 
 use fl_labels::cap::Cap;
 use fl_labels::name::{Group, Name};
@@ -158,6 +159,25 @@ pub fn write_lines<W: Writer>(ops: &[Op], sink: &mut Sink, output: &mut W) -> Re
 {
     for op in ops {
         write_line(op, sink, output)?;
+    }
+    Ok(())
+}
+
+/// Puts the line of each operation into the sink, but of those. Compares each with each of those.
+pub fn write_lines_but<W: Writer>(
+    ops: &[Op],
+    those: &[Op],
+    sink: &mut Sink,
+    output: &mut W,
+) -> Result<(), WriteFault>
+    ensures puts { let text = flat_map op_line (filter (is_outside those.now) ops.now) in
+        Puts (W.contents output.old) (W.contents output.new) sink.old text sink.new result }
+    ensures cause { OnErr result (W.has_failed output.new) }
+{
+    for op in ops {
+        if !those.contains(op) {
+            write_line(op, sink, output)?;
+        }
     }
     Ok(())
 }
