@@ -13,11 +13,11 @@ use crate::target::Target;
 use std::alloc::AllocError;
 use std::fmt::Write;
 
-/// Whether a `$` stands in the line. A line with none expands to itself.
+/// Whether a `$` stands in the line. A line with none expands to itself. One look at each byte.
 pub fn has_dollar(line: &str) -> bool
     ensures { MatchBool result (¬ NoDollar line.now) (NoDollar line.now) }
 {
-    line.contains('$')
+    line.as_bytes().contains(&b'$')
 }
 
 // How many letters stand at the front of the text.
