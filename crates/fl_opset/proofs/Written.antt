@@ -1,6 +1,6 @@
 -- What is written of a registry.
 use Rattle.std.proofs.Common.{◌≡◌, ℕ, List, [], ◌++◌, sym, ap, ◌∙◌, Option, Result, Ok, Err, IsErr, append_assoc, subst}
-use Rattle.std.specs.List.{flat_map}
+use Rattle.std.specs.List.{flat_map, filter}
 use Rattle.std.specs.List.Sorted.{IsStrictlySortedBy}
 use Rattle.std.specs.Io.KnownBytes.{Appends}
 use Rattle.std.proofs.KnownBytes.{Appends-trans}
@@ -10,10 +10,19 @@ use Rattle.fl_ops.specs.OpOrder.{op_cmp}
 use Rattle.fl_ops.specs.OpLaws.{op_total, op_exact}
 use Rattle.fl_sink.specs.Sink.{Passes, Cuts, Writes}
 use Rattle.fl_opset.specs.RegistryText.{op_line, registry_text}
+use Rattle.fl_opset.specs.Without.{without, is_outside}
+use Rattle.fl_opset.specs.laws.Withouts.{members-without}
 
 -- the text of a set is that of its operations as they are kept
 pub listed_text : (xs ys : List Op) (s : SetBy op_cmp) → IsStrictlySortedBy op_cmp xs → of_list xs ≡ s → ys ≡ xs → flat_map op_line ys ≡ registry_text s
 listed_text xs ys s up view same = ap (flat_map op_line) (same ∙ sym (members-of_list op_total op_exact xs up) ∙ ap members view)
+
+-- so is that of a set without some operations
+pub left_text : (xs ys those : List Op) (s : SetBy op_cmp) → IsStrictlySortedBy op_cmp xs → of_list xs ≡ s → ys ≡ xs
+    → flat_map op_line (filter (is_outside those) ys) ≡ registry_text (without s those)
+left_text xs ys those s up view same =
+    ap (λ zs. flat_map op_line (filter (is_outside those) zs)) (same ∙ sym (members-of_list op_total op_exact xs up) ∙ ap members view)
+    ∙ ap (flat_map op_line) (sym (members-without s those))
 
 -- the text passed, and then what waited is written
 pub finished : {T E : Type 0} {r : Result T E} {a b c : Option (List ℕ)} {before text rest : List ℕ} → before ≡ []
