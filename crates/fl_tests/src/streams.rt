@@ -24,6 +24,38 @@ impl Read for FailingReader<'_> {
     }
 }
 
+/// Gives its text, and then comments of 16 KiB, so many bytes in all. It holds none of them.
+#[derive(Drop)]
+pub struct LongReader<'a> {
+    pub text: &'a [u8],
+    pub left: usize,
+}
+
+impl Read for LongReader<'_> {
+    fn read(&mut self, buf: &mut [u8]) -> Result<usize> {
+        let room = buf.len().min(self.left).min(16_384);
+        let count = if self.text.is_empty() {
+            comment(&mut buf[..room]);
+            room
+        } else {
+            let count = self.text.len().min(room);
+            buf[..count].copy_from_slice(&self.text[..count]);
+            self.text = &self.text[count..];
+            count
+        };
+        self.left -= count;
+        Ok(count)
+    }
+}
+
+// Fills the bytes with the line of a comment.
+fn comment(line: &mut [u8]) {
+    line.fill(b'#');
+    if let Some(end) = line.last_mut() {
+        *end = b'\n';
+    }
+}
+
 /// Takes so many bytes, some at a time, and then fails, or takes none.
 #[derive(Drop)]
 pub struct FailingWriter {

@@ -3,7 +3,7 @@ use crate::rows::{
     ALIASES_AND_BIRTHS, FORMS_OF_LINES, LAST_RETURN_STAYS, READ_AND_INTEGRITY_TAGS,
     RECEIVED_BATCH_IN_STEPS, Row, TUNED_ENDPOINT_SENDS,
 };
-use crate::streams::{AskingReader, FailingReader, FailingWriter, FlushedWriter};
+use crate::streams::{AskingReader, FailingReader, FailingWriter, FlushedWriter, LongReader};
 use fl_cluster::fault::RunFault;
 use fl_cluster::options::Options;
 use fl_cluster::run::run;
@@ -154,4 +154,22 @@ fn answers_before_it_reads_on(rt: HostRuntime) -> Result<(), Fail> {
     );
     assert_eq!(rt; flushed.get(), output.taken.len());
     Ok(())
+}
+
+// What a run of a process and of so many bytes in all gives, once it answered the process.
+fn run_of_length(rt: &(impl Abort + AllocGlobal), length: usize) -> Result<u8, RunFault> {
+    let mut input = LongReader {
+        text: b"1 proc\n",
+        left: length,
+    };
+    let mut output = Vec::new(rt.alloc());
+    let status = run_on(rt, &mut input, &mut output);
+    assert_eq!(rt; output.as_slice(), b"p1.1.1\n".as_slice());
+    status
+}
+
+#[test]
+fn longest_script_and_one_byte_more(rt: HostRuntime) {
+    assert_eq!(rt; run_of_length(&rt, 16_777_216), Ok(0));
+    assert_eq!(rt; run_of_length(&rt, 16_777_217), Err(RunFault::Read));
 }
