@@ -1,61 +1,111 @@
 //! Tests of a node of a world that is opened again over another keeper.
-use crate::scene::{happens, joins, tag_is_begun, tag_is_made};
+ghost use Rattle.std.specs.Prelude.{◌<◌};
+
+use crate::scene::{group_is_begun, group_is_made, happens, joins, process_is_made};
 use fl_jobs::answer::Refusal;
+use fl_labels::name::{Name, NodeNumber};
 use fl_store::mem::MemKeeper;
 use fl_system::answer::Fault;
 use fl_system::event::Event;
 use fl_system::reply::Reply;
 use fl_world::world::World;
-use std::alloc::Global;
+use std::alloc::{AllocError, Global};
 use std::mem::replace;
 use std::test::Fail;
 
-// A world with node 1, whose keeper broke as it saved its first order, and kept nothing of it.
-fn broken_world(alloc: Global) -> Result<World<MemKeeper>, Fail> {
-    let mut world = World::new(alloc, 1);
+const FIRST: Name = Name { node: 1, seq: 1 };
+
+const SECOND: Name = Name { node: 1, seq: 2 };
+
+const THIRD: Name = Name { node: 1, seq: 3 };
+
+// Two nodes join. Node 1 makes a group, and its keeper breaks as it saves another.
+fn breaks(world: &mut World<MemKeeper>, alloc: Global, keeps: bool) -> Result<(), Fail> {
     let mut keeper = MemKeeper::new(alloc, 1);
-    keeper.break_at(1, false);
-    joins(&mut world, alloc, 1, keeper)?;
-    tag_is_begun(&mut world, alloc, 1)?;
+    keeper.break_at(2, keeps);
+    joins(world, alloc, 1, keeper)?;
+    joins(world, alloc, 2, MemKeeper::new(alloc, 2))?;
+    process_is_made(world, alloc, 1)?;
+    group_is_made(world, alloc, FIRST)?;
+    group_is_begun(world, alloc, 1, SECOND)?;
     let failed = Reply::Refused(Fault::KeeperFailed);
-    happens(&mut world, alloc, Event::Save(1), &failed)?;
+    happens(world, alloc, Event::Save(1), &failed)?;
+    is_stopped(world, alloc)
+}
+
+fn is_stopped(world: &mut World<MemKeeper>, alloc: Global) -> Result<(), Fail> {
     happens(
-        &mut world,
+        world,
         alloc,
         Event::Save(1),
         &Reply::Refused(Fault::Stopped),
-    )?;
-    Ok(world)
+    )
+}
+
+// Has the keeper of the node mended, and the node opened again.
+fn mended(world: &mut World<MemKeeper>, alloc: Global, number: NodeNumber) -> Reply {
+    world.reopen(alloc, number, |keeper: &mut MemKeeper| {
+        let broken = replace(keeper, MemKeeper::new(alloc, 1));
+        *keeper = broken.mend();
+    })
+}
+
+// The group that node 1 makes next, opened again, has this name.
+fn goes_on(world: &mut World<MemKeeper>, alloc: Global, name: Name) -> Result<(), Fail> {
+    process_is_made(world, alloc, 2)?;
+    group_is_begun(world, alloc, 2, name)
+}
+
+// Whether this is the text of node 1.
+fn has_text(world: &World<MemKeeper>, alloc: Global, wanted: &str) -> Result<bool, AllocError> {
+    let mut text = Vec::new(alloc);
+    let is_there = world.text(1, &mut text).is_some();
+    Ok(is_there && text.as_slice() == wanted.as_bytes())
 }
 
 #[test]
 fn reopened_after_a_break(rt: HostRuntime) -> Result<(), Fail> {
     let alloc = rt.alloc();
-    let mut world = broken_world(alloc)?;
-    let mend = |keeper: &mut MemKeeper| {
-        let broken = replace(keeper, MemKeeper::new(alloc, 1));
-        *keeper = broken.mend();
-    };
-    assert!(rt; world.reopen(alloc, 2, mend) == Reply::NoSuch);
-    assert!(rt; world.reopen(alloc, 1, mend) == Reply::Booted(2));
+    let mut world = World::new(alloc, 1);
+    breaks(&mut world, alloc, false)?;
+    assert!(rt; mended(&mut world, alloc, 3) == Reply::NoSuch);
+    assert!(rt; mended(&mut world, alloc, 1) == Reply::Booted(2));
     let busy = Reply::Refused(Fault::Refused(Refusal::Busy));
-    assert!(rt; world.reopen(alloc, 1, mend) == busy);
-    tag_is_begun(&mut world, alloc, 2)?;
-    tag_is_made(&mut world, alloc)
+    assert!(rt; mended(&mut world, alloc, 1) == busy);
+    assert!(rt; has_text(&world, alloc, "1.1 group\n")?);
+    goes_on(&mut world, alloc, SECOND)
 }
 
 #[test]
-fn keeper_of_another_node(rt: HostRuntime) -> Result<(), Fail> {
+fn reopened_with_what_was_in_doubt(rt: HostRuntime) -> Result<(), Fail> {
     let alloc = rt.alloc();
-    let mut world = broken_world(alloc)?;
+    let mut world = World::new(alloc, 1);
+    breaks(&mut world, alloc, true)?;
+    assert!(rt; mended(&mut world, alloc, 1) == Reply::Booted(2));
+    assert!(rt; has_text(&world, alloc, "1.1 group\n1.2 group\n")?);
+    goes_on(&mut world, alloc, THIRD)
+}
+
+// A keeper of this node that has nothing is put in the place of that of node 1, which is broken.
+fn is_refused(world: &mut World<MemKeeper>, alloc: Global, number: NodeNumber) -> Result<(), Fail> {
+    let wrong = Reply::Refused(Fault::WrongNode);
     let reply = world.reopen(alloc, 1, |keeper: &mut MemKeeper| {
-        *keeper = MemKeeper::new(alloc, 2)
+        *keeper = MemKeeper::new(alloc, number)
     });
-    assert!(rt; reply == Reply::Refused(Fault::WrongNode));
-    happens(
-        &mut world,
-        alloc,
-        Event::Save(1),
-        &Reply::Refused(Fault::Stopped),
-    )
+    if reply != wrong {
+        return Err(Fail::from("another answer"));
+    }
+    happens(world, alloc, Event::Restart(1, false), &wrong)?;
+    is_stopped(world, alloc)
+}
+
+#[test]
+fn keeper_that_never_was_its_own(rt: HostRuntime) -> Result<(), Fail> {
+    let alloc = rt.alloc();
+    let mut world = World::new(alloc, 1);
+    breaks(&mut world, alloc, true)?;
+    is_refused(&mut world, alloc, 1)?;
+    is_refused(&mut world, alloc, 2)?;
+    assert!(rt; has_text(&world, alloc, "")?);
+    Ok(())
 }

@@ -53,18 +53,36 @@ pub fn job(job: Job) -> Event {
     }
 }
 
+// The process that is made first at node 1 since this boot.
+fn first(boot: u32) -> Pid
+    requires { 0 < boot }
+{
+    Pid {
+        node: 1,
+        boot,
+        serial: 1,
+    }
+}
+
+/// The first process since this boot is made at node 1.
+pub fn process_is_made<K: Keeper>(
+    world: &mut World<K>,
+    alloc: Global,
+    boot: u32,
+) -> Result<(), Fail>
+    requires { 0 < boot }
+{
+    let made = Reply::Job(Answer::Made(first(boot)));
+    happens(world, alloc, job(Job::Proc), &made)
+}
+
 /// The process that is made first at node 1 since this boot begins to make a tag there.
 pub fn tag_is_begun<K: Keeper>(world: &mut World<K>, alloc: Global, boot: u32) -> Result<(), Fail>
     requires { 0 < boot }
 {
-    let pid = Pid {
-        node: 1,
-        boot,
-        serial: 1,
-    };
+    process_is_made(world, alloc, boot)?;
     let name = Name { node: 1, seq: 1 };
-    let order = Job::By(pid, Act::Order(Order::Tag(Policy::Export)));
-    happens(world, alloc, job(Job::Proc), &Reply::Job(Answer::Made(pid)))?;
+    let order = Job::By(first(boot), Act::Order(Order::Tag(Policy::Export)));
     happens(world, alloc, job(order), &Reply::Begun(name))
 }
 
@@ -79,14 +97,21 @@ pub fn is_made(world: &mut World<MemKeeper>, alloc: Global, name: Name) -> Resul
     happens(world, alloc, Event::Publish(1), &Reply::Published(name))
 }
 
+/// The first process of node 1 since this boot begins to make a group of this name.
+pub fn group_is_begun(
+    world: &mut World<MemKeeper>,
+    alloc: Global,
+    boot: u32,
+    name: Name,
+) -> Result<(), Fail>
+    requires { 0 < boot }
+{
+    let order = Job::By(first(boot), Act::Order(Order::Group));
+    happens(world, alloc, job(order), &Reply::Begun(name))
+}
+
 /// The first process of node 1 makes a group of this name.
 pub fn group_is_made(world: &mut World<MemKeeper>, alloc: Global, name: Name) -> Result<(), Fail> {
-    let pid = Pid {
-        node: 1,
-        boot: 1,
-        serial: 1,
-    };
-    let order = Job::By(pid, Act::Order(Order::Group));
-    happens(world, alloc, job(order), &Reply::Begun(name))?;
+    group_is_begun(world, alloc, 1, name)?;
     is_made(world, alloc, name)
 }

@@ -1,6 +1,6 @@
 -- A keeper in memory is always honest, and holds just what it keeps.
 use Rattle.std.proofs.Common.{refl}
-use Rattle.fl_world_tests.proofs.reopening.keeper_of_another_node.Goals as goal
+use Rattle.fl_world_tests.proofs.reopening.is_refused.Goals as goal
 
 pub reopen-reply-requires-clause-trusted : goal.reopen-reply-requires-clause-trusted
 reopen-reply-requires-clause-trusted g c n made at stopped met = record { honest = λ _. tt; held = λ _ k is. (n.keeper.kept, refl) }
