@@ -1,14 +1,16 @@
 //! A cache asked again: after another question took its place, after a no, and once it is renewed.
 ghost use Rattle.std.specs.Prelude.{◌<◌};
 
+use crate::made::name;
 use fl_cache::cached::CachedIndex;
 use fl_cache::yes::YesCache;
 use fl_closure::index::Index;
 use fl_labels::cap::Cap;
 use fl_labels::cap_set::CapSet;
 use fl_labels::name::Name;
-use fl_ops::op::{Body, Op};
+use fl_ops::op::{Body, Op, Policy};
 use fl_ops::view::View;
+use std::alloc::{AllocError, Global};
 use std::test::Fail;
 
 const GROUP: Name = Name { node: 1, seq: 1 };
@@ -27,16 +29,55 @@ fn put(seq: u32, cap: Cap) -> Op
     }
 }
 
+const EXPORT: Name = Name { node: 1, seq: 1 };
+
+const FIRST: Name = Name { node: 1, seq: 4 };
+
+const SECOND: Name = Name { node: 1, seq: 5 };
+
+/// The operations 1.1 to 1.8: three tags, and two groups, each of which may use the other, and the
+/// second of which may remove the first tag.
+const CYCLE: [(u16, Body); 8] = [
+    (0, Body::MakeTag(Policy::Export)),
+    (1, Body::MakeTag(Policy::Read)),
+    (2, Body::MakeTag(Policy::Integrity)),
+    (3, Body::MakeGroup),
+    (4, Body::MakeGroup),
+    (5, Body::Put(FIRST, Cap::Use(SECOND))),
+    (6, Body::Put(SECOND, Cap::Use(FIRST))),
+    (7, Body::Put(SECOND, Cap::Minus(EXPORT))),
+];
+
+/// What is asked, one after the other, and whether it is reached.
+const ASKED: [(Name, Cap, bool); 7] = [
+    (FIRST, Cap::Minus(EXPORT), true),
+    (SECOND, Cap::Minus(EXPORT), true),
+    (FIRST, Cap::Minus(EXPORT), true),
+    (FIRST, Cap::Plus(Name { node: 9, seq: 9 }), false),
+    (FIRST, Cap::Plus(Name { node: 9, seq: 9 }), false),
+    (FIRST, Cap::Use(FIRST), true),
+    (FIRST, Cap::Minus(EXPORT), true),
+];
+
+fn cycle_of_groups(alloc: Global) -> Result<Index, AllocError> {
+    let mut index = Index::new(alloc);
+    for (number, body) in &CYCLE {
+        index.absorb(&Op {
+            name: name(*number),
+            body: *body,
+        })?;
+    }
+    Ok(index)
+}
+
 #[test]
 fn cache_of_one(rt: HostRuntime) -> Result<(), Fail> {
-    let mut index = Index::new(rt.alloc());
-    index.absorb(&put(1, Cap::Plus(TAG)))?;
+    let index = cycle_of_groups(rt.alloc())?;
     let mut cache = YesCache::new(rt.alloc(), 1);
-    assert!(rt; cache.ask(&index, USE, Cap::Plus(TAG)));
-    assert!(rt; cache.ask(&index, USE, Cap::Plus(TAG)));
-    assert!(rt; !cache.ask(&index, USE, Cap::Minus(TAG)));
-    assert!(rt; cache.ask(&index, USE, USE));
-    assert!(rt; cache.ask(&index, USE, Cap::Plus(TAG)));
+    for (group, cap, is_reached) in &ASKED {
+        let answer = cache.ask(&index, Cap::Use(*group), *cap);
+        assert!(rt; answer == *is_reached, "{group} {cap}");
+    }
     Ok(())
 }
 
