@@ -28,6 +28,33 @@ pub fn cut(alloc: Global, out: &mut String, rest: &str) -> Result<(), AllocError
     Ok(())
 }
 
+/// Whether each proper front of what is read of a row's bytes is refused where its last field
+/// begins. It asks nothing of bytes that are no such thing.
+pub fn fronts_are_refused(alloc: Global, rest: &str, answer: &str) -> Result<bool, AllocError> {
+    if answer.parse::<usize>().is_ok() {
+        return Ok(true);
+    }
+    let (kind, digits) = parts(rest);
+    let bytes = bytes_of(alloc, digits)?;
+    let length = parts(answer).0.parse().unwrap_or(bytes.len());
+    are_refused(alloc, kind, &bytes[..length.min(bytes.len())])
+}
+
+// The place of a front's fault is its own end, or that of the front before it.
+fn are_refused(alloc: Global, kind: &str, bytes: &[u8]) -> Result<bool, AllocError> {
+    let mut out = String::new(alloc);
+    let mut field = 0;
+    for length in 0..bytes.len() {
+        out.clear();
+        say(alloc, &mut out, kind, &bytes[..length])?;
+        match out.as_str().parse() {
+            Ok(place) if place == field || place == length => field = place,
+            _ => return Ok(false),
+        }
+    }
+    Ok(true)
+}
+
 /// What the bytes are with one of them changed, for each of these: a place, `=`, and the byte.
 pub fn change(alloc: Global, out: &mut String, rest: &str) -> Result<(), AllocError> {
     let (kind, rest) = parts(rest);
@@ -97,6 +124,7 @@ f20301020300000001000000060000000100000004030000000100000005
 read bytes f20301020300000001000000060000000100000004030000000100000005 => same 30
 read bytes f102000100000001ffffffffffff0000 => f20200000001000000010000ffffffffffff0000
 read bytes f20200000001000000010000ffffffffffff0000 => same 20
+read bytes f2020000000100000001ffffffffffffffff0000 => same 20
 read bytes f102000100000001ffffffffffff00020001000000010000000100010000000300000003 => \
 f20200000001000000010000ffffffffffff0002000000010000000100000001000000010000000300000003
 read bytes f20200000001000000010000ffffffffffff000200000001000000010000000100000001000000030000\

@@ -97,3 +97,24 @@ fn rows_have_their_answers(rt: HostRuntime) -> Result<(), AllocError> {
     }
     Ok(())
 }
+
+// Of each row's bytes that are read, no proper front is.
+fn check_fronts(rt: &(impl Abort + AllocGlobal), rows: &str) -> Result<(), AllocError> {
+    for row in rows.split('\n') {
+        let (question, answer) = row.split_once(" => ").unwrap_or((row, ""));
+        let (_read, rest) = parts(question);
+        assert!(rt;
+            bytes::fronts_are_refused(rt.alloc(), rest, answer)?,
+            "{question}"
+        );
+    }
+    Ok(())
+}
+
+#[test]
+fn fronts_of_what_is_read_are_refused(rt: HostRuntime) -> Result<(), AllocError> {
+    for rows in [operations::READ, bytes::PACKETS, bytes::PARTS] {
+        check_fronts(&rt, rows)?;
+    }
+    Ok(())
+}
