@@ -78,9 +78,10 @@ fn put(bytes: &mut [u8], place: &str, byte: u8) -> u8 {
     }
 }
 
-// The bytes of some words: of digits, or of a count, `*`, and digits so many times, with the odd
-// numbers in turn for each `#`. No bytes where they are no digits.
-fn bytes_of(alloc: Global, words: &str) -> Result<Vec<u8>, AllocError> {
+/// The bytes of some words: of digits, or of a count, `*`, and digits so many times, with the odd
+/// numbers in turn for each `#`, or all numbers from 1 on for each `%`. No bytes where they are no
+/// digits.
+pub fn bytes_of(alloc: Global, words: &str) -> Result<Vec<u8>, AllocError> {
     let mut digits = String::new(alloc);
     for word in words.split(' ') {
         match word.split_once('*') {
@@ -95,13 +96,19 @@ fn bytes_of(alloc: Global, words: &str) -> Result<Vec<u8>, AllocError> {
 }
 
 fn repeat(digits: &mut String, count: u16, piece: &str) -> Result<(), AllocError> {
-    for number in 0..u32::from(count) {
-        let mut parts = piece.split('#');
+    let mark = if piece.contains('%') { '%' } else { '#' };
+    for place in 0..u32::from(count) {
+        let number = if mark == '%' {
+            place + 1
+        } else {
+            2 * place + 1
+        };
+        let mut parts = piece.split(mark);
         if let Some(first) = parts.next() {
             digits.push_str(first)?;
         }
         for part in parts {
-            write!(digits, "{:04x}{part}", 2 * number + 1)?;
+            write!(digits, "{number:04x}{part}")?;
         }
     }
     Ok(())

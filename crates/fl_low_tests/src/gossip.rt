@@ -3,8 +3,10 @@ ghost use Rattle.std.specs.Prelude.{◌<◌, IfOk};
 ghost use Rattle.fl_labels.specs.SetBy.{In};
 ghost use Rattle.fl_opset.specs.Catching.{HaveNoClash};
 
+use crate::bytes::bytes_of;
 use crate::packets::push_packet;
 use crate::rows::parts;
+use fl_gossip::fault::GossipFault;
 use fl_gossip::replying::reply;
 use fl_gossip::taking::take;
 use fl_labels::name::Name;
@@ -12,6 +14,7 @@ use fl_ops::op::{Body, Op, Policy};
 use fl_opset::intervals::Intervals;
 use fl_opset::set::OpSet;
 use fl_wire::packet::Packet;
+use fl_wire::reading::decode;
 use std::alloc::{AllocError, Global};
 
 const TAG: Op = Op {
@@ -92,6 +95,7 @@ pub fn say(alloc: Global, out: &mut String, what: &str, rest: &str) -> Result<()
     match what {
         "windows" => windows(alloc, out, &saved),
         "copy" => compare(out, &saved.copy(alloc)?, &saved),
+        "take" => take_all(alloc, out, &saved, second),
         _ => {
             let mut other = named(alloc, second)?;
             let windows = other.have(alloc)?;
@@ -174,6 +178,43 @@ windows wide => 1.1-4294967295.4294967295 2 \
 f2020000000100000001ffffffffffffffff0002000000010000000100000001000111700000000100000001;
 windows odd => 1.1-1.1023 512 6164 ;1.1024-4294967295.4294967295 1 \
 f2020000000100000400ffffffffffffffff0001000000010000040100000401;";
+
+// What the node of a number takes of the packet of these bytes: how many operations, and the first
+// and the last of them; or the name for which it takes none.
+fn take_all(alloc: Global, out: &mut String, saved: &OpSet, rest: &str) -> Result<(), AllocError> {
+    let (number, digits) = parts(rest);
+    let bytes = bytes_of(alloc, digits)?;
+    let Ok(packet) = decode(alloc, &bytes) else {
+        return out.push_str("no packet");
+    };
+    match take(alloc, saved, number.parse().unwrap_or(0), &packet) {
+        Ok(new) => push_new(out, &new),
+        Err(GossipFault::Impostor(name)) => write!(out, "impostor {name}"),
+        Err(GossipFault::Clash(name)) => write!(out, "clash {name}"),
+        Err(GossipFault::Memory) => Err(AllocError),
+    }
+}
+
+fn push_new(out: &mut String, new: &[Op]) -> Result<(), AllocError> {
+    write!(out, "{}", new.len())?;
+    if let (Some(first), Some(last)) = (new.first(), new.last()) {
+        write!(out, " {} {}", first.name, last.name)?;
+    }
+    Ok(())
+}
+
+/// What a node takes of a packet to a set. For one name that offends it takes nothing else either.
+pub const TAKEN: &str = "\
+take gap 2 f203030201000000010000000101 0202000000010000000202020000000100000003 => 1 1.2 1.2
+take tag 1 f203010201000000010000000101 => 0
+take tag 2 f2020000000100000001ffffffffffffffff0000 => 0
+take gap 2 f20302020200000001000000020201000000010000000301 => clash 1.3
+take gap 2 f20102020200000001000000020201000000010000000301 => clash 1.3
+take tag 2 f2030202020000000100000001 02020000000100000002 => clash 1.1
+take tag 2 f2030202020000000100000002 02020000000200000009 => impostor 2.9
+take tag 2 f2030202020000000100000001 02020000000200000009 => clash 1.1
+take wide 1 f2030202020000000100000002 02020001117000000001 => impostor 1.2
+take none 1 f20340 64*0202000000020000% => 64 2.1 2.64";
 
 /// What one set replies to another, which then has all of it or not.
 pub const REPLIES: &str = "\

@@ -90,6 +90,7 @@ fn rows_have_their_answers(rt: HostRuntime) -> Result<(), AllocError> {
         registries::MERGED,
         registries::CLASHING,
         registries::LOGINS,
+        gossip::TAKEN,
         gossip::WINDOWS,
         gossip::REPLIES,
     ] {
