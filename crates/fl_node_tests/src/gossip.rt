@@ -1,10 +1,13 @@
 //! Tests of nodes that tell each other.
 use crate::opened::{given, opened};
+use fl_jobs::answer::Refusal;
 use fl_labels::name::Name;
 use fl_node::node::Node;
 use fl_ops::op::Body;
 use fl_store::mem::MemKeeper;
+use fl_system::answer::Fault;
 use fl_wire::packet::Packet;
+use fl_wire::reading::decode;
 use std::alloc::Global;
 use std::test::Fail;
 
@@ -44,5 +47,60 @@ fn gossip_teaches_a_group(rt: HostRuntime) -> Result<(), Fail> {
     assert_eq!(rt; teller.publish(alloc), Ok(1));
     assert!(rt; listener.published() == teller.published());
     assert_eq!(rt; listener.receive(alloc, &delta), Ok(0));
+    Ok(())
+}
+
+/// Deltas of two operations, and what node 2 answers, which has published the group 1.1: that
+/// another tag is 1.1, beside the group 1.2, and that a group is 2.9, beside that one.
+const OFFENDING: [(&[u8], Fault); 2] = [
+    (
+        b"\xf2\x03\x02\x02\x01\x00\x00\x00\x01\x00\x00\x00\x01\x01\
+\x02\x02\x00\x00\x00\x01\x00\x00\x00\x02",
+        Fault::Clash(Name { node: 1, seq: 1 }),
+    ),
+    (
+        b"\xf2\x03\x02\x02\x02\x00\x00\x00\x01\x00\x00\x00\x02\
+\x02\x02\x00\x00\x00\x02\x00\x00\x00\x09",
+        Fault::Impostor(Name { node: 2, seq: 9 }),
+    ),
+];
+
+// The node receives this, saves and publishes it.
+fn learns(alloc: Global, node: &mut Node<MemKeeper>, bytes: &[u8]) -> Result<(), Fail> {
+    given(node.receive(alloc, &decode(alloc, bytes)?))?;
+    given(node.save())?;
+    given(node.publish(alloc))?;
+    Ok(())
+}
+
+// Whether the node refuses the packet so, where it is checked and where it is received.
+fn refuses(
+    alloc: Global,
+    node: &mut Node<MemKeeper>,
+    bytes: &[u8],
+    fault: Fault,
+) -> Result<bool, Fail> {
+    let packet = decode(alloc, bytes)?;
+    Ok(node.check(alloc, &packet) == Err(fault) && node.receive(alloc, &packet) == Err(fault))
+}
+
+// Whether all that the node saved and published is the group 1.1.
+fn has_one_group(alloc: Global, node: &Node<MemKeeper>) -> Result<bool, Fail> {
+    let mut text = Vec::new(alloc);
+    given(node.text(&mut text))??;
+    Ok(text.as_slice() == b"1.1 group\n".as_slice() && node.saved().len() == 1)
+}
+
+#[test]
+fn takes_nothing_beside_what_offends(rt: HostRuntime) -> Result<(), Fail> {
+    let alloc = rt.alloc();
+    let mut node = opened(alloc, MemKeeper::new(alloc, 2), 2)?;
+    let group = b"\xf2\x03\x01\x02\x02\x00\x00\x00\x01\x00\x00\x00\x01";
+    learns(alloc, &mut node, group)?;
+    for (bytes, fault) in &OFFENDING {
+        assert!(rt; refuses(alloc, &mut node, bytes, *fault)?);
+        assert!(rt; has_one_group(alloc, &node)?);
+    }
+    assert!(rt; node.save() == Err(Fault::Refused(Refusal::Busy)));
     Ok(())
 }
