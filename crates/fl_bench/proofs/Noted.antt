@@ -1,13 +1,15 @@
 -- What is owned and what was noted of it.
 use Rattle.std.proofs.Common.{◌≡◌, ◌∙◌, arith, ap, sym, refl, Bool, true, false, List, length}
-use Rattle.std.specs.Prelude.{◌||◌, not, MatchBool}
+use Rattle.std.specs.Prelude.{◌||◌, not, MatchBool, [], ◌∷◌}
+use Rattle.std.specs.Ordering.{eq_by_cmp}
 use Rattle.std.specs.List.{AllWithin}
 use Rattle.std.proofs.lemmas.Bool.{false≢true}
 use Rattle.fl_labels.specs.Cap.{cap_cmp}
 use Rattle.fl_labels.specs.CapOrder.{cap_total, cap_exact}
 use Rattle.fl_labels.specs.Found.{Within}
 use Rattle.fl_labels.specs.SetBy as set
-use Rattle.fl_labels.specs.SetBy.{SetBy, In, contains, members, of_list, of_list-members, same_set, contains-union}
+use Rattle.fl_labels.specs.SetBy.{SetBy, In, contains, members, of_list, of_list-members, same_set}
+use Rattle.fl_labels.specs.SetBy.{contains-empty, contains-insert, contains-union}
 use Rattle.fl_labels.specs.laws.Rising.{insert_member}
 use Rattle.fl_labels.specs.laws.SortedVec.{every_member}
 use Rattle.fl_labels.specs.declared.cap.Cap.{Cap}
@@ -39,3 +41,28 @@ pub all_there : (Q : Type 0) (b : Bool) (items : List Cap) (s t : SetBy cap_cmp)
 all_there Q true items s t is all e =
     every_member cap_total cap_exact (In s) items t (of_slice t items is) (λ k d within. all k d (omega arith) within)
 all_there Q false items s t is all e = absurd (false≢true e)
+
+or_false : (a : Bool) → a ≡ (a || false)
+or_false true = refl
+or_false false = refl
+
+or_swap : (a b c : Bool) → (a || (b || c)) ≡ (b || (a || c))
+or_swap true true c = refl
+or_swap true false c = refl
+or_swap false b c = refl
+
+contains_all : (s : SetBy cap_cmp) (cs : List Cap) (q : Cap)
+    → contains (set.insert_all s cs) q ≡ (contains s q || contains (of_list {R = cap_cmp} cs) q)
+contains_all s [] q = or_false _ ∙ ap (λ b. contains s q || b) (sym (contains-empty cap_cmp q))
+contains_all s (c ∷ cs) q =
+    contains-insert cap_total _ c q
+    ∙ ap (λ b. eq_by_cmp cap_cmp q c || b) (contains_all s cs q)
+    ∙ or_swap (eq_by_cmp cap_cmp q c) (contains s q) _
+    ∙ ap (λ b. contains s q || b) (sym (contains-insert cap_total _ c q))
+
+-- a union is each member of the other, inserted
+pub insert_members : (s t : SetBy cap_cmp) → set.insert_all s (members t) ≡ set.union s t
+insert_members s t =
+    same_set cap_total cap_exact _ _ (λ q. contains_all s (members t) q
+    ∙ ap (λ u. contains s q || contains u q) (of_slice t (members t) refl)
+    ∙ sym (contains-union cap_total s t q))

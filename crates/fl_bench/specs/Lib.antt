@@ -14,3 +14,4 @@ pub mod Summary
 pub mod Gains
 pub mod Guarded
 pub mod laws
+pub mod parts

@@ -3,7 +3,10 @@ ghost use Rattle.std.specs.Prelude.{◌≡◌, ◌∷◌, [], IfOk, IfErr, IfSom
 ghost use Rattle.fl_labels.specs.Found.{Within};
 ghost use Rattle.fl_labels.specs.Judged.{Judges};
 ghost use Rattle.fl_labels.specs.SetBy as set;
+ghost use Rattle.fl_bench.specs.parts.Changes.{after, Follows};
 
+use crate::change::Change;
+use crate::past::Past;
 use crate::shared::SharedCaps;
 use fl_labels::cap::Cap;
 use fl_labels::cap_set::CapSet;
@@ -11,12 +14,11 @@ use fl_labels::roomy::RoomyCapSet;
 use std::alloc::{AllocError, Global};
 use std::marker::Model;
 
-/// What a process owns: a set of capabilities. Whoever notes it shares it, and a copy is made only
-/// where it has changed since it was shared last.
-#[derive(Drop)]
+/// What a process owns: a set of capabilities. From when it is shared first, its changes are kept,
+/// so that it is shared again without a copy of the whole set.
 pub struct Owned {
     caps: CapSet,
-    noted: Option<SharedCaps>,
+    past: Option<Past>,
 }
 
 impl Model for Owned {
@@ -31,14 +33,19 @@ impl Model for Owned {
 
     ghost view = { λ a. a.caps };
 
-    ghost invariant = { λ a. IfSome a.noted (λ noted. noted ≡ a.caps) };
+    ghost invariant = { λ a. IfSome a.past (λ past. past ≡ a.caps) };
+}
+
+impl Drop for Owned {
+    fn drop(self) {
+        let Owned { caps: _, past: _ } = self;
+    }
 }
 
 /// The same, with room for two more, made by `Owned::with_room`.
-#[derive(Drop)]
 pub struct RoomyOwned {
     caps: RoomyCapSet,
-    noted: Option<SharedCaps>,
+    past: Option<Past>,
 }
 
 impl Model for RoomyOwned {
@@ -53,26 +60,62 @@ impl Model for RoomyOwned {
 
     ghost view = { λ a. a.caps };
 
-    ghost invariant = { λ a. IfSome a.noted (λ noted. noted ≡ a.caps) };
+    ghost invariant = { λ a. IfSome a.past (λ past. past ≡ a.caps) };
 }
 
-// The set of these capabilities, as it was noted last, or a copy that is noted from now on.
-fn share(
-    alloc: Global,
-    noted: &mut Option<SharedCaps>,
-    caps: &[Cap],
-) -> Result<SharedCaps, AllocError>
-    requires { IfSome noted.old (λ last. last ≡ set.of_list caps.now) }
-    ensures shared { IfOk result (λ made. made ≡ set.of_list caps.now) }
-    ensures kept { IfSome noted.new (λ last. last ≡ set.of_list caps.now) }
-{
-    if let Some(last) = noted {
-        return last.copy();
+impl Drop for RoomyOwned {
+    fn drop(self) {
+        let RoomyOwned { caps: _, past: _ } = self;
     }
-    let caps = CapSet::from_vec(Vec::from_slice(alloc, caps)?)?;
-    let made = SharedCaps::new(alloc, caps)?;
-    *noted = Some(made.copy()?);
+}
+
+// The set of these capabilities, by its past, which is begun where there is none.
+fn share(alloc: Global, past: &mut Option<Past>, caps: &[Cap]) -> Result<SharedCaps, AllocError>
+    requires { IfSome past.old (λ past. past ≡ set.of_list caps.now) }
+    ensures shared { IfOk result (λ made. made ≡ set.of_list caps.now) }
+    ensures kept { IfSome past.new (λ past. past ≡ set.of_list caps.now) }
+{
+    if let Some(past) = past {
+        return past.share(alloc);
+    }
+    let mut begun = Past::new(alloc, caps)?;
+    let made = begun.share(alloc)?;
+    *past = Some(begun);
     Ok(made)
+}
+
+// The past with some changes more. It is let go where there is no memory for them, and where it
+// tells of far more changes than the set has members.
+fn with_changes(past: Option<Past>, changes: &[Change], members: usize) -> Option<Past>
+    ensures { Follows past result (λ s. after s changes.now) }
+{
+    let mut past = past?;
+    if past.is_long(members) {
+        return None;
+    }
+    past.add(changes).ok()?;
+    Some(past)
+}
+
+// The past with room for two changes more. It is let go where there is no memory for that.
+fn with_room(past: Option<Past>) -> Option<Past>
+    ensures { Follows past result (λ s. s) }
+{
+    let mut past = past?;
+    past.reserve(2).ok()?;
+    Some(past)
+}
+
+// The past with these capabilities gained. It is let go as by `with_changes`.
+fn with_gains(past: Option<Past>, caps: &[Cap], members: usize) -> Option<Past>
+    ensures { Follows past result (λ s. set.insert_all s caps.now) }
+{
+    let mut past = past?;
+    if past.is_long(members) {
+        return None;
+    }
+    past.add_gains(caps).ok()?;
+    Some(past)
 }
 
 impl Owned {
@@ -80,7 +123,7 @@ impl Owned {
     pub fn new(caps: CapSet) -> Self
         ensures { result ≡ caps }
     {
-        Owned { caps, noted: None }
+        Owned { caps, past: None }
     }
 
     /// The capabilities.
@@ -91,12 +134,14 @@ impl Owned {
     }
 
     /// The capabilities, for one more holder. Fails only where there is not enough memory. Copies
-    /// them where they have changed since this was asked last, and nothing else.
+    /// them where it is asked first, or where far more has changed than there is. Else it copies
+    /// what has changed since it was asked last, and two lists of what changed before: at most 64
+    /// pointers, and one for each 4,096 times that it was asked after a change.
     pub fn share(&mut self, alloc: Global) -> Result<SharedCaps, AllocError>
         ensures shared { IfOk result (λ made. made ≡ self.old) }
         ensures same { self.new ≡ self.old }
     {
-        share(alloc, &mut self.noted, self.caps.as_slice())
+        share(alloc, &mut self.past, self.caps.as_slice())
     }
 
     /// Adds a capability, as `CapSet::insert` does.
@@ -108,7 +153,7 @@ impl Owned {
     {
         let new = self.caps.insert(cap)?;
         if new {
-            self.noted = None;
+            self.past = with_changes(self.past.take(), &[Change::Gained(cap)], self.caps.len());
         }
         Ok(new)
     }
@@ -123,11 +168,12 @@ impl Owned {
             return Ok(());
         }
         self.caps.insert_all(other)?;
-        self.noted = None;
+        self.past = with_gains(self.past.take(), other.as_slice(), self.caps.len());
         Ok(())
     }
 
     /// Removes a capability where the judge is content with the rest, as `CapSet::remove_if` does.
+    /// Its past may take memory for that, and does without.
     pub fn remove_if<C, E, J: FnOnce(&mut C, &CapSet) -> Result<(), E>>(
         &mut self,
         cap: Cap,
@@ -141,7 +187,7 @@ impl Owned {
     {
         let result = self.caps.remove_if(cap, asked, judge);
         if result.is_ok() {
-            self.noted = None;
+            self.past = with_changes(self.past.take(), &[Change::Dropped(cap)], self.caps.len());
         }
         result
     }
@@ -152,10 +198,13 @@ impl Owned {
         ensures ok { IfOk result (λ roomy. roomy ≡ self) }
         ensures err { IfErr result (λ owned. owned ≡ self) }
     {
-        let noted = self.noted;
-        match self.caps.with_room() {
-            Ok(caps) => Ok(RoomyOwned { caps, noted }),
-            Err(caps) => Err(Owned { caps, noted }),
+        let Owned { caps, past } = self;
+        match caps.with_room() {
+            Ok(caps) => Ok(RoomyOwned {
+                caps,
+                past: with_room(past),
+            }),
+            Err(caps) => Err(Owned { caps, past }),
         }
     }
 }
@@ -166,23 +215,28 @@ impl RoomyOwned {
         ensures shared { IfOk result (λ made. made ≡ self.old) }
         ensures same { self.new ≡ self.old }
     {
-        share(alloc, &mut self.noted, self.caps.as_slice())
+        share(alloc, &mut self.past, self.caps.as_slice())
     }
 
     /// With both capabilities, as `RoomyCapSet::with_both` adds them. Takes no memory.
     pub fn with_both(self, first: Cap, second: Cap) -> Owned
         ensures { result ≡ set.insert_all self (first ∷ second ∷ []) }
     {
-        Owned::new(self.caps.with_both(first, second))
+        let RoomyOwned { caps, past } = self;
+        let caps = caps.with_both(first, second);
+        let gained = [Change::Gained(second), Change::Gained(first)];
+        let past = with_changes(past, &gained, caps.len());
+        Owned { caps, past }
     }
 
     /// The same set, whose room is no longer kept for anything.
     pub fn without_room(self) -> Owned
         ensures { result ≡ self }
     {
+        let RoomyOwned { caps, past } = self;
         Owned {
-            caps: self.caps.without_room(),
-            noted: self.noted,
+            caps: caps.without_room(),
+            past,
         }
     }
 }

@@ -123,7 +123,7 @@ impl Process {
     }
 
     /// What the process owns, for whoever notes it. Fails only where there is not enough memory.
-    /// Copies it where it has changed since this was asked last, and nothing else.
+    /// Costs what `Owned::share` does.
     pub fn share(&mut self, alloc: Global) -> Result<SharedCaps, AllocError>
         ensures shared { IfOk result (λ made. made ≡ owns self.old) }
         ensures same { self.new ≡ self.old }

@@ -1,7 +1,7 @@
 //! Sets of capabilities with more than one holder.
 ghost use Rattle.std.specs.Prelude.{◌≡◌, IfOk};
-ghost use Rattle.fl_labels.specs.SetBy as set;
 
+use crate::history::History;
 use fl_labels::cap_set::CapSet;
 use std::alloc::{AllocError, Global};
 use std::marker::Model;
@@ -10,7 +10,7 @@ use std::sync::Arc;
 /// A set of capabilities that stays as it is, of which another holder costs no copy.
 #[derive(Drop)]
 pub struct SharedCaps {
-    caps: Arc<CapSet>,
+    history: Arc<History>,
 }
 
 impl Model for SharedCaps {
@@ -23,39 +23,16 @@ impl Model for SharedCaps {
 
     ghost coded = { set.code coded_cap };
 
-    ghost view = { λ a. arc_value a.caps };
-}
-
-impl PartialEq for SharedCaps {
-    ghost use Rattle.std.specs.Ordering.{eq_by_cmp};
-    ghost use Rattle.std.specs.Cmp.{partial_equiv_from_equiv};
-    ghost use Rattle.fl_labels.specs.Cap.{cap_cmp};
-    ghost use Rattle.fl_labels.specs.CapOrder.{cap_total};
-    ghost use Rattle.fl_labels.specs.SetEquality.{set_cmp, sets_equiv};
-
-    ghost eq = { eq_by_cmp (set_cmp cap_cmp) };
-
-    ghost laws = { partial_equiv_from_equiv (sets_equiv cap_total) };
-
-    fn eq(&self, other: &Self) -> bool {
-        self.caps() == other.caps()
-    }
-}
-
-impl Eq for SharedCaps {
-    ghost use Rattle.fl_labels.specs.CapOrder.{cap_total};
-    ghost use Rattle.fl_labels.specs.SetEquality.{sets_equiv};
-
-    ghost laws = { sets_equiv cap_total };
+    ghost view = { λ a. arc_value a.history };
 }
 
 impl SharedCaps {
-    /// The set, with one holder. Fails only where there is not enough memory.
-    pub fn new(alloc: Global, caps: CapSet) -> Result<Self, AllocError>
-        ensures { IfOk result (λ made. made ≡ caps) }
+    // The set that this is the history of, with one holder.
+    pub(crate) fn new(alloc: Global, history: History) -> Result<Self, AllocError>
+        ensures { IfOk result (λ made. made ≡ history) }
     {
         Ok(SharedCaps {
-            caps: Arc::new(alloc, caps)?,
+            history: Arc::new(alloc, history)?,
         })
     }
 
@@ -65,14 +42,14 @@ impl SharedCaps {
         ensures { IfOk result (λ made. made ≡ self.now) }
     {
         Ok(SharedCaps {
-            caps: Arc::try_clone(&self.caps)?,
+            history: Arc::try_clone(&self.history)?,
         })
     }
 
-    /// The capabilities.
-    pub fn caps(&self) -> &CapSet
-        ensures { result.now ≡ self.now }
+    /// The set itself, made anew from its changes. Fails only where there is not enough memory.
+    pub fn to_set(&self, alloc: Global) -> Result<CapSet, AllocError>
+        ensures { IfOk result (λ made. made ≡ self.now) }
     {
-        &self.caps
+        self.history.to_set(alloc)
     }
 }

@@ -6,12 +6,15 @@ use Rattle.fl_bench.proofs.owned.RoomyOwned.share.Goals as goal
 
 pub share-requires : goal.share-requires
 share-requires c =
-    subst (λ (s : SetBy cap_cmp). IfSome c.self.inside.noted (λ last. last ≡ s)) (sym (of_slice _ _ c.as_slice.ensures)) c.self.invariant
+    subst (λ (s : SetBy cap_cmp). IfSome c.self.inside.past (λ past. past ≡ s))
+    (sym (of_slice _ _ c.as_slice.ensures)) c.self.invariant
 
 pub invariant_of-self : goal.invariant_of-self
 invariant_of-self c =
-    subst (λ (s : SetBy cap_cmp). IfSome c.share.new.noted (λ last. last ≡ s)) (of_slice _ _ c.as_slice.ensures) c.share.ensures.kept
+    subst (λ (s : SetBy cap_cmp). IfSome c.share.new.past (λ past. past ≡ s))
+    (of_slice _ _ c.as_slice.ensures) c.share.ensures.kept
 
 pub returns-clause-shared : goal.returns-clause-shared
 returns-clause-shared c =
-    subst (λ (s : SetBy cap_cmp). IfOk c.share.result (λ made. made ≡ s)) (of_slice _ _ c.as_slice.ensures ∙ c.self.view_is) c.share.ensures.shared
+    subst (λ (s : SetBy cap_cmp). IfOk c.share.result (λ made. made ≡ s))
+    (of_slice _ _ c.as_slice.ensures ∙ c.self.view_is) c.share.ensures.shared

@@ -1,0 +1,20 @@
+use Rattle.std.proofs.Common.{◌∙◌, ap}
+use Rattle.std.specs.Arc.{arc_slice_items}
+use Rattle.std.specs.List.{flat_map}
+use Rattle.fl_labels.specs.SetBy as set
+use Rattle.fl_bench.specs.parts.Changes.{after}
+use Rattle.fl_bench.proofs.Changes.{after_both}
+use Rattle.fl_bench.proofs.history.History.to_set.Goals as goal
+
+pub returns : goal.returns
+returns c =
+    after_both arc_slice_items set.empty c.apply_blocks.new.caps _
+    (flat_map arc_slice_items c.self.inside.blocks.items) c.self.inside.pieces.items
+    (c.in_ok-apply_blocks.ensures
+    ∙ ap (λ s. after s (flat_map arc_slice_items (flat_map arc_slice_items c.deref.result.now)))
+    c.new-caps.ensures
+    ∙ ap (λ l. after set.empty (flat_map arc_slice_items (flat_map arc_slice_items l)))
+    c.deref.ensures.value)
+    (c.in_ok-apply_pieces.ensures
+    ∙ ap (λ l. after c.apply_blocks.new.caps (flat_map arc_slice_items l)) c.deref-2.ensures.value)
+    ∙ c.self.view_is
