@@ -41,11 +41,6 @@ lends : (state : State) (registry : SetBy op_cmp) → IsRunning state → lent s
 lends (Running pending) registry h = refl
 lends (Stopped doubt) registry h = absurd h
 
--- where a set of items is not empty there are items
-some_of : (ops : List Op) → 0 < set.len (set.of_list {R = op_cmp} ops) → 0 < length ops
-some_of [] h = absurd (omega (arith, subst (λ n. 0 < n) (len-empty op_cmp) h))
-some_of (op ∷ ops) h = omega arith
-
 or_none : (b : Bool) → (b || false) ≡ b
 or_none true = refl
 or_none false = refl
@@ -57,7 +52,7 @@ lacks s none q =
     ∙ ap (λ ops. list_any (eq_by_cmp op_cmp q) ops) (nil_from_length (set.members s) (sym (len-members s) ∙ none))
 
 -- it adds nothing
-pub none_added : (s t : SetBy op_cmp) → set.len t ≡ 0 → s ≡ set.union s t
+none_added : (s t : SetBy op_cmp) → set.len t ≡ 0 → s ≡ set.union s t
 none_added s t none = same_set op_total op_exact s (set.union s t) (λ q.
     sym (contains-union op_total s t q ∙ ap (λ b. set.contains s q || b) (lacks t none q) ∙ or_none (set.contains s q)))
 
@@ -89,38 +84,32 @@ module _ {K : Type 0} (custody : Custody K) (over : WorldOver K) where
 
   -- ---- what two nodes have published
 
-  pub unites_running : (first second : ℕ) (n m : NodeOver K) (here there_is all : SetBy op_cmp)
+  pub unites_running : (first second : ℕ) (n m : NodeOver K) (all : SetBy op_cmp)
       → Some n ≡ map.get over.nodes first → Some m ≡ map.get over.nodes second → IsRunning n.node.state → IsRunning m.node.state
-      → here ≡ set.of_list n.node.published → there_is ≡ set.of_list m.node.published → all ≡ set.union here there_is
+      → all ≡ set.union (set.of_list n.node.published) (set.of_list m.node.published)
       → (w : World) (s t : KeptNode) → MayBe custody over w → IsAt w first s → IsAt w second t
       → Unites w first second (text all) w
-  unites_running first second n m here there_is all at at' running running' e e' both w s t is _ _ =
+  unites_running first second n m all at at' running running' both w s t is _ _ =
       let stands = there custody over w first n (sym at) is in
       let stands' = there custody over w second m (sym at') is in
       let texts : all ≡ set.union (set.of_list stands.s.node.published) (set.of_list stands'.s.node.published) =
-      both ∙ ap (λ ops. set.union ops there_is) (e ∙ ap (λ (x : NodeState). set.of_list x.published) (sym stands.same))
-      ∙ ap (λ ops. set.union (set.of_list stands.s.node.published) ops) (e' ∙ ap (λ (x : NodeState). set.of_list x.published) (sym stands'.same)) in
+      both ∙ ap (λ (x : NodeState). set.union (set.of_list x.published) (set.of_list m.node.published)) (sym stands.same)
+      ∙ ap (λ (x : NodeState). set.union (set.of_list stands.s.node.published) (set.of_list x.published)) (sym stands'.same) in
       subst (λ ops. Unites w first second (text ops) w) (sym texts)
       (Unites.running stands.at stands'.at (subst (λ (x : NodeState). IsRunning x.state) (sym stands.same) running)
       (subst (λ (x : NodeState). IsRunning x.state) (sym stands'.same) running'))
 
-  some_published : (n : NodeState) (m : NodeState) (ops : SetBy op_cmp) → m ≡ n → ops ≡ set.of_list n.published → 0 < set.len ops
-      → 0 < length m.published
-  some_published n m ops same e some =
-      subst (λ (x : NodeState). 0 < length x.published) (sym same) (some_of n.published (subst (λ s. 0 < set.len s) e some))
-
-  pub unites_starved : (first second : ℕ) (n m : NodeOver K) (here there_is : SetBy op_cmp) (r : Response)
+  pub unites_starved : (first second : ℕ) (n m : NodeOver K) (r : Response)
       → Some n ≡ map.get over.nodes first → Some m ≡ map.get over.nodes second → IsRunning n.node.state → IsRunning m.node.state
-      → here ≡ set.of_list n.node.published → there_is ≡ set.of_list m.node.published → (0 < set.len here) ⊎ (0 < set.len there_is)
-      → r ≡ response.Reply starved
+      → (0 < length n.node.published) ⊎ (0 < length m.node.published) → r ≡ response.Reply starved
       → (w : World) (s t : KeptNode) → MayBe custody over w → IsAt w first s → IsAt w second t
       → Unites w first second (shown over r) w
-  unites_starved first second n m here there_is r at at' running running' e e' some is_starved w s t is _ _ =
+  unites_starved first second n m r at at' running running' some is_starved w s t is _ _ =
       let stands = there custody over w first n (sym at) is in
       let stands' = there custody over w second m (sym at') is in
       let published : (0 < length stands.s.node.published) ⊎ (0 < length stands'.s.node.published) = elim some [
-        | inl h ↦ inl (some_published n.node stands.s.node here stands.same e h)
-        | inr h ↦ inr (some_published m.node stands'.s.node there_is stands'.same e' h)
+        | inl h ↦ inl (subst (λ (x : NodeState). 0 < length x.published) (sym stands.same) h)
+        | inr h ↦ inr (subst (λ (x : NodeState). 0 < length x.published) (sym stands'.same) h)
       ] in
       subst (λ r. Unites w first second (shown over r) w) (sym is_starved)
       (Unites.no_room stands.at stands'.at (subst (λ (x : NodeState). IsRunning x.state) (sym stands.same) running)

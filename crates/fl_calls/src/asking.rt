@@ -1,8 +1,9 @@
 //! What is asked of nodes that are there, and changes nothing.
-ghost use Rattle.std.specs.Prelude.{◌≡◌, ◌<◌, ◌⊎◌, IfOk, OnErr, OnOk};
+ghost use Rattle.std.specs.Prelude.{◌≡◌, ◌<◌, ◌⊎◌, IfOk, OnErr, length};
 ghost use Rattle.fl_labels.specs.SetBy as set;
 ghost use Rattle.fl_system.specs.World.{World as AnyWorld, KeptNode};
 ghost use Rattle.fl_system.specs.WorldSteps.{IsAt};
+ghost use Rattle.fl_system.specs.Waiting.{IsRunning};
 ghost use Rattle.fl_nodes.specs.Goes.{MayBe};
 ghost use Rattle.fl_calls.specs.Answer.{shown};
 ghost use Rattle.fl_calls.specs.Calls.{counted, Tells, Unites, ChecksAt};
@@ -11,6 +12,7 @@ ghost use Rattle.fl_calls.specs.Failing.{SaysFailed};
 use crate::response::{Check, Response};
 use fl_jobs::answer::Refusal;
 use fl_labels::name::NodeNumber;
+use fl_node::node::Node;
 use fl_opset::set::OpSet;
 use fl_store::keeper::Keeper;
 use fl_system::answer::Fault;
@@ -45,31 +47,25 @@ pub fn tell<K: Keeper>(world: &World<K>, number: NodeNumber) -> Response
     let Some(node) = world.node(number) else {
         return Response::Unknown;
     };
-    match node.registry() {
-        Ok(_) => Response::Text(number),
+    match node.runs() {
+        Ok(()) => Response::Text(number),
         Err(fault) => refused(fault),
     }
 }
 
-// Adds the operations of a registry to a set, where it has some.
-fn add_to(all: &mut OpSet, registry: &OpSet) -> Result<(), AllocError>
-    ensures ok { OnOk result (all.new ≡ set.union all.old registry.now) }
-    ensures wants { OnErr result (0 < set.len registry.now) }
-{
-    if registry.len() == 0 {
-        return Ok(());
-    }
-    all.merge(registry)
-}
-
-// Copies both registries into one set.
-fn united(alloc: Global, first: &OpSet, second: &OpSet) -> Result<OpSet, AllocError>
-    ensures ok { IfOk result (λ all. all ≡ set.union first.now second.now) }
-    ensures wants { OnErr result ((0 < set.len first.now) ⊎ (0 < set.len second.now)) }
+// Copies what two nodes that run have published into one set.
+fn united<K: Keeper>(alloc: Global, first: &Node<K>, second: &Node<K>) -> Result<OpSet, AllocError>
+    requires first { IsRunning first.now.node.state }
+    requires second { IsRunning second.now.node.state }
+    ensures ok { let one = set.of_list first.now.node.published in
+        let other = set.of_list second.now.node.published in
+        IfOk result (λ all. all ≡ set.union one other) }
+    ensures wants { OnErr result ((0 < length first.now.node.published)
+        ⊎ (0 < length second.now.node.published)) }
 {
     let mut all = OpSet::new(alloc);
-    add_to(&mut all, first)?;
-    add_to(&mut all, second)?;
+    first.add_to(alloc, &mut all)?;
+    second.add_to(alloc, &mut all)?;
     Ok(all)
 }
 
@@ -88,15 +84,13 @@ pub fn unite<K: Keeper>(
     let (Some(one), Some(other)) = (world.node(first), world.node(second)) else {
         return Response::Unknown;
     };
-    let here = match one.registry() {
-        Ok(here) => here,
-        Err(fault) => return refused(fault),
-    };
-    let there = match other.registry() {
-        Ok(there) => there,
-        Err(fault) => return refused(fault),
-    };
-    match united(alloc, here, there) {
+    if let Err(fault) = one.runs() {
+        return refused(fault);
+    }
+    if let Err(fault) = other.runs() {
+        return refused(fault);
+    }
+    match united(alloc, one, other) {
         Ok(all) => Response::Union(all),
         Err(AllocError) => starved(),
     }

@@ -336,8 +336,8 @@ impl<M: MakesKeepers> Cluster<M> {
         ensures cause { OnErr result (W.has_failed output.new) }
     {
         match self.world.node(number) {
-            Some(node) => match node.registry() {
-                Ok(registry) => registry.write_text(sink, output),
+            Some(node) => match node.runs() {
+                Ok(()) => node.write_text(sink, output),
                 Err(_) => sink.put_all(output, &[]),
             },
             None => sink.put_all(output, &[]),

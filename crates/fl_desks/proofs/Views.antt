@@ -1,10 +1,10 @@
 -- What desks see of a list.
 use Rattle.std.proofs.Common.{◌≡◌, ◌≤◌, ◌<◌, ◌+◌, ◌-◌, ◌++◌, ◌∙◌, refl, sym, ap, subst, arith, ℕ, zero, suc, List, [], ◌∷◌, length, take, drop, get_or, set, All, Result, Some, inl, inr}
-use Rattle.std.proofs.Common.{length-append, Bool, true, false, not, cond}
+use Rattle.std.proofs.Common.{length-append, Bool, true, false, not, cond, Ok, Err}
 use Rattle.std.proofs.lemmas.Bool.{false≢true}
 use Rattle.std.proofs.lemmas.List.{take-append-le}
 use Rattle.std.proofs.lemmas.List.Elements.{All-weaker, All-set, All-get_or, All-nil, All-push}
-use Rattle.std.specs.Prelude.{max, min, ◌||◌, ◌&&◌}
+use Rattle.std.specs.Prelude.{max, min, IfOk}
 use Rattle.std.specs.Cmp.{Equal-is}
 use Rattle.std.specs.Ordering.{eq_by_cmp, is_lt, nat_cmp, ord_min}
 use Rattle.std.proofs.lemmas.Bool.Decides.{nat_tests}
@@ -31,6 +31,11 @@ use Rattle.fl_desks.specs.Benches.{BenchesState, bench_at, counted}
 use Rattle.fl_desks.specs.declared.listing.Desk.{Desk}
 use Rattle.fl_desks.specs.Listing.{ListingState, with_seen, extended}
 use Rattle.fl_desks.specs.parts.Fronts.{IsFront, IsListing, views_of}
+
+-- what is answered is that
+pub if_ok_same : {A E : Type 0} {x y : A} (r : Result A E) → x ≡ y → IfOk r (λ z. z ≡ x) → IfOk r (λ z. z ≡ y)
+if_ok_same (Ok z) same is = is ∙ same
+if_ok_same (Err e) same is = tt
 
 -- the number of an item is one more than its place
 pub item_is : {A : Type 0} (xs : List A) (k : ℕ) (d : A) → k < length xs → item_at xs (suc k) ≡ Some (get_or xs k d)
@@ -130,76 +135,20 @@ pub set_views : (desks : List Desk) (k : ℕ) (d : Desk) → length (views_of (s
 set_views desks k d = views_length (set desks k d) ∙ set_length desks k d ∙ sym (views_length desks)
 
 -- a desk at this place has another front
-pub with_desk : (list : List Op) (ops : SetBy op_cmp) (desks : List Desk) (k : ℕ) (d : Desk) → IsListing list ops desks → IsFront list d
-    → IsListing list ops (set desks k d)
-with_desk list ops desks k d h front = record {
-  listed = h.listed;
+pub with_desk : (list : List Op) (desks : List Desk) (k : ℕ) (d : Desk) → IsListing list desks → IsFront list d
+    → IsListing list (set desks k d)
+with_desk list desks k d h front = record {
   few = let same = set_length desks k d in omega (arith, h.few, same);
   fronts = All-set (IsFront list) desks k d front h.fronts;
 }
 
 -- operations came at the end
-pub with_more : (list more : List Op) (ops ops' : SetBy op_cmp) (desks : List Desk) → IsListing list ops desks → ops' ≡ of_list (list ++ more)
-    → IsListing (list ++ more) ops' desks
-with_more list more ops ops' desks h listed = record { listed = listed; few = h.few; fronts = fronts_of_more list more desks h.fronts }
+with_more : (list more : List Op) (desks : List Desk) → IsListing list desks → IsListing (list ++ more) desks
+with_more list more desks h = record { few = h.few; fronts = fronts_of_more list more desks h.fronts }
 
 -- the same, of a list with them at its end
-pub grown : (list more list' : List Op) (ops ops' : SetBy op_cmp) (desks : List Desk) → IsListing list ops desks → list' ≡ list ++ more → ops' ≡ of_list (list ++ more)
-    → IsListing list' ops' desks
-grown list more list' ops ops' desks h list_is listed = subst (λ l. IsListing l ops' desks) (sym list_is) (with_more list more ops ops' desks h listed)
-
-pub listed_one : (list : List Op) (ops ops' : SetBy op_cmp) (op : Op) → ops ≡ of_list list → ops' ≡ sets.insert ops op → ops' ≡ of_list (list ++ op ∷ [])
-listed_one list ops ops' op is added = added ∙ ap (λ s. sets.insert s op) is ∙ sym (of_list-push op_total op_exact list op)
-
-pub listed_all : (list : List Op) (ops ops' more : SetBy op_cmp) → ops ≡ of_list list → ops' ≡ sets.union ops more → ops' ≡ of_list (list ++ sets.members more)
-listed_all list ops ops' more is added =
-    added ∙ ap (λ s. sets.union s more) is ∙ ap (sets.union (of_list list)) (sym (of_list-members op_total op_exact more))
-    ∙ sym (of_list-append op_total op_exact list (sets.members more))
-
--- ---- what is put in and taken out again
-
-back_cases : (e s : Bool) → s ≡ false → (not e && (e || s)) ≡ s
-back_cases true s h = sym h
-back_cases false s h = refl
-
--- an operation that is there already
-insert_same : (s : SetBy op_cmp) (op : Op) → contains s op ≡ true → sets.insert s op ≡ s
-insert_same s op there = same_set op_total op_exact _ _ (λ q. contains-insert op_total s op q ∙ by_place q (eq_by_cmp op_cmp q op) refl)
-  where
-    by_place : (q : Op) (e : Bool) → eq_by_cmp op_cmp q op ≡ e → (eq_by_cmp op_cmp q op || contains s q) ≡ contains s q
-    by_place q true e =
-        let same : q ≡ op = op_exact q op ((Equal-is (op_cmp q op)).0 e) in
-        ap (λ b. b || contains s q) e ∙ sym (ap (contains s) same ∙ there)
-    by_place q false e = ap (λ b. b || contains s q) e
-
--- a new operation
-pub put_back : (s : SetBy op_cmp) (op : Op) → contains s op ≡ false → sets.remove (sets.insert s op) op ≡ s
-put_back s op new = same_set op_total op_exact _ _ (λ q.
-    contains-remove op_total (sets.insert s op) op q
-    ∙ ap (λ b. not (eq_by_cmp op_cmp q op) && b) (contains-insert op_total s op q)
-    ∙ by_place q (eq_by_cmp op_cmp q op) refl)
-  where
-    by_place : (q : Op) (e : Bool) → eq_by_cmp op_cmp q op ≡ e → (not (eq_by_cmp op_cmp q op) && (eq_by_cmp op_cmp q op || contains s q)) ≡ contains s q
-    by_place q true e =
-        let same : q ≡ op = op_exact q op ((Equal-is (op_cmp q op)).0 e) in
-        back_cases (eq_by_cmp op_cmp q op) (contains s q) (ap (contains s) same ∙ new)
-    by_place q false e = ap (λ b. not b && (b || contains s q)) e
-
-not_true : (b : Bool) → true ≡ not b → b ≡ false
-not_true true h = absurd (false≢true (sym h))
-not_true false h = refl
-
-not_false : (b : Bool) → false ≡ not b → b ≡ true
-not_false true h = refl
-not_false false h = absurd (false≢true h)
-
-pub taken_back : (was ops ops' : SetBy op_cmp) (op : Op) (new : Bool) → new ≡ true → ops' ≡ sets.remove ops op → ops ≡ sets.insert was op → new ≡ not (contains was op)
-    → ops' ≡ was
-taken_back was ops ops' op new set_so removed inserted new_is =
-    removed ∙ ap (λ s. sets.remove s op) inserted ∙ put_back was op (not_true _ (sym set_so ∙ new_is))
-
-pub left_there : (was ops : SetBy op_cmp) (op : Op) (new : Bool) → new ≡ false → ops ≡ sets.insert was op → new ≡ not (contains was op) → ops ≡ was
-left_there was ops op new set_so inserted new_is = inserted ∙ insert_same was op (not_false _ (sym set_so ∙ new_is))
+pub grown : (list more list' : List Op) (desks : List Desk) → IsListing list desks → list' ≡ list ++ more → IsListing list' desks
+grown list more list' desks h list_is = subst (λ l. IsListing l desks) (sym list_is) (with_more list more desks h)
 
 -- ---- what a desk sees
 
@@ -351,10 +300,9 @@ extended_seen list list' desks k d d' count op maker desk list_is desk_is front 
       views = (views_with desks k d' ∙ (λ j. with_item (views_of desks) ((sym desk_is) j) (all j))) i;
     }
 
-pub undone : (list list' : List Op) (ops ops' : SetBy op_cmp) (desks desks' : List Desk) → IsListing list ops desks → list' ≡ list → ops' ≡ ops → desks' ≡ desks
-    → IsListing list' ops' desks'
-undone list list' ops ops' desks desks' h list_is ops_is desks_is =
-    subst (λ l. IsListing l ops' desks') (sym list_is) (subst (λ o. IsListing list o desks') (sym ops_is) (subst (IsListing list ops) (sym desks_is) h))
+pub undone : (list list' : List Op) (desks desks' : List Desk) → IsListing list desks → list' ≡ list → desks' ≡ desks → IsListing list' desks'
+undone list list' desks desks' h list_is desks_is =
+    subst (λ l. IsListing l desks') (sym list_is) (subst (IsListing list) (sym desks_is) h)
 
 -- a job under what a desk sees
 pub does_at : (list : List Op) (desks : List Desk) (desk : ℕ) (d : Desk) (seen : ℕ) → 0 < desk → desk - 1 < length desks → d ≡ get_or desks (desk - 1) d

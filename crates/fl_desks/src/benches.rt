@@ -68,6 +68,7 @@ impl Benches {
     }
 
     // The place of the bench of a process.
+    #[inline(always)]
     fn home(&self, pid: Pid) -> usize
         requires { 0 < length self.now.benches }
         ensures place { suc result ≡ bench_of (length self.now.benches) pid.serial }
@@ -77,6 +78,7 @@ impl Benches {
     }
 
     // The place of the bench that does a job.
+    #[inline(always)]
     fn place(&self, job: &Job) -> usize
         requires { 0 < length self.now.benches }
         ensures place { suc result ≡ bench_at self.now job.now }
@@ -108,6 +110,7 @@ impl Benches {
     /// Does a job at its bench under what the desk sees, as [`Bench::job`] has it: who asks for it
     /// or receives has its bench, a new process is made on each in turn, and a question of groups
     /// is asked at the first one.
+    #[inline(always)]
     pub fn job(
         &mut self,
         alloc: Global,
@@ -159,6 +162,7 @@ impl Benches {
     }
 
     /// The process, or none where it does not stand here.
+    #[inline(always)]
     pub fn process(&self, pid: Pid) -> Option<&Process>
         ensures { let bench = bench_of (length self.now.benches) pid.serial in
             option_copied result ≡ process_at (item_at self.now.benches bench) pid }
@@ -170,6 +174,7 @@ impl Benches {
     }
 
     /// What the process owns, for whoever notes it, as [`Bench::share`] has it.
+    #[inline(always)]
     pub fn share(&mut self, alloc: Global, pid: Pid) -> Result<Option<SharedCaps>, AllocError>
         ensures ok { let bench = bench_of (length self.old.benches) pid.serial in
             IfOk result (λ made.

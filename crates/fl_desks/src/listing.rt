@@ -11,6 +11,7 @@ ghost use Rattle.fl_desks.specs.parts.Fronts.{IsFront, views_of};
 use fl_cache::cached::CachedIndex;
 use fl_jobs::answer::{Outcome, Refusal};
 use fl_jobs::job::Job;
+use fl_labels::sorted::arrange;
 use fl_monitor::bench::Bench;
 use fl_ops::op::Op;
 use fl_opset::set::OpSet;
@@ -19,8 +20,8 @@ use std::alloc::{AllocError, Global};
 use std::cmp::min;
 use std::marker::Model;
 
-/// The operations of a list, as a set. Each costs what [`OpSet::add`] does.
-pub fn collected(alloc: Global, ops: &[Op]) -> Result<OpSet, AllocError>
+// The operations of a list, as a set, added one by one.
+fn added(alloc: Global, ops: &[Op]) -> Result<OpSet, AllocError>
     ensures { IfOk result (λ all. all ≡ set.of_list ops.now) }
 {
     let mut all = OpSet::new(alloc);
@@ -28,6 +29,15 @@ pub fn collected(alloc: Global, ops: &[Op]) -> Result<OpSet, AllocError>
         all.add(*op)?;
     }
     Ok(all)
+}
+
+/// The operations of a list, as a set. Sorts a copy of the list, where it does not rise.
+pub fn collected(alloc: Global, ops: &[Op]) -> Result<OpSet, AllocError>
+    ensures { IfOk result (λ all. all ≡ set.of_list ops.now) }
+{
+    let mut rising = Vec::from_slice(alloc, ops)?;
+    arrange(&mut rising);
+    added(alloc, &rising)
 }
 
 // Adds the operations of a list, all or none. One alone is put into no set before.
@@ -99,60 +109,12 @@ fn desks_of(alloc: Global, saved: &OpSet, count: u8) -> Result<Vec<Desk>, AllocE
     Ok(desks)
 }
 
-// Puts one operation at the end of the list, and into the set, and says whether that is new there.
-// An error leaves both.
-fn append_one(list: &mut Vec<Op>, ops: &mut OpSet, op: &Op) -> Result<bool, AllocError>
-    ensures list { OnOk result (list.new.items ≡ list.old.items ++ op.now ∷ []) }
-    ensures ops { OnOk result (ops.new ≡ set.insert ops.old op.now) }
-    ensures new { IfOk result (λ new. new ≡ not (set.contains ops.old op.now)) }
-    ensures same_list { OnErr result (list.new.items ≡ list.old.items) }
-    ensures same_ops { OnErr result (ops.new ≡ ops.old) }
-{
-    list.push(*op)?;
-    let added = ops.add(*op);
-    if added.is_err() {
-        list.pop();
-    }
-    added
-}
-
-// Takes an operation out again that came last into a list that was so long, and into a set, where
-// it was new there.
-fn take_back(list: &mut Vec<Op>, before: usize, ops: &mut OpSet, op: &Op, new: bool)
-    ensures list { list.new.items ≡ take before list.old.items }
-    ensures ops { (was : _) → ops.old ≡ set.insert was op.now
-        → new ≡ not (set.contains was op.now) → ops.new ≡ was }
-{
-    list.truncate(before);
-    if new {
-        ops.remove(op);
-    }
-}
-
-// Puts operations at the end of the list, and into the set. An error leaves both.
-fn append_all(list: &mut Vec<Op>, ops: &mut OpSet, more: &OpSet) -> Result<(), AllocError>
-    ensures list { OnOk result (list.new.items ≡ list.old.items ++ set.members more.now) }
-    ensures ops { OnOk result (ops.new ≡ set.union ops.old more.now) }
-    ensures same_list { OnErr result (list.new.items ≡ list.old.items) }
-    ensures same_ops { OnErr result (ops.new ≡ ops.old) }
-{
-    let before = list.len();
-    list.extend_from_slice(more.as_slice())?;
-    let merged = ops.merge(more);
-    if merged.is_err() {
-        list.truncate(before);
-    }
-    merged
-}
-
 /// The operations that a node has published, in the order of publishing, and its desks, each of
 /// which sees so many of them, from the first one on.
 ///
-/// An operation stands here twice, in the list and in a set of all, and once more for each desk
-/// that sees it, with what it leads to.
+/// An operation stands here once, and once more for each desk that sees it, with what it leads to.
 pub struct Listing {
     list: Vec<Op>,
-    ops: OpSet,
     desks: Vec<Desk>,
 }
 
@@ -166,16 +128,12 @@ impl Model for Listing {
 
     ghost view = { λ a. record { published = a.list.items; views = views_of a.desks.items } };
 
-    ghost invariant = { λ a. IsListing a.list.items a.ops a.desks.items };
+    ghost invariant = { λ a. IsListing a.list.items a.desks.items };
 }
 
 impl Drop for Listing {
     fn drop(self) {
-        let Listing {
-            list: _,
-            ops: _,
-            desks: _,
-        } = self;
+        let Listing { list: _, desks: _ } = self;
     }
 }
 
@@ -187,9 +145,8 @@ impl Listing {
         ensures desks { IfOk result (λ made. length made.views ≡ desks) }
     {
         let list = Vec::from_slice(alloc, saved.as_slice())?;
-        let ops = saved.copy(alloc)?;
         let desks = desks_of(alloc, saved, desks)?;
-        Ok(Listing { list, ops, desks })
+        Ok(Listing { list, desks })
     }
 
     /// The operations, in the order of publishing.
@@ -197,13 +154,6 @@ impl Listing {
         ensures { result.now ≡ self.now.published }
     {
         &self.list
-    }
-
-    /// The operations as a set, whatever desks see of them.
-    pub fn ops(&self) -> &OpSet
-        ensures { result.now ≡ set.of_list self.now.published }
-    {
-        &self.ops
     }
 
     /// How many desks there are.
@@ -232,6 +182,7 @@ impl Listing {
     }
 
     /// Has the bench do a job under what the desk sees, as [`Bench::job`] has it.
+    #[inline(always)]
     pub fn work(
         &mut self,
         alloc: Global,
@@ -255,8 +206,7 @@ impl Listing {
             (self.new ≡ extended self.old (Ordered op.now maker desk)) }
         ensures err { OnErr result (self.new ≡ self.old) }
     {
-        let before = self.list.len();
-        let new = append_one(&mut self.list, &mut self.ops, op)?;
+        self.list.push(*op)?;
         let Some(desk) = desk else {
             return Ok(());
         };
@@ -268,7 +218,7 @@ impl Listing {
         match it.rise(alloc, &self.list, count) {
             Ok(()) => Ok(()),
             Err(error) => {
-                take_back(&mut self.list, before, &mut self.ops, op, new);
+                self.list.pop();
                 Err(error)
             }
         }
@@ -283,7 +233,7 @@ impl Listing {
     {
         match batch {
             Batch::Ordered(op, _, desk) => self.order(alloc, op, *desk),
-            Batch::Received(ops) => append_all(&mut self.list, &mut self.ops, ops),
+            Batch::Received(ops) => self.list.extend_from_slice(ops.as_slice()),
         }
     }
 }

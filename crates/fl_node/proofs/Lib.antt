@@ -8,3 +8,4 @@ pub mod JobLemmas
 pub mod RecoverLemmas
 pub mod CauseLemmas
 pub mod ReceiveLemmas
+pub mod Registries

@@ -3,7 +3,7 @@ use Rattle.std.proofs.Common.{◌≡◌, ◌⊎◌, ◌∙◌, refl, sym, ap, su
 use Rattle.std.specs.Prelude.{IsTrue, not, ◌&&◌, ◌||◌}
 use Rattle.std.specs.List.{list_any}
 use Rattle.std.specs.Ordering.{eq_by_cmp}
-use Rattle.fl_labels.specs.SetBy.{SetBy, contains, remove, of_list, same_set, contains-remove, contains-union, contains-of_list}
+use Rattle.fl_labels.specs.SetBy.{SetBy, contains, of_list, same_set, contains-union, contains-of_list}
 use Rattle.fl_ops.specs.declared.op.Op.{Op}
 use Rattle.fl_ops.specs.OpOrder.{op_cmp}
 use Rattle.fl_ops.specs.OpLaws.{op_total, op_exact}
@@ -20,36 +20,12 @@ use Rattle.fl_system.specs.declared.state.State.TheVariants.{Running, Stopped}
 use Rattle.fl_system.specs.declared.answer.Fault.{Fault}
 use Rattle.fl_system.specs.State.{NodeState, ops_of}
 use Rattle.fl_node.specs.declared.keeping.Unkept.TheVariants as unkept
-use Rattle.fl_node.specs.parts.Keeping.{Keeps, unkept_of, without}
+use Rattle.fl_opset.specs.Without.{without}
+use Rattle.fl_opset.specs.laws.Withouts.{contains-without}
+use Rattle.fl_node.specs.parts.Keeping.{Keeps, unkept_of}
 use Rattle.fl_system.specs.Saves as steps
 use Rattle.fl_system.specs.Saves.{Saves, halted}
 use Rattle.fl_system.specs.Waiting.{NoneUnsaved}
-
-drops_first : (e a s : Bool) → ((not e && s) && not a) ≡ (s && not (e || a))
-drops_first true true true = refl
-drops_first true true false = refl
-drops_first true false true = refl
-drops_first true false false = refl
-drops_first false true true = refl
-drops_first false true false = refl
-drops_first false false true = refl
-drops_first false false false = refl
-
-stays_all : (s : Bool) → (s && true) ≡ s
-stays_all true = refl
-stays_all false = refl
-
-contains-without : (s : SetBy op_cmp) (ops : List Op) (q : Op) → contains (without s ops) q ≡ (contains s q && not (list_any (eq_by_cmp op_cmp q) ops))
-contains-without s [] q = sym (stays_all (contains s q))
-contains-without s (op ∷ ops) q =
-    contains-without (remove s op) ops q
-    ∙ ap (λ b. b && not (list_any (eq_by_cmp op_cmp q) ops)) (contains-remove op_total s op q)
-    ∙ drops_first (eq_by_cmp op_cmp q op) (list_any (eq_by_cmp op_cmp q) ops) (contains s q)
-
--- one more, at the end
-pub without-push : (s : SetBy op_cmp) (ops : List Op) (op : Op) → without s (ops ++ op ∷ []) ≡ remove (without s ops) op
-without-push s [] op = refl
-without-push s (x ∷ ops) op = without-push (remove s x) ops op
 
 back_again : (s a : Bool) → (a ≡ true → s ≡ true → ⊥) → ((s || a) && not a) ≡ s
 back_again true true h = absurd (h refl refl)

@@ -4,7 +4,8 @@ ghost use Rattle.fl_labels.specs.SetBy.{SetBy};
 ghost use Rattle.fl_ops.specs.OpOrder.{op_cmp};
 ghost use Rattle.fl_store.specs.Kept.{Kept, AreNew, with_ops};
 ghost use Rattle.fl_system.specs.State.{ops_of};
-ghost use Rattle.fl_node.specs.parts.Keeping.{Keeps, unkept_of, without};
+ghost use Rattle.fl_opset.specs.Without.{without};
+ghost use Rattle.fl_node.specs.parts.Keeping.{Keeps, unkept_of};
 
 use crate::state::ops_of_batch;
 use fl_ops::op::Op;
@@ -35,8 +36,8 @@ fn reason(fault: KeeperFault) -> Unkept
     }
 }
 
-// Takes each of these operations out.
-fn remove_all(saved: &mut OpSet, ops: &[Op])
+/// Takes each of these operations out.
+pub fn remove_all(saved: &mut OpSet, ops: &[Op])
     ensures { saved.new ≡ without saved.old ops.now }
 {
     for op in ops {

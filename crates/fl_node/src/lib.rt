@@ -10,5 +10,6 @@ pub mod node;
 mod publishing;
 pub mod receiving;
 mod recovering;
+pub mod registry;
 mod state;
 pub mod telling;

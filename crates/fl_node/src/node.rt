@@ -3,14 +3,12 @@ ghost use Rattle.std.specs.Prelude.{◌≡◌, ◌⊎◌, ◌<◌, IsTrue, IfOk,
 ghost use Rattle.std.specs.Fn.{FnOnceReturnsAtMut};
 ghost use Rattle.std.specs.Option.{option_copied};
 ghost use Rattle.fl_labels.specs.SetBy as set;
-ghost use Rattle.fl_opset.specs.RegistryText.{registry_text};
-ghost use Rattle.fl_sink.specs.Sink.{Writes};
 ghost use Rattle.fl_store.specs.Breaking.{IsLeftBroken};
 ghost use Rattle.fl_store.specs.Kept.{HasNamesOnce};
 ghost use Rattle.fl_store.specs.Keeping.{Follows};
 ghost use Rattle.fl_bench.specs.Process.{owned_by};
 ghost use Rattle.fl_system.specs.Processes.{process_of};
-ghost use Rattle.fl_system.specs.Waiting.{IsRunning, NotRunning};
+ghost use Rattle.fl_system.specs.Waiting.{IsRunning};
 ghost use Rattle.fl_system.specs.Begins.{Begins};
 ghost use Rattle.fl_system.specs.Jobs.{Jobs};
 ghost use Rattle.fl_system.specs.Numbered.{item_at};
@@ -38,20 +36,18 @@ use fl_labels::name::{Name, NodeNumber};
 use fl_labels::pid::Pid;
 use fl_ops::op::{Body, Op};
 use fl_opset::set::OpSet;
-use fl_sink::sink::WriteFault;
 use fl_store::keeper::Keeper;
 use fl_system::answer::{Answer, Fault};
 use fl_system::state::{Batch, Pending, State};
 use std::alloc::{AllocError, Global};
-use std::io::Write;
 use std::marker::Model;
 use std::mem::replace;
 
 /// A node: its keeper, what is saved and published of it, how much of that each of its desks sees,
 /// what is on its way, and the benches of its processes, as many as there are desks.
 ///
-/// An operation stands in it three times, and once more for each desk that sees it, with what it
-/// leads to there.
+/// An operation stands in it twice, and once more for each desk that sees it, with what it leads to
+/// there.
 pub struct Node<K: Keeper> {
     pub(crate) keeper: K,
     pub(crate) number: NodeNumber,
@@ -86,7 +82,7 @@ impl<K: Keeper> Model for Node<K> {
     } };
 
     ghost invariant = { λ a. IsSound (K.custody.is_honest a.keeper) (K.custody.may_hold a.keeper)
-        a.number a.boot a.saved a.state (length a.listing.views) (length a.benches.benches) };
+        a.number a.boot a.saved a.listing.published a.state (length a.listing.views) (length a.benches.benches) };
 }
 
 impl<K: Keeper + Drop> Drop for Node<K> {
@@ -113,8 +109,8 @@ impl<K: Keeper> Node<K> {
     /// - `NamesSpent`: it was opened 4,294,967,295 times.
     /// - `Memory`: there was not enough.
     ///
-    /// A refused opening may have raised the boot. Loads what is saved, and copies it twice, and
-    /// once more for each desk, into its index; there each put costs a search by order.
+    /// A refused opening may have raised the boot. Loads what is saved, and copies it, and once more
+    /// for each desk, into its index; there each put costs a search by order.
     pub fn open(
         alloc: Global,
         mut keeper: K,
@@ -209,35 +205,6 @@ impl<K: Keeper> Node<K> {
         ensures same { self.new ≡ self.old }
     {
         self.benches.share(alloc, pid)
-    }
-
-    /// The published operations, rising. A stopped node answers `Stopped`. Takes no memory.
-    pub fn registry(&self) -> Result<&OpSet, Fault>
-        ensures running { IfOk result (λ ops. IsRunning self.now.node.state) }
-        ensures ok { IfOk result (λ ops. ops.now ≡ set.of_list self.now.node.published) }
-        ensures err { IfErr result (λ fault. NotRunning self.now.node.state fault) }
-    {
-        match running(&self.state) {
-            Ok(()) => Ok(self.listing.ops()),
-            Err(fault) => Err(fault),
-        }
-    }
-
-    /// Writes the text of the published operations, a line for each, rising: `1.1 tag export`, `1.2
-    /// group`. A stopped node answers `Stopped`, and writes nothing. At a fault of the writer a
-    /// front of the text was written.
-    pub fn text<W: Write>(&self, output: &mut W) -> Result<Result<(), WriteFault>, Fault>
-        ensures running { IfOk result (λ written. IsRunning self.now.node.state) }
-        ensures ok { let text = registry_text (set.of_list self.now.node.published) in
-            IfOk result (λ written.
-            Writes (W.contents output.old) (W.contents output.new) text written) }
-        ensures err { IfErr result (λ fault. NotRunning self.now.node.state fault) }
-        ensures nothing { OnErr result (W.contents output.new ≡ W.contents output.old) }
-    {
-        match self.registry() {
-            Ok(ops) => Ok(ops.text(output)),
-            Err(fault) => Err(fault),
-        }
     }
 
     /// Begins an operation of this body for its maker, where nothing is on its way, and gives its

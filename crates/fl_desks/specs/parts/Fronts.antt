@@ -15,7 +15,6 @@ pub record IsFront (list : List Op) (desk : Desk) : Type 0 where
 abbrev pub views_of : List Desk → List ℕ
 views_of desks = map (λ desk. desk.seen) desks
 
-pub record IsListing (list : List Op) (ops : SetBy op_cmp) (desks : List Desk) : Type 0 where
-  pub listed : ops ≡ set.of_list list
+pub record IsListing (list : List Op) (desks : List Desk) : Type 0 where
   pub few : length desks ≤ 255
   pub fronts : All (IsFront list) desks

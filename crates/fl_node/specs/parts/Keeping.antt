@@ -1,11 +1,8 @@
 -- What is kept after operations are saved, or not.
-use Rattle.std.specs.Prelude.{◌≡◌, ◌⊎◌, List, [], ◌∷◌}
+use Rattle.std.specs.Prelude.{◌≡◌, ◌⊎◌, List}
 use Rattle.std.specs.declared.result.Result.{Result}
 use Rattle.std.specs.declared.result.Result.TheVariants.{Ok, Err}
-use Rattle.fl_labels.specs.SetBy as set
-use Rattle.fl_labels.specs.SetBy.{SetBy}
 use Rattle.fl_ops.specs.declared.op.Op.{Op}
-use Rattle.fl_ops.specs.OpOrder.{op_cmp}
 use Rattle.fl_store.specs.declared.keeper.KeeperFault.{KeeperFault}
 use Rattle.fl_store.specs.declared.keeper.KeeperFault.TheVariants as keeper
 use Rattle.fl_store.specs.Kept.{with_batch}
@@ -25,8 +22,3 @@ abbrev pub Keeps : List Op → Held → Held → Result (Unit {0}) Unkept → Ty
 Keeps ops old new (Ok _) = Follows (λ k k'. k' ≡ with_batch k ops) old new
 Keeps ops old new (Err Memory) = Stays old new
 Keeps ops old new (Err Broken) = Follows (λ k k'. (k' ≡ k) ⊎ (k' ≡ with_batch k ops)) old new
-
--- with none of these operations
-abbrev pub without : SetBy op_cmp → List Op → SetBy op_cmp
-without saved [] = saved
-without saved (op ∷ ops) = without (set.remove saved op) ops

@@ -4,7 +4,7 @@ use Rattle.fl_calls.proofs.asking.tell.Goals as goal
 
 pub returns-in-Ok-clause-tells : goal.returns-in-Ok-clause-tells
 returns-in-Ok-clause-tells g c =
-    tells_running g.K.Keeper.custody c.args.world.now c.args.number c.in-Some.node.now c.in-Some.ensures c.in-Ok.ensures.running
+    tells_running g.K.Keeper.custody c.args.world.now c.args.number c.in-Some.node.now c.in-Some.ensures c.in-Ok.ensures.ok
 
 pub returns-in-Err-clause-tells : goal.returns-in-Err-clause-tells
 returns-in-Err-clause-tells g c =

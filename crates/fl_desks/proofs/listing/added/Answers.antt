@@ -4,7 +4,7 @@ use Rattle.fl_labels.specs.SetBy as set
 use Rattle.fl_ops.specs.OpOrder.{op_cmp}
 use Rattle.fl_ops.specs.OpLaws.{op_total, op_exact}
 use Rattle.fl_store.specs.laws.KeptSets.{of_list-push}
-use Rattle.fl_desks.proofs.listing.collected.Goals as goal
+use Rattle.fl_desks.proofs.listing.added.Goals as goal
 
 pub loop-op-preserved : goal.loop-op-preserved
 loop-op-preserved c =

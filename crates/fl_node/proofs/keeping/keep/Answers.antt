@@ -1,6 +1,7 @@
 use Rattle.std.proofs.Common.{◌∙◌, sym, ap, subst, Err}
 use Rattle.fl_system.specs.State.{ops_of}
-use Rattle.fl_node.specs.parts.Keeping.{Keeps, unkept_of, without}
+use Rattle.fl_opset.specs.Without.{without}
+use Rattle.fl_node.specs.parts.Keeping.{Keeps, unkept_of}
 use Rattle.fl_node.proofs.NodeLemmas.{err_same}
 use Rattle.fl_node.proofs.SaveLemmas.{back, save_broke, unkept_left}
 use Rattle.fl_node.proofs.keeping.keep.Goals as goal

@@ -1,8 +1,8 @@
 use Rattle.std.proofs.Common.{◌≡◌, ◌∙◌, ◌+◌, sym, ap, take, ◌++◌, ◌∷◌, []}
 use Rattle.std.proofs.lemmas.List.{take_more}
 use Rattle.fl_labels.specs.SetBy as set
-use Rattle.fl_node.specs.parts.Keeping.{without}
-use Rattle.fl_node.proofs.SaveLemmas.{without-push}
+use Rattle.fl_opset.specs.Without.{without}
+use Rattle.fl_opset.specs.laws.Withouts.{without-push}
 use Rattle.fl_node.proofs.keeping.remove_all.Goals as goal
 
 pub loop-op-preserved : goal.loop-op-preserved

@@ -1,5 +1,5 @@
 use Rattle.std.proofs.Common.{◌≡◌, take}
-use Rattle.fl_node.specs.parts.Keeping.{without}
+use Rattle.fl_opset.specs.Without.{without}
 use Rattle.fl_node.proofs.keeping.remove_all.Given as goal
 
 abbrev pub invariant-loop-op : goal.invariant-loop-op

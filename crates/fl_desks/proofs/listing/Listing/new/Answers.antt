@@ -1,8 +1,4 @@
-use Rattle.std.proofs.Common.{◌∙◌, sym, ap, subst, All, arith}
-use Rattle.fl_labels.specs.SetBy as set
-use Rattle.fl_labels.specs.SetBy.{of_list-members}
-use Rattle.fl_ops.specs.OpOrder.{op_cmp}
-use Rattle.fl_ops.specs.OpLaws.{op_total, op_exact}
+use Rattle.std.proofs.Common.{◌∙◌, sym, subst, All, arith}
 use Rattle.fl_desks.specs.parts.Fronts.{IsFront}
 use Rattle.fl_desks.proofs.Views.{views_length}
 use Rattle.fl_desks.proofs.listing.Listing.new.Goals as goal
@@ -11,7 +7,6 @@ pub invariant_of-result : goal.invariant_of-result
 invariant_of-result c =
     let list = c.in_ok-list.ensures.items ∙ c.as_slice.ensures in
     record {
-      listed = c.in_ok-ops.ensures ∙ sym (ap (set.of_list {R = op_cmp}) list ∙ of_list-members op_total op_exact c.args.saved.now);
       few = omega (arith, c.in_ok-desks.ensures.count, c.ranges.desks.fits);
       fronts = subst (λ l. All (IsFront l) c.in_ok-desks.desks.items) (sym list) c.in_ok-desks.ensures.fronts;
     }

@@ -1,10 +1,17 @@
-use Rattle.std.proofs.Common.{refl}
+use Rattle.std.proofs.Common.{refl, ap}
 use Rattle.fl_system.specs.Jobs.{Jobs}
+use Rattle.fl_desks.specs.Listing.{ListingState}
+use Rattle.fl_node.proofs.Sounds.{looks_on}
 use Rattle.fl_node.proofs.Working.{has_view, item_here, jobs_then, turned}
 use Rattle.fl_node.proofs.node.Node.job.Goals as goal
 
 pub returns-in-Err-clause-job : goal.returns-in-Err-clause-job
 returns-in-Err-clause-job g c = rw (← c.self.view_is) (Jobs.stopped c.in-Err.ensures.err)
+
+pub invariant_of-self : goal.invariant_of-self
+invariant_of-self g c =
+    let v = has_view _ c.args.desk (rw (← c.self.view_is) at c.requires) in
+    looks_on c.self.inside.state _ _ (ap (λ (l : ListingState). l.published) (c.in-Ok.ensures.ok v.seen v.at)) c.in-Ok.ensures.desks c.self.invariant
 
 pub returns-in_default-look-clause-job : goal.returns-in_default-look-clause-job
 returns-in_default-look-clause-job g c =

@@ -1,4 +1,9 @@
 use Rattle.std.proofs.Common.{inl, inr, ◌∙◌, refl, sym, ap, Err}
+use Rattle.fl_labels.specs.SetBy as set
+use Rattle.fl_labels.specs.SetBy.{of_list-members}
+use Rattle.fl_ops.specs.OpOrder.{op_cmp}
+use Rattle.fl_ops.specs.OpLaws.{op_total, op_exact}
+use Rattle.fl_desks.specs.Listing.{ListingState}
 use Rattle.fl_store.specs.Breaking.{raising}
 use Rattle.fl_system.specs.Openings.{IsOf}
 use Rattle.fl_node.proofs.OpenLemmas.{not_found, found_no_room, no_room_after, not_raised, opens, kept_opened}
@@ -51,6 +56,7 @@ invariant_of-result g c = record {
   booted = c.in-Ok-raise.ensures.positive;
   once = c.in-Ok.ensures.names;
   fresh = tt;
+  listed = ap (λ (l : ListingState). set.of_list {R = op_cmp} l.published) c.in-Ok-new.ensures.made ∙ of_list-members op_total op_exact c.in-Ok.saved;
   kept = λ honest k is.
       let raised = c.in-Ok-raise.ensures.held honest in
       let held = c.in-Ok.ensures.held raised.0 in

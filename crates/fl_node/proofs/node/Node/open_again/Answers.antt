@@ -1,3 +1,9 @@
+use Rattle.std.proofs.Common.{◌∙◌, sym, ap}
+use Rattle.fl_labels.specs.SetBy as set
+use Rattle.fl_labels.specs.SetBy.{of_list-members}
+use Rattle.fl_ops.specs.OpOrder.{op_cmp}
+use Rattle.fl_ops.specs.OpLaws.{op_total, op_exact}
+use Rattle.fl_desks.specs.Listing.{ListingState}
 use Rattle.fl_system.specs.Openings.{OpensAgain}
 use Rattle.fl_node.proofs.node.Node.open_again.Goals as goal
 
@@ -17,3 +23,14 @@ returns-in-Err-clause-opens g c =
 
 pub returns-in-Err-clause-cause : goal.returns-in-Err-clause-cause
 returns-in-Err-clause-cause g c = rw (← c.self.view_is) c.in-Err.ensures.cause
+
+pub invariant_of-self : goal.invariant_of-self
+invariant_of-self g c = record {
+  numbered = c.self.invariant.numbered;
+  booted = c.in-Ok.ensures.positive;
+  once = c.in-Ok.ensures.names;
+  fresh = tt;
+  listed = ap (λ (l : ListingState). set.of_list {R = op_cmp} l.published) c.in-Ok.ensures.listing ∙ of_list-members op_total op_exact c.in-Ok.recovered.saved;
+  kept = c.in-Ok.ensures.kept;
+  paired = c.in-Ok.ensures.count ∙ sym c.in-Ok.ensures.desks;
+}

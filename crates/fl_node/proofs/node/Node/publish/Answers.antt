@@ -1,7 +1,11 @@
-use Rattle.std.proofs.Common.{sym, subst}
+use Rattle.std.proofs.Common.{◌∙◌, sym, ap, subst}
 use Rattle.std.proofs.lemmas.Result.{err_from_is_err_and}
+use Rattle.fl_labels.specs.SetBy as set
+use Rattle.fl_ops.specs.OpOrder.{op_cmp}
 use Rattle.fl_system.specs.Publishes.{Publishes}
 use Rattle.fl_system.specs.Waiting.{IsRunning}
+use Rattle.fl_desks.specs.Listing.{ListingState}
+use Rattle.fl_node.specs.Sound.{IsListed}
 use Rattle.fl_node.proofs.Sounds.{rests_on}
 use Rattle.fl_node.proofs.node.Node.publish.Goals as goal
 
@@ -15,7 +19,10 @@ returns-in_default-clause-publishes g c = rw (← c.self.view_is, c.in_default.e
 
 pub invariant_of-self-2 : goal.invariant_of-self-2
 invariant_of-self-2 g c =
-    rests_on c.self.inside.state _ _ (subst IsRunning (sym c.in_ok-batch.ensures.ok) tt) c.in-Ok.ensures.desks c.give.ensures.count c.self.invariant
+    rests_on c.self.inside.state _ _ _ (subst IsRunning (sym c.in_ok-batch.ensures.ok) tt)
+    (ap (λ (l : ListingState). set.of_list {R = op_cmp} l.published) c.in-Ok.ensures.ok
+    ∙ (subst (λ s. IsListed s c.self.inside.listing.published c.self.inside.saved) c.in_ok-batch.ensures.ok c.self.invariant.listed).1)
+    c.in-Ok.ensures.desks c.give.ensures.count c.self.invariant
 
 pub returns-clause-publishes : goal.returns-clause-publishes
 returns-clause-publishes g c =
