@@ -6,7 +6,7 @@ mod graphs;
 mod steps;
 
 use crate::closure::steps::STEPS;
-use crate::steps::measure_step;
+use measuring::steps::measure_step;
 use std::test::Fail;
 
 /// The largest size.

@@ -11,7 +11,7 @@ mod steps;
 
 use crate::gossip::sets::Sets;
 use crate::gossip::steps::STEPS;
-use crate::steps::measure_step;
+use measuring::steps::measure_step;
 use std::test::Fail;
 
 /// Measures all steps over sets of so many operations.

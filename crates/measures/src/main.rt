@@ -8,10 +8,8 @@ mod closure;
 mod gossip;
 mod merge;
 mod node;
-mod steps;
-mod words;
 
-use crate::words::{count_at, is_timed};
+use measuring::words::{count_at, is_timed};
 use std::env;
 use std::process::ExitCode;
 use std::test::Fail;

@@ -1,14 +1,14 @@
 //! Steps that are timed and printed.
 use std::test::Fail;
-use std::time::Instant;
+use std::time::{Clock, Instant};
 
 /// Runs a step so many times, and prints its name and how many things it made; where it runs more
 /// than once, also the nanoseconds that its fastest run took.
-pub fn measure_step<F: Fn() -> Result<usize, Fail>>(
-    rt: &HostRuntime,
+pub fn measure_step<R: Clock + Print, F: FnMut() -> Result<usize, Fail>>(
+    rt: &R,
     name: &str,
     runs: u32,
-    step: F,
+    mut step: F,
 ) -> Result<(), Fail>
     requires { F.IsAlwaysCallable step }
 {
