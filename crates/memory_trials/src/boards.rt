@@ -1,0 +1,64 @@
+//! A trial of a press, which publishes a batch to a desk.
+use crate::calls::Ending;
+use crate::scene::{GROUP, GROUP_MADE, PUT, TAG};
+use fl_labels::cap::Cap;
+use fl_ops::op::Op;
+use fl_replica::board;
+use fl_replica::desk::Desk;
+use fl_replica::press::{Press, PressFault};
+use std::alloc::Global;
+use std::sync::Wait;
+
+// Whether these are published, and whether by them who uses the group may add the tag.
+fn shows(press: &Press, desks: &mut [Desk], list: &[Op], is_member: bool) -> bool {
+    let Some(desk) = desks.first_mut() else {
+        return false;
+    };
+    press.list() == list && desk.member(Cap::Use(GROUP), Cap::Plus(TAG)) == Ok(is_member)
+}
+
+// Publishes what is staged, and then the batch. Where all that went well, the ending is this.
+fn ended<R: Wait>(
+    rt: &R,
+    press: &mut Press,
+    desks: &mut [Desk],
+    batch: &[Op],
+    ending: Ending,
+) -> Ending {
+    if !shows(press, desks, &[GROUP_MADE], false) {
+        return Ending::Wrong("the refused call left something else");
+    }
+    if press.publish(rt, batch).is_err() {
+        return Ending::Wrong("once more, it was refused");
+    }
+    if !shows(press, desks, &[GROUP_MADE, PUT], true) {
+        return Ending::Wrong("once more, the call left something else");
+    }
+    ending
+}
+
+// Publishes a put.
+fn tried<R: Wait>(rt: &R, press: &mut Press, desks: &mut [Desk]) -> Ending {
+    match press.publish(rt, &[PUT]) {
+        Ok(_) if shows(press, desks, &[GROUP_MADE, PUT], true) => Ending::Done,
+        Ok(_) => Ending::Wrong("the call left something else"),
+        Err(PressFault::Memory) => {
+            let ending = Ending::Refused("nothing more is staged");
+            ended(rt, press, desks, &[PUT], ending)
+        }
+        Err(PressFault::Staged) => {
+            let ending = Ending::Refused("the batch is staged");
+            ended(rt, press, desks, &[], ending)
+        }
+    }
+}
+
+/// Publishes a put after a group; where that is refused, once more.
+pub fn publish<R: Wait>(rt: &R, alloc: Global) -> Ending {
+    let Ok((mut press, mut desks)) = board(rt, alloc, &[GROUP_MADE], 1) else {
+        return Ending::NotBegun;
+    };
+    let ending = tried(rt, &mut press, &mut desks);
+    press.close(rt);
+    ending
+}

@@ -1,0 +1,124 @@
+//! Calls some functions of the libraries, each over a state of its own, and says what each answered
+//! and whether it left what it must: `done`; `refused` for want of memory, with what it left, and
+//! once more it was done; `not begun` where what it is called over could not be made; `WRONG` with
+//! what is so instead. A word names one trial; without a word all are made. At most one request for
+//! memory may be refused in a run: `.ci/refusals` refuses each in turn.
+#![tactic(auto)]
+
+mod boards;
+mod calls;
+mod nodes;
+mod people;
+mod scene;
+mod sets;
+mod worlds;
+
+use crate::calls::{Ending, run};
+use crate::nodes::{Look, Open, Publish, Receive, Restart, RestartKept, Save};
+use crate::people::{Arrive, Enter, OpenEndpoint, Ordering, Proc, Send, Spawn};
+use crate::sets::{Absorb, AbsorbAll, Merge};
+use crate::worlds::{Ask, DeliverMessage, DeliverOperations, DeliverWindow, Join, Tell};
+use std::alloc::Global;
+use std::env;
+use std::io::{Eprint, Print};
+use std::process::ExitCode;
+use std::sync::Wait;
+use std::test::Fail;
+
+/// The status where the word names no trial.
+const BAD_WORDS: u8 = 2;
+
+/// The words that name a trial.
+const TRIALS: [&str; 24] = [
+    "merge",
+    "absorb",
+    "absorb_all",
+    "open",
+    "look",
+    "proc",
+    "spawn",
+    "order",
+    "enter",
+    "open_endpoint",
+    "send",
+    "arrive",
+    "save",
+    "publish",
+    "receive",
+    "restart",
+    "restart_kept",
+    "world_join",
+    "world_ask",
+    "world_tell",
+    "world_deliver_window",
+    "world_deliver_operations",
+    "world_deliver_message",
+    "press",
+];
+
+// How the trial of this name ends, if there is one.
+fn ending_of<R: Wait>(rt: &R, alloc: Global, name: &str) -> Option<Ending> {
+    Some(match name {
+        "merge" => run::<Merge>(alloc),
+        "absorb" => run::<Absorb>(alloc),
+        "absorb_all" => run::<AbsorbAll>(alloc),
+        "open" => run::<Open>(alloc),
+        "look" => run::<Look>(alloc),
+        "proc" => run::<Proc>(alloc),
+        "spawn" => run::<Spawn>(alloc),
+        "order" => run::<Ordering>(alloc),
+        "enter" => run::<Enter>(alloc),
+        "open_endpoint" => run::<OpenEndpoint>(alloc),
+        "send" => run::<Send>(alloc),
+        "arrive" => run::<Arrive>(alloc),
+        "save" => run::<Save>(alloc),
+        "publish" => run::<Publish>(alloc),
+        "receive" => run::<Receive>(alloc),
+        "restart" => run::<Restart>(alloc),
+        "restart_kept" => run::<RestartKept>(alloc),
+        "world_join" => run::<Join>(alloc),
+        "world_ask" => run::<Ask>(alloc),
+        "world_tell" => run::<Tell>(alloc),
+        "world_deliver_window" => run::<DeliverWindow>(alloc),
+        "world_deliver_operations" => run::<DeliverOperations>(alloc),
+        "world_deliver_message" => run::<DeliverMessage>(alloc),
+        "press" => boards::publish(rt, alloc),
+        _ => return None,
+    })
+}
+
+// Makes the trial of this name, and says how it ended. Answers the status.
+fn told<R: Print + Eprint + Wait>(rt: &R, alloc: Global, name: &str) -> Result<ExitCode, Fail> {
+    let Some(ending) = ending_of(rt, alloc, name) else {
+        eprintln!(rt; "memory_trials: there is no trial {name}")?;
+        return Ok(ExitCode::from(BAD_WORDS));
+    };
+    println!(rt; "{name}: {ending}")?;
+    Ok(match ending {
+        Ending::Wrong(_) => ExitCode::FAILURE,
+        Ending::NotBegun | Ending::Done | Ending::Refused(_) => ExitCode::SUCCESS,
+    })
+}
+
+// Makes all trials, and answers the status.
+fn all_told<R: Print + Eprint + Wait>(rt: &R, alloc: Global) -> Result<ExitCode, Fail> {
+    let mut status = ExitCode::SUCCESS;
+    for name in &TRIALS {
+        if told(rt, alloc, name)? != ExitCode::SUCCESS {
+            status = ExitCode::FAILURE;
+        }
+    }
+    Ok(status)
+}
+
+fn main(rt: HostRuntime) -> Result<ExitCode, Fail> {
+    let alloc = rt.alloc();
+    let Ok(words) = env::args(&rt) else {
+        println!(rt; "memory_trials: not begun")?;
+        return Ok(ExitCode::SUCCESS);
+    };
+    match words.skip(1).next() {
+        Some(name) => told(&rt, alloc, &name),
+        None => all_told(&rt, alloc),
+    }
+}

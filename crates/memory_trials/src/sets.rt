@@ -1,0 +1,157 @@
+//! Trials of sets of operations, and of who reaches what by them.
+use crate::calls::{NotBegun, Said, Trial};
+use fl_closure::index::Index;
+use fl_labels::cap::Cap;
+use fl_labels::name::Name;
+use fl_ops::op::{Body, Op};
+use fl_opset::set::OpSet;
+use std::alloc::{AllocError, Global};
+
+// Who uses it may add the tag, once that is put into it.
+const GROUP: Name = Name { node: 1, seq: 1 };
+
+const TAG: Name = Name { node: 1, seq: 2 };
+
+const MADE: Op = Op {
+    name: GROUP,
+    body: Body::MakeGroup,
+};
+
+const PUT: Op = Op {
+    name: Name { node: 1, seq: 3 },
+    body: Body::Put(GROUP, Cap::Plus(TAG)),
+};
+
+const OPENED: Op = Op {
+    name: Name { node: 1, seq: 4 },
+    body: Body::Open(GROUP),
+};
+
+// What is left of a set or an index.
+const KEPT: &str = "all is as it was";
+
+fn said(answer: Result<(), AllocError>) -> Said {
+    match answer {
+        Ok(()) => Said::Done,
+        Err(AllocError) => Said::Refused,
+    }
+}
+
+fn set_of(alloc: Global, ops: &[Op]) -> Result<OpSet, AllocError> {
+    let mut set = OpSet::new(alloc);
+    for op in ops {
+        set.add(*op)?;
+    }
+    Ok(set)
+}
+
+// Whether the index has these operations, and whether by them who uses the group may add the tag.
+fn knows(index: &Index, ops: &[Op], is_reached: bool) -> bool {
+    index.ops().as_slice() == ops
+        && index.reaches(Cap::Use(GROUP), Cap::Plus(TAG)) == is_reached
+        && index.global(Cap::Use(GROUP)) == ops.contains(&OPENED)
+}
+
+/// A set takes in the members of another, one of which comes between its own.
+pub struct Merge;
+
+/// Both sets.
+pub struct Both {
+    set: OpSet,
+    other: OpSet,
+}
+
+impl Drop for Both {
+    fn drop(self) {
+        let Both { set: _, other: _ } = self;
+    }
+}
+
+impl Trial for Merge {
+    type State = Both;
+
+    fn begin(alloc: Global) -> Result<Both, NotBegun> {
+        Ok(Both {
+            set: set_of(alloc, &[MADE, OPENED])?,
+            other: set_of(alloc, &[PUT, OPENED])?,
+        })
+    }
+
+    fn call(_alloc: Global, state: &mut Both) -> Said {
+        said(state.set.merge(&state.other))
+    }
+
+    fn left(_alloc: Global, state: &mut Both) -> Option<&'static str> {
+        let is_kept = state.set.as_slice() == [MADE, OPENED].as_slice();
+        is_kept.then_some(KEPT)
+    }
+
+    fn is_done(_alloc: Global, state: &mut Both) -> bool {
+        state.set.as_slice() == [MADE, PUT, OPENED].as_slice()
+    }
+}
+
+/// An index takes in a put.
+pub struct Absorb;
+
+impl Trial for Absorb {
+    type State = Index;
+
+    fn begin(alloc: Global) -> Result<Index, NotBegun> {
+        let mut index = Index::new(alloc);
+        for op in [MADE, OPENED] {
+            index.absorb(&op)?;
+        }
+        Ok(index)
+    }
+
+    fn call(_alloc: Global, index: &mut Index) -> Said {
+        said(index.absorb(&PUT))
+    }
+
+    fn left(_alloc: Global, index: &mut Index) -> Option<&'static str> {
+        knows(index, &[MADE, OPENED], false).then_some(KEPT)
+    }
+
+    fn is_done(_alloc: Global, index: &mut Index) -> bool {
+        knows(index, &[MADE, PUT, OPENED], true)
+    }
+}
+
+/// An index takes in a set.
+pub struct AbsorbAll;
+
+/// Both.
+pub struct Taking {
+    index: Index,
+    ops: OpSet,
+}
+
+impl Drop for Taking {
+    fn drop(self) {
+        let Taking { index: _, ops: _ } = self;
+    }
+}
+
+impl Trial for AbsorbAll {
+    type State = Taking;
+
+    fn begin(alloc: Global) -> Result<Taking, NotBegun> {
+        let ops = set_of(alloc, &[PUT, OPENED])?;
+        let mut index = Index::new(alloc);
+        index.absorb(&MADE)?;
+        Ok(Taking { index, ops })
+    }
+
+    fn call(alloc: Global, state: &mut Taking) -> Said {
+        said(state.index.absorb_all(alloc, &state.ops))
+    }
+
+    fn left(_alloc: Global, state: &mut Taking) -> Option<&'static str> {
+        knows(&state.index, &[MADE], false).then_some(KEPT)
+    }
+
+    fn is_done(_alloc: Global, state: &mut Taking) -> bool {
+        knows(&state.index, &[MADE, PUT, OPENED], true)
+    }
+}
