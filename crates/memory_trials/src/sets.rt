@@ -2,6 +2,7 @@
 use crate::calls::{NotBegun, Said, Trial};
 use fl_closure::index::Index;
 use fl_labels::cap::Cap;
+use fl_labels::cap_set::CapSet;
 use fl_labels::name::Name;
 use fl_ops::op::{Body, Op};
 use fl_opset::set::OpSet;
@@ -45,11 +46,15 @@ fn set_of(alloc: Global, ops: &[Op]) -> Result<OpSet, AllocError> {
     Ok(set)
 }
 
-// Whether the index has these operations, and whether by them who uses the group may add the tag.
-fn knows(index: &Index, ops: &[Op], is_reached: bool) -> bool {
+// Whether the index has these operations, and whether by them who uses the group may add the tag,
+// and so everybody where the group is opened.
+fn knows(alloc: Global, index: &Index, ops: &[Op], is_reached: bool) -> bool {
+    let is_opened = ops.contains(&OPENED);
+    let nothing = CapSet::new(alloc);
     index.ops().as_slice() == ops
         && index.reaches(Cap::Use(GROUP), Cap::Plus(TAG)) == is_reached
-        && index.global(Cap::Use(GROUP)) == ops.contains(&OPENED)
+        && index.global(Cap::Use(GROUP)) == is_opened
+        && index.effective(&nothing, Cap::Plus(TAG)) == (is_reached && is_opened)
 }
 
 /// A set takes in the members of another, one of which comes between its own.
@@ -109,12 +114,12 @@ impl Trial for Absorb {
         said(index.absorb(&PUT))
     }
 
-    fn left(_alloc: Global, index: &mut Index) -> Option<&'static str> {
-        knows(index, &[MADE, OPENED], false).then_some(KEPT)
+    fn left(alloc: Global, index: &mut Index) -> Option<&'static str> {
+        knows(alloc, index, &[MADE, OPENED], false).then_some(KEPT)
     }
 
-    fn is_done(_alloc: Global, index: &mut Index) -> bool {
-        knows(index, &[MADE, PUT, OPENED], true)
+    fn is_done(alloc: Global, index: &mut Index) -> bool {
+        knows(alloc, index, &[MADE, PUT, OPENED], true)
     }
 }
 
@@ -147,11 +152,11 @@ impl Trial for AbsorbAll {
         said(state.index.absorb_all(alloc, &state.ops))
     }
 
-    fn left(_alloc: Global, state: &mut Taking) -> Option<&'static str> {
-        knows(&state.index, &[MADE], false).then_some(KEPT)
+    fn left(alloc: Global, state: &mut Taking) -> Option<&'static str> {
+        knows(alloc, &state.index, &[MADE], false).then_some(KEPT)
     }
 
-    fn is_done(_alloc: Global, state: &mut Taking) -> bool {
-        knows(&state.index, &[MADE, PUT, OPENED], true)
+    fn is_done(alloc: Global, state: &mut Taking) -> bool {
+        knows(alloc, &state.index, &[MADE, PUT, OPENED], true)
     }
 }
