@@ -17,12 +17,12 @@ returns-in-Err-runs-clause-unites g c =
 pub returns-in-Ok-clause-unites : goal.returns-in-Ok-clause-unites
 returns-in-Ok-clause-unites g c =
     unites_running g.K.Keeper.custody c.args.world.now c.args.first c.args.second c.in-Some-Some.one.now c.in-Some-Some.other.now
-    c.in-Ok.all c.in-Some-Some.ensures c.in-Some-Some.ensures' c.in_default.ensures.ok c.in_default-runs.ensures.ok c.in-Ok.ensures.ok
+    c.in-Ok.all c.in-Some-Some.ensures c.in-Some-Some.ensures' c.in_default-runs.ensures.ok c.in_default-runs-2.ensures.ok c.in-Ok.ensures.ok
 
 pub returns-in-Err-united-clause-unites : goal.returns-in-Err-united-clause-unites
 returns-in-Err-united-clause-unites g c =
     unites_starved g.K.Keeper.custody c.args.world.now c.args.first c.args.second c.in-Some-Some.one.now c.in-Some-Some.other.now
-    c.starved.result c.in-Some-Some.ensures c.in-Some-Some.ensures' c.in_default.ensures.ok c.in_default-runs.ensures.ok
+    c.starved.result c.in-Some-Some.ensures c.in-Some-Some.ensures' c.in_default-runs.ensures.ok c.in_default-runs-2.ensures.ok
     c.in-Err-united.ensures.wants c.starved.ensures
 
 pub returns-in-Err-clause-cause : goal.returns-in-Err-clause-cause
