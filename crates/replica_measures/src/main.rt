@@ -37,7 +37,7 @@ fn measure<R: Wait + Threads + Clock + Print>(
 ) -> Result<bool, Fail> {
     match name {
         "desk" => desk::measure(rt, alloc, count_at(words, 0, 1_000), is_timed(words))?,
-        "publish" => publish::measure(rt, alloc, count_at(words, 0, 200), is_timed(words))?,
+        "publish" => publish::measure(rt, alloc, count_at(words, 0, 20), is_timed(words))?,
         "memory" => memory::measure(rt, alloc, count_at(words, 0, 1_000), words)?,
         _ => return Ok(false),
     }

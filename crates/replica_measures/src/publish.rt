@@ -1,6 +1,6 @@
 //! Publishes operations one by one, beside no thread and beside one, two and four which ask desks
 //! without a rest. The first word says how many there are at first, and how many come, at most a
-//! million; where it is none there are 200. Prints how many were published; where there is a second
+//! million; where it is none there are 20. Prints how many were published; where there is a second
 //! word, as `times`, also the nanoseconds that the fastest of five runs took.
 ghost use Rattle.std.specs.Prelude.{◌≤◌};
 
