@@ -10,7 +10,8 @@ use fl_replica::board;
 use fl_replica::desk::Desk;
 use fl_replica::press::Press;
 use std::alloc::{AllocError, Global};
-use std::sync::Wait;
+use std::sync::atomic::{AtomicU64, Ordering};
+use std::sync::{Arc, Wait};
 use std::test::Fail;
 use std::thread;
 use std::thread::{JoinHandle, Threads};
@@ -65,9 +66,11 @@ struct Publications {
     asked: u64,
 }
 
-// A thread that reads: it asks until the press is gone, and says how many questions it asked.
-fn read(mut desk: Desk) -> u64 {
+// A thread that reads: it says that it has begun, asks until the press is gone, and says how many
+// questions it asked.
+fn read(mut desk: Desk, begun: Arc<AtomicU64, Global>) -> u64 {
     let groups = Groups::new(GROUPS);
+    begun.fetch_add(1, Ordering::SeqCst);
     let mut asked = 0u64;
     for turn in 0..u64::MAX {
         let (root, cap) = groups.question(turn);
@@ -83,13 +86,25 @@ fn read(mut desk: Desk) -> u64 {
 fn start<R: Threads>(
     rt: &R,
     desks: Vec<Desk>,
+    begun: &Arc<AtomicU64, Global>,
     threads: &mut Vec<JoinHandle<u64>>,
 ) -> Result<(), AllocError> {
     threads.reserve(desks.len())?;
     for desk in desks {
-        threads.push(thread::spawn(rt, move || read(desk))?)?;
+        let theirs = Arc::try_clone(begun)?;
+        threads.push(thread::spawn(rt, move || read(desk, theirs))?)?;
     }
     Ok(())
+}
+
+// Waits until so many threads have begun.
+fn wait_for<R: Wait>(rt: &R, begun: &AtomicU64, count: usize) {
+    for _ in rt.forever() {
+        if begun.load(Ordering::SeqCst) >= count as u64 {
+            break;
+        }
+        thread::yield_now();
+    }
 }
 
 // Waits for each thread, and says how many questions they asked together.
@@ -123,16 +138,18 @@ fn time_each<R: Wait + Clock>(
     Ok((published, start.elapsed(rt)?.as_nanos()))
 }
 
-// Publishes these beside a thread for each desk. The press and each thread end, whatever comes.
+// Publishes these once a thread for each desk has begun. The press and each thread end, whatever comes.
 fn time_beside<R: Wait + Threads + Clock>(
     rt: &R,
     alloc: Global,
     mut press: Press,
     desks: Vec<Desk>,
+    begun: &Arc<AtomicU64, Global>,
     ops: &[Op],
 ) -> Result<Publications, Fail> {
     let mut threads = Vec::new(alloc);
-    let started = start(rt, desks, &mut threads);
+    let started = start(rt, desks, begun, &mut threads);
+    wait_for(rt, begun, threads.len());
     let timed = time_each(rt, &mut press, ops);
     press.close(rt);
     let asked = join_all(rt, threads);
@@ -153,9 +170,10 @@ fn publish_beside<R: Wait + Threads + Clock>(
     ops: &[Op],
     readers: Readers,
 ) -> Result<Publications, Fail> {
+    let begun = Arc::new(alloc, AtomicU64::new(0))?;
     let (press, mut desks) = board(rt, alloc, list, readers.count() + 1)?;
     desks.pop();
-    time_beside(rt, alloc, press, desks, ops)
+    time_beside(rt, alloc, press, desks, &begun, ops)
 }
 
 // Prints the fastest of so many runs beside so many threads.
