@@ -4,7 +4,7 @@ use fl_closure::index::Index;
 use fl_labels::cap::Cap;
 use fl_labels::cap_set::CapSet;
 use fl_labels::name::Name;
-use fl_ops::op::{Body, Op};
+use fl_ops::op::{Body, Op, Policy};
 use fl_opset::set::OpSet;
 use std::alloc::{AllocError, Global};
 
@@ -18,6 +18,11 @@ const MADE: Op = Op {
     body: Body::MakeGroup,
 };
 
+const TOLD: Op = Op {
+    name: TAG,
+    body: Body::MakeTag(Policy::Read),
+};
+
 const PUT: Op = Op {
     name: Name { node: 1, seq: 3 },
     body: Body::Put(GROUP, Cap::Plus(TAG)),
@@ -26,6 +31,11 @@ const PUT: Op = Op {
 const OPENED: Op = Op {
     name: Name { node: 1, seq: 4 },
     body: Body::Open(GROUP),
+};
+
+const LAST: Op = Op {
+    name: Name { node: 1, seq: 5 },
+    body: Body::MakeGroup,
 };
 
 // What is left of a set or an index.
@@ -96,7 +106,7 @@ impl Trial for Merge {
     }
 }
 
-/// An index takes in a put.
+/// An index of four operations takes in a put. Its rows change before its set has to grow.
 pub struct Absorb;
 
 impl Trial for Absorb {
@@ -104,7 +114,7 @@ impl Trial for Absorb {
 
     fn begin(alloc: Global) -> Result<Index, NotBegun> {
         let mut index = Index::new(alloc);
-        for op in [MADE, OPENED] {
+        for op in [MADE, TOLD, OPENED, LAST] {
             index.absorb(&op)?;
         }
         Ok(index)
@@ -115,11 +125,11 @@ impl Trial for Absorb {
     }
 
     fn left(alloc: Global, index: &mut Index) -> Option<&'static str> {
-        knows(alloc, index, &[MADE, OPENED], false).then_some(KEPT)
+        knows(alloc, index, &[MADE, TOLD, OPENED, LAST], false).then_some(KEPT)
     }
 
     fn is_done(alloc: Global, index: &mut Index) -> bool {
-        knows(alloc, index, &[MADE, PUT, OPENED], true)
+        knows(alloc, index, &[MADE, TOLD, PUT, OPENED, LAST], true)
     }
 }
 
