@@ -6,3 +6,4 @@ pub mod Cut
 pub mod Walk
 pub mod Arrange
 pub mod UsesKept
+pub mod Dots

@@ -1,15 +1,19 @@
 -- What the readers of numbers, names, capabilities and process identifiers owe.
-use Rattle.std.proofs.Common.{◌≡◌, ◌≢◌, ℕ, ◌<◌, ◌^◌, List, ◌∷◌, ◌++◌, length, get_or, sym, ap, subst, ◌∙◌, Result, Ok, Err, Option, Some, None, drop, MatchOption, Bor, inl, inr, arith, lit<}
+use Rattle.std.proofs.Common.{◌≡◌, ◌≢◌, ◌==◌, ℕ, ◌<◌, ◌^◌, Bool, false, List, [], ◌∷◌, ◌++◌, length, length-append, refl, get_or, sym, ap, subst, ◌∙◌, Result, Ok, Err, Option, Some, None, drop, MatchOption, Bor, inl, inr, arith, lit<}
+use Rattle.std.specs.List.{slice_split}
 use Rattle.std.specs.Result.{result_ok, OkIff}
 use Rattle.std.specs.Fmt.{decimal}
 use Rattle.std.specs.Str.Parse.{AllDigits, ParsesUnsigned, digits_value}
-use Rattle.std.proofs.lemmas.Str.Parse.{parse_plain, not_in_digits}
-use Rattle.std.proofs.lemmas.Str.Pattern.{IsSplitOnceResult, split_after}
+use Rattle.std.proofs.lemmas.Str.Parse.{parse_plain, digit_from_value}
 use Rattle.std.proofs.lemmas.Fmt.{decimal-digits_value, decimal_digit, parse-decimal, first_decimal, digits_decimal, decimal_injective}
-use Rattle.std.proofs.lemmas.Bool.{cases_eq}
+use Rattle.std.proofs.lemmas.Bool.{cases_eq, ne_eqb}
+use Rattle.std.proofs.lemmas.List.{append_cancel_left}
+use Rattle.std.proofs.lemmas.List.Elements.{All-nil, All-cons}
+use Rattle.std.proofs.lemmas.List.Splits.{slice_split_none, slice_split_at}
 use Rattle.std.proofs.lemmas.Option.{same_Some, none-some}
 use Rattle.fl_labels.specs.Found.{Finds}
 use Rattle.fl_labels.specs.Words.{IsNumber}
+use Rattle.fl_labels.specs.parts.Dots.{NoDot, CutsAtDot}
 use Rattle.fl_labels.specs.ItemText.{own}
 use Rattle.fl_labels.specs.Text.{pid_text}
 use Rattle.fl_labels.specs.declared.name.Name.{Name}
@@ -41,11 +45,29 @@ reads_number bs (Some n) (Err x) e h first = absurd (cc)
 pub first_digit : (bs : List ℕ) (n : ℕ) → IsNumber n bs → 48 < get_or bs 0 0
 first_digit bs n is = omega (arith, first_decimal n is.above (omega (arith, is.in_range)), ap (λ l. get_or l 0 0) is.written)
 
+abbrev dot : ℕ → Bool
+dot b = b == 46
+
+no_dot : (ds : List ℕ) → AllDigits 10 ds → NoDot ds
+no_dot [] a = All-nil (λ b. dot b ≡ false)
+no_dot (c ∷ cs) a =
+    let range = digit_from_value c a.0 in
+    All-cons (λ b. dot b ≡ false) c cs (ne_eqb c 46 (λ e. absurd (omega (arith, range.0)))) (no_dot cs a.1)
+
+first_part : (n : ℕ) (rest : List ℕ) → n < 2 ^ 32 → slice_split dot (decimal n ++ 46 ∷ rest) ≡ decimal n ∷ slice_split dot rest
+first_part n rest high = slice_split_at dot (decimal n) 46 rest (no_dot _ (digits_decimal own n (omega arith))) refl
+
 -- a number is cut from what stands behind the dot after it
-pub cut_number : (bs : List ℕ) (r : Option (Bor (List ℕ) × Bor (List ℕ))) (n : ℕ) (rest : List ℕ) → IsSplitOnceResult 46 bs r → n < 2 ^ 32 → bs ≡ decimal n ++ 46 ∷ rest → MatchOption r ⊥ (λ x. (x.0.now ≡ decimal n) × (x.1.now ≡ rest))
-cut_number bs r n rest h high e =
-    split_after 46 bs (decimal n) rest r h (lit< tt) e
-    (not_in_digits own (decimal n) 46 (digits_decimal own n (omega arith)) (λ q. absurd (omega (arith, q.0))))
+pub cut_number : (bs : List ℕ) (r : Option (Bor (List ℕ) × Bor (List ℕ))) (n : ℕ) (rest : List ℕ) → CutsAtDot bs r → n < 2 ^ 32 → bs ≡ decimal n ++ 46 ∷ rest → MatchOption r ⊥ (λ x. (x.0.now ≡ decimal n) × (x.1.now ≡ rest))
+cut_number bs None n rest none high e =
+    let parts : bs ∷ [] ≡ decimal n ∷ slice_split dot rest = sym (slice_split_none dot bs none) ∙ ap (slice_split dot) e ∙ first_part n rest high in
+    let same : bs ≡ decimal n = cc in
+    absurd (omega (arith, ap length e, ap length same, length-append (decimal n) (46 ∷ rest)))
+cut_number bs (Some x) n rest cut high e =
+    let parts : x.0.now ∷ slice_split dot x.1.now ≡ decimal n ∷ slice_split dot rest = sym (slice_split_at dot x.0.now 46 x.1.now cut.1 refl) ∙ ap (slice_split dot) (sym cut.0 ∙ e) ∙ first_part n rest high in
+    let front : x.0.now ≡ decimal n = cc in
+    let behind : 46 ∷ x.1.now ≡ 46 ∷ rest = append_cancel_left (decimal n) _ _ (ap (λ l. l ++ 46 ∷ x.1.now) (sym front) ∙ sym cut.0 ∙ e) in
+    (front, ap (drop 1) behind)
 
 -- and so are the three numbers of a process identifier
 abbrev NodeAndRest : Option (Bor (List ℕ) × Bor (List ℕ)) → Pid → Type 0
@@ -54,10 +76,10 @@ NodeAndRest r p = MatchOption r ⊥ (λ x. (x.0.now ≡ decimal p.node) × (x.1.
 abbrev BootAndSerial : Option (Bor (List ℕ) × Bor (List ℕ)) → Pid → Type 0
 BootAndSerial r p = MatchOption r ⊥ (λ x. (x.0.now ≡ decimal p.boot) × (x.1.now ≡ decimal p.serial))
 
-pub cut_pid : (bs rest : List ℕ) (r : Option (Bor (List ℕ) × Bor (List ℕ))) (p : Pid) → bs ≡ 112 ∷ rest → IsSplitOnceResult 46 rest r → bs ≡ pid_text p → NodeAndRest r p
+pub cut_pid : (bs rest : List ℕ) (r : Option (Bor (List ℕ) × Bor (List ℕ))) (p : Pid) → bs ≡ 112 ∷ rest → CutsAtDot rest r → bs ≡ pid_text p → NodeAndRest r p
 cut_pid bs rest r p front h e = cut_number rest r p.node _ h (omega (arith, p.node_in_range)) (ap (drop 1) (sym front ∙ e))
 
-pub cut_pid_rest : (bs : List ℕ) (r : Option (Bor (List ℕ) × Bor (List ℕ))) (p : Pid) → IsSplitOnceResult 46 bs r → bs ≡ decimal p.boot ++ 46 ∷ decimal p.serial → BootAndSerial r p
+pub cut_pid_rest : (bs : List ℕ) (r : Option (Bor (List ℕ) × Bor (List ℕ))) (p : Pid) → CutsAtDot bs r → bs ≡ decimal p.boot ++ 46 ∷ decimal p.serial → BootAndSerial r p
 cut_pid_rest bs r p h e = cut_number bs r p.boot _ h (omega (arith, p.boot_in_range)) e
 
 pub pid_node : (p : Pid) (bs : List ℕ) → bs ≡ decimal p.node → IsNumber p.node bs

@@ -1,8 +1,9 @@
 //! Readers of words.
-ghost use Rattle.std.specs.Prelude.{◌≡◌, ℕ, ◌<◌, ◌∷◌, List};
+ghost use Rattle.std.specs.Prelude.{◌≡◌, ℕ, ◌<◌, ◌∷◌, ◌==◌, List, position};
 ghost use Rattle.fl_labels.specs.Found.{Finds};
 ghost use Rattle.fl_labels.specs.Text.{name_text, cap_text, pid_text, endpoint_text};
 ghost use Rattle.fl_labels.specs.Words.{IsNumber};
+ghost use Rattle.fl_labels.specs.parts.Dots.{CutsAtDot};
 
 use crate::cap::Cap;
 use crate::endpoint::{Endpoint, LAST_ENDPOINT};
@@ -21,11 +22,29 @@ pub fn read_number(text: &str) -> Option<u32>
     text.parse().ok()
 }
 
+// Where the first dot stands.
+fn dot_at(text: &str) -> Option<usize>
+    ensures { result ≡ position (λ b. b == 46) text.now }
+{
+    text.as_bytes().iter().position(|byte| *byte == b'.')
+}
+
+// What stands before the first dot, and behind it. Looks at each byte up to there: numbers are too
+// short for a search of many bytes at a time.
+fn cut_at_dot(text: &str) -> Option<(&str, &str)>
+    ensures { CutsAtDot text.now result }
+{
+    match dot_at(text) {
+        None => None,
+        Some(at) => Some((&text[..at], &text[at + 1..])),
+    }
+}
+
 /// The name that a word such as `1.4` spells. `None` of any other word.
 pub fn read_name(text: &str) -> Option<Name>
     ensures { Finds result (λ name. text.now ≡ name_text name) }
 {
-    let (node, seq) = text.split_once('.')?;
+    let (node, seq) = cut_at_dot(text)?;
     let node = read_number(node)?;
     let seq = read_number(seq)?;
     Some(Name { node, seq })
@@ -61,8 +80,8 @@ pub fn read_cap(text: &str) -> Option<Cap>
 pub fn read_pid(text: &str) -> Option<Pid>
     ensures { Finds result (λ pid. text.now ≡ pid_text pid) }
 {
-    let (node, rest) = text.strip_prefix('p')?.split_once('.')?;
-    let (boot, serial) = rest.split_once('.')?;
+    let (node, rest) = cut_at_dot(text.strip_prefix('p')?)?;
+    let (boot, serial) = cut_at_dot(rest)?;
     let node = read_number(node)?;
     let boot = read_number(boot)?;
     let serial = read_number(serial)?;
