@@ -70,9 +70,12 @@ after_gains s (c ∷ cs) =
     ∙ after-append s (map Gained (reverse cs)) (Gained c ∷ [])
     ∙ ap (λ t. set.insert t c) (after_gains s cs)
 
-pub insert_all_empty : (cs : List Cap) → set.insert_all {R = cap_cmp} set.empty cs ≡ set.of_list cs
-insert_all_empty [] = refl
-insert_all_empty (c ∷ cs) = ap (λ s. set.insert s c) (insert_all_empty cs)
+-- the same set at first, and the same changes
+pub begun_alike : (xs ys : List Cap) (cs ds : List Change) → ys ≡ xs → ds ≡ cs
+    → after (set.of_list {R = cap_cmp} ys) ds ≡ after (set.of_list {R = cap_cmp} xs) cs
+begun_alike xs ys cs ds e f =
+    ap (λ (l : List Cap). after (set.of_list {R = cap_cmp} l) ds) e
+    ∙ ap (λ l. after (set.of_list {R = cap_cmp} xs) l) f
 
 -- pieces that hold the same changes
 abbrev pub AreAlike : {X A : Type 0} → (X → List A) → List X → List X → Type 0

@@ -1,4 +1,5 @@
-//! What happened to a set of capabilities since it was empty, in pieces that are shared.
+//! What a set of capabilities was once, and what happened to it since then, in pieces that are
+//! shared.
 ghost use Rattle.std.specs.Prelude.{◌≡◌, IfOk, OnOk, OnErr};
 ghost use Rattle.std.specs.List.{flat_map};
 ghost use Rattle.std.specs.Arc.{arc_slice_items};
@@ -6,6 +7,7 @@ ghost use Rattle.fl_labels.specs.SetBy as set;
 ghost use Rattle.fl_bench.specs.parts.Changes.{after};
 
 use crate::change::{Change, apply_all};
+use fl_labels::cap::Cap;
 use fl_labels::cap_set::CapSet;
 use std::alloc::{AllocError, Global};
 use std::marker::Model;
@@ -14,10 +16,12 @@ use std::sync::ArcSlice;
 // How many pieces are made one block.
 const BLOCK: usize = 64;
 
-/// A set of capabilities, kept as its changes since it was empty. They stand in pieces, oldest
-/// first, and of the older pieces 64 each in a block. A copy shares all of these.
+/// A set of capabilities, kept as what it was once and its changes since then. These stand in
+/// pieces, oldest first, and of the older pieces 64 each in a block. A copy shares all of this.
 #[derive(Drop)]
 pub struct History {
+    // what the set was at first
+    first: ArcSlice<Cap>,
     blocks: Vec<ArcSlice<ArcSlice<Change>>>,
     pieces: Vec<ArcSlice<Change>>,
 }
@@ -38,7 +42,7 @@ impl Model for History {
 
     ghost view = { λ a.
         let pieces = flat_map arc_slice_items a.blocks.items ++ a.pieces.items in
-        after set.empty (flat_map arc_slice_items pieces) };
+        after (set.of_list (arc_slice_items a.first)) (flat_map arc_slice_items pieces) };
 }
 
 // Does to the set what happened in these pieces, in turn.
@@ -63,14 +67,15 @@ fn apply_blocks(caps: &mut CapSet, blocks: &[ArcSlice<ArcSlice<Change>>]) -> Res
 }
 
 impl History {
-    /// Of a set that is empty. Takes no memory.
-    pub fn new(alloc: Global) -> Self
-        ensures { result ≡ set.empty }
+    /// Of the set of these capabilities. Fails only where there is not enough memory. Copies them.
+    pub fn new(alloc: Global, caps: &[Cap]) -> Result<Self, AllocError>
+        ensures { IfOk result (λ made. made ≡ set.of_list caps.now) }
     {
-        History {
+        Ok(History {
+            first: ArcSlice::from_slice(alloc, caps)?,
             blocks: Vec::new(alloc),
             pieces: Vec::new(alloc),
-        }
+        })
     }
 
     // With all pieces in blocks. An error leaves it.
@@ -78,6 +83,7 @@ impl History {
         ensures { self.new ≡ self.old }
     {
         let block = ArcSlice::from_clones(alloc, &self.pieces)?;
+        self.blocks.reserve_exact(1)?;
         self.blocks.push(block)?;
         self.pieces.clear();
         Ok(())
@@ -91,16 +97,19 @@ impl History {
         if self.pieces.len() >= BLOCK {
             self.close_block(alloc)?;
         }
+        self.pieces.reserve_exact(1)?;
         self.pieces.push(piece)?;
         Ok(())
     }
 
     /// The same once more, which shares all pieces. Fails only where there is not enough memory, or
-    /// a piece is shared too often.
+    /// a piece is shared too often. Copies two lists: of at most 64 pieces, and of a block for each
+    /// 64 pieces before.
     pub fn copy(&self) -> Result<Self, AllocError>
         ensures { IfOk result (λ made. made ≡ self.now) }
     {
         Ok(History {
+            first: self.first.clone()?,
             blocks: self.blocks.clone()?,
             pieces: self.pieces.clone()?,
         })
@@ -110,7 +119,7 @@ impl History {
     pub fn to_set(&self, alloc: Global) -> Result<CapSet, AllocError>
         ensures { IfOk result (λ made. made ≡ self.now) }
     {
-        let mut caps = CapSet::new(alloc);
+        let mut caps = CapSet::from_vec(Vec::from_slice(alloc, self.first.as_slice())?)?;
         apply_blocks(&mut caps, &self.blocks)?;
         apply_pieces(&mut caps, &self.pieces)?;
         Ok(caps)

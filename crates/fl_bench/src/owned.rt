@@ -70,6 +70,7 @@ impl Drop for RoomyOwned {
 }
 
 // The set of these capabilities, by its past, which is begun where there is none.
+#[inline]
 fn share(alloc: Global, past: &mut Option<Past>, caps: &[Cap]) -> Result<SharedCaps, AllocError>
     requires { IfSome past.old (λ past. past ≡ set.of_list caps.now) }
     ensures shared { IfOk result (λ made. made ≡ set.of_list caps.now) }
@@ -78,14 +79,25 @@ fn share(alloc: Global, past: &mut Option<Past>, caps: &[Cap]) -> Result<SharedC
     if let Some(past) = past {
         return past.share(alloc);
     }
+    begin(alloc, past, caps)
+}
+
+// The set of these capabilities, whose past is begun.
+#[cold]
+#[inline(never)]
+fn begin(alloc: Global, past: &mut Option<Past>, caps: &[Cap]) -> Result<SharedCaps, AllocError>
+    requires { IfSome past.old (λ past. past ≡ set.of_list caps.now) }
+    ensures shared { IfOk result (λ made. made ≡ set.of_list caps.now) }
+    ensures kept { IfSome past.new (λ past. past ≡ set.of_list caps.now) }
+{
     let mut begun = Past::new(alloc, caps)?;
     let made = begun.share(alloc)?;
     *past = Some(begun);
     Ok(made)
 }
 
-// The past with some changes more. It is let go where there is no memory for them, and where it
-// tells of far more changes than the set has members.
+// The past with some changes more. It is let go where there is no memory for them, where the set
+// has few members, and where it tells of far more changes than the set has members.
 fn with_changes(past: Option<Past>, changes: &[Change], members: usize) -> Option<Past>
     ensures { Follows past result (λ s. after s changes.now) }
 {
@@ -134,9 +146,10 @@ impl Owned {
     }
 
     /// The capabilities, for one more holder. Fails only where there is not enough memory. Copies
-    /// them where it is asked first, or where far more has changed than there is. Else it copies
-    /// what has changed since it was asked last, and two lists of what changed before: at most 64
-    /// pointers, and one for each 4,096 times that it was asked after a change.
+    /// nothing where nothing has changed since it was asked last. Copies them where it is asked
+    /// first, and where something has changed and they are 8 at most, or far more has changed than
+    /// there is. Else it copies what has changed, and two lists of what changed before: at most 64
+    /// pointers, and one for each 64 times that it was asked after a change.
     pub fn share(&mut self, alloc: Global) -> Result<SharedCaps, AllocError>
         ensures shared { IfOk result (λ made. made ≡ self.old) }
         ensures same { self.new ≡ self.old }

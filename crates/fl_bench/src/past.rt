@@ -1,30 +1,28 @@
 //! What happened to a set of capabilities, for those who share it again after each change.
-ghost use Rattle.std.specs.Prelude.{◌≡◌, [], IfOk, OnOk, OnErr};
+ghost use Rattle.std.specs.Prelude.{◌≡◌, IfOk, OnOk, OnErr};
 ghost use Rattle.fl_labels.specs.SetBy as set;
 ghost use Rattle.fl_bench.specs.parts.Changes.{after};
 
 use crate::change::{Change, gains};
-use crate::history::History;
 use crate::shared::SharedCaps;
 use fl_labels::cap::Cap;
 use std::alloc::{AllocError, Global};
 use std::marker::Model;
-use std::sync::ArcSlice;
 
-/// A set of capabilities, kept as its changes since it was empty.
+// So few members take less memory than what is kept of a change.
+const FEW: usize = 8;
+
+/// A set of capabilities, kept as what was shared last and its changes since then.
 pub struct Past {
-    // up to when it was shared last
-    history: History,
+    // what was shared last
+    shared: SharedCaps,
     // since then
     fresh: Vec<Change>,
-    // what was shared last, where nothing has changed since then
-    shared: Option<SharedCaps>,
-    // how many changes there are
+    // how many members and changes there were
     count: usize,
 }
 
 impl Model for Past {
-    ghost use Rattle.std.specs.Prelude.{◌≡◌, IfSome};
     ghost use Rattle.fl_labels.specs.SetBy as set;
     ghost use Rattle.fl_labels.specs.Cap.{cap_cmp};
     ghost use Rattle.fl_labels.specs.CapOrder.{coded_cap};
@@ -35,34 +33,17 @@ impl Model for Past {
 
     ghost use Rattle.fl_bench.specs.parts.Changes.{after};
 
-    ghost view = { λ a. after a.history a.fresh.items };
-
-    ghost invariant = { λ a. IfSome a.shared (λ shared. shared ≡ after a.history a.fresh.items) };
+    ghost view = { λ a. after a.shared a.fresh.items };
 }
 
 impl Drop for Past {
     fn drop(self) {
         let Past {
-            history: _,
-            fresh: _,
             shared: _,
+            fresh: _,
             count: _,
         } = self;
     }
-}
-
-// Moves what is new into a piece of the history. An error leaves both.
-fn keep(alloc: Global, history: &mut History, fresh: &mut Vec<Change>) -> Result<(), AllocError>
-    ensures same { after history.new fresh.new.items ≡ after history.old fresh.old.items }
-    ensures kept { OnOk result (fresh.new.items ≡ []) }
-{
-    if fresh.is_empty() {
-        return Ok(());
-    }
-    let piece = ArcSlice::from_slice(alloc, fresh)?;
-    history.add(alloc, piece)?;
-    *fresh = Vec::new(alloc);
-    Ok(())
 }
 
 impl Past {
@@ -71,20 +52,17 @@ impl Past {
     pub fn new(alloc: Global, caps: &[Cap]) -> Result<Self, AllocError>
         ensures { IfOk result (λ made. made ≡ set.of_list caps.now) }
     {
-        let piece = ArcSlice::from_vec(gains(alloc, caps)?)?;
-        let mut history = History::new(alloc);
-        history.add(alloc, piece)?;
         Ok(Past {
-            history,
+            shared: SharedCaps::new(alloc, caps)?,
             fresh: Vec::new(alloc),
-            shared: None,
             count: caps.len(),
         })
     }
 
-    /// Whether so much happened that a set of so many members is better begun anew.
+    /// Whether a set of so many members is better begun anew: where they are few, and where far
+    /// more happened than there are.
     pub fn is_long(&self, members: usize) -> bool {
-        self.count / 2 > members.saturating_add(32)
+        members <= FEW || self.count / 2 > members.saturating_add(32)
     }
 
     /// With room for so many changes more, so that adding them takes no memory.
@@ -100,7 +78,6 @@ impl Past {
         ensures err { OnErr result (self.new ≡ self.old) }
     {
         self.fresh.extend_from_slice(changes)?;
-        self.shared = None;
         self.count = self.count.saturating_add(changes.len());
         Ok(())
     }
@@ -115,19 +92,17 @@ impl Past {
         self.add(&gains)
     }
 
-    /// The set, for one more holder. Fails only where there is not enough memory. Where something
-    /// has changed since it was asked last, it copies these changes, and two lists: of at most 64
-    /// pieces, and of a block for each 64 pieces before.
+    /// The set, for one more holder. Fails only where there is not enough memory. Copies nothing
+    /// where nothing has changed since it was asked last, and else what `SharedCaps::changed_by`
+    /// does.
     pub fn share(&mut self, alloc: Global) -> Result<SharedCaps, AllocError>
         ensures shared { IfOk result (λ made. made ≡ self.old) }
         ensures same { self.new ≡ self.old }
     {
-        if let Some(shared) = &self.shared {
-            return shared.copy();
+        if !self.fresh.is_empty() {
+            self.shared = self.shared.changed_by(alloc, &self.fresh)?;
+            self.fresh = Vec::new(alloc);
         }
-        keep(alloc, &mut self.history, &mut self.fresh)?;
-        let made = SharedCaps::new(alloc, self.history.copy()?)?;
-        self.shared = Some(made.copy()?);
-        Ok(made)
+        self.shared.copy()
     }
 }

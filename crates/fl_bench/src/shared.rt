@@ -1,11 +1,15 @@
 //! Sets of capabilities with more than one holder.
 ghost use Rattle.std.specs.Prelude.{◌≡◌, IfOk};
+ghost use Rattle.fl_labels.specs.SetBy as set;
+ghost use Rattle.fl_bench.specs.parts.Changes.{after};
 
+use crate::change::Change;
 use crate::history::History;
+use fl_labels::cap::Cap;
 use fl_labels::cap_set::CapSet;
 use std::alloc::{AllocError, Global};
 use std::marker::Model;
-use std::sync::Arc;
+use std::sync::{Arc, ArcSlice};
 
 /// A set of capabilities that stays as it is, of which another holder costs no copy.
 #[derive(Drop)]
@@ -27,10 +31,22 @@ impl Model for SharedCaps {
 }
 
 impl SharedCaps {
-    // The set that this is the history of, with one holder.
-    pub(crate) fn new(alloc: Global, history: History) -> Result<Self, AllocError>
-        ensures { IfOk result (λ made. made ≡ history) }
+    // The set of these capabilities, with one holder. Fails only where there is not enough memory.
+    pub(crate) fn new(alloc: Global, caps: &[Cap]) -> Result<Self, AllocError>
+        ensures { IfOk result (λ made. made ≡ set.of_list caps.now) }
     {
+        Ok(SharedCaps {
+            history: Arc::new(alloc, History::new(alloc, caps)?)?,
+        })
+    }
+
+    // The set after these changes, with one holder. Fails only where there is not enough memory.
+    // Costs what `History::copy` does, and a copy of the changes.
+    pub(crate) fn changed_by(&self, alloc: Global, changes: &[Change]) -> Result<Self, AllocError>
+        ensures { IfOk result (λ made. made ≡ after self.now changes.now) }
+    {
+        let mut history = self.history.copy()?;
+        history.add(alloc, ArcSlice::from_slice(alloc, changes)?)?;
         Ok(SharedCaps {
             history: Arc::new(alloc, history)?,
         })

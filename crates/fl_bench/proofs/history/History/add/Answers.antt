@@ -1,4 +1,4 @@
-use Rattle.std.proofs.Common.{◌≡◌, ◌∙◌, ap}
+use Rattle.std.proofs.Common.{◌≡◌, ◌∙◌, ap, [], ◌∷◌, ◌++◌}
 use Rattle.std.specs.Arc.{arc_slice_items}
 use Rattle.std.specs.List.{flat_map}
 use Rattle.fl_labels.specs.SetBy as set
@@ -15,6 +15,7 @@ returns-clause-ok c =
       | then-len-ge-BLOCK+in_ok-close_block w ↦ w.self-is ∙ w.close_block.ensures
       | else-len-ge-BLOCK w ↦ w.self-is
     ] in
-    after_piece arc_slice_items set.empty (flat_map arc_slice_items c.self-2.inside.blocks.items)
-    c.self-2.inside.pieces.items _ c.args.piece c.in_ok-push.ensures.items
+    after_piece arc_slice_items (set.of_list (arc_slice_items c.self-2.inside.first))
+    (flat_map arc_slice_items c.self-2.inside.blocks.items) c.self-2.inside.pieces.items _ c.args.piece
+    (c.in_ok-push.ensures.items ∙ ap (λ l. l ++ c.args.piece ∷ []) c.in_ok-reserve_exact.ensures.items)
     ∙ ap (λ s. after s (arc_slice_items c.args.piece)) (c.self-2.view_is ∙ same)

@@ -1,6 +1,8 @@
-use Rattle.std.proofs.Common.{◌∙◌, ap}
+use Rattle.std.proofs.Common.{◌∙◌, ap, List}
 use Rattle.std.specs.Arc.{arc_slice_items}
 use Rattle.std.specs.List.{flat_map}
+use Rattle.fl_labels.specs.Cap.{cap_cmp}
+use Rattle.fl_labels.specs.declared.cap.Cap.{Cap}
 use Rattle.fl_labels.specs.SetBy as set
 use Rattle.fl_bench.specs.parts.Changes.{after}
 use Rattle.fl_bench.proofs.Changes.{after_both}
@@ -8,12 +10,13 @@ use Rattle.fl_bench.proofs.history.History.to_set.Goals as goal
 
 pub returns : goal.returns
 returns c =
-    after_both arc_slice_items set.empty c.apply_blocks.new.caps _
+    after_both arc_slice_items (set.of_list (arc_slice_items c.self.inside.first)) c.apply_blocks.new.caps _
     (flat_map arc_slice_items c.self.inside.blocks.items) c.self.inside.pieces.items
     (c.in_ok-apply_blocks.ensures
     ∙ ap (λ s. after s (flat_map arc_slice_items (flat_map arc_slice_items c.deref.result.now)))
-    c.new-caps.ensures
-    ∙ ap (λ l. after set.empty (flat_map arc_slice_items (flat_map arc_slice_items l)))
+    (c.in_ok-caps.ensures ∙ ap (λ (l : List Cap). set.of_list {R = cap_cmp} l)
+    (c.in_ok-from_slice.ensures.items ∙ c.as_slice.ensures.value))
+    ∙ ap (λ l. after (set.of_list (arc_slice_items c.self.inside.first)) (flat_map arc_slice_items (flat_map arc_slice_items l)))
     c.deref.ensures.value)
     (c.in_ok-apply_pieces.ensures
     ∙ ap (λ l. after c.apply_blocks.new.caps (flat_map arc_slice_items l)) c.deref-2.ensures.value)
