@@ -60,6 +60,20 @@ blocks_more f g s t u bs i b h is e k =
     ∙ ap (λ l. after s l) (sym (flat_map-append f (flat_map g (take i bs)) (g b)))
     ∙ ap (λ l. after s (flat_map f l)) (flat_more g bs i b h is)
 
+-- one group more
+pub groups_more : {X B C : Type 0} (f : X → List Change) (g : B → List X) (h : C → List B)
+    (s t u : SetBy cap_cmp) (cs : List C) (i : ℕ) (c : C) → i < length cs → c ≡ get_or cs i c
+    → t ≡ after s (flat_map f (flat_map g (flat_map h (take i cs))))
+    → u ≡ after t (flat_map f (flat_map g (h c)))
+    → u ≡ after s (flat_map f (flat_map g (flat_map h (take (i + 1) cs))))
+groups_more f g h s t u cs i c low is e k =
+    k
+    ∙ ap (λ v. after v (flat_map f (flat_map g (h c)))) e
+    ∙ sym (after-append s (flat_map f (flat_map g (flat_map h (take i cs)))) (flat_map f (flat_map g (h c))))
+    ∙ ap (λ l. after s l) (sym (flat_map-append f (flat_map g (flat_map h (take i cs))) (flat_map g (h c))))
+    ∙ ap (λ l. after s (flat_map f l)) (sym (flat_map-append g (flat_map h (take i cs)) (h c)))
+    ∙ ap (λ l. after s (flat_map f (flat_map g l))) (flat_more h cs i c low is)
+
 -- each of these gained, the last one first
 pub after_gains : (s : SetBy cap_cmp) (cs : List Cap)
     → after s (map Gained (reverse cs)) ≡ set.insert_all s cs
@@ -112,6 +126,20 @@ module _ {X B A : Type 0} (f : X → List A) (g : B → List X) where
       ∙ ap (λ l. flat_map f (flat_map g bs) ++ l) (flat_alike f xs (g b) alike)
       ∙ sym (flat_map-append f (flat_map g bs) xs)
 
+-- copies of pieces behind the same ones
+pub flat_behind : {X A : Type 0} (f : X → List A) (ps qs xs ys : List X) → qs ≡ ps
+    → AreAlike f xs ys → flat_map f (qs ++ ys) ≡ flat_map f (ps ++ xs)
+flat_behind f ps qs xs ys same alike =
+    ap (λ l. flat_map f (l ++ ys)) same
+    ∙ flat_map-append f ps ys
+    ∙ ap (λ l. flat_map f ps ++ l) (flat_alike f xs ys alike)
+    ∙ sym (flat_map-append f ps xs)
+
+-- a block behind the others
+pub block_behind : {B : Type 0} (gs bs cs : List B) (b : B) → cs ≡ bs ++ b ∷ []
+    → gs ++ cs ≡ (gs ++ bs) ++ b ∷ []
+block_behind gs bs cs b more = ap (λ l. gs ++ l) more ∙ sym (append_assoc gs bs (b ∷ []))
+
 -- a piece behind the others
 pub after_piece : {X : Type 0} (f : X → List Change) (s : SetBy cap_cmp) (bs xs ys : List X) (x : X)
     → ys ≡ xs ++ x ∷ []
@@ -130,3 +158,11 @@ after_both f s t u bs xs e g =
     ∙ ap (λ v. after v (flat_map f xs)) e
     ∙ sym (after-append s (flat_map f bs) (flat_map f xs))
     ∙ ap (λ l. after s l) (sym (flat_map-append f bs xs))
+
+-- the blocks in groups, and then the others
+pub after_groups : {X B : Type 0} (f : X → List Change) (g : B → List X) (s t u : SetBy cap_cmp)
+    (bs cs : List B) → t ≡ after s (flat_map f (flat_map g bs))
+    → u ≡ after t (flat_map f (flat_map g cs)) → u ≡ after s (flat_map f (flat_map g (bs ++ cs)))
+after_groups f g s t u bs cs e h =
+    after_both f s t u (flat_map g bs) (flat_map g cs) e h
+    ∙ ap (λ l. after s (flat_map f l)) (sym (flat_map-append g bs cs))

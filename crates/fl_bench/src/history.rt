@@ -13,16 +13,21 @@ use std::alloc::{AllocError, Global};
 use std::marker::Model;
 use std::sync::ArcSlice;
 
-// How many pieces are made one block.
-const BLOCK: usize = 64;
+// How many pieces are made one block, and how many blocks one group.
+const MANY: usize = 64;
+
+// Pieces that stand behind one another, oldest first.
+type Block = ArcSlice<ArcSlice<Change>>;
 
 /// A set of capabilities, kept as what it was once and its changes since then. These stand in
-/// pieces, oldest first, and of the older pieces 64 each in a block. A copy shares all of this.
+/// pieces, oldest first. Of the older pieces 64 each are a block, and of the older blocks 64 each a
+/// group. A copy shares all of this.
 #[derive(Drop)]
 pub struct History {
     // what the set was at first
     first: ArcSlice<Cap>,
-    blocks: Vec<ArcSlice<ArcSlice<Change>>>,
+    groups: Vec<ArcSlice<Block>>,
+    blocks: Vec<Block>,
     pieces: Vec<ArcSlice<Change>>,
 }
 
@@ -41,7 +46,8 @@ impl Model for History {
     ghost use Rattle.fl_bench.specs.parts.Changes.{after};
 
     ghost view = { λ a.
-        let pieces = flat_map arc_slice_items a.blocks.items ++ a.pieces.items in
+        let blocks = flat_map arc_slice_items a.groups.items ++ a.blocks.items in
+        let pieces = flat_map arc_slice_items blocks ++ a.pieces.items in
         after (set.of_list (arc_slice_items a.first)) (flat_map arc_slice_items pieces) };
 }
 
@@ -56,12 +62,23 @@ fn apply_pieces(caps: &mut CapSet, pieces: &[ArcSlice<Change>]) -> Result<(), Al
 }
 
 // Does to the set what happened in the pieces of these blocks, in turn.
-fn apply_blocks(caps: &mut CapSet, blocks: &[ArcSlice<ArcSlice<Change>>]) -> Result<(), AllocError>
+fn apply_blocks(caps: &mut CapSet, blocks: &[Block]) -> Result<(), AllocError>
     ensures { let pieces = flat_map arc_slice_items blocks.now in
         OnOk result (caps.new ≡ after caps.old (flat_map arc_slice_items pieces)) }
 {
     for block in blocks {
         apply_pieces(caps, block.as_slice())?;
+    }
+    Ok(())
+}
+
+// Does to the set what happened in the blocks of these groups, in turn.
+fn apply_groups(caps: &mut CapSet, groups: &[ArcSlice<Block>]) -> Result<(), AllocError>
+    ensures { let pieces = flat_map arc_slice_items (flat_map arc_slice_items groups.now) in
+        OnOk result (caps.new ≡ after caps.old (flat_map arc_slice_items pieces)) }
+{
+    for group in groups {
+        apply_blocks(caps, group.as_slice())?;
     }
     Ok(())
 }
@@ -73,15 +90,30 @@ impl History {
     {
         Ok(History {
             first: ArcSlice::from_slice(alloc, caps)?,
+            groups: Vec::new(alloc),
             blocks: Vec::new(alloc),
             pieces: Vec::new(alloc),
         })
     }
 
-    // With all pieces in blocks. An error leaves it.
+    // With all blocks in groups. An error leaves it.
+    fn close_group(&mut self, alloc: Global) -> Result<(), AllocError>
+        ensures { self.new ≡ self.old }
+    {
+        let group = ArcSlice::from_clones(alloc, &self.blocks)?;
+        self.groups.reserve_exact(1)?;
+        self.groups.push(group)?;
+        self.blocks.clear();
+        Ok(())
+    }
+
+    // With all pieces in blocks. An error leaves the set.
     fn close_block(&mut self, alloc: Global) -> Result<(), AllocError>
         ensures { self.new ≡ self.old }
     {
+        if self.blocks.len() >= MANY {
+            self.close_group(alloc)?;
+        }
         let block = ArcSlice::from_clones(alloc, &self.pieces)?;
         self.blocks.reserve_exact(1)?;
         self.blocks.push(block)?;
@@ -94,7 +126,7 @@ impl History {
         ensures ok { OnOk result (self.new ≡ after self.old (arc_slice_items piece)) }
         ensures err { OnErr result (self.new ≡ self.old) }
     {
-        if self.pieces.len() >= BLOCK {
+        if self.pieces.len() >= MANY {
             self.close_block(alloc)?;
         }
         self.pieces.reserve_exact(1)?;
@@ -103,13 +135,14 @@ impl History {
     }
 
     /// The same once more, which shares all pieces. Fails only where there is not enough memory, or
-    /// a piece is shared too often. Copies two lists: of at most 64 pieces, and of a block for each
-    /// 64 pieces before.
+    /// a piece is shared too often. Copies three lists: of at most 64 pieces, of at most 64 blocks,
+    /// and of a group for each 4,096 pieces before.
     pub fn copy(&self) -> Result<Self, AllocError>
         ensures { IfOk result (λ made. made ≡ self.now) }
     {
         Ok(History {
             first: self.first.clone()?,
+            groups: self.groups.clone()?,
             blocks: self.blocks.clone()?,
             pieces: self.pieces.clone()?,
         })
@@ -120,6 +153,7 @@ impl History {
         ensures { IfOk result (λ made. made ≡ self.now) }
     {
         let mut caps = CapSet::from_vec(Vec::from_slice(alloc, self.first.as_slice())?)?;
+        apply_groups(&mut caps, &self.groups)?;
         apply_blocks(&mut caps, &self.blocks)?;
         apply_pieces(&mut caps, &self.pieces)?;
         Ok(caps)

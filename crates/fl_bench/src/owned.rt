@@ -148,8 +148,8 @@ impl Owned {
     /// The capabilities, for one more holder. Fails only where there is not enough memory. Copies
     /// nothing where nothing has changed since it was asked last. Copies them where it is asked
     /// first, and where something has changed and they are 8 at most, or far more has changed than
-    /// there is. Else it copies what has changed, and two lists of what changed before: at most 64
-    /// pointers, and one for each 64 times that it was asked after a change.
+    /// there is. Else it copies what has changed, and three lists of what changed before: at most
+    /// 128 pointers, and one for each 4,096 times that it was asked after a change.
     pub fn share(&mut self, alloc: Global) -> Result<SharedCaps, AllocError>
         ensures shared { IfOk result (λ made. made ≡ self.old) }
         ensures same { self.new ≡ self.old }
