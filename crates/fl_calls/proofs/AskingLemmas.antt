@@ -1,5 +1,6 @@
 -- What is asked of nodes that are there, of each world that they may be.
-use Rattle.std.proofs.Common.{◌≡◌, ◌∙◌, ◌<◌, ◌⊎◌, ◌||◌, ℕ, Bool, true, false, List, [], ◌∷◌, length, refl, sym, ap, subst, inl, inr, Some, Ok, Err, arith}
+use Rattle.std.proofs.Common.{◌≡◌, ◌∙◌, ◌<◌, ◌⊎◌, ◌||◌, ℕ, false, List, length, refl, sym, ap, subst, inl, inr, Some, Ok, Err}
+use Rattle.std.proofs.Math.Bool.{or-false}
 use Rattle.std.proofs.lemmas.List.{nil_from_length}
 use Rattle.std.specs.FinMap as map
 use Rattle.std.specs.List.{list_any}
@@ -41,10 +42,6 @@ lends : (state : State) (registry : SetBy op_cmp) → IsRunning state → lent s
 lends (Running pending) registry h = refl
 lends (Stopped doubt) registry h = absurd h
 
-or_none : (b : Bool) → (b || false) ≡ b
-or_none true = refl
-or_none false = refl
-
 -- a set without members has none
 lacks : (s : SetBy op_cmp) → set.len s ≡ 0 → (q : Op) → set.contains s q ≡ false
 lacks s none q =
@@ -54,7 +51,7 @@ lacks s none q =
 -- it adds nothing
 none_added : (s t : SetBy op_cmp) → set.len t ≡ 0 → s ≡ set.union s t
 none_added s t none = same_set op_total op_exact s (set.union s t) (λ q.
-    sym (contains-union op_total s t q ∙ ap (λ b. set.contains s q || b) (lacks t none q) ∙ or_none (set.contains s q)))
+    sym (contains-union op_total s t q ∙ ap (λ b. set.contains s q || b) (lacks t none q) ∙ or-false (set.contains s q)))
 
 -- nothing and two sets are the two sets
 pub both_added : (none one two first second : SetBy op_cmp) → none ≡ set.empty → one ≡ set.union none first → two ≡ set.union one second

@@ -7,7 +7,6 @@ use Rattle.fl_system.specs.declared.answer.Fault.{Fault}
 use Rattle.fl_system.specs.declared.event.Event.{Event}
 use Rattle.fl_system.specs.declared.event.Event.TheVariants as event
 use Rattle.fl_system.specs.declared.reply.Reply.{Reply}
-use Rattle.fl_system.specs.declared.reply.Reply.TheVariants as reply
 use Rattle.fl_system.specs.declared.sent.Sent.{Sent}
 use Rattle.fl_system.specs.Deliveries.{DeliverAt, MessageAt}
 use Rattle.fl_system.specs.Joins.{Joins}

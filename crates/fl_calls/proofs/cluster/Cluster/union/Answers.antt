@@ -1,6 +1,6 @@
 use Rattle.std.proofs.Common.{subst}
 use Rattle.fl_calls.specs.Calls.{Unites}
-use Rattle.fl_calls.specs.Failing.{SaysFailed, FailsOnceOpen}
+use Rattle.fl_calls.specs.Failing.{SaysFailed}
 use Rattle.fl_calls.proofs.Failures.{once_in, once_refused}
 use Rattle.fl_calls.proofs.Bringing.{told_both, told_why_first, told_why_second}
 use Rattle.fl_calls.proofs.cluster.Cluster.union.Goals as goal
