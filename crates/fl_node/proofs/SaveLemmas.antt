@@ -1,5 +1,5 @@
 -- What saving leaves.
-use Rattle.std.proofs.Common.{◌≡◌, ◌⊎◌, ◌∙◌, refl, sym, ap, subst, ℕ, List, [], ◌∷◌, ◌++◌, Ok, Err, Some, Bool, true, false}
+use Rattle.std.proofs.Common.{◌≡◌, ◌⊎◌, ◌∙◌, inl, refl, sym, ap, subst, ℕ, List, [], ◌∷◌, ◌++◌, Ok, Err, Some, Bool, true, false}
 use Rattle.std.specs.Prelude.{IsTrue, not, ◌&&◌, ◌||◌}
 use Rattle.std.specs.List.{list_any}
 use Rattle.std.specs.Ordering.{eq_by_cmp}
@@ -10,7 +10,7 @@ use Rattle.fl_ops.specs.OpLaws.{op_total, op_exact}
 use Rattle.fl_jobs.specs.declared.answer.Refusal.TheVariants as refusal
 use Rattle.fl_store.specs.declared.keeper.KeeperFault.{KeeperFault}
 use Rattle.fl_store.specs.declared.keeper.KeeperFault.TheVariants.{Memory, Broken, WrongNode, BadRow, NamesSpent}
-use Rattle.fl_store.specs.Kept.{AreNew, with_ops, with_batch}
+use Rattle.fl_store.specs.Kept.{AreNew, Kept, with_ops, with_batch}
 use Rattle.fl_store.specs.Keeping.{Held, Follows, Stays, AfterSave, SaveFails}
 use Rattle.fl_system.specs.declared.answer.Fault.TheVariants.{Refused, KeeperFailed}
 use Rattle.fl_system.specs.declared.state.Batch.{Batch}
@@ -77,6 +77,33 @@ module _ (old new : Held) (n : NodeState) where
     is_in_doubt saved saved_is h after is =
         let b = h after is in
         (b.0, b.1, subst (λ s. Saves n b.0 (Err KeeperFailed) (record n { saved = s; state = Stopped (Some batch) }) after) (sym saved_is) (Saves.failed pending b.2))
+
+module _ (n : NodeState) (batch : Batch) (pending : n.state ≡ Running (Unsaved batch)) where
+  -- the same of the node alone, whatever is kept beside it
+  pub is_saved_by : (saved : SetBy op_cmp) → saved ≡ with_ops n.saved (ops_of batch) → (k : Kept)
+      → (left : Kept) × Saves n k (Ok tt) (record n { saved = saved; state = Running (Due batch) }) left
+  is_saved_by saved saved_is k =
+      let left = with_batch k (ops_of batch) in (
+        left,
+        subst (λ s. Saves n k (Ok tt) (record n { saved = s; state = Running (Due batch) }) left) (sym saved_is)
+            (Saves.saved pending),
+      )
+
+  pub has_no_room_by : (saved : SetBy op_cmp) → saved ≡ n.saved → (k : Kept)
+      → (left : Kept) × Saves n k (Err (Refused refusal.Memory)) (record n { saved = saved }) left
+  has_no_room_by saved saved_is k = (
+    k,
+    subst (λ s. Saves n k (Err (Refused refusal.Memory)) (record n { saved = s }) k) (sym saved_is)
+        (Saves.no_room pending),
+  )
+
+  pub is_in_doubt_by : (saved : SetBy op_cmp) → saved ≡ n.saved → (k : Kept)
+      → (left : Kept) × Saves n k (Err KeeperFailed) (record n { saved = saved; state = Stopped (Some batch) }) left
+  is_in_doubt_by saved saved_is k = (
+    k,
+    subst (λ s. Saves n k (Err KeeperFailed) (record n { saved = s; state = Stopped (Some batch) }) k)
+        (sym saved_is) (Saves.failed pending (inl refl)),
+  )
 
 -- where there is nothing to save, the keeper did not fail
 pub no_keeper_failed : (s : State) (fault : Fault) → NoneUnsaved s fault → fault ≡ KeeperFailed → ⊥

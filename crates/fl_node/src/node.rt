@@ -4,7 +4,7 @@ ghost use Rattle.std.specs.Fn.{FnOnceReturnsAtMut};
 ghost use Rattle.std.specs.Option.{option_copied};
 ghost use Rattle.fl_labels.specs.SetBy as set;
 ghost use Rattle.fl_store.specs.Breaking.{IsLeftBroken};
-ghost use Rattle.fl_store.specs.Kept.{HasNamesOnce};
+ghost use Rattle.fl_store.specs.Kept.{HasNamesOnce, Kept};
 ghost use Rattle.fl_store.specs.Keeping.{Follows};
 ghost use Rattle.fl_bench.specs.Process.{owned_by};
 ghost use Rattle.fl_system.specs.Processes.{process_of};
@@ -342,6 +342,7 @@ impl<K: Keeper> Node<K> {
         ensures keeper { K.custody.number self.new.keeper ≡ K.custody.number self.old.keeper }
         ensures cause { result ≡ Err Fault.KeeperFailed → IsTrue (K.custody.is_broken self.new.keeper) }
         ensures desks { length self.new.node.views ≡ length self.old.node.views }
+        ensures node { (k : Kept) → (left : Kept) × Saves self.old.node k result self.new.node left }
         ensures saves { K.custody.is_honest self.new.keeper → K.custody.is_honest self.old.keeper
             × Follows (λ k k'. Saves self.old.node k result self.new.node k')
             (K.custody.may_hold self.old.keeper) (K.custody.may_hold self.new.keeper) }
