@@ -3,7 +3,6 @@ ghost use Rattle.std.specs.Option.{option_copied};
 ghost use Rattle.std.specs.Prelude.{◌≡◌, ℕ, true, false, is_some, IfOk, OnErr};
 ghost use Rattle.fl_jobs.specs.Given.{labels_of};
 ghost use Rattle.fl_bench.specs.Process.{owns, takes_nothing};
-ghost use Rattle.fl_bench.specs.Secrets.{digest_of};
 ghost use Rattle.fl_system.specs.Audit.{party, entries};
 ghost use Rattle.fl_system.specs.Audit.{order_entries, endpoint_entries, mail_entries, act_entries};
 ghost use Rattle.fl_system.specs.State.{NodeState};
@@ -15,6 +14,7 @@ ghost use Rattle.fl_audit.specs.Noted.{asker_noted, IsNotedWith};
 
 use crate::caps::{given, set_of};
 use crate::party::party;
+use fl_bench::orders::digest_of_secret;
 use fl_bench::process::Process;
 use fl_bench::shared::SharedCaps;
 use fl_bench::taken::Taken;
@@ -24,11 +24,9 @@ use fl_jobs::secret::Secret;
 use fl_labels::cap_set::CapSet;
 use fl_labels::name::{Name, NodeNumber};
 use fl_labels::pid::Pid;
-use fl_ops::digest::Digest;
 use fl_rules::endpoint::Mode;
 use fl_system::admission::{Admission, Party};
 use fl_system::answer::Answer;
-use sha2::{Digest as Hasher, Sha256};
 use std::alloc::{AllocError, Global};
 
 /// What is noted of a job if it is admitted, but for what hangs on its answer.
@@ -99,15 +97,6 @@ pub fn names_asker(asker: Option<&Process>, job: &Job) -> bool
     match (asker, job) {
         (Some(process), Job::By(_, act)) => notes_act(process, act),
         _ => false,
-    }
-}
-
-// What is kept of a secret: its digest by SHA-256.
-fn digest_of_secret(secret: Secret) -> Digest
-    ensures { result ≡ digest_of secret }
-{
-    Digest {
-        bytes: Sha256::digest(secret.bytes),
     }
 }
 

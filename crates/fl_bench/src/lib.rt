@@ -3,6 +3,7 @@
 
 mod change;
 mod history;
+pub mod orders;
 pub mod owned;
 mod past;
 pub mod process;

@@ -2,36 +2,22 @@
 ghost use Rattle.std.specs.Prelude.{◌≡◌, cond};
 ghost use Rattle.fl_ops.specs.Registry.{Listed};
 ghost use Rattle.fl_jobs.specs.declared.answer.Reply.TheVariants.{Yes, NotYet};
-ghost use Rattle.fl_bench.specs.Process.{body_of};
 ghost use Rattle.fl_monitor.specs.parts.Acts.{Acts};
 
 use crate::demand::{Demand, check};
 use crate::drop::drop_cap;
-use crate::enter::{digest_of_secret, enter};
+use crate::enter::enter;
 use crate::mail::do_mail;
 use crate::relabel::relabel;
 use crate::sequel::{Sequel, answer_alone};
 use crate::spawn::spawn;
+use fl_bench::orders::body_of_order;
 use fl_bench::process::{Holding, Process};
 use fl_jobs::answer::{Outcome, Refusal, Reply};
-use fl_jobs::job::{Act, Order};
+use fl_jobs::job::Act;
 use fl_labels::pid::Pid;
-use fl_ops::op::Body;
 use fl_ops::view::View;
 use std::alloc::Global;
-
-// What an order asks to be made.
-fn body_of_order(order: Order) -> Body
-    ensures { result ≡ body_of order }
-{
-    match order {
-        Order::Tag(policy) => Body::MakeTag(policy),
-        Order::Group => Body::MakeGroup,
-        Order::Put(group, cap) => Body::Put(group, cap),
-        Order::MakeLogin(cap, secret) => Body::MakeLogin(cap, digest_of_secret(secret)),
-        Order::OpenGroup(group) => Body::Open(group),
-    }
-}
 
 /// What is answered to a question.
 pub(crate) fn reply_of(yes: bool) -> Reply

@@ -1,25 +1,14 @@
 //! Entries of processes by logins.
 ghost use Rattle.std.specs.Prelude.{◌≡◌};
 ghost use Rattle.fl_ops.specs.Registry.{Listed};
-ghost use Rattle.fl_bench.specs.Secrets.{digest_of};
 ghost use Rattle.fl_monitor.specs.parts.Acts.{Enters};
 
+use fl_bench::orders::digest_of_secret;
 use fl_bench::owned::Owned;
 use fl_jobs::answer::{Outcome, Refusal, Reply};
 use fl_jobs::secret::Secret;
 use fl_labels::name::Name;
-use fl_ops::digest::Digest;
 use fl_ops::view::View;
-use sha2::{Digest as Hasher, Sha256};
-
-/// What is kept of a secret: its digest by SHA-256.
-pub(crate) fn digest_of_secret(secret: Secret) -> Digest
-    ensures { result ≡ digest_of secret }
-{
-    Digest {
-        bytes: Sha256::digest(secret.bytes),
-    }
-}
 
 /// Adds the capability of the login of this name, where the secret is that of the login.
 pub(crate) fn enter<V: View>(
