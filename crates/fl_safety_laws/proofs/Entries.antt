@@ -52,7 +52,7 @@ use Rattle.fl_system.specs.declared.answer.Answer.TheVariants as answers
 use Rattle.fl_safety_laws.proofs.Admitted.{change_admitted, open_admitted, tune_admitted, emission_admitted}
 use Rattle.fl_safety_laws.proofs.Admitted.{birth_admitted, order_admitted, message_admitted}
 use Rattle.fl_safety_laws.proofs.Admitted.{entry_admitted, yes_admitted, reached_admitted}
-use Rattle.fl_safety_laws.proofs.Nodes.{NodeGuarded, seen_saved}
+use Rattle.fl_safety_laws.proofs.Nodes.{NodeGuarded, first_published}
 
 -- each entry is safe
 abbrev pub EntriesSafe : (Op → Type 0) → List Admission → Type 0
@@ -191,15 +191,19 @@ module _ (n : NodeState) where
 
 -- ---- a job at a node
 
-module _ {U : Op → Type 0} (n : NodeState) (h : NodeGuarded U n) (view : Within (Listed n.published) U) where
+module _ {U : Op → Type 0} (n : NodeState) (view : Within (Listed n.published) U) where
+  -- what a desk sees
+  seen_there : (v : ℕ) → Within (first_ops v n.published) U
+  seen_there v op m = view op (first_published v n.published op m)
+
   decided_safe : (v : ℕ) (job : Job) {x : Outcome} {left : BenchState} → Decides n v job (Ok x) left → (a : Answer)
       → IsTold x a → EntriesSafe U (entries n job a)
   decided_safe v Proc d a told = no_entry U
   decided_safe v (By pid act) d a told =
       subst (λ o. EntriesSafe U (entries_by (process_at o pid) pid act a)) (sym d.stands)
-      (found_safe (seen_saved U n h view v) a told pid act d.does)
+      (found_safe (seen_there v) a told pid act d.does)
   decided_safe v (Member root c) {left = left} d a told =
-      yes_entries U a _ (λ e. reached_admitted (seen_saved U n h view v) root c
+      yes_entries U a _ (λ e. reached_admitted (seen_there v) root c
       (subst (λ x. Does (first_ops v n.published) d.bench (Member root c) (Ok x) left) (told replies.Yes e) d.does))
   decided_safe v (Arrive d') d a told = no_entry U
 
@@ -212,8 +216,9 @@ module _ {U : Op → Type 0} (n : NodeState) (h : NodeGuarded U n) (view : Withi
   entries_safe desk upto job (Jobs.sent {v} look d) = decided_safe v job d _ (λ r e. absurd (cc))
   entries_safe desk upto job (Jobs.begun {v} look d begun) = decided_safe v job d _ (λ r e. absurd (cc))
 
-  -- ---- what it sends
+-- ---- what it sends
 
+module _ {U : Op → Type 0} (n : NodeState) (h : NodeGuarded U n) (view : Within (Listed n.published) U) where
   pub sends_safe : (desk upto : ℕ) (job : Job) (d : Data) {n' : NodeState}
       → Jobs n desk upto job (Ok (answers.Out d)) n' → (p : Process) → process_of n d.sender ≡ Some p
       → SafeEndpoint (effective U p) (sent_from d).mode p.labels (sent_from d).labels

@@ -309,20 +309,20 @@ module _ (w : World) (g : Guarded w) (number : ℕ) (s : KeptNode) (at : IsAt w 
       (jobs_turn (Union w) s.node its_view desk upto job does)
       (jobs_guarded (Union w) s.node its_guarded its_view desk upto job does) (λ x h. none_in x h)
       (λ x h. none_in x h)
-      (entries_safe s.node its_guarded its_view desk upto job does)
+      (entries_safe s.node its_view desk upto job does)
   job_guarded desk upto job (JobAt.begun {n = n} does) =
       went_guarded n s.kept [] _ (jobs_on s.node its_shown desk upto job does)
       (jobs_turn (Union w) s.node its_view desk upto job does)
       (jobs_guarded (Union w) s.node its_guarded its_view desk upto job does) (λ x h. none_in x h)
       (λ x h. none_in x h)
-      (entries_safe s.node its_guarded its_view desk upto job does)
+      (entries_safe s.node its_view desk upto job does)
   job_guarded desk upto job (JobAt.sends {d} {n} does) =
       went_guarded n s.kept _ _ (jobs_on s.node its_shown desk upto job does)
       (jobs_turn (Union w) s.node its_view desk upto job does)
       (jobs_guarded (Union w) s.node its_guarded its_view desk upto job does)
       (one_sent (MessageGuarded (Union w)) _ (message_sent desk upto job d does))
       (one_sent HasSender _ (sender_noted desk upto job d does))
-      (entries_safe s.node its_guarded its_view desk upto job does)
+      (entries_safe s.node its_view desk upto job does)
   job_guarded desk upto job (JobAt.no_room {seen = seen} look left noted) =
       quietly _ s.kept (looking_on s.node its_shown desk seen)
       (looking_turn (Union w) s.node desk seen) its_guarded
