@@ -1,0 +1,10 @@
+pub mod Reasons
+pub mod Served
+pub mod Compared
+pub mod Books
+pub mod Woven
+pub mod Crews
+pub mod Run
+pub mod Settled
+pub mod Answered
+pub mod Registering
