@@ -1,22 +1,18 @@
 -- What desks see of a list.
 use Rattle.std.proofs.Common.{◌≡◌, ◌≤◌, ◌<◌, ◌+◌, ◌-◌, ◌++◌, ◌∙◌, refl, sym, ap, subst, arith, ℕ, zero, suc, List, [], ◌∷◌, length, take, drop, get_or, set, All, Result, Some, inl, inr}
-use Rattle.std.proofs.Common.{length-append, Bool, true, false, not, cond, Ok, Err}
-use Rattle.std.proofs.lemmas.Bool.{false≢true}
+use Rattle.std.proofs.Common.{length-append, Bool, true, false, cond, Ok, Err}
 use Rattle.std.proofs.lemmas.List.{take-append-le}
 use Rattle.std.proofs.lemmas.List.Elements.{All-weaker, All-set, All-get_or, All-nil, All-push}
 use Rattle.std.specs.Prelude.{max, min, IfOk}
-use Rattle.std.specs.Cmp.{Equal-is}
-use Rattle.std.specs.Ordering.{eq_by_cmp, is_lt, nat_cmp, ord_min}
+use Rattle.std.specs.Ordering.{is_lt, nat_cmp, ord_min}
 use Rattle.std.proofs.lemmas.Bool.Decides.{nat_tests}
 use Rattle.std.specs.declared.option.Option.{Option}
 use Rattle.std.specs.Prelude.{◌⊎◌}
 use Rattle.fl_labels.specs.declared.pid.Pid.{Pid}
 use Rattle.fl_labels.specs.SetBy as sets
-use Rattle.fl_labels.specs.SetBy.{SetBy, of_list, contains, same_set, contains-insert, contains-remove, of_list-members}
+use Rattle.fl_labels.specs.SetBy.{SetBy, of_list}
 use Rattle.fl_ops.specs.declared.op.Op.{Op}
 use Rattle.fl_ops.specs.OpOrder.{op_cmp}
-use Rattle.fl_ops.specs.OpLaws.{op_total, op_exact}
-use Rattle.fl_store.specs.laws.KeptSets.{of_list-push, of_list-append}
 use Rattle.fl_system.specs.declared.state.Batch.TheVariants.{Ordered}
 use Rattle.fl_system.specs.Numbered.{item_at, change_item, with_item, items_to}
 use Rattle.fl_jobs.specs.declared.job.Job.{Job}

@@ -1,5 +1,6 @@
 -- What a node gets back.
 use Rattle.std.proofs.Common.{◌≡◌, ◌⊎◌, inl, inr, ◌∙◌, refl, sym, ap, subst, ℕ, List, [], Bool, true, false, Ok, Result}
+use Rattle.std.proofs.Math.Bool.{or-false}
 use Rattle.std.specs.Cmp.{tied_itself}
 use Rattle.std.specs.Cmp.Lexicographic.{slice_cmp, lists_total}
 use Rattle.std.specs.FinMap.{slice_cmp-IsAntisymmetric}
@@ -41,14 +42,10 @@ tells_same s t xs ys o b left right compared told = record {
       false≢true (sym no ∙ told ∙ ap is_eq level);
 }
 
-or_none : (b : Bool) → (b || false) ≡ b
-or_none true = refl
-or_none false = refl
-
 -- with no operation in doubt
 with_none : (saved : SetBy op_cmp) → with_ops saved [] ≡ saved
 with_none saved = same_set op_total op_exact _ _ (λ q.
-    contains-union op_total saved (of_list []) q ∙ ap (λ b. contains saved q || b) (contains-empty op_cmp q) ∙ or_none (contains saved q))
+    contains-union op_total saved (of_list []) q ∙ ap (λ b. contains saved q || b) (contains-empty op_cmp q) ∙ or-false (contains saved q))
 
 pub not_own : (found saved : SetBy op_cmp) → ¬ (found ≡ saved) → Tells false ((found ≡ saved) ⊎ (found ≡ with_ops saved []))
 not_own found saved differs = record {

@@ -1,4 +1,4 @@
-use Rattle.std.proofs.Common.{◌≡◌, ◌∙◌, ap}
+use Rattle.std.proofs.Common.{◌∙◌, ap}
 use Rattle.fl_labels.specs.SetBy as set
 use Rattle.fl_labels.specs.SetBy.{same_set}
 use Rattle.fl_ops.specs.OpOrder.{op_cmp}
