@@ -92,8 +92,8 @@ impl Bench {
     }
 
     /// What the process owns, for whoever notes it, or none where it does not stand here. Fails
-    /// only where there is not enough memory. Copies what is owned where it has changed since this
-    /// was asked last, and nothing else.
+    /// only where there is not enough memory. Costs a search for the process, and what
+    /// `Owned::share` does.
     pub fn share(&mut self, alloc: Global, pid: Pid) -> Result<Option<SharedCaps>, AllocError>
         ensures ok { IfOk result (λ made. made ≡ owned_by (map.get self.old.processes pid)) }
         ensures err { OnErr result (IsSome (map.get self.old.processes pid)) }

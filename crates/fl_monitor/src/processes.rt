@@ -95,7 +95,7 @@ impl Processes {
     }
 
     /// What the process owns, for whoever notes it, or none where it is not there. Fails only where
-    /// there is not enough memory, as `Process::share` does.
+    /// there is not enough memory. Costs a search for the process, and what `Owned::share` does.
     pub fn share(&mut self, alloc: Global, pid: Pid) -> Result<Option<SharedCaps>, AllocError>
         ensures ok { IfOk result (λ made. made ≡ owned_by (map.get self.old pid)) }
         ensures err { OnErr result (IsSome (map.get self.old pid)) }
