@@ -247,12 +247,12 @@ seen_up need last left ds (x ∷ es) (suc i) (suc j) e f (next, rest, low, m, h)
 -- the decision on an entry, and what its worker has seen after it
 record Found (ds : List Decision) (es : List Entry) (i : ℕ) (e : Entry) (ruling : Ruling)
     : Type 0 where
-    pub decision : Decision
-    pub there : IsAmong ds decision
-    pub place : decision.place ≡ e.place
-    pub same : decision.ruling ≡ ruling
-    pub behind : e.seen ≤ decision.before
-    pub later : (j : ℕ) (f : Entry) → i < j → slice_get es j ≡ Some f → decision.after ≤ f.seen
+  pub decision : Decision
+  pub there : IsAmong ds decision
+  pub place : decision.place ≡ e.place
+  pub same : decision.ruling ≡ ruling
+  pub behind : e.seen ≤ decision.before
+  pub later : (j : ℕ) (f : Entry) → i < j → slice_get es j ≡ Some f → decision.after ≤ f.seen
 
 here_found : (last : ℕ) (left ds rest : List Decision) (e : Entry) (es : List Entry) (next : ℕ)
     (a : Option Ruling) (ruling : Ruling) → a ≡ Some ruling → Matches ds e a next rest
