@@ -172,27 +172,25 @@ first =
         born_one,
         record {
           seen = omega arith;
-          serves =
-              record {
-                result = Ok (Outcome.Reply (Made_process who));
-                does =
-                    births_one (first_ops 0 (op ∷ []));
-                is_told = refl;
-              };
+          serves = record {
+            result = Ok (Outcome.Reply (Made_process who));
+            does =
+                births_one (first_ops 0 (op ∷ []));
+            is_told = refl;
+          };
         },
         (
           finished waits who op,
           record {
             seen = omega arith;
-            serves =
-                record {
-                  pid = who;
-                  left = waits;
-                  does = orders (first_ops 0 (op ∷ []));
-                  is_told =
-                      refl;
-                  bench = refl;
-                };
+            serves = record {
+              pid = who;
+              left = waits;
+              does = orders (first_ops 0 (op ∷ []));
+              is_told =
+                  refl;
+              bench = refl;
+            };
           },
           refl,
         ),
@@ -211,8 +209,7 @@ first =
             first = refl;
             place = refl;
             same = refl;
-            seen =
-                omega arith;
+            seen = omega arith;
             from = refl;
           },
           (refl, refl),
@@ -228,13 +225,12 @@ second =
         born_two,
         record {
           seen = omega arith;
-          serves =
-              record {
-                result = Ok (Outcome.Reply (Made_process other));
-                does =
-                    births_two (first_ops 1 (op ∷ []));
-                is_told = refl;
-              };
+          serves = record {
+            result = Ok (Outcome.Reply (Made_process other));
+            does =
+                births_two (first_ops 1 (op ∷ []));
+            is_told = refl;
+          };
         },
         refl,
       );
@@ -246,9 +242,12 @@ workers : (w : ℕ) → IsWorker 2 w → (w ≡ 1) ⊎ (w ≡ 2)
 workers w is =
     elim (eqb_tells w 1) [
       | inl one ↦ inl one.1
-      | inr other ↦ inr
-          (let low = is.low in let high = is.high in let ne = other.1 in omega arith)
+      | inr more ↦ inr (let low = is.low in let high = is.high in let ne = more.1 in omega arith)
     ]
+
+-- what is promised of worker k
+abbrev Promised : ℕ → Type 0
+Promised k = Promises 2 0 (op ∷ []) deeds k (old k) (new k) (queues k) (last k) []
 
 pub example : IsBatch 1 2 before after deeds old new queues last
 example =
@@ -276,12 +275,8 @@ example =
       );
       of_workers = (record { low = omega arith; high = omega arith }, tt);
       promises = λ w is. elim (workers w is) [
-        | inl one
-            ↦ subst (λ (k : ℕ). Promises 2 0 (op ∷ []) deeds k (old k) (new k) (queues k) (last k)
-            []) (sym one) first
-        | inr two
-            ↦ subst (λ (k : ℕ). Promises 2 0 (op ∷ []) deeds k (old k) (new k) (queues k) (last k)
-            []) (sym two) second
+        | inl one ↦ subst Promised (sym one) first
+        | inr two ↦ subst Promised (sym two) second
       ];
     }
 

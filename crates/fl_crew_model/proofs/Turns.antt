@@ -188,8 +188,8 @@ module _ (n : NodeState) (w : ℕ) (e : Entry) (bench : BenchState) (b : Books)
       ∙ put_at n.benches w bench left before.stands
 
   pub benches_left : (left : BenchState) (i : ℕ) → i ≢ w
-      → item_at (with_item n.benches (place_of (placed n w) e.job.value) left) i ≡ item_at n.benches
-      i
+      → item_at (with_item n.benches (place_of (placed n w) e.job.value) left) i
+      ≡ item_at n.benches i
   benches_left left i ne =
       ap (λ q. item_at (with_item n.benches q left) i) before.home ∙ put_other n.benches w i left ne
 
@@ -423,18 +423,17 @@ module _ (n : NodeState) (w : ℕ) (e : Entry) (bench : BenchState) (b : Books)
 
   -- the desk has looked, and that is all
   after_looking : After n w e.seen bench (looking (placed n w) w e.seen)
-  after_looking =
-      record {
-        number = refl;
-        desks = length-with n.views w e.seen;
-        places = refl;
-        v = e.seen;
-        has_seen = put_at n.views w before.v e.seen before.has_seen;
-        no_more = omega arith;
-        stands = before.stands;
-        others_seen = λ i ne. put_other n.views w i e.seen ne;
-        others_bench = λ i ne. refl;
-      }
+  after_looking = record {
+    number = refl;
+    desks = length-with n.views w e.seen;
+    places = refl;
+    v = e.seen;
+    has_seen = put_at n.views w before.v e.seen before.has_seen;
+    no_more = omega arith;
+    stands = before.stands;
+    others_seen = λ i ne. put_other n.views w i e.seen ne;
+    others_bench = λ i ne. refl;
+  }
 
   -- it is given up, and its bench is as before
   given_up : (reason : Reason) (left : BenchState) (n' : NodeState)

@@ -1,7 +1,8 @@
 -- From what a batch promises, its weave.
-use Rattle.std.proofs.Common.{◌≡◌, ◌≢◌, ◌==◌, ℕ, zero, suc, ◌+◌, ◌≤◌, ◌<◌, Bool, true, false, cond}
+use Rattle.std.proofs.Common.{◌≡◌, ◌≢◌, ◌==◌, ℕ, zero, suc, ◌≤◌, ◌<◌, Bool, true, false, cond}
 use Rattle.std.proofs.Common.{List, [], ◌∷◌, ◌++◌, length, take, Option, Some, None, ◌⊎◌, inl, inr}
 use Rattle.std.proofs.Common.{refl, sym, ap, ◌∙◌, subst, arith}
+use Rattle.std.proofs.Common.{eqb}
 use Rattle.std.proofs.lemmas.Bool.{eq-eqb, ne_eqb}
 use Rattle.std.proofs.lemmas.Bool.Decides.{eqb_tells}
 use Rattle.std.proofs.lemmas.List.{take-append-le, length-append, append-nil, append_assoc}
@@ -159,7 +160,9 @@ need_by last need d fs e es next rest low h again None m =
     omega arith
 need_by last need d fs e es next rest low h again (Some ruling) m =
     let first : d ≡ m.decision = (let q = m.first in cc) in
-    let high = m.seen in let same = ap (λ (x : Decision). x.before) first in omega arith
+    let high = m.seen in
+    let same = ap (λ (x : Decision). x.before) first in
+    omega arith
 
 need_below : (last need : ℕ) (d : Decision) (fs : List Decision) (es : List Entry)
     → Agrees need (d ∷ fs) es last → need ≤ d.before
@@ -658,8 +661,8 @@ module _ (number workers : ℕ) (b1 : Books) (new : ℕ → BenchState) (last : 
       → Mine n (decisions_of w ds) w es → Others n ds q w → AllAwait n ds (put w es q)
   all_again n ds q w es mine others i is = by (eqb_tells i w)
     where
-      by : ((Rattle.std.proofs.Common.eqb i w ≡ true) × (i ≡ w))
-          ⊎ ((Rattle.std.proofs.Common.eqb i w ≡ false) × (i ≢ w))
+      by : ((eqb i w ≡ true) × (i ≡ w))
+          ⊎ ((eqb i w ≡ false) × (i ≢ w))
           → Awaits n workers b1.list (decisions_of i ds) i (new i) (put w es q i) (last i)
       by (inl same) =
           subst (λ (j : ℕ). Awaits n workers b1.list (decisions_of j ds) j (new j) (put w es q j)
@@ -674,8 +677,8 @@ module _ (number workers : ℕ) (b1 : Books) (new : ℕ → BenchState) (last : 
   queues_as_they_are : (w : ℕ) (q : ℕ → List Entry) (i : ℕ) → put w (q w) q i ≡ q i
   queues_as_they_are w q i = by (eqb_tells i w)
     where
-      by : ((Rattle.std.proofs.Common.eqb i w ≡ true) × (i ≡ w))
-          ⊎ ((Rattle.std.proofs.Common.eqb i w ≡ false) × (i ≢ w)) → put w (q w) q i ≡ q i
+      by : ((eqb i w ≡ true) × (i ≡ w))
+          ⊎ ((eqb i w ≡ false) × (i ≢ w)) → put w (q w) q i ≡ q i
       by (inl same) = subst (λ (j : ℕ). put w (q w) q j ≡ q j) (sym same.1) (put_same w (q w) q)
       by (inr other) = put_other w (q w) q i other.1
 
@@ -683,8 +686,8 @@ module _ (number workers : ℕ) (b1 : Books) (new : ℕ → BenchState) (last : 
       → (i : ℕ) → IsWorker workers i → k < i → put (suc k) [] q i ≡ []
   emptied k q empty i is above = by (eqb_tells i (suc k))
     where
-      by : ((Rattle.std.proofs.Common.eqb i (suc k) ≡ true) × (i ≡ suc k))
-          ⊎ ((Rattle.std.proofs.Common.eqb i (suc k) ≡ false) × (i ≢ suc k))
+      by : ((eqb i (suc k) ≡ true) × (i ≡ suc k))
+          ⊎ ((eqb i (suc k) ≡ false) × (i ≢ suc k))
           → put (suc k) [] q i ≡ []
       by (inl same) =
           subst (λ (j : ℕ). put (suc k) [] q j ≡ []) (sym same.1) (put_same (suc k) [] q)
