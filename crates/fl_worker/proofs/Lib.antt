@@ -1,0 +1,3 @@
+pub mod Alike
+pub mod Lists
+pub mod Doing

@@ -1,0 +1,3 @@
+-- Relations that join functions, and that no public clause needs.
+pub mod Settled
+pub mod Turns
