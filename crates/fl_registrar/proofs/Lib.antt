@@ -1,0 +1,6 @@
+pub mod Nodes
+pub mod Passed
+pub mod Ruled
+pub mod Decided
+pub mod Brought
+pub mod Taken

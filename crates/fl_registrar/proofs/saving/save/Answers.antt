@@ -1,0 +1,46 @@
+use Rattle.std.proofs.Common.{◌≡◌, ◌≢◌, Err, sym, subst, ◌∙◌}
+use Rattle.std.proofs.lemmas.Bool.{false≢true}
+use Rattle.fl_system.specs.declared.answer.Fault.{Fault}
+use Rattle.fl_system.specs.declared.answer.Fault.TheVariants.{KeeperFailed}
+use Rattle.fl_system.specs.Saves.{Saves}
+use Rattle.fl_registrar.proofs.Nodes.{saved_as, failed_as, given_up_as}
+use Rattle.fl_registrar.proofs.saving.save.Goals as goal
+
+pub returns-in_default-clause-becomes : goal.returns-in_default-clause-becomes
+returns-in_default-clause-becomes g c honest =
+    let p = c.in_default.ensures.saves honest in (
+      p.0,
+      λ after held.
+          let b = p.1 after held in
+          (b.0, b.1, λ batch is. saved_as _ _ b.0 after batch is b.2),
+    )
+
+pub returns-then-is_failure-clause-becomes : goal.returns-then-is_failure-clause-becomes
+returns-then-is_failure-clause-becomes g c honest =
+    let p = c.in-Err.ensures.saves honest in
+    let failed : c.in-Err.fault ≡ KeeperFailed = c.is_failure.ensures.0 c.if-is_failure.true in (
+      p.0,
+      λ after held.
+          let b = p.1 after held in (
+            b.0,
+            b.1,
+            λ batch is. failed_as _ _ b.0 after batch is (subst (λ (f : Fault).
+                Saves c.args.node.now.node b.0 (Err f) c.save.new.self.node after) failed b.2),
+          ),
+    )
+
+pub returns-clause-becomes : goal.returns-clause-becomes
+returns-clause-becomes g c honest =
+    let K = g.K.Keeper.custody in
+    let p = c.in-Err.ensures.saves (subst K.is_honest c.cancel.ensures.keeper honest) in
+    let other : c.in-Err.fault ≢ KeeperFailed
+    = λ failed. false≢true (sym c.if-is_failure.false ∙ c.is_failure.ensures.1 failed) in (
+      p.0,
+      λ after held.
+          let b = p.1 after (subst (λ keeper. K.may_hold keeper after) c.cancel.ensures.keeper held)
+          in (
+            b.0,
+            b.1,
+            λ batch is. given_up_as _ _ _ b.0 after batch _ _ other is b.2 c.cancel.ensures.cancels,
+          ),
+    )

@@ -1,0 +1,9 @@
+pub mod Over
+pub mod Passing
+pub mod Publishing
+pub mod Ruling
+pub mod Apart
+pub mod Going
+pub mod Stopping
+pub mod Taking
+pub mod parts
