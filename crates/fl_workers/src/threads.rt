@@ -1,0 +1,63 @@
+//! The workers of a batch, each in a thread of its own.
+ghost use Rattle.std.specs.Prelude.{◌≡◌, ◌<◌, ℕ, length, All, slice_index_or};
+ghost use Rattle.std.specs.Thread.{IsSync};
+ghost use Rattle.fl_worker.specs.Done.{IsReady, IsDone};
+ghost use Rattle.fl_settling.specs.Each.{Each};
+
+use fl_worker::gate::Gate;
+use fl_worker::worker::{Worker, serve};
+use std::alloc::Global;
+use std::snapshot::Snapshot;
+use std::sync::Wait;
+use std::thread;
+use std::thread::{Promise, Threads};
+
+// How many workers there are at most.
+const WORKERS: usize = 16;
+
+/// The promise of the workers: each has done its tasks.
+#[derive(Drop)]
+pub(crate) struct DoneOf(pub(crate) Snapshot<Vec<Worker>>);
+
+impl Promise<Vec<Worker>> for DoneOf {
+    ghost use Rattle.fl_settling.specs.Each.{Each};
+    ghost use Rattle.fl_worker.specs.Done.{IsDone};
+
+    ghost kept_by = { λ p r. Each IsDone p.0.value.items r.items };
+}
+
+// Serves the tasks of each worker, in a thread for each.
+fn serve_each<R: Threads + Wait + Sync, G: Gate>(
+    rt: &R,
+    alloc: Global,
+    gate: &G,
+    workers: &mut [Worker],
+)
+    requires { All IsReady workers.old }
+    ensures { Each IsDone workers.old workers.new }
+{
+    thread::for_each_mut(
+        rt,
+        workers,
+        WORKERS,
+        &|_: usize, worker: &mut Worker|
+            requires { IsSync G.row × IsReady worker.old }
+            ensures { IsDone worker.old worker.new }
+        { serve(rt, alloc, gate, worker) },
+    );
+}
+
+// The same of workers that are handed over and come back.
+pub(crate) fn serve_all<R: Threads + Wait + Sync, G: Gate>(
+    rt: &R,
+    alloc: Global,
+    gate: &G,
+    workers: Vec<Worker>,
+) -> Vec<Worker>
+    requires { All IsReady workers.items }
+    ensures { Each IsDone workers.items result.items }
+{
+    let mut workers = workers;
+    serve_each(rt, alloc, gate, workers.as_mut_slice());
+    workers
+}
