@@ -1,5 +1,5 @@
 -- Why a line of a script is answered that a keeper failed, from what is asked of the cluster.
-use Rattle.std.proofs.Common.{◌≡◌, ◌⊎◌, inl, inr, ℕ, Bool, refl, arith}
+use Rattle.std.proofs.Common.{◌≡◌, inl, inr, ℕ, Bool, refl, arith}
 use Rattle.fl_store.specs.Custody.{Custody}
 use Rattle.fl_makers.specs.Making.{Making}
 use Rattle.fl_jobs.specs.declared.job.Job.{Job}

@@ -4,7 +4,6 @@ use Rattle.fl_aliases.specs.Table.{Table}
 use Rattle.fl_aliases.specs.declared.target.Target.{Target}
 use Rattle.fl_sink.specs.Sink.{Passes, Cuts}
 use Rattle.fl_store.specs.Custody.{Custody}
-use Rattle.fl_store.specs.Kept.{Kept}
 use Rattle.fl_stream.specs.Turns.{AnswerPasses, AnswerCuts}
 use Rattle.fl_makers.specs.Making.{Making}
 use Rattle.fl_script.specs.Reading.{IsReading, ReadingTakesMemory, makes}
@@ -13,7 +12,6 @@ use Rattle.fl_script.specs.declared.line.Line.{Line}
 use Rattle.fl_script.specs.declared.line.Line.TheVariants as line
 use Rattle.fl_script.specs.declared.reading.Reading.TheVariants as reading
 use Rattle.fl_script.specs.declared.request.Request.{Request}
-use Rattle.fl_system.specs.declared.answer.Fault.{Fault}
 use Rattle.fl_system.specs.World.{World}
 use Rattle.fl_nodes.specs.Goes.{MayBe}
 use Rattle.fl_calls.specs.Answer.{shown as shown_of}
@@ -21,7 +19,7 @@ use Rattle.fl_calls.specs.Calls.{AsksForUnion, AsksForAudit}
 use Rattle.fl_calls.specs.Entering.{Openings}
 use Rattle.fl_calls.specs.Over.{ClusterOver, GoesOn}
 use Rattle.fl_calls.specs.declared.response.Response.{Response as Said}
-use Rattle.fl_turns.specs.Answer.{Answer, silence, listed, bad_line, starved_line}
+use Rattle.fl_turns.specs.Answer.{silence, listed, bad_line, starved_line}
 use Rattle.fl_turns.specs.AnswerText.{text_of}
 use Rattle.fl_turns.specs.Failing.{FailsRead}
 use Rattle.fl_turns.specs.Naming.{renamed}

@@ -3,6 +3,7 @@ ghost use Rattle.std.specs.Prelude.{◌≡◌, ◌≤◌, ◌⊎◌, [], ℕ, Li
 ghost use Rattle.std.specs.Io.KnownBytes.{IsAtEnd};
 ghost use Rattle.fl_stream.specs.Served.{Answered, CountsPast, MayLackRoom, Outgrows, Served};
 ghost use Rattle.fl_stream.specs.Output.{WritesFirst, WritesOutput};
+ghost use Rattle.fl_turns.specs.Lasting.{LastsScript};
 ghost use Rattle.fl_turns.specs.Over.{SessionOver, TurnsOver, begun_over};
 ghost use Rattle.fl_turns.specs.Script.{RunsFirst, RunsScript};
 
@@ -12,6 +13,7 @@ use crate::session::Session;
 use fl_makers::maker::MakesKeepers;
 use fl_sink::writer::Writer;
 use fl_stream::conversation::Conversation;
+use fl_world::laws::{law_headline, law_lasting};
 use std::alloc::AllocGlobal;
 use std::io::{Read, Write};
 
@@ -30,7 +32,8 @@ use std::io::{Read, Write};
 ///
 /// The session is given back as the lines that were begun left it, at a fault too. Where its
 /// keepers are honest, the text is that of one run of the definitions (`one_run`), and at a fault a
-/// front of one's (`first_run`).
+/// front of one's (`first_run`). Where a status is answered, that run is one of worlds: what holds of
+/// each world that a run leads to holds all along it, and a tag is confined (`lasting`).
 pub fn converse<RT: AllocGlobal, C: Conversation<W>, W: Writer, M: MakesKeepers + Drop>(
     rt: &RT,
     input: &mut C,
@@ -49,6 +52,9 @@ pub fn converse<RT: AllocGlobal, C: Conversation<W>, W: Writer, M: MakesKeepers 
     ensures first_run { OnErr result.1 (IfSome (C.remaining input.old) (λ script.
         RunsFirst M.K.custody M.making keepers
         (W.contents output.old) (W.contents output.new) script result.0)) }
+    ensures lasting { IfOk result.1 (λ status. IfSome (C.remaining input.old) (λ script.
+        LastsScript M.K.custody M.making keepers
+        (W.contents output.old) (W.contents output.new) script status result.0)) }
     ensures ok { IfOk result.1 (λ status. IfSome (C.remaining input.old) (λ script.
         WritesOutput (TurnsOver M.K.custody M.making) (begun_over keepers)
         (W.contents output.old) (W.contents output.new) script status result.0)) }
@@ -70,6 +76,8 @@ pub fn converse<RT: AllocGlobal, C: Conversation<W>, W: Writer, M: MakesKeepers 
         WritesFirst (TurnsOver M.K.custody M.making) (begun_over keepers)
         (W.contents output.old) (W.contents output.new) script result.0)) }
 {
+    law_headline();
+    law_lasting();
     let alloc = rt.alloc();
     fl_stream::run::converse(alloc, Session::new(alloc, keepers), input, output)
 }
@@ -88,7 +96,8 @@ pub fn converse<RT: AllocGlobal, C: Conversation<W>, W: Writer, M: MakesKeepers 
 ///
 /// The session is given back as the lines that were begun left it, at a fault too. Where its
 /// keepers are honest, the text is that of one run of the definitions (`one_run`), and at a fault a
-/// front of one's (`first_run`).
+/// front of one's (`first_run`). Where a status is answered, that run is one of worlds: what holds of
+/// each world that a run leads to holds all along it, and a tag is confined (`lasting`).
 pub fn run<RT: AllocGlobal, R: Read, W: Write, M: MakesKeepers + Drop>(
     rt: &RT,
     input: &mut R,
@@ -105,6 +114,12 @@ pub fn run<RT: AllocGlobal, R: Read, W: Write, M: MakesKeepers + Drop>(
     ensures first_run { OnErr result.1 (IfSome (R.remaining input.old) (λ script.
         RunsFirst M.K.custody M.making keepers
         (W.contents output.old) (W.contents output.new) script result.0)) }
+
+    // And all lasts along that run: what is emitted is the answer to a line that says so, and no
+    // process into which a tag came along processes that never may remove it lets anything out.
+    ensures lasting { IfOk result.1 (λ status. IfSome (R.remaining input.old) (λ script.
+        LastsScript M.K.custody M.making keepers
+        (W.contents output.old) (W.contents output.new) script status result.0)) }
 
     // Whatever the keepers are, the lines were answered one after another, up to the session at the
     // end.

@@ -56,8 +56,8 @@ use Rattle.fl_turns.specs.Run.{Run}
 use Rattle.fl_turns.specs.Session.{Session, begun}
 use Rattle.fl_turns.specs.Turn.{AsksNode, AnswersLine, asks, unites, counts, lists, AnswersReading, Turn}
 use Rattle.fl_turn_laws.specs.Certain.{IsSure, OpenOneWay}
-use Rattle.fl_turn_laws.specs.Leading.{IsPlain, ArePlain, Leads}
-use Rattle.fl_turn_laws.proofs.Leads.{stays, then_, enters_leads, step_leads, turn_leads, is_reached}
+use Rattle.fl_turns.specs.Leading.{IsPlain, ArePlain, Leads}
+use Rattle.fl_turns.specs.laws.Leads.{stays, then_, enters_leads, step_leads, turn_leads, is_reached}
 use Rattle.fl_turn_laws.proofs.OneCheck.{one_check}
 
 -- ---- worlds of one desk

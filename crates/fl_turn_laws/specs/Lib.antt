@@ -1,4 +1,3 @@
 pub mod Beginning
 pub mod Certain
 pub mod InMemory
-pub mod Leading

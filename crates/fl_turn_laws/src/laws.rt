@@ -13,9 +13,10 @@ ghost use Rattle.fl_system.specs.Runs.{IsReached};
 ghost use Rattle.fl_turn_laws.specs.Beginning.{Begins};
 ghost use Rattle.fl_turn_laws.specs.Certain.{IsSure, OpenOneWay};
 ghost use Rattle.fl_turn_laws.specs.InMemory.{in_memory};
-ghost use Rattle.fl_turn_laws.specs.Leading.{Leads};
 ghost use Rattle.fl_turns.specs.Answer.{Answer, starved_line};
 ghost use Rattle.fl_turns.specs.Answered.{IsAnswered};
+ghost use Rattle.fl_turns.specs.Lasting.{LastsFor};
+ghost use Rattle.fl_turns.specs.Leading.{Leads};
 ghost use Rattle.fl_turns.specs.Naming.{SetsAlias, made_by};
 ghost use Rattle.fl_turns.specs.Over.{SessionOver, TurnsOver, begun_over};
 ghost use Rattle.fl_turns.specs.Run.{Run};
@@ -67,6 +68,8 @@ pub fn law_worlds<M: MakesKeepers>()
 /// any of its lines, names are unique, what is published is saved, each open endpoint and each
 /// thing that was admitted is safe by all that is saved, whatever happens from then on, no yes is
 /// withdrawn, what is published grows by the node's own publications alone, and a tag is confined.
+/// All of this holds at each moment of a run of lines too, from the world without a node on: along
+/// it a tag is confined by what the lines are answered (`along`).
 ///
 /// The end is the session that `fl_cluster::run::run` gives back, of which `Writes` is what it
 /// says.
@@ -81,6 +84,10 @@ pub fn law_script_safe<M: MakesKeepers>()
         Writes (TurnsOver M.K.custody M.making)
         (begun_over maker) lines text status end →
         InEach M.K.custody end.cluster.world IsLastingWorld }
+    ensures along { (maker : M) (lines : List (List ℕ)) (answers : List Answer) (end : Session) →
+        Run (openings_of M.K.custody M.making maker)
+        begun lines answers end →
+        LastsFor (openings_of M.K.custody M.making maker) lines answers end }
 {
     law_headline();
     law_lasting();

@@ -1,5 +1,5 @@
 -- How answers are written.
-use Rattle.std.specs.Prelude.{◌++◌, [], ℕ, List, codes}
+use Rattle.std.specs.Prelude.{[], ℕ, List, codes}
 use Rattle.fl_aliases.specs.Table.{table_text}
 use Rattle.fl_opset.specs.RegistryText.{registry_text}
 use Rattle.fl_replies.specs.ReplyText.{count_text, dropped_fault_text, world_text}

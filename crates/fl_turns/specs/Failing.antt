@@ -1,5 +1,5 @@
 -- Why a line of a script is answered that a keeper failed.
-use Rattle.std.specs.Prelude.{◌≡◌, ℕ, Bool, List, Option}
+use Rattle.std.specs.Prelude.{ℕ, Bool, List, Option}
 use Rattle.fl_store.specs.Custody.{Custody}
 use Rattle.fl_makers.specs.Making.{Making}
 use Rattle.fl_script.specs.declared.line.Line.{Line}

@@ -8,4 +8,7 @@ pub mod Failing
 pub mod Over
 pub mod Answered
 pub mod Script
+pub mod Leading
+pub mod Moments
+pub mod Lasting
 pub mod laws

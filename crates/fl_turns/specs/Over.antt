@@ -4,16 +4,12 @@ use Rattle.std.specs.Coded.{Coded, code_by, coded×, coded_ℕ, coded_list}
 use Rattle.fl_aliases.specs.Table.{Table}
 use Rattle.fl_aliases.specs.contracts.target.Target as targets_row
 use Rattle.fl_store.specs.Custody.{Custody}
-use Rattle.fl_store.specs.Kept.{Kept}
 use Rattle.fl_stream.specs.Turns.{LineOutput}
 use Rattle.fl_makers.specs.Making.{Making}
-use Rattle.fl_system.specs.declared.answer.Fault.{Fault}
-use Rattle.fl_system.specs.World.{World}
 use Rattle.fl_calls.specs.Over.{ClusterOver, begun_over as begun_cluster, coded_cluster_over, GoesOn}
 use Rattle.fl_turns.specs.Answer.{Answer, status_of}
 use Rattle.fl_turns.specs.Failing.{FailsRead}
 use Rattle.fl_turns.specs.Run.{output_of}
-use Rattle.fl_turns.specs.Session.{Session}
 use Rattle.fl_turns.specs.Turn.{Turn}
 
 -- a world over keepers with their maker, and the aliases that are set

@@ -3,10 +3,8 @@ use Rattle.std.specs.Prelude.{◌≡◌, ◌++◌, ℕ, List, Option}
 use Rattle.std.specs.Str.Lines.{lines}
 use Rattle.std.specs.Io.KnownBytes.{Appends}
 use Rattle.fl_store.specs.Custody.{Custody}
-use Rattle.fl_store.specs.Kept.{Kept}
 use Rattle.fl_stream.specs.Turns.{LineOutput, texts, worst}
 use Rattle.fl_makers.specs.Making.{Making}
-use Rattle.fl_system.specs.declared.answer.Fault.{Fault}
 use Rattle.fl_world.specs.Reached.{InEach}
 use Rattle.fl_calls.specs.Entering.{Openings}
 use Rattle.fl_calls.specs.Over.{openings_of}

@@ -2,3 +2,5 @@
 pub mod Widening
 pub mod Chains
 pub mod Scripts
+pub mod Leads
+pub mod Lasting

@@ -2,10 +2,8 @@
 use Rattle.std.specs.Prelude.{◌≡◌, ◌⊎◌, ℕ, List, Option}
 use Rattle.fl_aliases.specs.Table.{Table}
 use Rattle.fl_store.specs.Custody.{Custody}
-use Rattle.fl_store.specs.Kept.{Kept}
 use Rattle.fl_makers.specs.Making.{Making}
 use Rattle.fl_script.specs.declared.line.Line.{Line}
-use Rattle.fl_system.specs.declared.answer.Fault.{Fault}
 use Rattle.fl_calls.specs.Over.{ClusterOver, GoesOn}
 use Rattle.fl_turns.specs.Answer.{starved_line}
 use Rattle.fl_turns.specs.Over.{SessionOver}

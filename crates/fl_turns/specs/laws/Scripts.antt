@@ -1,10 +1,8 @@
 -- What is written over keepers is that of one run, in each world that they may be at the end.
 use Rattle.std.specs.Prelude.{ℕ, List, Option}
 use Rattle.fl_store.specs.Custody.{Custody}
-use Rattle.fl_store.specs.Kept.{Kept}
 use Rattle.fl_stream.specs.Output.{Writes, WritesFirst, WritesOutput}
 use Rattle.fl_makers.specs.Making.{Making}
-use Rattle.fl_system.specs.declared.answer.Fault.{Fault}
 use Rattle.fl_turns.specs.Over.{SessionOver, begun_over, TurnsOver}
 use Rattle.fl_turns.specs.Script.{IsOneRunIfHonest, RunsScript, RunsFirst}
 use Rattle.fl_turns.specs.laws.Chains.{script_answered}

@@ -1,5 +1,5 @@
 use Rattle.fl_turns.specs.Session.{begun}
-use Rattle.fl_turn_laws.proofs.Leads.{turn_leads, run_leads, is_reached}
+use Rattle.fl_turns.specs.laws.Leads.{turn_leads, run_leads, is_reached}
 use Rattle.fl_turn_laws.proofs.laws.law_worlds.Goals as goal
 
 pub returns-clause-turn : goal.returns-clause-turn

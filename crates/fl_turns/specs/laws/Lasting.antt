@@ -1,0 +1,548 @@
+-- A script's lines are one run of worlds, along which all lasts.
+use Rattle.std.proofs.Common.{◌≡◌, ◌⊎◌, ◌≤◌, ◌<◌, ◌+◌, ◌∙◌, ℕ, zero, suc, refl, sym, ap, subst, arith}
+use Rattle.std.proofs.Common.{List, [], ◌∷◌, ◌++◌, Option, Some, inl, inr, length, map, take, slice_get}
+use Rattle.std.proofs.lemmas.List.{length-append}
+use Rattle.fl_bench.specs.laws.Puts.{none_some, same_found}
+use Rattle.fl_labels.specs.declared.pid.Pid.{Pid}
+use Rattle.fl_jobs.specs.declared.answer.Reply.TheVariants.{Emitted}
+use Rattle.fl_jobs.specs.declared.job.Act.TheVariants.{Emit}
+use Rattle.fl_jobs.specs.declared.job.Job.{Job}
+use Rattle.fl_jobs.specs.declared.job.Job.TheVariants.{By}
+use Rattle.fl_script.specs.declared.line.Line.TheVariants as line
+use Rattle.fl_script.specs.declared.reading.Reading.{Reading}
+use Rattle.fl_script.specs.declared.reading.Reading.TheVariants as reading
+use Rattle.fl_script.specs.declared.request.Request.{Request}
+use Rattle.fl_script.specs.declared.request.Request.TheVariants as request
+use Rattle.fl_script.specs.Reading.{IsReading}
+use Rattle.fl_script.specs.laws.OneReading.{one_reading}
+use Rattle.fl_store.specs.Custody.{Custody}
+use Rattle.fl_stream.specs.Output.{WritesOutput}
+use Rattle.fl_makers.specs.Making.{Making}
+use Rattle.fl_system.specs.declared.event.Event.{Event}
+use Rattle.fl_system.specs.declared.event.Event.TheVariants as event
+use Rattle.fl_system.specs.declared.reply.Reply.{Reply}
+use Rattle.fl_system.specs.declared.reply.Reply.TheVariants as replies
+use Rattle.fl_system.specs.Runs.{Move, Happens, Comes, Returns, Moment, IsRun, IsReached, end}
+use Rattle.fl_system.specs.Taint.{world_at, IsEmission}
+use Rattle.fl_system.specs.World.{World, empty_world}
+use Rattle.fl_world.specs.Headline.{IsSafeWorld}
+use Rattle.fl_world.specs.Lasting.{IsLastingWorld}
+use Rattle.fl_calls.specs.Answer.{Answer as Said, replied}
+use Rattle.fl_calls.specs.Entering.{Openings}
+use Rattle.fl_turns.specs.Answer.{Answer, silence, said, listed, starved_line}
+use Rattle.fl_turns.specs.Lasting.{LetsOut, IsLetOut, Tells, DidHappen, ConfinesAlong, LastsAlong, LastsFor, LastsScript}
+use Rattle.fl_turns.specs.Moments.{Asks, event_asked, asked_by, told, told_at, told_in, told_said, told_by}
+use Rattle.fl_turns.specs.Moments.{Turned, IsTurn, AreTurns, moments_of, moments_before}
+use Rattle.fl_turns.specs.Over.{SessionOver, TurnsOver, begun_over}
+use Rattle.fl_turns.specs.Run.{Run}
+use Rattle.fl_turns.specs.Session.{Session, begun}
+use Rattle.fl_turns.specs.laws.Leads.{runs_on, ends_on, turn_does}
+use Rattle.fl_turns.specs.laws.Scripts.{one_run}
+
+-- ---- places in lists that are put together
+
+slice_past : {A : Type 0} (xs ys : List A) (n j : ℕ) → j ≡ length xs + n → slice_get (xs ++ ys) j ≡ slice_get ys n
+slice_past [] ys n j e =
+    let same : j ≡ n = omega (arith, e) in ap (slice_get ys) same
+slice_past (x ∷ xs) ys n zero e = absurd (omega (arith, e))
+slice_past (x ∷ xs) ys n (suc j) e =
+    let less : j ≡ length xs + n = omega (arith, e) in slice_past xs ys n j less
+
+slice_within : {A : Type 0} (xs ys : List A) (i j : ℕ) (x : A) → j ≡ i → slice_get xs i ≡ Some x
+    → slice_get (xs ++ ys) j ≡ Some x
+slice_within [] ys i j x e h = absurd (none_some refl h)
+slice_within (y ∷ xs) ys zero zero x e h = h
+slice_within (y ∷ xs) ys zero (suc j) x e h = absurd (omega (arith, e))
+slice_within (y ∷ xs) ys (suc i) zero x e h = absurd (omega (arith, e))
+slice_within (y ∷ xs) ys (suc i) (suc j) x e h =
+    let less : j ≡ i = omega (arith, e) in slice_within xs ys i j x less h
+
+slice_less : {A : Type 0} (xs : List A) (i : ℕ) (x : A) → slice_get xs i ≡ Some x → i < length xs
+slice_less [] i x e = absurd (none_some refl e)
+slice_less (y ∷ xs) zero x e = omega arith
+slice_less (y ∷ xs) (suc i) x e = let less = slice_less xs i x e in omega (arith, less)
+
+-- where something is that stands in two lists, one after the other
+data IsWhere {A : Type 0} (xs ys : List A) (j : ℕ) (x : A) : Type 0 where
+  front : j < length xs → slice_get xs j ≡ Some x → IsWhere xs ys j x
+  back : (n : ℕ) → j ≡ length xs + n → slice_get ys n ≡ Some x → IsWhere xs ys j x
+
+at_which : {A : Type 0} (xs ys : List A) (j : ℕ) (x : A) → slice_get (xs ++ ys) j ≡ Some x → IsWhere xs ys j x
+at_which [] ys j x e = back j (omega arith) e
+at_which (y ∷ xs) ys zero x e = front (omega arith) e
+at_which (y ∷ xs) ys (suc j) x e = elim (at_which xs ys j x e) [
+  | front less there ↦ front (omega (arith, less)) there
+  | back n is there ↦ back n (omega (arith, is)) there
+]
+
+world_past : (w : World) (ms ns : List Moment) (n j : ℕ) → j ≡ length ms + n
+    → world_at w (ms ++ ns) j ≡ world_at (end w ms) ns n
+world_past w [] ns n j e =
+    let same : j ≡ n = omega (arith, e) in ap (world_at w ns) same
+world_past w (m ∷ ms) ns n zero e = absurd (omega (arith, e))
+world_past w (m ∷ ms) ns n (suc j) e =
+    let less : j ≡ length ms + n = omega (arith, e) in world_past m.after ms ns n j less
+
+run_take : (w : World) (ms : List Moment) (j : ℕ) → IsRun w ms → IsRun w (take j ms)
+run_take w ms zero run = tt
+run_take w [] (suc j) run = tt
+run_take w (m ∷ ms) (suc j) run = (run.0, run_take m.after ms j run.1)
+
+-- ---- what is told
+
+first_of : {A : Type 0} → A → List A → A
+first_of d xs = elim xs [ [] ↦ d | x ∷ rest ↦ x ]
+
+module _ (e : Event) (r : Reply) where
+  -- the event has this reply at a moment
+  record Happened (ms : List Moment) : Type 0 where
+    place : ℕ
+    moment : Moment
+    there : slice_get ms place ≡ Some moment
+    move_is : moment.move ≡ Happens e
+    reply_is : moment.reply ≡ r
+
+  one_more : (m : Moment) (ms : List Moment) → Happened ms → Happened (m ∷ ms)
+  one_more m ms h = record {
+    place = suc h.place;
+    moment = h.moment;
+    there = h.there;
+    move_is = h.move_is;
+    reply_is = h.reply_is;
+  }
+
+  head_is : (x : Event × Reply) (xs : List (Event × Reply)) → x ∷ xs ≡ (e, r) ∷ [] → x ≡ (e, r)
+  unfolding first_of
+  head_is x xs is = ap (first_of x) is
+
+  by_head : (move : Move) (reply : Reply) (rest : List (Event × Reply)) → told_at move reply ++ rest ≡ (e, r) ∷ []
+      → ((move ≡ Happens e) × (reply ≡ r)) ⊎ (rest ≡ (e, r) ∷ [])
+  by_head (Happens event) (replies.Job reply) rest is =
+      let h = head_is _ rest is in
+      inl (ap (λ (x : Event × Reply). Happens x.0) h, ap (λ (x : Event × Reply). x.1) h)
+  by_head (Happens event) (replies.Sent first count) rest is =
+      let h = head_is _ rest is in
+      inl (ap (λ (x : Event × Reply). Happens x.0) h, ap (λ (x : Event × Reply). x.1) h)
+  by_head (Happens event) reply rest is = inr is
+  by_head (Comes number kept) reply rest is = inr is
+  by_head (Returns number kept) reply rest is = inr is
+
+  -- what is told happened
+  happened : (ms : List Moment) → told_in ms ≡ (e, r) ∷ [] → Happened ms
+  happened [] is = absurd (cc)
+  happened (m ∷ ms) is = elim (by_head m.move m.reply (told_in ms) is) [
+    | inl here ↦ record { place = zero; moment = m; there = refl; move_is = here.0; reply_is = here.1 }
+    | inr later ↦ one_more m ms (happened ms later)
+  ]
+
+  -- what happened is told, where it is of a kind that is
+  is_told : (ms : List Moment) (i : ℕ) (m : Moment) → slice_get ms i ≡ Some m → told_at m.move m.reply ≡ (e, r) ∷ []
+      → (n : ℕ) × (slice_get (told_in ms) n ≡ Some (e, r))
+  is_told [] i m there is = absurd (none_some refl there)
+  is_told (x ∷ ms) zero m there is =
+      let same : m ≡ x = same_found there refl in
+      let told_is : told_at x.move x.reply ≡ (e, r) ∷ [] = subst (λ (y : Moment). told_at y.move y.reply ≡ (e, r) ∷ []) same is in
+      (zero, ap (λ y. slice_get (y ++ told_in ms) zero) told_is)
+  is_told (x ∷ ms) (suc i) m there is =
+      let rest = is_told ms i m there is in
+      let n = length (told_at x.move x.reply) + rest.0 in
+      (n, slice_past (told_at x.move x.reply) (told_in ms) rest.0 n refl ∙ rest.1)
+
+  -- what a line tells is of its event, and its answer
+  told_is : (event : Event) (reply : Reply) (n : ℕ) → slice_get (told event reply) n ≡ Some (e, r)
+      → (event ≡ e) × (reply ≡ r)
+  told_is event (replies.Job reply) zero is =
+      let h = same_found refl is in
+      (ap (λ (x : Event × Reply). x.0) h, ap (λ (x : Event × Reply). x.1) h)
+  told_is event (replies.Sent first count) zero is =
+      let h = same_found refl is in
+      (ap (λ (x : Event × Reply). x.0) h, ap (λ (x : Event × Reply). x.1) h)
+  told_is event (replies.Job reply) (suc n) is = absurd (none_some refl is)
+  told_is event (replies.Sent first count) (suc n) is = absurd (none_some refl is)
+  told_is event reply n is = absurd (none_some refl is)
+
+  said_is : (asked : Option Event) (what : Said) (n : ℕ) → slice_get (told_said asked what) n ≡ Some (e, r)
+      → (asked ≡ Some e) × (what ≡ replied r)
+  said_is (Some event) (replied reply) n is =
+      let h = told_is event reply n is in (ap Some h.0, ap replied h.1)
+  said_is asked what n is = absurd (none_some refl is)
+
+  answered_is : (asked : Option Event) (answer : Answer) (n : ℕ) → slice_get (told_by asked answer) n ≡ Some (e, r)
+      → (asked ≡ Some e) × (answer ≡ said (replied r))
+  answered_is asked silence n is = absurd (none_some refl is)
+  answered_is asked (said what) n is =
+      let h = said_is asked what n is in (h.0, ap said h.1)
+  answered_is asked (listed table) n is = absurd (none_some refl is)
+
+-- ---- which lines emit
+
+module _ (number desk upto : ℕ) (pid : Pid) (bytes : List ℕ) where
+  abbrev emitting : Event
+  emitting = event.Job number desk upto (By pid (Emit bytes))
+
+  record IsEmitLine (r : Reading) : Type 0 where
+    node : ℕ
+    alias : Option (List ℕ)
+    is : r ≡ reading.Means (line.Node node (request.Job (By pid (Emit bytes)))) alias
+
+  job_of : Option Event → Job → Job
+  job_of (Some (event.Job number desk upto job)) d = job
+  job_of other d = d
+
+  emit_request : (node : ℕ) (r : Request) → event_asked node r ≡ Some emitting → r ≡ request.Job (By pid (Emit bytes))
+  unfolding job_of
+  emit_request node (request.Job job) is = ap (λ x. request.Job (job_of x job)) is
+  emit_request node (request.Begin p order) is = absurd (cc)
+  emit_request node (request.Deliver packet) is = absurd (cc)
+  emit_request node (request.BeginDeliver packet) is = absurd (cc)
+  emit_request node request.Tell is = absurd (cc)
+  emit_request node request.Save is = absurd (cc)
+  emit_request node request.Publish is = absurd (cc)
+  emit_request node request.Cancel is = absurd (cc)
+  emit_request node (request.Restart kept) is = absurd (cc)
+  emit_request node request.Text is = absurd (cc)
+  emit_request node (request.Check packet) is = absurd (cc)
+
+  emit_line : (r : Reading) → asked_by r ≡ Some emitting → IsEmitLine r
+  emit_line reading.Quiet is = absurd (cc)
+  emit_line reading.Bad is = absurd (cc)
+  emit_line (reading.Means (line.Node node r) alias) is = record {
+    node = node;
+    alias = alias;
+    is = ap (λ x. reading.Means (line.Node node x) alias) (emit_request node r is);
+  }
+  emit_line (reading.Means (line.Union first second) alias) is = absurd (cc)
+  emit_line (reading.Means line.Audit alias) is = absurd (cc)
+  emit_line (reading.Means line.Aliases alias) is = absurd (cc)
+
+-- nothing is told of want of memory
+not_starved : (e : Event) (r : Reply) → told e r ≡ (e, r) ∷ [] → said (replied r) ≡ starved_line → ⊥
+not_starved e (replies.Refused fault) is starved = absurd (cc)
+not_starved e reply is starved = absurd (cc)
+
+module _ (openings : Openings) (t : Turned) (turn : IsTurn openings t) where
+  -- what the line tells happens at one of its moments
+  tells_so : (e : Event) (r : Reply) → Tells t e r → Happened e r t.moments
+  tells_so e r h = elim turn.asks [
+    | inl asks ↦
+        let other = h.asks in
+        let read : asks.reading ≡ other.reading =
+        one_reading t.before.aliases t.line asks.reading other.reading asks.says other.says in
+        let asked : turn.asked ≡ Some e = asks.is ∙ ap asked_by read ∙ sym other.is in
+        happened e r t.moments
+        (turn.tells ∙ ap (λ x. told_by x t.answer) asked ∙ ap (told_by (Some e)) h.answered ∙ h.is_told)
+    | inr starved ↦ absurd (not_starved e r h.is_told (sym h.answered ∙ starved))
+  ]
+
+module _ (openings : Openings) (t : Turned) (turn : IsTurn openings t) (pid : Pid) where
+  -- a moment at which the process emits is of a line by which it lets bytes out
+  lets_out : (i : ℕ) (m : Moment) → slice_get t.moments i ≡ Some m → IsEmission m pid
+      → (bytes : List ℕ) × LetsOut t pid bytes
+  lets_out i m there h =
+      let e = emitting h.number h.desk h.upto pid h.bytes in
+      let r : Reply = replies.Job (Emitted h.bytes) in
+      let is : told_at m.move m.reply ≡ (e, r) ∷ [] =
+      ap (λ x. told_at x m.reply) h.asked ∙ ap (λ x. told_at (Happens e) x) h.answered in
+      let n = is_told e r t.moments i m there is in
+      let by = answered_is e r turn.asked t.answer n.0 (subst (λ xs. slice_get xs n.0 ≡ Some (e, r)) turn.tells n.1) in
+      elim turn.asks [
+        | inl asks ↦
+            let read = emit_line h.number h.desk h.upto pid h.bytes asks.reading (sym asks.is ∙ by.0) in (
+              h.bytes,
+              record {
+                number = read.node;
+                alias = read.alias;
+                says = subst (IsReading t.before.aliases t.line) read.is asks.says;
+                answered = by.1;
+              },
+            )
+        | inr starved ↦ absurd (cc (starved, by.1))
+      ]
+
+  -- a line by which the process lets bytes out has such a moment
+  record Emits : Type 0 where
+    place : ℕ
+    moment : Moment
+    there : slice_get t.moments place ≡ Some moment
+    emission : IsEmission moment pid
+
+  emits : (bytes : List ℕ) → LetsOut t pid bytes → Emits
+  emits bytes out =
+      let e = emitting out.number 1 18446744073709551615 pid bytes in
+      let r : Reply = replies.Job (Emitted bytes) in
+      let asks : Asks t.before.aliases t.line (Some e) = record {
+        reading = reading.Means (line.Node out.number (request.Job (By pid (Emit bytes)))) out.alias;
+        says = out.says;
+        is = refl;
+      } in
+      let at = tells_so openings t turn e r (record { asks = asks; answered = out.answered; is_told = refl }) in
+      record {
+        place = at.place;
+        moment = at.moment;
+        there = at.there;
+        emission = record {
+          number = out.number;
+          desk = 1;
+          upto = 18446744073709551615;
+          bytes = bytes;
+          asked = at.move_is;
+          answered = at.reply_is;
+        };
+      }
+
+-- ---- turns, one after another
+
+-- the lines were answered by these turns
+record IsPlayed (openings : Openings) (old : Session) (lines : List (List ℕ)) (answers : List Answer)
+    (new : Session) : Type 0 where
+  turns : List Turned
+  lines_are : map (λ (t : Turned). t.line) turns ≡ lines
+  answers_are : map (λ (t : Turned). t.answer) turns ≡ answers
+  are_turns : AreTurns openings old turns new
+
+played : (openings : Openings) (old : Session) (lines : List (List ℕ)) (answers : List Answer) (new : Session)
+    → Run openings old lines answers new → IsPlayed openings old lines answers new
+played openings old [] [] new h = record { turns = []; lines_are = refl; answers_are = refl; are_turns = h }
+played openings old [] (answer ∷ answers) new h = absurd h
+played openings old (line ∷ lines) [] new h = absurd h
+played openings old (line ∷ lines) (answer ∷ answers) new h =
+    let first = turn_does openings old line answer h.0 h.1 in
+    let rest = played openings h.0 lines answers new h.2 in
+    let t : Turned = record {
+      before = old;
+      line = line;
+      answer = answer;
+      moments = first.does.leads.moments;
+      after = h.0;
+    } in
+    record {
+      turns = t ∷ rest.turns;
+      lines_are = ap (λ l. line ∷ l) rest.lines_are;
+      answers_are = ap (λ l. answer ∷ l) rest.answers_are;
+      are_turns = (
+        refl,
+        record {
+          turn = h.1;
+          is_run = first.does.leads.is_run;
+          plain = first.does.leads.plain;
+          leads = first.does.leads.leads;
+          asked = first.asked;
+          asks = first.asks;
+          tells = first.does.tells;
+        },
+        rest.are_turns,
+      );
+    }
+
+module _ (openings : Openings) where
+  turn_at : (old new : Session) (ts : List Turned) (k : ℕ) (t : Turned) → AreTurns openings old ts new
+      → slice_get ts k ≡ Some t → IsTurn openings t
+  turn_at old new [] k t h there = absurd (none_some refl there)
+  turn_at old new (x ∷ ts) zero t h there = subst (IsTurn openings) (same_found refl there) h.1
+  turn_at old new (x ∷ ts) (suc k) t h there = turn_at x.after new ts k t h.2 there
+
+  -- from the world before the first turn, and from where that ends
+  from : (old : Session) (x : Turned) → x.before ≡ old → IsTurn openings x → IsRun old.world x.moments
+  from old x is turn = subst (λ (s : Session). IsRun s.world x.moments) is turn.is_run
+
+  ends : (old : Session) (x : Turned) → x.before ≡ old → IsTurn openings x → end old.world x.moments ≡ x.after.world
+  ends old x is turn = subst (λ (s : Session). end s.world x.moments ≡ x.after.world) is turn.leads
+
+  all_run : (old new : Session) (ts : List Turned) → AreTurns openings old ts new → IsRun old.world (moments_of ts)
+  all_run old new [] h = tt
+  all_run old new (x ∷ ts) h =
+      runs_on old.world x.moments (moments_of ts) (from old x h.0 h.1)
+      (subst (λ w. IsRun w (moments_of ts)) (sym (ends old x h.0 h.1)) (all_run x.after new ts h.2))
+
+  all_lead : (old new : Session) (ts : List Turned) → AreTurns openings old ts new
+      → end old.world (moments_of ts) ≡ new.world
+  all_lead old new [] h = ap (λ (s : Session). s.world) (sym h)
+  all_lead old new (x ∷ ts) h =
+      ends_on old.world x.moments (moments_of ts)
+      ∙ ap (λ w. end w (moments_of ts)) (ends old x h.0 h.1) ∙ all_lead x.after new ts h.2
+
+  before_more : (x : Turned) (ts : List Turned) (k : ℕ)
+      → moments_before (x ∷ ts) (suc k) ≡ length x.moments + moments_before ts k
+  before_more x ts k = length-append x.moments (moments_of (take k ts))
+
+  world_before : (old new : Session) (ts : List Turned) (k : ℕ) (t : Turned) → AreTurns openings old ts new
+      → slice_get ts k ≡ Some t → world_at old.world (moments_of ts) (moments_before ts k) ≡ t.before.world
+  world_before old new [] k t h there = absurd (none_some refl there)
+  world_before old new (x ∷ ts) zero t h there =
+      ap (λ (s : Session). s.world) (sym h.0) ∙ ap (λ (y : Turned). y.before.world) (same_found refl there)
+  world_before old new (x ∷ ts) (suc k) t h there =
+      world_past old.world x.moments (moments_of ts) (moments_before ts k) _ (before_more x ts k)
+      ∙ ap (λ w. world_at w (moments_of ts) (moments_before ts k)) (ends old x h.0 h.1)
+      ∙ world_before x.after new ts k t h.2 there
+
+  -- a moment of a turn among all moments
+  moment_at : (ts : List Turned) (k : ℕ) (t : Turned) (l : ℕ) (m : Moment) → slice_get ts k ≡ Some t
+      → slice_get t.moments l ≡ Some m → slice_get (moments_of ts) (moments_before ts k + l) ≡ Some m
+  moment_at [] k t l m there at = absurd (none_some refl there)
+  moment_at (x ∷ ts) zero t l m there at =
+      let same : t ≡ x = same_found there refl in
+      slice_within x.moments (moments_of ts) l (0 + l) m (omega arith)
+      (subst (λ (y : Turned). slice_get y.moments l ≡ Some m) same at)
+  moment_at (x ∷ ts) (suc k) t l m there at =
+      let more = before_more x ts k in
+      let e : moments_before (x ∷ ts) (suc k) + l ≡ length x.moments + (moments_before ts k + l) = omega (arith, more) in
+      slice_past x.moments (moments_of ts) (moments_before ts k + l) _ e ∙ moment_at ts k t l m there at
+
+  before_next : (ts : List Turned) (k : ℕ) (t : Turned) → slice_get ts k ≡ Some t
+      → moments_before ts (suc k) ≡ moments_before ts k + length t.moments
+  before_next [] k t there = absurd (none_some refl there)
+  before_next (x ∷ ts) zero t there =
+      let more = before_more x ts zero in
+      let same = ap (λ (y : Turned). length y.moments) (same_found there refl) in
+      omega (arith, more, same)
+  before_next (x ∷ ts) (suc k) t there =
+      let low = before_more x ts k in
+      let high = before_more x ts (suc k) in
+      let rest = before_next ts k t there in
+      omega (arith, low, high, rest)
+
+  -- the turn of a moment
+  record IsOfTurn (ts : List Turned) (i : ℕ) (m : Moment) : Type 0 where
+    place : ℕ
+    turn : Turned
+    there : slice_get ts place ≡ Some turn
+    first : moments_before ts place ≤ i
+    last : i < moments_before ts (suc place)
+    within : ℕ
+    at : slice_get turn.moments within ≡ Some m
+
+  of_turn : (ts : List Turned) (i : ℕ) (m : Moment) → slice_get (moments_of ts) i ≡ Some m → IsOfTurn ts i m
+  of_turn [] i m at = absurd (none_some refl at)
+  of_turn (x ∷ ts) i m at = elim (at_which x.moments (moments_of ts) i m at) [
+    | front less here ↦
+        let more = before_more x ts zero in
+        record {
+          place = zero;
+          turn = x;
+          there = refl;
+          first = omega arith;
+          last = omega (arith, less, more);
+          within = i;
+          at = here;
+        }
+    | back n is later ↦
+        let rest = of_turn ts n m later in
+        let low = before_more x ts rest.place in
+        let high = before_more x ts (suc rest.place) in
+        let least = rest.first in
+        let most = rest.last in
+        record {
+          place = suc rest.place;
+          turn = rest.turn;
+          there = rest.there;
+          first = omega (arith, is, low, least);
+          last = omega (arith, is, high, most);
+          within = rest.within;
+          at = rest.at;
+        }
+  ]
+
+-- ---- all lasts along them
+
+module _ (safe : (w : World) → IsReached w → IsSafeWorld w)
+    (lasting : (w : World) → IsReached w → IsLastingWorld w) (openings : Openings) where
+  module _ (new : Session) (ts : List Turned) (are : AreTurns openings begun ts new) where
+    abbrev ms : List Moment
+    ms = moments_of ts
+
+    is_run : IsRun (empty_world 1) ms
+    is_run = all_run openings begun new ts are
+
+    reached_at : (i : ℕ) → IsReached (world_at (empty_world 1) ms i)
+    reached_at i = record { desks = 1; moments = take i ms; is_run = run_take (empty_world 1) ms i is_run; leads = refl }
+
+    emission : (i : ℕ) (pid : Pid) (m : Moment) → slice_get ms i ≡ Some m → IsEmission m pid → IsLetOut ts i pid
+    emission i pid m there is =
+        let its = of_turn openings ts i m there in
+        let out = lets_out openings its.turn (turn_at openings begun new ts its.place its.turn are its.there) pid its.within m its.at is in
+        record {
+          place = its.place;
+          turn = its.turn;
+          bytes = out.0;
+          there = its.there;
+          first = its.first;
+          last = its.last;
+          lets_out = out.1;
+        }
+
+    did_happen : (k : ℕ) (t : Turned) (e : Event) (r : Reply) → slice_get ts k ≡ Some t → Tells t e r
+        → DidHappen ts k e r
+    did_happen k t e r there tells =
+        let at = tells_so openings t (turn_at openings begun new ts k t are there) e r tells in
+        let less = slice_less t.moments at.place at.moment at.there in
+        let next = before_next openings ts k t there in
+        record {
+          i = moments_before ts k + at.place;
+          moment = at.moment;
+          there = moment_at openings ts k t at.place at.moment there at.there;
+          first = omega arith;
+          last = omega (arith, less, next);
+          move_is = at.move_is;
+          reply_is = at.reply_is;
+        }
+
+    confines : ConfinesAlong ts
+    confines = record {
+      stays = λ tag i j pid p pure le lives.
+          (lasting _ (reached_at zero)).confined.stays ms tag i j pid p is_run pure le lives;
+      silent = λ tag i j pid m pure le there.
+          (lasting _ (reached_at zero)).confined.silent ms tag i j pid m is_run pure le there;
+      unsaid = λ tag i k pid bytes t pure le there out.
+          let turn = turn_at openings begun new ts k t are there in
+          let at = emits openings t turn pid bytes out in
+          let further : i ≤ moments_before ts k + at.place = omega (arith, le) in
+          (lasting _ (reached_at zero)).confined.silent ms tag i (moments_before ts k + at.place) pid at.moment
+          is_run pure further (moment_at openings ts k t at.place at.moment there at.there) at.emission;
+    }
+
+    all_lasts : LastsAlong ts
+    all_lasts = record {
+      safe = λ i. safe _ (reached_at i);
+      lasting = λ i. lasting _ (reached_at i);
+      confined = confines;
+    }
+
+  pub run_lasts : (lines : List (List ℕ)) (answers : List Answer) (new : Session)
+      → Run openings begun lines answers new → LastsFor openings lines answers new
+  run_lasts lines answers new run =
+      let h = played openings begun lines answers new run in
+      record {
+        turns = h.turns;
+        lines_are = h.lines_are;
+        answers_are = h.answers_are;
+        are_turns = h.are_turns;
+        is_run = is_run new h.turns h.are_turns;
+        leads = all_lead openings begun new h.turns h.are_turns;
+        before = λ k t there. world_before openings begun new h.turns k t h.are_turns there;
+        happened = did_happen new h.turns h.are_turns;
+        emissions = emission new h.turns h.are_turns;
+        lasts = all_lasts new h.turns h.are_turns;
+      }
+
+-- ---- so it is of what is written over keepers
+
+module _ {K M : Type 0} (custody : Custody K) (making : Making M) (start : M)
+    (safe : (w : World) → IsReached w → IsSafeWorld w)
+    (lasting : (w : World) → IsReached w → IsLastingWorld w) where
+  pub lasts_script : (old new : Option (List ℕ)) (script : List ℕ) (status : ℕ) (end : SessionOver K M)
+      → WritesOutput (TurnsOver custody making) (begun_over start) old new script status end
+      → LastsScript custody making start old new script status end
+  lasts_script old new script status end h =
+      let all = one_run custody making start _ h.text status end h.output in
+      record {
+        text = h.text;
+        written = h.written;
+        lasting_run = record {
+          each = λ honest w is.
+              let one = all.each honest w is in
+              record {
+                one_run = one;
+                lasts = run_lasts safe lasting _ _ one.answered.answers _ one.answered.run;
+              };
+        };
+      }
