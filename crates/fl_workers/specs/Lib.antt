@@ -1,3 +1,9 @@
-pub mod Receiving
-pub mod Registers
-pub mod Told
+pub mod Over
+pub mod Seats
+pub mod Seated
+pub mod Plans
+pub mod Begun
+pub mod Ended
+pub mod Frugal
+pub mod Batches
+pub mod Crews

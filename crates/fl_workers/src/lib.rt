@@ -1,8 +1,15 @@
-//! The workers of a crew, each in a thread of its own, while their registrar rules on what they
-//! order. A crew is a node whose processes several workers serve at once.
+//! A crew: one node whose processes are served by several workers at once, each at its own bench
+//! and its own desk of the published list, while a registrar names, saves and publishes what they
+//! order.
 #![tactic(auto)]
 
-pub mod lines;
-pub mod ruling;
-pub mod running;
-mod threads;
+mod beginning;
+pub mod crew;
+mod ending;
+pub mod entry;
+pub mod fault;
+pub mod gate;
+mod manned;
+mod planning;
+mod seating;
+mod working;

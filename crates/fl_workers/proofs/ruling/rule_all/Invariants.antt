@@ -1,9 +1,0 @@
-use Rattle.std.proofs.Common.{◌≡◌, length}
-use Rattle.fl_workers.specs.Registers.{Registers}
-use Rattle.fl_workers.proofs.ruling.rule_all.Given as goal
-
-abbrev pub invariant-loop : goal.invariant-loop
-invariant-loop g l = record {
-  rules : Registers g.K.Keeper.custody (length l.fn.lines.rulings.items) l.fn.registrar l.registrar;
-  count : length l.lines.rulings.items ≡ length l.fn.lines.rulings.items;
-}
