@@ -3,6 +3,7 @@
 
     reference/flume_tags.py < SCRIPT
     reference/flume_tags.py --dir DIRECTORY < SCRIPT
+    reference/flume_tags.py --workers W [--dir DIRECTORY] < SCRIPT
 
 It is written from docs/SCRIPT.md, docs/FORMATS.md and docs/REFUSALS.md, and where these are silent
 from the rows of examples/rows, but not from the sources that are proved. It is what a reader judges
@@ -12,10 +13,14 @@ fails but where there is no directory.
 
 Over a directory it keeps what nodes saved in files of its own, node-<n>.json.
 
+With workers it does all jobs in the order of their lines, as one worker does. What more of them
+answer may differ where the documents say so.
+
 A name is a pair of numbers. A capability is a name with the place of its sign in "+-*^". A pid is
 a triple. An operation is a tuple: its kind, and what its line in the registry's text has behind it.
 So Python's order of tuples is the order of names, of capabilities and of pids.
 """
+import argparse
 import dataclasses
 import hashlib
 import json
@@ -517,8 +522,8 @@ class Node:
 class World:
     """All nodes of a script, the packets that were sent, what was admitted, and the aliases."""
 
-    def __init__(self, directory):
-        self.directory, self.nodes, self.packets = directory, {}, []
+    def __init__(self, directory, workers=0):
+        self.directory, self.workers, self.nodes, self.packets = directory, workers, {}, []
         self.admitted, self.aliases = 0, {}
 
     def enter(self, it):
@@ -529,7 +534,8 @@ class World:
                 raise Refused(12)
             node = Node(it, boot + 1, saved)
             self.keep(node)
-            self.join(node)
+            if not self.workers:
+                self.join(node)
             self.nodes[it] = node
         return self.nodes[it]
 
@@ -764,6 +770,7 @@ def answer_window(world, node, window):
 
 def begin_operations(node, packet):
     """How many operations of a packet are new; they are begun, where there are any."""
+    node.check_neighbour(packet.operations)
     new = node.new(packet.operations)
     if new:
         node.begin(new, None)
@@ -854,6 +861,7 @@ LINES = {
     "check": (check, data),
 }
 MAKING = {"proc", "spawn", "open", *ORDERS}
+STEPS = {"begin", "save", "publish", "cancel"}
 
 
 def read_words(readers, words):
@@ -865,6 +873,8 @@ def read_words(readers, words):
 def read_line(world, words):
     """What a line of a node does: a function of the world and the node, and what its words say."""
     kind, rest = words[0], words[1:]
+    if world.workers and kind in STEPS:
+        raise BadLine
     if kind in ORDERS:
         order, *readers = ORDERS[kind]
         return give_order, [order, *read_words(readers, rest)]
@@ -911,7 +921,7 @@ def union(world, words):
 def answer_words(world, words):
     if words[0] == "union":
         return union(world, words[1:])
-    if words == ["audit"]:
+    if words == ["audit"] and not world.workers:
         return f"admitted {world.admitted}"
     if words == ["aliases"]:
         return "\n".join(f"${it} {target}" for it, target in world.aliases.items())
@@ -969,9 +979,9 @@ def respond(world, count, line):
         return f"refused {why.text}\n", 3 if why.text == "F15" else 0
 
 
-def run(script, directory):
+def run(script, directory, workers=0):
     """The answers to the lines of a script, and the status."""
-    world = World(directory)
+    world = World(directory, workers)
     answers = [respond(world, count, line) for count, line in enumerate(lines_of(script), 1)]
     for node in world.nodes.values():
         world.keep(node)
@@ -979,10 +989,11 @@ def run(script, directory):
 
 
 def main(words):
-    if words and (len(words) != 2 or words[0] != "--dir"):
-        sys.exit("usage: flume_tags.py [--dir DIRECTORY]")
-    directory = pathlib.Path(words[1]) if words else None
-    answers, status = run(sys.stdin.buffer.read(), directory)
+    parser = argparse.ArgumentParser()
+    parser.add_argument("--workers", type=int, choices=range(17), default=0)
+    parser.add_argument("--dir", type=pathlib.Path)
+    asked = parser.parse_args(words)
+    answers, status = run(sys.stdin.buffer.read(), asked.dir, asked.workers)
     sys.stdout.write("".join(answers))
     return status
 

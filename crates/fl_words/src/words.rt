@@ -1,10 +1,10 @@
 //! What the words of the program say.
-ghost use Rattle.std.specs.Prelude.{◌≡◌, IfOk, IfSome, codes, map, string_bytes};
-ghost use Rattle.clap.specs.Words.{app_of, first_value, found_of};
-ghost use Rattle.fl_words.specs.Words.{AreRight, named_path, path_of, program};
+ghost use Rattle.std.specs.Prelude.{◌≡◌, ◌≤◌, IfOk, IfSome, Some, codes, false, map, string_bytes};
+ghost use Rattle.clap.specs.Words.{app_of, first_value, found_of, rule_of};
+ghost use Rattle.fl_words.specs.Words.{AreRight, SaysWorkers, dir_option, named_path, named_workers, path_of, program, workers_option};
 
 use clap::builder::ValueParser;
-use clap::{ArgMatches, Command, Error, arg};
+use clap::{Arg, ArgMatches, Command, Error, arg};
 use std::alloc::{AllocError, AllocGlobal, Global};
 
 /// What help says below the options.
@@ -33,45 +33,113 @@ pub enum Place<'a> {
     Directory(&'a str),
 }
 
-/// The program, with its option `--dir`.
-fn command<'a>(alloc: Global) -> Result<Command<'a>, AllocError>
-    ensures { IfOk result (λ command. app_of command ≡ program) }
+/// What the words of the program ask for.
+#[derive(Clone, Copy, Debug, PartialEq, Eq)]
+pub struct Settings<'a> {
+    /// How many workers each node has. With none its calls are made one after another.
+    pub workers: u8,
+    pub place: Place<'a>,
+}
+
+/// The most workers of a node.
+const MOST_WORKERS: u8 = 16;
+
+/// The option of how many workers each node has.
+fn workers_option<'a>(alloc: Global) -> Arg<'a>
+    ensures rule { rule_of result ≡ workers_option }
+    ensures local { result.global ≡ false }
+{
+    let workers =
+        arg!(in alloc; --workers <W> "Serve each node by so many workers at once, 0 to 16; without it by none");
+    workers.value_parser(ValueParser::Unsigned(0, MOST_WORKERS as u64))
+}
+
+/// The option of where nodes are kept.
+fn dir_option<'a>(alloc: Global) -> Arg<'a>
+    ensures rule { rule_of result ≡ dir_option }
+    ensures local { result.global ≡ false }
 {
     let dir =
         arg!(in alloc; --dir <PATH> "Keep node n in the file node-n.db of this directory, which has to be there");
+    // the files of an empty path would be those of the root
+    dir.value_parser(ValueParser::NonEmptyString)
+}
+
+/// The program, with its options.
+fn command<'a>(alloc: Global) -> Result<Command<'a>, AllocError>
+    ensures { IfOk result (λ command. app_of command ≡ program) }
+{
     Command::new(alloc, "flume-tags")
         .bin_name("flume-tags")?
         .version("0.1.0")
         .about("Answers a script of tags, labels and questions")
         .after_help(AFTER_HELP)
-        // the files of an empty path would be those of the root
-        .arg(dir.value_parser(ValueParser::NonEmptyString))
+        .arg(workers_option(alloc))?
+        .arg(dir_option(alloc))
 }
 
 /// What the parser finds in the words.
 fn parsed<'a>(alloc: Global, words: &'a [String]) -> Result<ArgMatches<'a>, Error>
     ensures dir { IfOk result (λ matches. first_value (found_of matches) (codes "dir")
         ≡ named_path (map string_bytes words.entry.now)) }
+    ensures workers { IfOk result (λ matches. first_value (found_of matches) (codes "workers")
+        ≡ named_workers (map string_bytes words.entry.now)) }
     ensures right { IfOk result (λ _. AreRight (map string_bytes words.entry.now)) }
 {
     command(alloc)?.try_get_matches_from(words)
 }
 
-/// Reads the words of the program, of which the first is its own name: where its nodes are kept.
+// Where the words have the nodes be kept.
+fn place_in<'a>(matches: &ArgMatches<'a>) -> Place<'a>
+    ensures { path_of result ≡ first_value (found_of matches.now) (codes "dir") }
+{
+    match matches.get_str("dir") {
+        Some(dir) => Place::Directory(dir),
+        None => Place::Memory,
+    }
+}
+
+// How many workers the text says. The parser has refused one that spells no number up to 16.
+fn workers_from(text: &str) -> u8
+    ensures few { result ≤ 16 }
+    ensures says { SaysWorkers (Some text.now) result }
+{
+    match text.parse::<u8>() {
+        Ok(workers) if workers <= MOST_WORKERS => workers,
+        _ => 0,
+    }
+}
+
+// How many workers the words ask for.
+fn workers_in(matches: &ArgMatches) -> u8
+    ensures few { result ≤ 16 }
+    ensures says { SaysWorkers (first_value (found_of matches.now) (codes "workers")) result }
+{
+    match matches.get_str("workers") {
+        Some(text) => workers_from(text),
+        None => 0,
+    }
+}
+
+/// Reads the words of the program, of which the first is its own name: where its nodes are kept,
+/// and how many workers each of them has.
 /// None where the parser gives no matches, since the words are not the program's, or ask for its
 /// help or version, or memory ran out: then its text was printed.
 pub fn read_words<'a, RT: AllocGlobal + Print + Eprint>(
     rt: &RT,
     words: &'a [String],
-) -> Option<Place<'a>>
-    ensures place { IfSome result (λ place.
-        path_of place ≡ named_path (map string_bytes words.entry.now)) }
+) -> Option<Settings<'a>>
+    ensures place { IfSome result (λ settings.
+        path_of settings.place ≡ named_path (map string_bytes words.entry.now)) }
+    ensures workers { IfSome result (λ settings.
+        SaysWorkers (named_workers (map string_bytes words.entry.now)) settings.workers) }
+    ensures few { IfSome result (λ settings. settings.workers ≤ 16) }
     ensures right { IfSome result (λ _. AreRight (map string_bytes words.entry.now)) }
 {
     match parsed(rt.alloc(), words) {
-        Ok(matches) => Some(match matches.get_str("dir") {
-            Some(dir) => Place::Directory(dir),
-            None => Place::Memory,
+        Ok(matches) => Some(Settings {
+            workers: workers_in(&matches),
+            place: place_in(&matches),
         }),
         Err(error) => {
             let _ = error.print(rt);
