@@ -32,6 +32,7 @@ MOST = 4_294_967_295
 SIGNS = "+-*^"
 PLUS, MINUS, USE, GROW = range(4)
 POLICIES = ("export", "read", "integrity")
+KINDS = ("tag", "group", "put", "login", "open")
 LINE_BYTES, LABEL_TAGS, ENDPOINTS, INBOX = 20_000, 256, 64, 256
 MESSAGE_CAPS, MESSAGE_BYTES, DELTA, SPANS, ALIASES = 64, 1024, 64, 512, 1024
 
@@ -167,8 +168,23 @@ def operation_text(it, operation):
     return " ".join([name_text(it), *operation])
 
 
-def registry_text(operations):
-    return [operation_text(it, operations[it]) for it in sorted(operations)]
+def place(word):
+    """A word of an operation is ordered as its bytes are: a capability by its sign first."""
+    if word in POLICIES:
+        return POLICIES.index(word)
+    if word[0] in SIGNS:
+        return cap(word)[::-1]
+    return name(word) if "." in word else word
+
+
+def order(named):
+    """Where an operation stands: by its name, and then by its bytes."""
+    it, (kind, *words) = named
+    return it, KINDS.index(kind), list(map(place, words))
+
+
+def registry_text(named):
+    return [operation_text(*one) for one in sorted(named, key=order)]
 
 
 # The rules of labels. `has` is the set of capabilities that a process has in effect.
@@ -822,7 +838,7 @@ def restart(_world, node, keeps=None):
 
 
 def text(_world, node):
-    return "\n".join(registry_text(node.published))
+    return "\n".join(registry_text(node.published.items()))
 
 
 def check(_world, node, content):
@@ -915,7 +931,7 @@ def union(world, words):
     one, other = world.enter(one), world.enter(other)
     if one.is_stopped or other.is_stopped:
         raise Refused(21)
-    return "\n".join(registry_text(one.published | other.published))
+    return "\n".join(registry_text({*one.published.items(), *other.published.items()}))
 
 
 def answer_words(world, words):

@@ -4,8 +4,6 @@ Operations, names, capabilities and pids are as in flume_tags.py. docs/FORMATS.m
 """
 import flume_tags as reference
 
-KINDS = {"tag": 1, "group": 2, "put": 3, "login": 4, "open": 5}
-
 
 def number(it, count):
     """A number in so many bytes. Of one that does not fit the low bytes are written."""
@@ -23,7 +21,7 @@ def cap(form, it):
 def operation(form, it, words):
     """The bytes of an operation: its name, and its words as the registry's text has them."""
     kind, *rest = words
-    front = number(form, 1) + number(KINDS[kind], 1) + name(form, it)
+    front = number(form, 1) + number(reference.KINDS.index(kind) + 1, 1) + name(form, it)
     if kind == "tag":
         return front + number(reference.POLICIES.index(rest[0]) + 1, 1)
     if kind in ("put", "open"):
