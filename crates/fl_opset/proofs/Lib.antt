@@ -2,6 +2,7 @@ pub mod Partition
 pub mod Names
 pub mod Written
 pub mod MergeLemmas
+pub mod Gaps
 pub mod FirstLogin
 pub mod Rising
 pub mod Lacks

@@ -1,6 +1,6 @@
 -- Two lists that rise, merged.
-use Rattle.std.proofs.Common.{◌≡◌, ℕ, ◌-◌, ◌<◌, ◌≤◌, suc, true, Bool, ◌||◌, List, [], ◌∷◌, ◌++◌, ◌⊎◌, inl, inr, length, drop, get_or, Option, Some, None, is_some, not, false, Result, Ok, Err, OnErr, refl, sym, ap, subst, ◌∙◌, Ordering, Less, Equal, append-nil, arith}
-use Rattle.std.specs.Cmp.{IsTotalOrder, tied_itself}
+use Rattle.std.proofs.Common.{◌≡◌, ℕ, ◌-◌, ◌≤◌, true, Bool, ◌||◌, List, [], ◌∷◌, ◌++◌, ◌⊎◌, inl, inr, length, drop, get_or, Option, Some, None, is_some, not, false, Result, Ok, Err, OnErr, refl, sym, ap, subst, ◌∙◌, Ordering, Less, append-nil, arith}
+use Rattle.std.specs.Cmp.{IsTotalOrder}
 use Rattle.std.specs.FinMap.{IsAntisymmetric}
 use Rattle.std.specs.List.{All, list_any}
 use Rattle.std.specs.List.Sorted.{IsStrictlySortedBy}
@@ -18,7 +18,6 @@ use Rattle.fl_labels.specs.laws.SortedVec.{Lists}
 use Rattle.fl_ops.specs.declared.op.Op.{Op}
 use Rattle.fl_ops.specs.OpLaws.{op_total, op_exact}
 use Rattle.fl_ops.specs.OpOrder.{op_cmp}
-use Rattle.fl_opset.specs.laws.Members.{listed_in}
 use Rattle.fl_opset.specs.laws.Unions.{same_members, union_least, union_upper}
 
 module _ {K : Type 0} (R : K → K → Ordering) where
@@ -30,14 +29,6 @@ module _ {K : Type 0} (R : K → K → Ordering) where
   pub merge_ends : (b : Bool) (xs ys : List K) (i j : ℕ) → (length xs ≤ i) ⊎ (length ys ≤ j) → sorted_merge R b (drop i xs) (drop j ys) ≡ drop i xs ++ drop j ys
   merge_ends b xs ys i j (inl h) = rw (drop_all i xs h) refl
   merge_ends b xs ys i j (inr h) = rw (drop_all j ys h) (alone b (drop i xs))
-
-  -- where each of the first list is below each of the second, the second follows the first
-  pub merge_below : (b : Bool) (xs ys : List K) → All (λ x. All (λ y. R x y ≡ Less) ys) xs → sorted_merge R b xs ys ≡ xs ++ ys
-  merge_below b [] ys below = refl
-  merge_below b (x ∷ xs) [] below = alone b (x ∷ xs)
-  merge_below b (x ∷ xs) (y ∷ ys) below =
-      let rest : All (λ x. All (λ y. R x y ≡ Less) (y ∷ ys)) xs = λ k d within. below (suc k) d (omega arith) in
-      rw (below 0 x (omega arith) 0 y (omega arith)) (ap (λ l. x ∷ l) (merge_below b xs (y ∷ ys) rest))
 
 module _ {K : Type 0} {R : K → K → Ordering} (o : IsTotalOrder R) (exact : IsAntisymmetric R) where
   -- the merge of two sets' items lists their union
@@ -55,11 +46,6 @@ module _ {K : Type 0} {R : K → K → Ordering} (o : IsTotalOrder R) (exact : I
             ∙ sym (contains-union o s t q));
       }
 
-  -- the second's items after the first's, where they stand above them, list the union too
-  pub appended_lists : (xs ys zs xs' ys' more : List K) (s t : SetBy R) → IsStrictlySortedBy R xs → IsStrictlySortedBy R ys → of_list xs ≡ s → of_list ys ≡ t → xs' ≡ xs → ys' ≡ ys → more ≡ ys → All (λ x. All (λ y. R x y ≡ Less) ys') xs' → zs ≡ xs ++ more → Lists R zs (set.union s t)
-  appended_lists xs ys zs xs' ys' more s t up_xs up_ys s_is t_is same_xs same_ys same_more below is =
-      merged_lists xs ys zs xs' ys' s t up_xs up_ys s_is t_is same_xs same_ys (is ∙ (λ i. sym same_xs i ++ (same_more ∙ sym same_ys) i) ∙ sym (merge_below R true xs' ys' below))
-
 module _ {K : Type 0} {R : K → K → Ordering} (o : IsTotalOrder R) where
   -- where the last of one list is below the first of another, each of the one is below each of the other
   pub each_below : (xs ys : List K) (last first : K) → IsStrictlySortedBy R xs → IsStrictlySortedBy R ys → ((d : K) → last ≡ get_or xs (length xs - 1) d) → ((d : K) → first ≡ get_or ys 0 d) → is_lt (R last first) ≡ true → All (λ x. All (λ y. R x y ≡ Less) ys) xs
@@ -71,17 +57,6 @@ module _ {K : Type 0} {R : K → K → Ordering} (o : IsTotalOrder R) where
             let here : j ≡ 0 = omega arith in
             ap (R (get_or xs k d)) (ap (λ n. get_or ys n e) here ∙ sym (at_first e)) ∙ under
       ]
-
--- where each of one set's items is below each of another's, of which there are some, the other has a member that is new
-pub new_above : (xs ys xs' ys' : List Op) (s t : SetBy op_cmp) → of_list xs ≡ s → of_list ys ≡ t → xs' ≡ xs → ys' ≡ ys
-    → All (λ x. All (λ y. op_cmp x y ≡ Less) ys') xs' → 0 < length ys → ¬ Within (In t) (In s)
-new_above xs [] xs' ys' s t s_is t_is same_xs same_ys below some = absurd (omega arith)
-new_above xs (y ∷ ys) xs' ys' s t s_is t_is same_xs same_ys below some = λ within.
-    let each : All (λ x. All (λ z. op_cmp x z ≡ Less) (y ∷ ys)) xs = subst (λ l. All (λ x. All (λ z. op_cmp x z ≡ Less) l) xs) same_ys (subst (All (λ x. All (λ z. op_cmp x z ≡ Less) ys')) same_xs below) in
-    let at = (listed_in xs s s_is y).1 (within y ((listed_in (y ∷ ys) t t_is y).0 (0, omega arith, refl))) in
-    let less : op_cmp y y ≡ Less = subst (λ x. op_cmp x y ≡ Less) at.2 (each at.0 y at.1 0 y (omega arith)) in
-    let ties : op_cmp y y ≡ Equal = tied_itself op_total y in
-    cc
 
 -- what a walk along both tells of the sets
 module _ (xs ys xs' ys' : List Op) (s t : SetBy op_cmp) (s_is : of_list xs ≡ s) (t_is : of_list ys ≡ t) (same_xs : xs' ≡ xs) (same_ys : ys' ≡ ys) where

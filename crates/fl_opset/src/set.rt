@@ -13,7 +13,7 @@ ghost use Rattle.fl_opset.specs.Without.{without};
 
 use crate::intervals::Intervals;
 use crate::lacking::lacking_of;
-use crate::merging::{all_below, merged};
+use crate::merging::{gap_for, insert_at, merged};
 use crate::search::{first_login, has_other, last_seq, place_of};
 use crate::span::Span;
 use crate::spans::{add_name, add_names, remove_name, spans_of};
@@ -189,18 +189,23 @@ impl OpSet {
     /// Adds the members of another set; operations of one name all stay. Fails only where one of
     /// them is new and there is not enough memory, and then leaves the set.
     ///
-    /// Where all of the other's are above all members, they are appended, and no member moves. Else
-    /// both sets are walked once, into a new vector, and its spans are found by one more walk.
+    /// Where no member is among the other's or between two of them, they are copied in where they
+    /// fit: at the cost of a comparison above all members, else of a binary search, and those above
+    /// them move once. The spans of their names are kept as [`OpSet::add`] keeps each; only where
+    /// they were not known, or memory for one is refused, one walk finds them again.
+    ///
+    /// Else both sets are walked once, into a new vector, and its spans are found by one more walk.
     /// Where there is no memory for that vector, a walk along both tells whether a member is new.
     pub fn merge(&mut self, other: &OpSet) -> Result<(), AllocError>
         ensures ok { OnOk result (self.new ≡ set.union self.old other.now) }
         ensures err { OnErr result (self.new ≡ self.old) }
         ensures new { OnErr result (¬ Within (In other.now) (In self.old)) }
     {
-        if all_below(&self.ops, &other.ops) {
-            self.ops.extend_from_slice(&other.ops)?;
+        if let Some(place) = gap_for(&self.ops, &other.ops) {
+            insert_at(&mut self.ops, place, &other.ops)?;
             let added = add_names(&mut self.spans, &other.ops);
             self.known = still_known(self.known, added);
+            self.find_spans();
             return Ok(());
         }
         let Ok(ops) = merged(*self.ops.allocator(), &self.ops, &other.ops) else {
@@ -215,11 +220,14 @@ impl OpSet {
         Ok(())
     }
 
-    // Walks the members for their spans, once. Where there is no memory for them, they are not
-    // known.
+    // Walks the members for their spans, once, where they are not known. Without memory for them
+    // they stay so.
     fn find_spans(&mut self)
         ensures { self.new ≡ self.old }
     {
+        if self.known {
+            return;
+        }
         let Ok(spans) = spans_of(*self.ops.allocator(), &self.ops) else {
             return;
         };
