@@ -1,5 +1,5 @@
 -- Bytes are taken, some at a time.
-use Rattle.std.proofs.Common.{◌≡◌, ◌<◌, ◌++◌, ◌∙◌, ◌==◌, length, refl, sym, ap, List, [], ◌∷◌, ℕ, Bool, false, subst, Option, inl, inr}
+use Rattle.std.proofs.Common.{◌≡◌, ◌<◌, ◌++◌, ◌∙◌, ◌==◌, length, refl, sym, ap, List, [], ◌∷◌, ℕ, false, subst, Option, inl, inr}
 use Rattle.std.proofs.lemmas.List.{append_assoc, append-nil}
 use Rattle.std.proofs.lemmas.List.Elements.{All-append, All-nil}
 use Rattle.std.proofs.KnownBytes.{Appends-kept}

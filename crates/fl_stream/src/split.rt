@@ -1,7 +1,9 @@
 //! A text is cut at its first line feed.
-ghost use Rattle.std.specs.Prelude.{◌≡◌, ◌<◌, ◌≤◌, ◌∷◌, ◌++◌, ◌==◌, MatchOption, IfSome, length, position};
+ghost use Rattle.std.specs.Prelude.{◌≡◌, ◌<◌, ◌≤◌, ◌∷◌, ◌++◌, MatchOption, IfSome, length};
 ghost use Rattle.std.specs.Str.Lines.{strip_carriage_return};
 ghost use Rattle.fl_stream.specs.Served.{HasNoFeed};
+
+use memchr::memchr;
 
 /// The line without the carriage return at its end, if it has one.
 pub fn without_return(line: &[u8]) -> &[u8]
@@ -13,13 +15,6 @@ pub fn without_return(line: &[u8]) -> &[u8]
     }
 }
 
-/// Where the first line feed stands.
-fn line_feed_at(text: &[u8]) -> Option<usize>
-    ensures { result ≡ position (λ b. b == 10) text.now }
-{
-    text.iter().position(|b| *b == b'\n')
-}
-
 /// What stands before the first line feed, and what follows it.
 pub fn cut_line(text: &[u8]) -> Option<(&[u8], &[u8])>
     ensures cut { MatchOption result (HasNoFeed text.now) (λ r. text.now ≡ r.0.now ++ 10 ∷ r.1.now) }
@@ -27,7 +22,7 @@ pub fn cut_line(text: &[u8]) -> Option<(&[u8], &[u8])>
     ensures shorter { IfSome result (λ r. length r.1.now < length text.now) }
     ensures within { IfSome result (λ r. length r.0.now ≤ length text.now) }
 {
-    match line_feed_at(text) {
+    match memchr(b'\n', text) {
         None => None,
         Some(at) => Some((&text[..at], &text[at + 1..])),
     }

@@ -1,4 +1,4 @@
-use Rattle.std.proofs.Common.{◌≡◌, ◌≤◌, ◌+◌, [], refl, sym, ◌∙◌, arith}
+use Rattle.std.proofs.Common.{◌≡◌, ◌≤◌, ◌+◌, sym, ◌∙◌, arith}
 use Rattle.std.proofs.lemmas.Result.{err_from_is_err_and}
 use Rattle.fl_sink.specs.laws.Passing.{on_err_always}
 use Rattle.fl_stream.proofs.IntakeLemmas.{reading_fresh, ready_fresh, reading_then, reading_cuts, reading_answered, reading_end_cuts, reading_short, reading_served, reading_due, reading_cause, reading_mid_line, counts_none, counts_then}

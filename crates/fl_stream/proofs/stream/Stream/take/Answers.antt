@@ -1,7 +1,7 @@
 use Rattle.std.proofs.Common.{refl, arith}
 use Rattle.std.proofs.lemmas.Result.{on_ok_weaker, on_err_weaker}
 use Rattle.fl_sink.specs.laws.Passing.{on_err_always}
-use Rattle.fl_stream.proofs.StreamLemmas.{front_passes_none, front_passes_more, bytes_cut_more, bytes_cut_front, bytes_pass_front, front_ends_mid_line, no_feed_nil}
+use Rattle.fl_stream.proofs.StreamLemmas.{front_passes_none, front_passes_more, bytes_cut_more, bytes_cut_front, bytes_pass_front, no_feed_nil}
 use Rattle.fl_stream.proofs.stream.Stream.take.Goals as goal
 
 pub loop-line-init : goal.loop-line-init
