@@ -1,7 +1,6 @@
 -- Lemmas that proofs of the crates above cite.
 pub mod Letters
 pub mod Runs
-pub mod Dollars
 pub mod Expanding
 pub mod Placing
 pub mod TargetWords

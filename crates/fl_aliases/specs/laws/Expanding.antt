@@ -1,5 +1,5 @@
 -- A line that is expanded from its front on.
-use Rattle.std.proofs.Common.{◌≡◌, ◌≢◌, ℕ, ◌<◌, ◌⊎◌, inl, inr, None, Some, List, [], ◌∷◌, ◌++◌, length, get_or, sym, ap, subst, refl, ◌∙◌, append_assoc, append-nil}
+use Rattle.std.proofs.Common.{◌≡◌, ◌≢◌, ℕ, ◌⊎◌, inl, inr, None, Some, List, [], ◌∷◌, ◌++◌, sym, ap, subst, refl, ◌∙◌, append_assoc, append-nil}
 use Rattle.std.proofs.lemmas.List.Elements.{All-head, All-tail}
 use Rattle.std.proofs.lemmas.Option.{same_Some, none-some}
 use Rattle.fl_aliases.specs.Alias.{IsAlias}
@@ -7,7 +7,6 @@ use Rattle.fl_aliases.specs.Expansion.{Expands, ExpandsBehind, ends, stays, beco
 use Rattle.fl_aliases.specs.Table.{Table, target_of}
 use Rattle.fl_aliases.specs.TargetText.{target_text}
 use Rattle.fl_aliases.specs.declared.target.Target.{Target}
-use Rattle.fl_aliases.specs.laws.Dollars.{none_stands}
 use Rattle.fl_aliases.specs.laws.Runs.{head_of, tail_of, same_front}
 
 module _ (table : Table) where
@@ -153,8 +152,8 @@ module _ (table : Table) where
   }
 
   -- the rest is cut at its first `$`
-  pub cut_at : (line done rest plain behind : List ℕ) → (rest ≡ plain ++ 36 ∷ behind) × ((k : ℕ) → k < length plain → get_or plain k 0 ≢ 36) → Continues line done rest → Continues line (done ++ plain) (36 ∷ behind)
-  cut_at line done rest plain behind cut c = plain_more line done plain (36 ∷ behind) (none_stands plain cut.1) (subst (Continues line done) cut.0 c)
+  pub cut_at : (line done rest plain behind : List ℕ) → (rest ≡ plain ++ 36 ∷ behind) × NoDollar plain → Continues line done rest → Continues line (done ++ plain) (36 ∷ behind)
+  cut_at line done rest plain behind cut c = plain_more line done plain (36 ∷ behind) cut.1 (subst (Continues line done) cut.0 c)
 
   -- no alias stands behind the `$`
   pub no_alias : (line done behind : List ℕ) → Continues line done (36 ∷ behind) → ((letters rest : List ℕ) → IsAlias letters → NoLetterFirst rest → behind ≡ letters ++ rest → ⊥) → (out : List ℕ) → Expands table line out → ⊥

@@ -1,8 +1,6 @@
-use Rattle.std.proofs.Common.{◌++◌, ◌∷◌, None, Some, lit<, sym, ◌∙◌, subst, rules}
+use Rattle.std.proofs.Common.{◌++◌, ◌∷◌, sym, ◌∙◌, subst, rules}
 use Rattle.std.specs.String.{string_bytes}
-use Rattle.std.proofs.lemmas.Str.Pattern.{split_parts}
 use Rattle.fl_aliases.specs.TargetText.{target_text}
-use Rattle.fl_aliases.specs.laws.Dollars.{none_stands}
 use Rattle.fl_aliases.specs.laws.Expanding.{Continues, cut_at, no_alias, not_set, alias_more, begun_behind, behind_more, all_behind}
 use Rattle.fl_aliases.proofs.expand.expand.Goals as goal
 
@@ -11,13 +9,13 @@ loop-plain-init c = (search rules, begun_behind c.args.aliases.now c.args.line.n
 
 pub returns-in_default-split_alias : goal.returns-in_default-split_alias
 returns-in_default-split_alias c =
-    let cut = split_parts 36 c.loop-plain.rest.now (Some (c.in-Some.plain, c.in-Some.behind)) c.in-Some.ensures.cases (lit< tt) in
+    let cut = c.in-Some.ensures in
     let behind = c.loop-plain.invariant.1 in
     no_alias c.args.aliases.now c.args.line.now _ c.in-Some.behind.now (cut_at c.args.aliases.now _ _ _ _ _ cut behind.so_far) c.in_default-split_alias.ensures.none
 
 pub returns-in_default-get : goal.returns-in_default-get
 returns-in_default-get c =
-    let cut = split_parts 36 c.loop-plain.rest.now (Some (c.in-Some.plain, c.in-Some.behind)) c.in-Some.ensures.cases (lit< tt) in
+    let cut = c.in-Some.ensures in
     let found = c.in-Some-split_alias.ensures.some in
     let behind = c.loop-plain.invariant.1 in
     let done = behind.done ++ c.in-Some.plain.now in
@@ -26,7 +24,7 @@ returns-in_default-get c =
 
 pub loop-plain-preserved : goal.loop-plain-preserved
 loop-plain-preserved c =
-    let cut = split_parts 36 c.loop-plain.rest.now (Some (c.in-Some.plain, c.in-Some.behind)) c.in-Some.ensures.cases (lit< tt) in
+    let cut = c.in-Some.ensures in
     let found = c.in-Some-split_alias.ensures.some in
     let table = c.args.aliases.now in
     let line = c.args.line.now in
@@ -41,5 +39,4 @@ loop-plain-preserved c =
 
 pub returns : goal.returns
 returns c =
-    let none = split_parts 36 c.loop-plain.rest.now None c.in_default.ensures.cases (lit< tt) in
-    all_behind c.args.aliases.now c.args.line.now _ _ _ _ (none_stands _ none) c.loop-plain.invariant.1 c.in_ok-push_str-2.ensures.bytes
+    all_behind c.args.aliases.now c.args.line.now _ _ _ _ c.in_default.ensures c.loop-plain.invariant.1 c.in_ok-push_str-2.ensures.bytes
