@@ -10,9 +10,11 @@ use crate::lines::Lines;
 use crate::ruling::{Placed, rule_all, take_all};
 use crate::threads::{DoneOf, serve_all};
 use fl_dealing::entry::Taken;
+use fl_jobs::job::{Act, Job};
 use fl_registrar::registrar::Registrar;
 use fl_store::keeper::Keeper;
 use fl_worker::gate::Gate;
+use fl_worker::task::Task;
 use fl_worker::worker::Worker;
 use std::alloc::Global;
 use std::snapshot::Snapshot;
@@ -20,11 +22,27 @@ use std::sync::{Arc, Wait};
 use std::thread;
 use std::thread::Threads;
 
-/// Serves the tasks of the workers, each in a thread of its own, while the registrar takes the
-/// packets in this one, and then rules on their orders. Puts what came of each packet behind what
-/// was taken, in the order of their places, and gives the workers back. What came of a packet is
-/// what the row of the record says of it; where there is no row, the registrar was stopped or had
-/// no row left, or stopped at it.
+// Whether the registrar has to rule on the task.
+fn is_order(task: &Task) -> bool {
+    match &task.job {
+        Job::By(_, Act::Order(_)) => true,
+        _ => false,
+    }
+}
+
+// Whether the registrar has to rule on some task of the worker.
+fn has_order(worker: &Worker) -> bool {
+    worker.tasks.iter().any(is_order)
+}
+
+/// Serves the tasks of the workers, each that has some in a thread of its own, while the registrar
+/// takes the packets in this one, and then rules on their orders. Puts what came of each packet
+/// behind what was taken, in the order of their places, and gives the workers back. What came of a
+/// packet is what the row of the record says of it; where there is no row, the registrar was
+/// stopped or had no row left, or stopped at it.
+///
+/// Where there is neither an order nor a packet, the registrar has nothing to do, and this thread is
+/// that of a worker: so no thread is made where only one worker has tasks.
 ///
 /// Where no thread can be made, the ends on which the registrar rules are let go first, so that no
 /// worker waits for a ruling: each serves what it can, one after the other, and stops at an order.
@@ -56,6 +74,12 @@ pub fn run<
     ensures received { ReceivesThenDecides packets.items taken.old.items taken.new.items
         registrar.old registrar.new }
 {
+    if packets.is_empty() && !workers.iter().any(has_order) {
+        let workers = serve_all(&rt, alloc, &*gate, workers);
+        take_all(&rt, alloc, registrar, packets, taken);
+        rule_all(&rt, alloc, registrar, lines);
+        return workers;
+    }
     let promise = DoneOf(Snapshot::of(&workers));
     let work = move || -> Vec<Worker>
         requires { IsSync R.row × IsSync G.row × All IsReady workers.items }

@@ -26,7 +26,23 @@ impl Promise<Vec<Worker>> for DoneOf {
     ghost kept_by = { λ p r. Each IsDone p.0.value.items r.items };
 }
 
-// Serves the tasks of each worker, in a thread for each.
+// Whether the worker has tasks.
+fn is_busy(worker: &Worker) -> bool {
+    !worker.tasks.is_empty()
+}
+
+// In how many threads the workers do their tasks: in one where no two have some.
+fn threads_for(workers: &[Worker]) -> usize
+    ensures { 0 < result }
+{
+    if workers.iter().filter(|worker| is_busy(worker)).count() < 2 {
+        1
+    } else {
+        WORKERS
+    }
+}
+
+// Serves the tasks of each worker, in a thread for each, or in this one where no two have some.
 fn serve_each<R: Threads + Wait + Sync, G: Gate>(
     rt: &R,
     alloc: Global,
@@ -36,10 +52,11 @@ fn serve_each<R: Threads + Wait + Sync, G: Gate>(
     requires { All IsReady workers.old }
     ensures { Each IsDone workers.old workers.new }
 {
+    let threads = threads_for(workers);
     thread::for_each_mut(
         rt,
         workers,
-        WORKERS,
+        threads,
         &|_: usize, worker: &mut Worker|
             requires { IsSync G.row × IsReady worker.old }
             ensures { IsDone worker.old worker.new }
