@@ -16,7 +16,7 @@ use crate::lacking::lacking_of;
 use crate::merging::{gap_for, insert_at, merged};
 use crate::search::{first_login, has_other, last_seq, place_of};
 use crate::span::Span;
-use crate::spans::{add_name, add_names, remove_name, spans_of};
+use crate::spans::{add_name, add_near_names, remove_name, spans_of};
 use crate::text::{write_lines, write_lines_but};
 use crate::windows::windows_of;
 use fl_labels::cap::Cap;
@@ -191,8 +191,9 @@ impl OpSet {
     ///
     /// Where no member is among the other's or between two of them, they are copied in where they
     /// fit: at the cost of a comparison above all members, else of a binary search, and those above
-    /// them move once. The spans of their names are kept as [`OpSet::add`] keeps each; only where
-    /// they were not known, or memory for one is refused, one walk finds them again.
+    /// them move once. The spans of their names are kept as [`OpSet::add`] keeps each. Where that
+    /// could move more spans than there are members, or they were not known, or memory for one is
+    /// refused, one walk finds them again.
     ///
     /// Else both sets are walked once, into a new vector, and its spans are found by one more walk.
     /// Where there is no memory for that vector, a walk along both tells whether a member is new.
@@ -203,7 +204,7 @@ impl OpSet {
     {
         if let Some(place) = gap_for(&self.ops, &other.ops) {
             insert_at(&mut self.ops, place, &other.ops)?;
-            let added = add_names(&mut self.spans, &other.ops);
+            let added = add_near_names(&mut self.spans, &other.ops, self.ops.len());
             self.known = still_known(self.known, added);
             self.find_spans();
             return Ok(());

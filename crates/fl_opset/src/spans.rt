@@ -104,6 +104,30 @@ pub fn add_names(spans: &mut Vec<Span>, ops: &[Op]) -> Result<(), AllocError>
     Ok(())
 }
 
+// How many spans end at or above the first of the operations' names.
+fn count_above(spans: &[Span], ops: &[Op]) -> usize
+    requires { fit least_rank greatest_rank spans.now ≡ true }
+    ensures { result ≤ length spans.now }
+{
+    match ops.first() {
+        Some(op) => spans.len() - count_below(spans, rank(op.name)),
+        None => 0,
+    }
+}
+
+/// Adds the names of operations that rise, as [`add_names`] does, unless that could move more than
+/// so many spans in all. An error says that some are not added: for that, or for want of memory.
+pub fn add_near_names(spans: &mut Vec<Span>, ops: &[Op], most: usize) -> Result<(), AllocError>
+    requires { fit least_rank greatest_rank spans.old.items ≡ true }
+    ensures ok { OnOk result (AddNames ops.now spans.old.items spans.new.items) }
+    ensures fits { fit least_rank greatest_rank spans.new.items ≡ true }
+{
+    if count_above(spans, ops).saturating_mul(ops.len()) > most {
+        return Err(AllocError);
+    }
+    add_names(spans, ops)
+}
+
 /// The spans of the operations' names. One walk.
 pub fn spans_of(alloc: Global, ops: &[Op]) -> Result<Vec<Span>, AllocError>
     ensures { IfOk result (λ spans. AddNames ops.now [] spans.items) }

@@ -12,8 +12,8 @@ invariant_of-self c = kept_same _ _ _ _ c.in_err-insert_at.ensures.err c.self.in
 pub invariant_of-self-in-Some : goal.invariant_of-self-in-Some
 invariant_of-self-in-Some c =
     let new = inserted_lists _ _ _ _ _ _ c.in-Some.place _ _ c.self.invariant.rises c.other.invariant.rises c.self.view_is c.other.view_is c.deref.ensures.value c.deref-2.ensures.value c.deref-in-Some.ensures.value c.in-Some.ensures.some c.in_ok-insert_at.ensures.ok in
-    kept_union _ _ _ c.args.self.now c.self.invariant c.self.view_is _ _ _ _ new c.add_names-added.result c.args.other.now _ c.still_known-self-inside.ensures refl
-    (ap of_list c.deref-in-Some-2.ensures.value ∙ c.other.view_is) c.add_names-added.ensures.fits c.add_names-added.ensures.ok
+    kept_union _ _ _ c.args.self.now c.self.invariant c.self.view_is _ _ _ _ new c.add_near_names-added.result c.args.other.now _ c.still_known-self-inside.ensures refl
+    (ap of_list c.deref-in-Some-2.ensures.value ∙ c.other.view_is) c.add_near_names-added.ensures.fits c.add_near_names-added.ensures.ok
 
 pub returns-in-Some-clause-ok : goal.returns-in-Some-clause-ok
 returns-in-Some-clause-ok c =
