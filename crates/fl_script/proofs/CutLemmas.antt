@@ -1,65 +1,112 @@
 -- Lines that are cut at their spaces.
-use Rattle.std.proofs.Common.{◌≡◌, ◌<◌, ◌≤◌, ◌+◌, ◌-◌, ◌++◌, ◌==◌, ℕ, Bool, true, false, not, cond, List, [], ◌∷◌, None, Some, length, take, drop, get_or, arith, ap, sym, ◌∙◌, refl, rules, length-append, append_assoc}
-use Rattle.std.specs.List.{position, position_or_len, slice_range, slice_split}
+use Rattle.std.proofs.Common.{◌≡◌, ◌<◌, ◌≤◌, ◌+◌, ◌-◌, ◌++◌, ◌==◌, ◌≢◌, ℕ, Bool, true, false, not, List, [], ◌∷◌, length, take, drop, get_or, arith, ap, sym, subst, ◌∙◌, refl, length-append, length-drop, append_assoc, append-nil}
+use Rattle.std.specs.Bool.{MatchBool}
+use Rattle.std.specs.List.{slice_range, slice_split}
 use Rattle.std.specs.Str.{IsUtf8, IsCharBoundary}
-use Rattle.std.proofs.lemmas.List.{take-append-drop, drop_more, get_or-take, length-take}
-use Rattle.std.proofs.lemmas.List.Elements.{filter-append, All-from_get_or}
-use Rattle.std.proofs.lemmas.List.Quantifiers.{position-Some}
+use Rattle.std.proofs.lemmas.List.{drop_more, drop_all, take_more, take-append-drop, get_or-drop}
+use Rattle.std.proofs.lemmas.List.Elements.{filter-append, All-nil, All-cons, All-append}
+use Rattle.std.proofs.lemmas.List.Folds.{drop_split}
 use Rattle.std.proofs.lemmas.List.Splits.{slice_split_none, slice_split_at}
-use Rattle.std.proofs.lemmas.List.Sums.{fails_before_first}
-use Rattle.std.proofs.lemmas.Str.{IsCharBoundary-before_ascii, IsCharBoundary-after_ascii}
-use borrow.Author.Tests.{ltb-false}
+use Rattle.std.proofs.lemmas.Str.{IsCharBoundary-after_ascii}
+use Rattle.fl_aliases.specs.Expansion.{NoDollar}
 use Rattle.fl_aliases.specs.Words.{full_pieces, words_of}
 use Rattle.fl_script.specs.parts.Cut.{NoSpace}
 
 abbrev space : ℕ → Bool
 space b = b == 32
 
-no_place : (b : Bool) (i : ℕ) → cond b (Some i) None ≡ None → b ≡ false
-no_place true i e = cc
-no_place false i e = refl
+pub nothing : (line : List ℕ) → NoSpace (take 0 line)
+nothing [] = All-nil (λ b. space b ≡ false)
+nothing (b ∷ line) = All-nil (λ b. space b ≡ false)
 
--- no space stands where none is found
-pub no_space : (text : List ℕ) → position space text ≡ None → NoSpace text
-no_space text none =
-    let past : length text ≤ position_or_len space text = ltb-false (position_or_len space text) (length text) (no_place _ _ none) in
-    All-from_get_or (λ b. space b ≡ false) text 0 (λ i inside. fails_before_first space text i 0 (omega arith))
+-- no space stands in a piece of no bytes
+pub piece_none : (line : List ℕ) (at : ℕ) → NoSpace (slice_range line at at)
+piece_none line at =
+    let e : at - at ≡ 0 = omega arith in
+    subst (λ n. NoSpace (take n (drop at line))) (sym e) (nothing (drop at line))
 
--- nothing before the first space is one
-pub first_space : (text : List ℕ) (at : ℕ) → position space text ≡ Some at → NoSpace (take at text)
-first_space text at found =
-    let f = position-Some space text at 0 found in
-    All-from_get_or (λ b. space b ≡ false) (take at text) 0 (λ i inside.
-    let low : i < at = omega (arith, inside, length-take at text, f.0) in
-    ap space (get_or-take at text i 0 low) ∙ f.2 i low)
+-- nor in one with one more byte that is none
+pub piece_more : (line : List ℕ) (start at : ℕ) → start ≤ at → at < length line
+    → space (get_or line at 0) ≡ false → NoSpace (slice_range line start at) → NoSpace (slice_range line start (at + 1))
+piece_more line start at low inside other none =
+    let rest = drop start line in
+    let long : at + 1 - start ≡ at - start + 1 = omega arith in
+    let within : at - start < length rest = omega (arith, low, inside, length-drop start line) in
+    let place : start + (at - start) ≡ at = omega arith in
+    let last : get_or rest (at - start) 0 ≡ get_or line at 0 =
+    get_or-drop start line (at - start) 0 ∙ ap (λ i. get_or line i 0) place in
+    let more : take (at + 1 - start) rest ≡ take (at - start) rest ++ get_or rest (at - start) 0 ∷ [] =
+    ap (λ n. take n rest) long ∙ take_more rest (at - start) 0 within in
+    subst NoSpace (sym more)
+    (All-append (λ b. space b ≡ false) (take (at - start) rest) (get_or rest (at - start) 0 ∷ [])
+    none
+    (All-cons (λ b. space b ≡ false) (get_or rest (at - start) 0) [] (ap space last ∙ other)
+    (All-nil (λ b. space b ≡ false))))
 
--- the space stands there, within the text
-pub space_there : (text : List ℕ) (at : ℕ) → position space text ≡ Some at → (at < length text) × (get_or text at 0 ≡ 32)
-space_there text at found =
-    let f = position-Some space text at 0 found in
-    (f.0, search (rules, f.1))
+-- a space parts a piece from what is behind it
+pub cut_there : (line : List ℕ) (start at : ℕ) → start ≤ at → at < length line
+    → get_or line at 0 ≡ 32
+    → drop start line ≡ slice_range line start at ++ 32 ∷ drop (at + 1) line
+cut_there line start at low inside is =
+    drop_split line start at low
+    ∙ ap (λ l. slice_range line start at ++ l)
+    (drop_more line at 0 inside ∙ ap (λ b. b ∷ drop (at + 1) line) is)
 
-pub cut_there : (text : List ℕ) (at : ℕ) → position space text ≡ Some at → text ≡ take at text ++ 32 ∷ drop (at + 1) text
-cut_there text at found =
-    let there = space_there text at found in
-    sym (take-append-drop at text) ∙ ap (λ x. take at text ++ x) (drop_more text at 0 there.0 ∙ ap (λ b. b ∷ drop (at + 1) text) there.1)
+-- the last piece is the rest
+pub last_piece : (line : List ℕ) (start end : ℕ) → start ≤ end → length line ≤ end
+    → NoSpace (slice_range line start end) → NoSpace (drop start line)
+last_piece line start end low past none =
+    let piece = slice_range line start end in
+    subst NoSpace
+    (sym (drop_split line start end low ∙ ap (λ l. piece ++ l) (drop_all end line past)
+    ∙ append-nil piece))
+    none
 
--- what is cut off in front is the front
-pub front_range : (text : List ℕ) (at : ℕ) → slice_range text 0 at ≡ take at text
-front_range text at =
-    let e : at - 0 ≡ at = omega arith in
-    ap (λ n. take n text) e
+-- a text may be cut behind a space
+pub behind_space : (line : List ℕ) (at : ℕ) → IsUtf8 line → at < length line
+    → get_or line at 0 ≡ 32 → IsCharBoundary line (at + 1)
+behind_space line at utf8 inside is =
+    IsCharBoundary-after_ascii line at utf8 inside (omega (arith, is))
 
--- a text may be cut before and behind it
-pub before_space : (text : List ℕ) (at : ℕ) → position space text ≡ Some at → IsCharBoundary text at
-before_space text at found =
-    let there = space_there text at found in
-    IsCharBoundary-before_ascii text at there.0 (omega (arith, there.1))
+-- a `$` that stands there is in the line
+pub dollar_there : (line : List ℕ) (at : ℕ) → at < length line → get_or line at 0 ≡ 36
+    → ¬ NoDollar line
+dollar_there line at inside is = λ clean. clean at 0 inside is
 
-pub behind_space : (text : List ℕ) (at : ℕ) → IsUtf8 text → position space text ≡ Some at → IsCharBoundary text (at + 1)
-behind_space text at utf8 found =
-    let there = space_there text at found in
-    IsCharBoundary-after_ascii text at utf8 there.0 (omega (arith, there.1))
+-- what is known of the bytes so far is known with one more that is no `$`
+pub dollar_more : (line : List ℕ) (at : ℕ) (has_dollar : Bool) → at < length line
+    → get_or line at 0 ≢ 36 → MatchBool has_dollar (¬ NoDollar line) (NoDollar (take at line))
+    → MatchBool has_dollar (¬ NoDollar line) (NoDollar (take (at + 1) line))
+dollar_more line at true inside other known = known
+dollar_more line at false inside other known =
+    subst NoDollar (sym (take_more line at 0 inside))
+    (All-append (λ b. b ≢ 36) (take at line) (get_or line at 0 ∷ []) known
+    (All-cons (λ b. b ≢ 36) (get_or line at 0) [] other (All-nil (λ b. b ≢ 36))))
+
+-- and with any one, where a `$` is noticed
+pub dollar_seen : (line : List ℕ) (at : ℕ) (has_dollar : Bool) → at < length line
+    → get_or line at 0 ≡ 36 → has_dollar ≡ true
+    → MatchBool has_dollar (¬ NoDollar line) (NoDollar (take (at + 1) line))
+dollar_seen line at true inside is noticed = dollar_there line at inside is
+dollar_seen line at false inside is noticed = absurd (cc)
+
+pub dollar_kept : (line : List ℕ) (at : ℕ) (was has_dollar : Bool) → at < length line
+    → get_or line at 0 ≢ 36 → has_dollar ≡ was
+    → MatchBool was (¬ NoDollar line) (NoDollar (take at line))
+    → MatchBool has_dollar (¬ NoDollar line) (NoDollar (take (at + 1) line))
+dollar_kept line at was has_dollar inside other same known =
+    subst (λ b. MatchBool b (¬ NoDollar line) (NoDollar (take (at + 1) line))) (sym same)
+    (dollar_more line at was inside other known)
+
+-- at the end all is known
+pub dollar_known : (line : List ℕ) (end : ℕ) (has_dollar : Bool) → length line ≤ end
+    → MatchBool has_dollar (¬ NoDollar line) (NoDollar (take end line))
+    → MatchBool has_dollar (¬ NoDollar line) (NoDollar line)
+dollar_known line end true past known = known
+dollar_known line end false past known =
+    subst NoDollar
+    (ap (λ l. take end line ++ l) (sym (drop_all end line past)) ∙ take-append-drop end line)
+    (subst NoDollar (sym (append-nil (take end line))) known)
 
 -- the words of a line are its first piece, if that is one, and those behind it
 words_behind : (piece behind : List ℕ) → NoSpace piece → words_of (piece ++ 32 ∷ behind) ≡ full_pieces (piece ∷ []) ++ words_of behind

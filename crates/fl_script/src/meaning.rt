@@ -6,11 +6,12 @@ ghost use Rattle.fl_aliases.specs.Words.{Word};
 ghost use Rattle.fl_script.specs.parts.Meaning.{IsWord, EndsInAlias, CanBeNamed, WantsMemory};
 ghost use Rattle.fl_script.specs.Reading.{act_makes, makes, SpellsReplaced, WordsSay};
 
-use crate::cut::cut_words;
+use crate::cut::cut_line;
 use crate::line::{Line, line_from_words};
 use crate::replaced::{has_dollars, replaced_text};
 use crate::request::Request;
 use crate::unread::Unread;
+use arrayvec::ArrayVec;
 use fl_aliases::alias::Alias;
 use fl_aliases::table::Aliases;
 use fl_jobs::job::{Act, Job, Mail};
@@ -88,7 +89,8 @@ fn replaced_line(alloc: Global, aliases: &Aliases, words: &[&str]) -> Result<Lin
     let Some(text) = replaced_text(alloc, aliases, words)? else {
         return Err(Unread::Bad);
     };
-    let Some(replaced) = cut_words(&text) else {
+    let mut replaced = ArrayVec::new();
+    let Some(_) = cut_line(&text, &mut replaced) else {
         return Err(Unread::Bad);
     };
     line_from_words(alloc, replaced.as_slice())

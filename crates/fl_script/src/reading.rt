@@ -4,12 +4,12 @@ ghost use Rattle.fl_script.specs.parts.Meaning.{TextSays, TextWantsMemory};
 ghost use Rattle.fl_script.specs.parts.Reads.{Reads, StarvesIf};
 ghost use Rattle.fl_script.specs.Reading.{first_mark, IsQuiet, IsReading, ReadingTakesMemory};
 
-use crate::cut::cut_words;
+use crate::cut::cut_line;
 use crate::line::{Line, line_from_words};
 use crate::meaning::{Meaning, meaning_of};
 use crate::unread::Unread;
+use arrayvec::ArrayVec;
 use fl_aliases::alias::Alias;
-use fl_aliases::expand::has_dollar;
 use fl_aliases::table::Aliases;
 use std::alloc::{AllocError, Global};
 
@@ -56,12 +56,13 @@ fn meaning_of_bytes(alloc: Global, aliases: &Aliases, bytes: &[u8]) -> Result<Me
     let Ok(text) = str::from_utf8(bytes) else {
         return Err(Unread::Bad);
     };
-    let Some(cut) = cut_words(text) else {
+    let mut cut = ArrayVec::new();
+    let Some(has_dollar) = cut_line(text, &mut cut) else {
         return Err(Unread::Bad);
     };
     let words = cut.as_slice();
-    // Most lines have no alias, and one look at all their bytes is cheaper than one at each word.
-    if has_dollar(text) {
+    // Most lines have no alias, and then no word is looked at for one.
+    if has_dollar {
         return meaning_of(alloc, aliases, words);
     }
     let line = line_from_words(alloc, words)?;

@@ -15,19 +15,19 @@ returns-in_err-text-clause-memory c =
     let dollar = rw c.if-not-has_dollars.false at c.has_dollars.ensures in
     may_starve c.from_residual.result (dollar_wants (map (λ w. w.now) c.args.words.now) dollar)
 
-pub returns-in_default-cut_words-clause-ok : goal.returns-in_default-cut_words-clause-ok
-returns-in_default-cut_words-clause-ok c =
+pub returns-in_default-cut_line-clause-ok : goal.returns-in_default-cut_line-clause-ok
+returns-in_default-cut_line-clause-ok c =
     let words = map (λ w. w.now) c.args.words.now in
     let text = rw c.in-Some.is at c.in_ok-text.ensures in
     let each = text_words c.args.aliases.now words (string_bytes c.in-Some.text) c.requires text in
-    λ bad. too_many_replaced c.args.aliases.now words _ each (rw c.deref.ensures at c.in_default-cut_words.ensures)
+    λ bad. too_many_replaced c.args.aliases.now words _ each (rw c.deref.ensures at c.in_default-cut_line.ensures.words)
 
 pub returns-clause-ok : goal.returns-clause-ok
 returns-clause-ok c =
     let words = map (λ w. w.now) c.args.words.now in
     let text = rw c.in-Some.is at c.in_ok-text.ensures in
     let each = text_words c.args.aliases.now words (string_bytes c.in-Some.text) c.requires text in
-    read_replaced c.args.aliases.now words (map (λ w. w.now) c.as_slice.result.now) (rw (c.as_slice.ensures.value, c.in-Some-cut_words.ensures, c.deref.ensures) each) _ c.line_from_words-2.ensures.ok
+    read_replaced c.args.aliases.now words (map (λ w. w.now) c.as_slice.result.now) (rw (c.as_slice.ensures.value, c.in-Some-cut_line.ensures.words, c.deref.ensures) each) _ c.line_from_words-2.ensures.ok
 
 pub returns-clause-memory : goal.returns-clause-memory
 returns-clause-memory c =
