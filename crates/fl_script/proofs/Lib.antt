@@ -10,3 +10,4 @@ pub mod Quiet
 pub mod SpawnWords
 pub mod SendWords
 pub mod Found
+pub mod OfProcess

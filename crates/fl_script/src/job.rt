@@ -1,11 +1,11 @@
 //! Jobs by the words that spell them.
-ghost use Rattle.std.specs.Prelude.{◌≡◌, ◌≢◌, ◌∷◌, map, codes};
+ghost use Rattle.std.specs.Prelude.{◌≡◌, ◌∷◌, map, codes};
 ghost use Rattle.fl_labels.specs.Found.{Finds};
 ghost use Rattle.fl_labels.specs.Text.{endpoint_text, pid_text};
 ghost use Rattle.fl_labels.specs.declared.pid.Pid.{Pid};
 ghost use Rattle.fl_jobs.specs.declared.job.Act.TheVariants.{Order as Orders};
 ghost use Rattle.fl_script.specs.Grammar.{IsListVerb, SpellsJob};
-ghost use Rattle.fl_script.specs.parts.Acts.{SpellsAct};
+ghost use Rattle.fl_script.specs.parts.Acts.{NoPidFirst, SpellsAct};
 ghost use Rattle.fl_script.specs.parts.Reads.{Reads, StarvesIf};
 
 use crate::unread::Unread;
@@ -230,8 +230,9 @@ fn take_act(rest: &[&str]) -> Option<Act>
     Some(Act::Mail(Mail::Take))
 }
 
-// What a verb and the words after the process say that it does.
-fn act_from_words(alloc: Global, verb: &str, rest: &[&str]) -> Result<Act, Unread>
+/// What a verb and the words after the process say that it does. `Bad` where they say nothing that
+/// a process does. Takes memory for a list alone: of tags, of capabilities or of bytes.
+pub fn act_from_words(alloc: Global, verb: &str, rest: &[&str]) -> Result<Act, Unread>
     ensures ok { (p : Pid) → Reads result (λ a.
         SpellsAct p a verb.now (map (λ w. w.now) rest.now)) }
     ensures memory { StarvesIf result (IsListVerb verb.now) }
@@ -272,30 +273,15 @@ fn member_job(rest: &[&str]) -> Option<Job>
     Some(Job::Member(root, cap))
 }
 
-// The job of a process, which stands behind the verb.
-fn act_job(alloc: Global, verb: &str, rest: &[&str]) -> Result<Job, Unread>
-    requires alone { verb.now ≢ codes "proc" }
-    requires no_member { verb.now ≢ codes "member" }
-    ensures ok { Reads result (λ j. SpellsJob j (verb.now ∷ map (λ w. w.now) rest.now)) }
-    ensures memory { StarvesIf result (IsListVerb verb.now) }
-{
-    let [pid, words @ ..] = rest else {
-        return Err(Unread::Bad);
-    };
-    let pid = read_pid(pid).ok_or(Unread::Bad)?;
-    let act = act_from_words(alloc, verb, words)?;
-    Ok(Job::By(pid, act))
-}
-
-/// The job that a verb and the words after it spell. `Bad` where they spell no job.
-/// Takes memory for a list alone: of tags, of capabilities or of bytes.
-pub fn job_from_words(alloc: Global, verb: &str, rest: &[&str]) -> Result<Job, Unread>
-    ensures ok { Reads result (λ j. SpellsJob j (verb.now ∷ map (λ w. w.now) rest.now)) }
-    ensures memory { StarvesIf result (IsListVerb verb.now) }
+/// The job of no process that a verb and the words after it spell, or none where they spell no
+/// such job.
+pub fn job_from_words(verb: &str, rest: &[&str]) -> Option<Job>
+    requires { NoPidFirst (map (λ w. w.now) rest.now) }
+    ensures { Finds result (λ j. SpellsJob j (verb.now ∷ map (λ w. w.now) rest.now)) }
 {
     match verb {
-        "proc" => proc_job(rest).ok_or(Unread::Bad),
-        "member" => member_job(rest).ok_or(Unread::Bad),
-        _ => act_job(alloc, verb, rest),
+        "proc" => proc_job(rest),
+        "member" => member_job(rest),
+        _ => None,
     }
 }

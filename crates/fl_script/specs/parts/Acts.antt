@@ -1,5 +1,5 @@
 -- The words of an act.
-use Rattle.std.specs.Prelude.{List, ◌∷◌}
+use Rattle.std.specs.Prelude.{◌≡◌, List, ◌∷◌}
 use Rattle.fl_labels.specs.Text.{pid_text}
 use Rattle.fl_labels.specs.declared.pid.Pid.{Pid}
 use Rattle.fl_jobs.specs.declared.job.Act.{Act}
@@ -10,3 +10,7 @@ use Rattle.fl_script.specs.Grammar.{SpellsJob}
 -- the verb, and the words behind the process, spell what the process does
 abbrev pub SpellsAct : Pid → Act → Word → List Word → Type 0
 SpellsAct p act verb words = SpellsJob (By p act) (verb ∷ pid_text p ∷ words)
+
+-- the first of the words, if there is one, is no process
+abbrev pub NoPidFirst : List Word → Type 0
+NoPidFirst words = (p : Pid) (more : List Word) → words ≡ pid_text p ∷ more → ⊥
