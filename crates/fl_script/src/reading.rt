@@ -1,8 +1,6 @@
 //! What the bytes of a line say.
-ghost use Rattle.std.specs.Prelude.{◌≡◌, ◌↔◌, IsTrue, IfOk, OnErr};
-ghost use Rattle.fl_script.specs.parts.Meaning.{TextSays, TextWantsMemory};
-ghost use Rattle.fl_script.specs.parts.Reads.{Reads, StarvesIf};
-ghost use Rattle.fl_script.specs.Reading.{first_mark, IsQuiet, IsReading, ReadingTakesMemory};
+ghost use Rattle.std.specs.Prelude.{◌≡◌, ◌↔◌, IsTrue, IfOk, MatchOption, OnErr};
+ghost use Rattle.fl_script.specs.Reading.{first_mark, IsQuiet, IsReading, IsText, ReadingTakesMemory};
 
 use crate::cut::cut_line;
 use crate::line::{Line, line_from_words};
@@ -44,29 +42,15 @@ fn is_quiet(bytes: &[u8]) -> bool
     }
 }
 
-// What the bytes of a line that asks for an answer say.
-fn meaning_of_bytes(alloc: Global, aliases: &Aliases, bytes: &[u8]) -> Result<Meaning, Unread>
-    ensures ok { Reads result (λ meaning.
-        TextSays aliases.now bytes.now meaning.line meaning.alias) }
-    ensures memory { StarvesIf result (TextWantsMemory bytes.now) }
+// The text of the bytes, where they are one and no more than a line may have.
+fn text_of(bytes: &[u8]) -> Option<&str>
+    ensures { MatchOption result (¬ IsText bytes.now)
+        (λ text. IsText bytes.now × (text.now ≡ bytes.now)) }
 {
     if bytes.len() > MOST_LINE_BYTES {
-        return Err(Unread::Bad);
+        return None;
     }
-    let Ok(text) = str::from_utf8(bytes) else {
-        return Err(Unread::Bad);
-    };
-    let mut cut = ArrayVec::new();
-    let Some(has_dollar) = cut_line(text, &mut cut) else {
-        return Err(Unread::Bad);
-    };
-    let words = cut.as_slice();
-    // Most lines have no alias, and then no word is looked at for one.
-    if has_dollar {
-        return meaning_of(alloc, aliases, words);
-    }
-    let line = line_from_words(alloc, words)?;
-    Ok(Meaning { line, alias: None })
+    str::from_utf8(bytes).ok()
 }
 
 /// What the bytes of a line, which have no line feed, say where these aliases are set.
@@ -86,7 +70,23 @@ pub fn read_line(alloc: Global, aliases: &Aliases, bytes: &[u8]) -> Result<Readi
     if is_quiet(bytes) {
         return Ok(Reading::Quiet);
     }
-    match meaning_of_bytes(alloc, aliases, bytes) {
+    let Some(text) = text_of(bytes) else {
+        return Ok(Reading::Bad);
+    };
+    let mut cut = ArrayVec::new();
+    let Some(has_dollar) = cut_line(text, &mut cut) else {
+        return Ok(Reading::Bad);
+    };
+    let words = cut.as_slice();
+    // Most lines have no alias, and then no word is looked at for one.
+    if !has_dollar {
+        return match line_from_words(alloc, words) {
+            Ok(line) => Ok(Reading::Means { line, alias: None }),
+            Err(Unread::Bad) => Ok(Reading::Bad),
+            Err(Unread::Memory) => Err(AllocError),
+        };
+    }
+    match meaning_of(alloc, aliases, words) {
         Ok(Meaning { line, alias }) => Ok(Reading::Means { line, alias }),
         Err(Unread::Bad) => Ok(Reading::Bad),
         Err(Unread::Memory) => Err(AllocError),

@@ -1,12 +1,12 @@
 -- What the words of a line say, where aliases in them are replaced.
-use Rattle.std.specs.Prelude.{◌≡◌, ◌≢◌, ◌<◌, ◌⊎◌, ℕ, true, List, [], ◌∷◌, ◌++◌, Option, length, codes}
+use Rattle.std.specs.Prelude.{◌≡◌, ◌≢◌, ◌<◌, ◌⊎◌, ℕ, true, List, [], ◌∷◌, ◌++◌, length, codes}
 use Rattle.std.specs.List.{All, flat_map}
 use Rattle.fl_aliases.specs.Alias.{IsAlias, alias_text}
 use Rattle.fl_aliases.specs.Expansion.{NoDollar}
 use Rattle.fl_aliases.specs.Table.{Table}
-use Rattle.fl_aliases.specs.Words.{Word, words_of}
+use Rattle.fl_aliases.specs.Words.{Word}
 use Rattle.fl_script.specs.Grammar.{HoldsList}
-use Rattle.fl_script.specs.Reading.{makes, IsText, SpellsReplaced, WordsSay}
+use Rattle.fl_script.specs.Reading.{makes, SpellsReplaced}
 use Rattle.fl_script.specs.declared.line.Line.{Line}
 
 -- the bytes are some, and none of them is a space
@@ -32,14 +32,3 @@ pub record CanBeNamed (table : Table) (line : Line) (words : List Word) : Type 0
 -- reading the words may want memory: an alias is in one of them, or they hold a list
 pub record WantsMemory (words : List Word) : Type 0 where
   pub is : (¬ All NoDollar words) ⊎ HoldsList words
-
--- the bytes are a text, and its words say the line
-pub record TextSays (table : Table) (bytes : List ℕ)
-    (line : Line) (alias : Option (List ℕ)) : Type 0 where
-  pub text : IsText bytes
-  pub said : WordsSay table line alias (words_of bytes)
-
--- the bytes are a text, and reading it may want memory
-pub record TextWantsMemory (bytes : List ℕ) : Type 0 where
-  pub text : IsText bytes
-  pub takes : (¬ NoDollar bytes) ⊎ HoldsList (words_of bytes)
