@@ -91,7 +91,8 @@ impl Sets {
             Step::Encode => Ok(written(self.alloc, &self.deltas)?.len()),
             Step::Decode => self.decode(),
             Step::Take => self.take(),
-            Step::TakeAndMerge => self.take_and_merge(),
+            Step::TakeAndMerge => self.merge_into(OpSet::new(self.alloc)),
+            Step::TakeAndMergeBelow => self.merge_into(self.others.copy(self.alloc)?),
             Step::Merge => self.merge(),
         }
     }
@@ -131,8 +132,9 @@ impl Sets {
         Ok(taken)
     }
 
-    fn take_and_merge(&self) -> Result<usize, Fail> {
-        let mut all = OpSet::new(self.alloc);
+    // Each packet is taken into this set, and what is new in it is merged, before the next one.
+    fn merge_into(&self, known: OpSet) -> Result<usize, Fail> {
+        let mut all = known;
         for packet in &self.deltas {
             let Ok(ops) = take(self.alloc, &all, 3, packet) else {
                 return Ok(0);

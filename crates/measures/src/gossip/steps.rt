@@ -10,11 +10,12 @@ pub enum Step {
     Decode,
     Take,
     TakeAndMerge,
+    TakeAndMergeBelow,
     Merge,
 }
 
 /// Each of them.
-pub const STEPS: [Step; 8] = [
+pub const STEPS: [Step; 9] = [
     Step::Have,
     Step::Lacking,
     Step::Reply,
@@ -22,6 +23,7 @@ pub const STEPS: [Step; 8] = [
     Step::Decode,
     Step::Take,
     Step::TakeAndMerge,
+    Step::TakeAndMergeBelow,
     Step::Merge,
 ];
 
@@ -36,6 +38,7 @@ impl Step {
             Step::Decode => "deltas read",
             Step::Take => "operations taken",
             Step::TakeAndMerge => "operations taken and merged",
+            Step::TakeAndMergeBelow => "operations taken and merged below others",
             Step::Merge => "operations merged between others",
         }
     }
