@@ -12,6 +12,7 @@ use crate::subjects::{keeper_of, name_of};
 use fl_dir_maker::maker::DirMaker;
 use fl_jobs::job::{Act, Job};
 use fl_labels::cap::Cap;
+use fl_labels::name::NodeNumber;
 use fl_makers::maker::MakesKeepers;
 use fl_makers::mem::MemMaker;
 use fl_store::keeper::Keeper;
@@ -28,10 +29,18 @@ use std::time::{Clock, Instant};
 const QUESTIONS: u32 = 255;
 
 /// When the order of a batch, which is its first job, and the last question so far were answered.
-#[derive(Drop)]
 struct Answered {
     order: Arc<AtomicU64, Global>,
     question: Arc<AtomicU64, Global>,
+}
+
+impl Drop for Answered {
+    fn drop(self) {
+        let Answered {
+            order: _,
+            question: _,
+        } = self;
+    }
 }
 
 impl Answered {
@@ -65,6 +74,20 @@ struct Clocked<R> {
     rt: R,
     since: Instant,
     answered: Answered,
+}
+
+// A gate that notes in the same numbers.
+fn gate_over<R: Drop>(
+    rt: R,
+    since: Instant,
+    answered: &Answered,
+) -> Result<Clocked<R>, AllocError> {
+    let answered = answered.share()?;
+    Ok(Clocked {
+        rt,
+        since,
+        answered,
+    })
 }
 
 impl<R: Clock + Sync> Gate for Clocked<R> {
@@ -145,6 +168,28 @@ fn tell<R: Print>(rt: &R, name: &str, held: Held, timed: bool) -> Result<(), Fai
     Ok(())
 }
 
+// Serves so many batches at a crew of so many workers over a keeper.
+fn held_by<R: Threads + Wait + Clock + Sync + Send + Copy + Drop + 'static, K: Keeper + Drop>(
+    rt: R,
+    alloc: Global,
+    keeper: K,
+    number: NodeNumber,
+    workers: u8,
+    count: u32,
+) -> Result<Held, Fail>
+    requires number { 0 < number }
+    requires some { 1 ≤ workers }
+    requires few { workers ≤ 4 }
+{
+    let since = Instant::now(&rt)?;
+    let answered = Answered::new(alloc)?;
+    let gate = gate_over(rt, since, &answered)?;
+    let mut crew = crew_over(&rt, alloc, keeper, number, workers, gate)?;
+    let held = serve_all(rt, alloc, &mut crew, since, &answered, count);
+    drop(crew.close(&rt));
+    held
+}
+
 // Measures so many batches at a crew of so many workers, of the node whose number is one more.
 fn measure_crew<
     R: Threads + Wait + Clock + Print + Sync + Send + Copy + Drop + 'static,
@@ -153,19 +198,10 @@ fn measure_crew<
     requires some { 1 ≤ workers }
     requires few { workers ≤ 4 }
 {
-    let answered = Answered::new(alloc)?;
-    let since = Instant::now(&rt)?;
-    let gate = Clocked {
-        rt,
-        since,
-        answered: answered.share()?,
-    };
     let number = workers as u32 + 1;
     let keeper = keeper_of(alloc, maker, number)?;
-    let mut crew = crew_over(&rt, alloc, keeper, number, workers, gate)?;
-    let held = serve_all(rt, alloc, &mut crew, since, &answered, count);
-    drop(crew.close(&rt));
-    tell(&rt, name_of(workers), held?, timed)
+    let held = held_by(rt, alloc, keeper, number, workers, count)?;
+    tell(&rt, name_of(workers), held, timed)
 }
 
 // Measures so many batches at a crew of two, and at one of four.

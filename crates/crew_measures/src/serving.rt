@@ -7,7 +7,7 @@ use fl_jobs::job::Job;
 use fl_labels::name::NodeNumber;
 use fl_node::node::Node;
 use fl_store::keeper::Keeper;
-use fl_system::answer::Answer;
+use fl_system::answer::{Answer, Fault};
 use fl_workers::crew::Crew;
 use fl_workers::entry::{Entry, Reply};
 use fl_workers::gate::Gate;
@@ -16,16 +16,21 @@ use std::sync::Wait;
 use std::test::Fail;
 use std::thread::Threads;
 
+// Whether a job that was admitted was an order; none where it was refused.
+fn is_order(answer: Result<Answer, Fault>) -> Option<bool> {
+    Some(matches!(answer.ok()?, Answer::Begun(_)))
+}
+
 // Does a job at the one desk of a node. An order is saved and published at once. Says whether it
 // was admitted.
 fn is_done<K: Keeper>(alloc: Global, node: &mut Node<K>, job: Job) -> bool {
     if node.desks() == 0 {
         return false;
     }
-    match node.job(alloc, 1, u64::MAX, job) {
-        Ok(Answer::Begun(_)) => node.save().is_ok() && node.publish(alloc).is_ok(),
-        Ok(_) => true,
-        Err(_) => false,
+    match is_order(node.job(alloc, 1, u64::MAX, job)) {
+        Some(true) => node.save().is_ok() && node.publish(alloc).is_ok(),
+        Some(false) => true,
+        None => false,
     }
 }
 
