@@ -252,20 +252,21 @@ module _ {K : Type 0} (custody : Custody K) (procs after : ℕ) (is : List Item)
           (receives.takes ∙ ap (λ (ts : List Taken). ts ++ receives.told) is_none);
     }
 
-    one_run : stopped ≡ false → (n : NodeState) (first : ℕ → ℕ)
+    one_run : (ends : ℕ → BenchState)
+        → ((w : ℕ) → IsWorker (length ws0) w → (all.left w ≡ []) × (all.benches w ≡ ends w))
+        → (n : NodeState) (first : ℕ → ℕ)
         → IsCrew number (length ws0) n (books_of old) (bench_at old.benches) first
-        → IsOneRun old new n r2.deeds (good_by ws3) all.last
-    one_run goes n first crew =
+        → IsOneRun old new n r2.deeds (good_by ws3) ends all.last
+    one_run ends is n first crew =
         let it = begins clears_first number (length ws0) n (books_of old) (bench_at old.benches)
         first crew in
         record {
           begun = it.node;
           clears = it.clears;
           weave = weaves number (length ws0) it.node (begun_books old) (books_of new) r2.deeds
-              (begun_benches old) (bench_at new.benches) (good_by ws3) it.first all.last it.crew
+              (begun_benches old) ends (good_by ws3) it.first all.last it.crew
               (whole_batch number (length ws0) (begun_books old) (books_of new) r2.deeds
-              (begun_benches old) all.benches (bench_at new.benches) (good_by ws3) all.last all.left
-              front (λ w is_one. let is = whole goes w is_one in (is.1, is.2)));
+              (begun_benches old) all.benches ends (good_by ws3) all.last all.left front is);
         }
 
     served : IsServed old new is es
@@ -300,7 +301,10 @@ module _ {K : Type 0} (custody : Custody K) (procs after : ℕ) (is : List Item)
       answered = λ goes.
           all_by_owner IsAnswered (owners_of (length ws0) procs is) es gathered.count
           (λ w. subst (All IsAnswered) (sym (gathered.answers w)) (said goes w));
-      woven = one_run;
+      woven = λ goes.
+          one_run (bench_at new.benches)
+          (λ w is_one. let is = whole goes w is_one in (is.1, is.2));
+      woven_so_far = λ none. one_run all.benches (λ w is_one. (none w is_one, refl));
     }
 
   core : Passes custody (Serves old new is es) r1.node.keeper r2.node.keeper

@@ -57,15 +57,14 @@ abbrev pub Clears : NodeState → Option Batch → NodeState → Type 0
 Clears n None n' = n' ≡ n
 Clears n (Some batch) n' = Publishes n (Ok (length n'.published)) n'
 
--- The entries, and what the list gained, are one run of the node: what was due is published first,
--- each worker's entries stand in its order, and each order where it was decided; what is admitted,
--- but arrivals, is safe under the list behind it.
+-- The entries, and what the list gained, are one run of the node, with these benches behind it:
+-- what was due is published first, each worker's entries stand in its order, and each order where it
+-- was decided; what is admitted, but arrivals, is safe under the list behind it.
 pub record IsOneRun {K : Type 0} (old new : CrewOver K) (n : NodeState) (deeds : List Deed)
-    (good : ℕ → List told_entry.Entry) (last : ℕ → ℕ) : Type 0 where
+    (good : ℕ → List told_entry.Entry) (benches : ℕ → BenchState) (last : ℕ → ℕ) : Type 0 where
   pub begun : NodeState
   pub clears : Clears n old.due begun
-  pub weave : IsWeave old.node.node.number old.size begun deeds good (books_of new)
-      (bench_at new.benches) last
+  pub weave : IsWeave old.node.node.number old.size begun deeds good (books_of new) benches last
 
 -- What came of the packets, at the places of the registrar: of each that it ruled on, what the record
 -- says. It took them before it ruled on an order.
@@ -126,7 +125,12 @@ pub record IsServed {K : Type 0} (old new : CrewOver K) (is : List Item) (es : L
   -- and then they are one run of a node that the crew stands for
   pub woven : new.stopped ≡ false → (n : NodeState) (first : ℕ → ℕ)
       → IsCrew old.node.node.number old.size n (books_of old) (bench_at old.benches) first
-      → IsOneRun old new n deeds good last
+      → IsOneRun old new n deeds good (bench_at new.benches) last
+  -- also of a crew that stopped, as far as its workers came, where no decision is left over
+  pub woven_so_far : ((w : ℕ) → IsWorker old.size w → left w ≡ []) → (n : NodeState)
+      (first : ℕ → ℕ)
+      → IsCrew old.node.node.number old.size n (books_of old) (bench_at old.benches) first
+      → IsOneRun old new n deeds good benches last
 
 -- the same, beside what is kept
 pub record Serves {K : Type 0} (old new : CrewOver K) (is : List Item) (es : List Entry)
