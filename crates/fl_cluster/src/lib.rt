@@ -8,3 +8,5 @@ pub mod options;
 mod response;
 pub mod run;
 pub mod session;
+pub mod standard;
+pub mod watched;

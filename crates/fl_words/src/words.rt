@@ -41,6 +41,9 @@ pub struct Settings<'a> {
     pub place: Place<'a>,
 }
 
+/// The status of a program whose words were refused, or were asked for help or the version.
+pub const BAD_WORDS: u8 = 2;
+
 /// The most workers of a node.
 const MOST_WORKERS: u8 = 16;
 

@@ -7,7 +7,7 @@ use std::io::{Read, Result, Write};
 
 /// A reader, how often it was read, how many bytes it gave, and whether a read of it failed.
 #[derive(Drop)]
-pub(crate) struct Watched<R> {
+pub struct Watched<R> {
     reader: R,
     hearings: u64,
     heard: u64,
@@ -18,7 +18,7 @@ pub(crate) struct Watched<R> {
 
 impl<R> Watched<R> {
     /// A reader that was not read yet.
-    pub(crate) fn new(reader: R) -> Watched<R>
+    pub fn new(reader: R) -> Watched<R>
         ensures unread { result.hearings ≡ 0 }
         ensures fresh { result.has_failed ≡ false }
         ensures none { result.heard ≡ 0 }
@@ -32,7 +32,7 @@ impl<R> Watched<R> {
     }
 
     /// Whether some read failed.
-    pub(crate) fn has_failed(&self) -> bool
+    pub fn has_failed(&self) -> bool
         ensures { result ≡ self.now.has_failed }
     {
         self.has_failed
