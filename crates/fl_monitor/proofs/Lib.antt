@@ -1,5 +1,6 @@
 pub mod Looks
 pub mod Given
+pub mod SlotLemmas
 pub mod ActLemmas
 pub mod JobLemmas
 pub mod Entries

@@ -2,3 +2,4 @@ pub mod Checked
 pub mod Demand
 pub mod Acts
 pub mod Holder
+pub mod Slots

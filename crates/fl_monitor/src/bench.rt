@@ -72,7 +72,7 @@ impl Bench {
             boot,
             next: u64::from(index),
             stride,
-            processes: Processes::new(alloc),
+            processes: Processes::new(alloc, stride),
         }
     }
 

@@ -10,6 +10,7 @@ mod enter;
 mod grant;
 mod holder;
 mod mail;
+mod pid_map;
 mod processes;
 mod relabel;
 mod sequel;

@@ -9,6 +9,7 @@ ghost use Rattle.fl_bench.specs.Process.{owned_by};
 
 use crate::act::act_alone;
 use crate::arrive::arrive;
+use crate::pid_map::PidMap;
 use crate::sequel::Sequel;
 use fl_bench::process::Process;
 use fl_bench::shared::SharedCaps;
@@ -19,14 +20,13 @@ use fl_message::message::Data;
 use fl_ops::op::Op;
 use fl_ops::view::View;
 use std::alloc::{AllocError, Global};
-use std::collections::BTreeMap;
 use std::marker::Model;
 
 /// Processes by what they are called.
 #[derive(Drop)]
 pub struct Processes {
     alloc: Global,
-    all: BTreeMap<Pid, Process>,
+    all: PidMap<Process>,
 }
 
 impl Model for Processes {
@@ -40,17 +40,17 @@ impl Model for Processes {
 
     ghost coded = { map.code coded_pid (processes_row.the_row).coded };
 
-    ghost view = { λ a. map.from_entries a.all.entries };
+    ghost view = { λ a. a.all };
 }
 
 impl Processes {
-    /// None. Takes no memory.
-    pub fn new(alloc: Global) -> Self
+    /// None, for pids whose serials are `stride` apart. Takes no memory.
+    pub fn new(alloc: Global, stride: u32) -> Self
         ensures { result ≡ map.empty }
     {
         Processes {
             alloc,
-            all: BTreeMap::new(alloc),
+            all: PidMap::new(alloc, stride),
         }
     }
 
@@ -58,7 +58,7 @@ impl Processes {
     pub fn get(&self, pid: Pid) -> Option<&Process>
         ensures { option_copied result ≡ map.get self.now pid }
     {
-        self.all.get(&pid)
+        self.all.get(pid)
     }
 
     /// Puts a process, in the place of one of that name. An error leaves them.
@@ -66,15 +66,14 @@ impl Processes {
         ensures ok { OnOk result (self.new ≡ map.insert self.old pid process) }
         ensures err { OnErr result (self.new ≡ self.old) }
     {
-        self.all.insert(pid, process)?;
-        Ok(())
+        self.all.insert(pid, process)
     }
 
     /// Removes a process, if there is that process. Takes no memory.
     pub fn remove(&mut self, pid: Pid)
         ensures { self.new ≡ map.remove self.old pid }
     {
-        let _ = self.all.remove(&pid);
+        self.all.remove(pid);
     }
 
     /// Does what one process asks for by itself, and answers what follows.
@@ -88,7 +87,7 @@ impl Processes {
         ensures acts { ActsAt (Listed (V.list view.old)) self.old pid act result self.new }
         ensures same { view.new ≡ view.old }
     {
-        let Some(process) = self.all.get_mut(&pid) else {
+        let Some(process) = self.all.get_mut(pid) else {
             return Err(Refusal::NoProcess(pid));
         };
         act_alone(process, alloc, view, pid, act)
@@ -101,7 +100,7 @@ impl Processes {
         ensures err { OnErr result (IsSome (map.get self.old pid)) }
         ensures same { self.new ≡ self.old }
     {
-        let Some(process) = self.all.get_mut(&pid) else {
+        let Some(process) = self.all.get_mut(pid) else {
             return Ok(None);
         };
         Ok(Some(process.share(alloc)?))
@@ -111,7 +110,7 @@ impl Processes {
     pub fn arrive(&mut self, data: Data) -> Result<Outcome, Refusal>
         ensures { ArrivesAt self.old «data» result self.new }
     {
-        let Some(process) = self.all.get_mut(&data.receiver) else {
+        let Some(process) = self.all.get_mut(data.receiver) else {
             return Err(Refusal::NoProcess(data.receiver));
         };
         arrive(process, data)
@@ -122,7 +121,7 @@ impl Processes {
     pub fn finish(&mut self, pid: Pid, op: &Op)
         ensures { self.new ≡ receives self.old pid (given op.now) (map.get self.old pid) }
     {
-        let Some(process) = self.all.get_mut(&pid) else {
+        let Some(process) = self.all.get_mut(pid) else {
             return;
         };
         process.finish(self.alloc, op);
@@ -132,7 +131,7 @@ impl Processes {
     pub fn cancel(&mut self, pid: Pid)
         ensures { self.new ≡ receives self.old pid [] (map.get self.old pid) }
     {
-        let Some(process) = self.all.get_mut(&pid) else {
+        let Some(process) = self.all.get_mut(pid) else {
             return;
         };
         process.cancel(self.alloc);

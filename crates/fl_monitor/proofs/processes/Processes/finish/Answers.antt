@@ -1,13 +1,14 @@
-use Rattle.std.proofs.Common.{ap}
 use Rattle.fl_bench.specs.Gifts.{given}
-use Rattle.std.specs.BTreeMap.{BTreeMap}
-use Rattle.fl_labels.specs.declared.pid.Pid.{Pid}
-use Rattle.fl_bench.specs.declared.process.Process.{Process}
 use Rattle.fl_monitor.proofs.Given.{receives_there, receives_nobody}
 use Rattle.fl_monitor.proofs.processes.Processes.finish.Goals as goal
 
 pub returns-in_default : goal.returns-in_default
-returns-in_default c = receives_nobody c.self.inside.all.entries _ c.args.self.now c.args.pid (given c.args.op.now) c.self.view_is c.in_default.ensures.value (ap (λ (t : BTreeMap Pid Process). t.entries) c.get_mut.follows.holds-at-none)
+returns-in_default c =
+    receives_nobody c.self.inside.all c.args.self.now c.args.pid c.self.view_is
+    (given c.args.op.now) c.in_default.ensures.value
 
 pub returns : goal.returns
-returns c = receives_there c.self.inside.all.entries _ c.args.self.now c.args.pid (given c.args.op.now) c.self.view_is c.in-Some.process.now c.finish.new.self c.in-Some.ensures.value c.finish.ensures (c.get_mut.follows.holds c.finish.new.self).0
+returns c =
+    receives_there c.self.inside.all c.args.self.now c.args.pid c.self.view_is
+    (given c.args.op.now) c.in-Some.process.now c.finish.new.self c.in-Some.ensures.value
+    c.finish.ensures
