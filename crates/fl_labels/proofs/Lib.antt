@@ -1,9 +1,8 @@
 pub mod Unions
 pub mod PutBack
 pub mod Written
-pub mod Numbers
 pub mod Cut
 pub mod Walk
 pub mod Arrange
 pub mod UsesKept
-pub mod Dots
+pub mod Digits

@@ -2,4 +2,4 @@
 pub mod Label
 pub mod First
 pub mod Apart
-pub mod Dots
+pub mod Digits

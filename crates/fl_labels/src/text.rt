@@ -1,61 +1,94 @@
 //! Readers of words.
-ghost use Rattle.std.specs.Prelude.{◌≡◌, ℕ, ◌<◌, ◌∷◌, ◌==◌, List, position};
+ghost use Rattle.std.specs.Prelude.{◌≡◌, ◌≢◌, ◌∷◌, ℕ, List, MatchOption};
 ghost use Rattle.fl_labels.specs.Found.{Finds};
 ghost use Rattle.fl_labels.specs.Text.{name_text, cap_text, pid_text, endpoint_text};
 ghost use Rattle.fl_labels.specs.Words.{IsNumber};
-ghost use Rattle.fl_labels.specs.parts.Dots.{CutsAtDot};
+ghost use Rattle.fl_labels.specs.parts.Digits.{FindsDotted, FindsNumber};
 
 use crate::cap::Cap;
 use crate::endpoint::{Endpoint, LAST_ENDPOINT};
 use crate::name::Name;
 use crate::pid::Pid;
 
+// The number from 1 to 4294967295 that the bytes begin with, and what stands behind its last digit.
+// `None` where they begin with none. Looks at each digit once, and at one byte behind them.
+#[inline(always)]
+fn number_in(bytes: &[u8]) -> Option<(u32, &[u8])>
+    ensures { FindsNumber bytes.now result }
+{
+    let [first @ b'1'..=b'9', more @ ..] = bytes else {
+        return None;
+    };
+    let mut number = u64::from(*first - b'0');
+    for (at, byte) in more.iter().enumerate() {
+        if !byte.is_ascii_digit() {
+            return Some((number as u32, &more[at..]));
+        }
+        number = number * 10 + u64::from(*byte - b'0');
+        if number > u64::from(u32::MAX) {
+            return None;
+        }
+    }
+    Some((number as u32, &[]))
+}
+
+// The number from 1 to 4294967295 that the bytes are.
+#[inline(always)]
+fn number_of(bytes: &[u8]) -> Option<u32>
+    ensures { Finds result (λ n. IsNumber n bytes.now) }
+{
+    let (number, rest) = number_in(bytes)?;
+    if !rest.is_empty() {
+        return None;
+    }
+    Some(number)
+}
+
+// What stands behind this byte, where it is the first.
+#[inline(always)]
+fn behind(first: u8, bytes: &[u8]) -> Option<&[u8]>
+    ensures { MatchOption result ((rest : List ℕ) → bytes.now ≢ first ∷ rest)
+        (λ rest. bytes.now ≡ first ∷ rest.now) }
+{
+    match bytes {
+        [byte, rest @ ..] if *byte == first => Some(rest),
+        _ => None,
+    }
+}
+
+// The number that the bytes begin with, and what stands behind the dot after it.
+#[inline(always)]
+fn dotted_in(bytes: &[u8]) -> Option<(u32, &[u8])>
+    ensures { FindsDotted bytes.now result }
+{
+    let (number, rest) = number_in(bytes)?;
+    let rest = behind(b'.', rest)?;
+    Some((number, rest))
+}
+
+// The name that the bytes are.
+#[inline(always)]
+fn name_of(bytes: &[u8]) -> Option<Name>
+    ensures { Finds result (λ name. bytes.now ≡ name_text name) }
+{
+    let (node, seq) = dotted_in(bytes)?;
+    let seq = number_of(seq)?;
+    Some(Name { node, seq })
+}
+
 /// The number from 1 to 4294967295 that a word spells: decimal, with no sign and no leading zero.
 /// `None` of any other word.
 pub fn read_number(text: &str) -> Option<u32>
     ensures { Finds result (λ n. IsNumber n text.now) }
 {
-    // A sign and a leading 0 come before 1 among the characters.
-    if text.as_bytes().first().copied().unwrap_or(0) <= b'0' {
-        return None;
-    }
-    text.parse().ok()
-}
-
-// Where the first dot stands.
-fn dot_at(text: &str) -> Option<usize>
-    ensures { result ≡ position (λ b. b == 46) text.now }
-{
-    text.as_bytes().iter().position(|byte| *byte == b'.')
-}
-
-// What stands before the first dot, and behind it. Looks at each byte up to there: numbers are too
-// short for a search of many bytes at a time.
-fn cut_at_dot(text: &str) -> Option<(&str, &str)>
-    ensures { CutsAtDot text.now result }
-{
-    match dot_at(text) {
-        None => None,
-        Some(at) => Some((&text[..at], &text[at + 1..])),
-    }
+    number_of(text.as_bytes())
 }
 
 /// The name that a word such as `1.4` spells. `None` of any other word.
 pub fn read_name(text: &str) -> Option<Name>
     ensures { Finds result (λ name. text.now ≡ name_text name) }
 {
-    let (node, seq) = cut_at_dot(text)?;
-    let node = read_number(node)?;
-    let seq = read_number(seq)?;
-    Some(Name { node, seq })
-}
-
-// The name that stands behind a sign.
-fn read_signed(text: &str, sign: char) -> Option<Name>
-    requires { sign < 128 }
-    ensures { Finds result (λ name. text.now ≡ sign ∷ name_text name) }
-{
-    read_name(text.strip_prefix(sign)?)
+    name_of(text.as_bytes())
 }
 
 /// The capability that a word such as `+1.4` spells; the signs are `+`, `-`, `*` (use) and `^`
@@ -63,28 +96,24 @@ fn read_signed(text: &str, sign: char) -> Option<Name>
 pub fn read_cap(text: &str) -> Option<Cap>
     ensures { Finds result (λ cap. text.now ≡ cap_text cap) }
 {
-    if let Some(name) = read_signed(text, '+') {
-        return Some(Cap::Plus(name));
+    let (sign, name) = text.as_bytes().split_first()?;
+    let name = name_of(name)?;
+    match *sign {
+        b'+' => Some(Cap::Plus(name)),
+        b'-' => Some(Cap::Minus(name)),
+        b'*' => Some(Cap::Use(name)),
+        b'^' => Some(Cap::Grow(name)),
+        _ => None,
     }
-    if let Some(name) = read_signed(text, '-') {
-        return Some(Cap::Minus(name));
-    }
-    if let Some(name) = read_signed(text, '*') {
-        return Some(Cap::Use(name));
-    }
-    let name = read_signed(text, '^')?;
-    Some(Cap::Grow(name))
 }
 
 /// The process identifier that a word such as `p1.1.1` spells. `None` of any other word.
 pub fn read_pid(text: &str) -> Option<Pid>
     ensures { Finds result (λ pid. text.now ≡ pid_text pid) }
 {
-    let (node, rest) = cut_at_dot(text.strip_prefix('p')?)?;
-    let (boot, serial) = cut_at_dot(rest)?;
-    let node = read_number(node)?;
-    let boot = read_number(boot)?;
-    let serial = read_number(serial)?;
+    let (node, boot) = dotted_in(behind(b'p', text.as_bytes())?)?;
+    let (boot, serial) = dotted_in(boot)?;
+    let serial = number_of(serial)?;
     Some(Pid { node, boot, serial })
 }
 
@@ -92,7 +121,7 @@ pub fn read_pid(text: &str) -> Option<Pid>
 pub fn read_endpoint(text: &str) -> Option<Endpoint>
     ensures { Finds result (λ endpoint. text.now ≡ endpoint_text endpoint) }
 {
-    let number = read_number(text.strip_prefix('e')?)?;
+    let number = number_of(behind(b'e', text.as_bytes())?)?;
     if number > u32::from(LAST_ENDPOINT) {
         return None;
     }
