@@ -51,7 +51,10 @@ fn inner_of(text: &str) -> Option<&str>
     ensures some { IfSome result (λ inner. text.now ≡ 123 ∷ (inner.now ++ 125 ∷ [])) }
     ensures none { IfNone result ((inner : List ℕ) → text.now ≢ 123 ∷ (inner ++ 125 ∷ [])) }
 {
-    text.strip_prefix('{')?.strip_suffix('}')
+    match text.as_bytes() {
+        [first, .., last] if *first == b'{' && *last == b'}' => Some(&text[1..text.len() - 1]),
+        _ => None,
+    }
 }
 
 // The items that a text spells, with commas between them.
@@ -65,9 +68,17 @@ fn read_parts<T: Item>(alloc: Global, inner: &str) -> Result<Vec<T>, SetError>
     if inner.is_empty() {
         return Ok(items);
     }
-    for part in inner.split(',') {
-        items.push(T::read(part).ok_or(SetError::BadText)?)?;
+    let mut start = 0;
+    for (at, byte) in inner.as_bytes().iter().enumerate() {
+        if *byte != b',' {
+            continue;
+        }
+        let item = T::read(&inner[start..at]).ok_or(SetError::BadText)?;
+        items.push(item)?;
+        start = at + 1;
     }
+    let last = T::read(&inner[start..]).ok_or(SetError::BadText)?;
+    items.push(last)?;
     Ok(items)
 }
 
