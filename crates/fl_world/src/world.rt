@@ -241,7 +241,8 @@ impl<K: Keeper> World<K> {
         self.nodes.deliver(alloc, packet, number)
     }
 
-    // The event happens.
+    // The event happens. Inlined, as `step` is, so that an event which its caller made is not kept.
+    #[inline(always)]
     fn turn(&mut self, alloc: Global, event: Event) -> Reply
         ensures goes { Goes K.custody self.old self.new (λ w w'. Step w event result w') }
         ensures cause { result ≡ replies.Refused Fault.KeeperFailed
@@ -265,6 +266,7 @@ impl<K: Keeper> World<K> {
 
     /// Has the event happen, and gives what it is answered. It is never answered `Clash` or
     /// `Impostor`, and `KeeperFailed` only as `save` and `restart` are.
+    #[inline(always)]
     pub fn step(&mut self, alloc: Global, event: Event) -> Reply
         ensures goes { Goes K.custody self.old self.new (λ w w'. Step w event result w') }
         ensures named { InEach K.custody self.new (λ w. ¬ IsNameRefusal result) }
