@@ -1,13 +1,15 @@
 //! A worker, and how it serves its tasks.
 ghost use Rattle.std.specs.Prelude.{◌≡◌, ◌<◌, ◌≤◌, ◌+◌, [], ◌∷◌, ◌++◌, List, All};
-ghost use Rattle.std.specs.Prelude.{MatchBool, MatchResult, OnOk, OnErr, vec_len, vec_capacity};
+ghost use Rattle.std.specs.Prelude.{MatchBool, MatchResult, OnOk, OnErr, length, vec_len, vec_capacity};
 ghost use Rattle.std.specs.Thread.{IsSync};
 ghost use Rattle.fl_ops.specs.declared.op.Op.{Op};
 ghost use Rattle.fl_bench.specs.Bench.{BenchState};
+ghost use Rattle.fl_replica.specs.Boards.{Front};
 ghost use Rattle.fl_crew_model.specs.Served.{Served};
 ghost use Rattle.fl_crew_model.specs.declared.record.Entry.{Entry as EntryValue};
 ghost use Rattle.fl_worker.specs.Done.{Done, IsDone, IsReady};
 ghost use Rattle.fl_worker.specs.Stops.{IsAnswered};
+ghost use Rattle.fl_worker.specs.parts.Turns.{seated};
 ghost use Rattle.fl_worker.specs.declared.task.Task.{Task as TaskValue};
 ghost use Rattle.fl_worker.specs.declared.worker.Worker.{Worker as WorkerValue};
 
@@ -15,7 +17,7 @@ use crate::ends::Ends;
 use crate::gate::Gate;
 use crate::serving::{serve_one, undone};
 use crate::task::Task;
-use core::mem::{replace, replace_with};
+use core::mem::replace_with;
 use fl_crew_model::record::Entry;
 use fl_jobs::job::let_go;
 use fl_monitor::bench::Bench;
@@ -112,73 +114,85 @@ fn keep(entries: &mut Vec<Entry>, good: usize, served: Result<Entry, Entry>) -> 
     }
 }
 
-// Serves the task of a worker that has not stopped.
-fn take_turn<R: Wait>(rt: &R, alloc: Global, worker: Worker, task: Task) -> Worker
-    requires room { vec_len worker.entries < vec_capacity worker.entries }
-    requires goes_on { worker.good ≡ vec_len worker.entries }
-    ensures done { (old : WorkerValue) (ts : List TaskValue) →
-        Done old ts worker → Done old (ts ++ task ∷ []) result }
-    ensures len { vec_len result.entries ≡ vec_len worker.entries + 1 }
-    ensures capacity { vec_capacity result.entries ≡ vec_capacity worker.entries }
-{
-    let Worker {
-        number,
-        mut bench,
-        desk,
-        mut ends,
-        tasks,
-        mut entries,
-        good,
-    } = worker;
-    let (desk, served) = serve_one(rt, alloc, desk, &mut bench, &mut ends, number, task);
-    let good = keep(&mut entries, good, served);
-    Worker {
-        number,
-        bench,
-        desk,
-        ends,
-        tasks,
-        entries,
-        good,
-    }
+// A worker that is at work, but for its desk, which each look takes and gives back.
+struct Seat {
+    number: u8,
+    bench: Bench,
+    ends: Ends,
+    tasks: Vec<Task>,
+    entries: Vec<Entry>,
+    good: usize,
 }
 
-// Gives up the task of a worker that has stopped.
-fn give_up(worker: Worker, task: Task) -> Worker
-    requires room { vec_len worker.entries < vec_capacity worker.entries }
-    requires stopped { worker.good < vec_len worker.entries }
-    ensures done { (old : WorkerValue) (ts : List TaskValue) →
-        Done old ts worker → Done old (ts ++ task ∷ []) result }
-    ensures len { vec_len result.entries ≡ vec_len worker.entries + 1 }
-    ensures capacity { vec_capacity result.entries ≡ vec_capacity worker.entries }
-{
-    let mut worker = worker;
-    let Task { place, job } = task;
-    let asked = Snapshot::of(&job);
-    let_go(job);
-    let seen = worker.desk.seen();
-    let entry = undone(place, asked, seen, Fault::Stopped);
-    worker.entries.push_reserved(entry);
-    worker
-}
-
-// Serves a task, or gives it up where the worker has stopped.
-fn turn<R: Wait, G: Gate>(rt: &R, alloc: Global, gate: &G, worker: Worker, task: Task) -> Worker
-    requires room { vec_len worker.entries < vec_capacity worker.entries }
-    requires some { worker.good ≤ vec_len worker.entries }
-    ensures done { (old : WorkerValue) (ts : List TaskValue) →
-        Done old ts worker → Done old (ts ++ task ∷ []) result }
-    ensures len { vec_len result.entries ≡ vec_len worker.entries + 1 }
-    ensures capacity { vec_capacity result.entries ≡ vec_capacity worker.entries }
-{
-    if worker.is_stopped() {
-        return give_up(worker, task);
+impl Seat {
+    // Serves the task of a worker that has not stopped.
+    fn take_turn<R: Wait>(&mut self, rt: &R, alloc: Global, desk: Desk, task: Task) -> Desk
+        requires room { vec_len self.old.entries < vec_capacity self.old.entries }
+        requires goes_on { self.old.good ≡ vec_len self.old.entries }
+        ensures done { (old : WorkerValue) (ts : List TaskValue) →
+            Done old ts (seated self.old desk)
+            → Done old (ts ++ task ∷ []) (seated self.new result) }
+        ensures len { vec_len self.new.entries ≡ vec_len self.old.entries + 1 }
+        ensures capacity { vec_capacity self.new.entries ≡ vec_capacity self.old.entries }
+    {
+        let Seat {
+            number,
+            bench,
+            ends,
+            tasks: _,
+            entries,
+            good,
+        } = self;
+        let (desk, served) = serve_one(rt, alloc, desk, bench, ends, *number, task);
+        *good = keep(entries, *good, served);
+        desk
     }
-    let place = task.place;
-    gate.before(place);
-    let worker = take_turn(rt, alloc, worker, task);
-    gate.after(place);
-    worker
+
+    // Gives up the task of a worker that has stopped, whose desk saw so much.
+    #[inline(never)]
+    fn give_up(&mut self, seen: u64, task: Task)
+        requires room { vec_len self.old.entries < vec_capacity self.old.entries }
+        requires stopped { self.old.good < vec_len self.old.entries }
+        ensures done { (old : WorkerValue) (ts : List TaskValue) (desk : Front) →
+            seen ≡ length desk.list → Done old ts (seated self.old desk)
+            → Done old (ts ++ task ∷ []) (seated self.new desk) }
+        ensures len { vec_len self.new.entries ≡ vec_len self.old.entries + 1 }
+        ensures capacity { vec_capacity self.new.entries ≡ vec_capacity self.old.entries }
+    {
+        let Task { place, job } = task;
+        let asked = Snapshot::of(&job);
+        let_go(job);
+        let entry = undone(place, asked, seen, Fault::Stopped);
+        self.entries.push_reserved(entry);
+    }
+
+    // Serves a task, or gives it up where the worker has stopped.
+    fn turn<R: Wait, G: Gate>(
+        &mut self,
+        rt: &R,
+        alloc: Global,
+        gate: &G,
+        desk: Desk,
+        task: Task,
+    ) -> Desk
+        requires room { vec_len self.old.entries < vec_capacity self.old.entries }
+        requires some { self.old.good ≤ vec_len self.old.entries }
+        ensures done { (old : WorkerValue) (ts : List TaskValue) →
+            Done old ts (seated self.old desk)
+            → Done old (ts ++ task ∷ []) (seated self.new result) }
+        ensures len { vec_len self.new.entries ≡ vec_len self.old.entries + 1 }
+        ensures capacity { vec_capacity self.new.entries ≡ vec_capacity self.old.entries }
+    {
+        if self.good < self.entries.len() {
+            self.give_up(desk.seen(), task);
+            return desk;
+        }
+        let place = task.place;
+        gate.before(place);
+        let desk = self.take_turn(rt, alloc, desk, task);
+        gate.after(place);
+        desk
+    }
 }
 
 /// Who asked for a job that was done is not told that the keeper broke, nor that the node is
@@ -193,12 +207,43 @@ fn serve_all<R: Wait, G: Gate>(rt: &R, alloc: Global, gate: &G, worker: Worker) 
     requires { IsReady worker }
     ensures { IsDone worker result }
 {
-    let mut worker = worker;
-    let tasks = replace(&mut worker.tasks, Vec::new(alloc));
-    for task in tasks {
-        worker = turn(rt, alloc, gate, worker, task);
+    let Worker {
+        number,
+        bench,
+        mut desk,
+        ends,
+        tasks: given,
+        entries,
+        good,
+    } = worker;
+    let mut seat = Seat {
+        number,
+        bench,
+        ends,
+        tasks: Vec::new(alloc),
+        entries,
+        good,
+    };
+    for task in given {
+        desk = seat.turn(rt, alloc, gate, desk, task);
     }
-    worker
+    let Seat {
+        number,
+        bench,
+        ends,
+        tasks,
+        entries,
+        good,
+    } = seat;
+    Worker {
+        number,
+        bench,
+        desk,
+        ends,
+        tasks,
+        entries,
+        good,
+    }
 }
 
 /// Serves the tasks of the worker in turn, and then tells the registrar that it is done. For each

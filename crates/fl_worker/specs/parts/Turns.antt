@@ -8,6 +8,9 @@ use Rattle.fl_crew_model.specs.declared.record.Entry.{Entry}
 use Rattle.fl_worker.specs.Stops.{StopsAt}
 use Rattle.fl_worker.specs.Tasks.{IsOf}
 use Rattle.fl_worker.specs.declared.task.Task.{Task}
+use Rattle.fl_worker.specs.declared.worker.Seat.{Seat}
+use Rattle.fl_worker.specs.declared.worker.Worker.{Worker}
+use Rattle.fl_replica.specs.Boards.{Front}
 
 -- the entry of a task that was served when the desk had this list
 pub record IsKept (t : Task) (list : List Op) (e : Entry) : Type 0 where
@@ -24,3 +27,15 @@ pub record IsLast (t : Task) (list : List Op) (b b' : BenchState) (e : Entry) : 
   pub kept : IsKept t list e
   pub bench : b' ≡ b
   pub stops : StopsAt (Listed list) b e
+
+-- a worker in its seat, with its desk
+abbrev pub seated : Seat → Front → Worker
+seated seat desk = record {
+  number = seat.number;
+  bench = seat.bench;
+  desk = desk;
+  ends = seat.ends;
+  tasks = seat.tasks;
+  entries = seat.entries;
+  good = seat.good;
+}

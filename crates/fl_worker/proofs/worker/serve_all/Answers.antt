@@ -3,7 +3,7 @@ use Rattle.fl_worker.proofs.worker.serve_all.Goals as goal
 
 pub loop-task-preserved : goal.loop-task-preserved
 loop-task-preserved g c =
-    let turn = c.turn-worker.ensures in
+    let turn = c.turn-desk.ensures in
     let loop = c.loop-task in
     record {
       done = turn.done c.args.worker loop.yielded loop.invariant.done;
