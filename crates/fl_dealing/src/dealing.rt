@@ -37,8 +37,8 @@ pub struct Dealt {
     pub procs: u8,
 }
 
-// So many queues without a task.
-fn empty_queues(alloc: Global, workers: u8) -> Result<Vec<Queue>, AllocError>
+// So many queues without a task, with room for so many in each.
+fn empty_queues(alloc: Global, workers: u8, room: usize) -> Result<Vec<Queue>, AllocError>
     ensures count { IfOk result (λ queues. length queues.items ≡ workers) }
     ensures empty { IfOk result (λ queues. (i : ℕ) (q : Queue) → i < workers →
         (slice_index_or queues.items i q).tasks.items ≡ []) }
@@ -46,21 +46,23 @@ fn empty_queues(alloc: Global, workers: u8) -> Result<Vec<Queue>, AllocError>
     let mut queues = Vec::new(alloc);
     for _ in 0..workers {
         queues.push(Queue {
-            tasks: Vec::new(alloc),
+            tasks: Vec::with_capacity(alloc, room)?,
         })?;
     }
     Ok(queues)
 }
 
 impl Dealt {
-    // Nothing is dealt yet.
-    fn empty(alloc: Global, workers: u8, procs: u8) -> Result<Self, AllocError>
+    // Nothing is dealt yet, of so many items, most of them jobs.
+    fn empty(alloc: Global, workers: u8, procs: u8, items: usize) -> Result<Self, AllocError>
         ensures { IfOk result (λ dealt. IsEmpty workers procs dealt) }
     {
+        let share = items / usize::from(workers.max(1));
         Ok(Dealt {
-            queues: empty_queues(alloc, workers)?,
+            // An even share, and a quarter more, since few batches are dealt quite evenly.
+            queues: empty_queues(alloc, workers, share.saturating_add(share / 4))?,
             parcels: Vec::new(alloc),
-            owners: Vec::new(alloc),
+            owners: Vec::with_capacity(alloc, items)?,
             procs,
         })
     }
@@ -169,7 +171,7 @@ pub fn deal(alloc: Global, workers: u8, procs: u8, items: Vec<Item>) -> Result<D
     ensures rise { IfOk result (λ dealt. (i : ℕ) (q : Queue) → i < workers →
         Rise 0 (length items.items) (slice_index_or dealt.queues.items i q).tasks.items) }
 {
-    let mut dealt = Dealt::empty(alloc, workers, procs)?;
+    let mut dealt = Dealt::empty(alloc, workers, procs, items.len())?;
     dealt.add_all(items)?;
     Ok(dealt)
 }

@@ -27,7 +27,7 @@ fn body_asked(item: &Item) -> Option<Body>
 pub fn bodies_of(alloc: Global, items: &[Item]) -> Result<Vec<Option<Body>>, AllocError>
     ensures { IfOk result (λ bodies. bodies.items ≡ map asked_by items.now) }
 {
-    let mut bodies = Vec::new(alloc);
+    let mut bodies = Vec::with_capacity(alloc, items.len())?;
     for item in items {
         bodies.push(body_asked(item))?;
     }
@@ -61,7 +61,7 @@ pub fn awaited_of(
         (slice_get orders.items place ≡ Some (Some order))
         ↔ IsOrderFor (job_for owners.now items order.worker place) order.body) }
 {
-    let mut orders = Vec::new(alloc);
+    let mut orders = Vec::with_capacity(alloc, owners.len())?;
     for index in 0..owners.len() {
         orders.push(awaited_at(owners[index], bodies[index]))?;
     }
