@@ -3,6 +3,7 @@ ghost use Rattle.std.specs.Prelude.{◌≡◌, ◌++◌, map, IfOk, OnOk};
 ghost use Rattle.fl_dealing.specs.Items.{item_of, job_item};
 
 use fl_jobs::job::Job;
+use fl_message::boxed::Boxed;
 use fl_wire::packet::Packet;
 use std::alloc::{AllocError, Global};
 
@@ -22,7 +23,8 @@ impl Item {
         ensures { IfOk result (λ item. item ≡ item_of packet) }
     {
         if let Packet::Data(message) = &packet {
-            return Ok(Item::Job(Job::Arrive(message.copy(alloc)?)));
+            let message = Boxed::new(alloc, message.copy(alloc)?)?;
+            return Ok(Item::Job(Job::Arrive(message)));
         }
         Ok(Item::Packet(packet))
     }

@@ -4,6 +4,7 @@ use fl_labels::cap::Cap;
 use fl_labels::endpoint::Endpoint;
 use fl_labels::name::Name;
 use fl_labels::pid::Pid;
+use fl_message::boxed::Boxed;
 use fl_message::message::{Data, Letter};
 use fl_message::payload::Payload;
 use fl_ops::op::Body;
@@ -94,5 +95,5 @@ pub enum Outcome {
     /// An operation of this body is to be saved and published for its maker.
     Order(Body, Pid),
     /// The packet is to be sent.
-    Out(Data),
+    Out(Boxed<Data>),
 }

@@ -9,6 +9,7 @@ use fl_labels::endpoint::Endpoint;
 use fl_labels::label::Label;
 use fl_labels::name::Name;
 use fl_labels::pid::Pid;
+use fl_message::boxed::Boxed;
 use fl_message::message::{Data, Message};
 use fl_message::payload::Payload;
 use fl_ops::op::Policy;
@@ -64,9 +65,9 @@ pub enum Order {
 #[derive(Debug, Drop)]
 pub enum Mail {
     /// A new endpoint of this mode, with these labels.
-    Open(Mode, GivenLabels),
+    Open(Mode, Boxed<GivenLabels>),
     /// The labels of the endpoint become these.
-    Tune(Endpoint, GivenLabels),
+    Tune(Endpoint, Boxed<GivenLabels>),
     /// The endpoint is no more.
     Close(Endpoint),
     /// The message goes from an endpoint to an endpoint of another process.
@@ -74,7 +75,7 @@ pub enum Mail {
         from: Endpoint,
         receiver: Pid,
         to: Endpoint,
-        message: Message,
+        message: Boxed<Message>,
     },
     /// The oldest message that waits.
     Take,
@@ -110,7 +111,7 @@ pub enum Job {
     /// Whether the first capability, the root, reaches the second.
     Member(Cap, Cap),
     /// A message comes to its receiver. Made of a packet that was sent alone.
-    Arrive(Data),
+    Arrive(Boxed<Data>),
 }
 
 /// Lets go of a job that is not done. A call where a job is let go at many exits, so that each is

@@ -49,6 +49,10 @@ module _ {K X : Type 0} {R : K → K → Ordering} (o : IsTotalOrder R) (exact :
       by_test q true h = sym (ap (map.get m) (exact q k ((Equal-is (R q k)).0 h)) ∙ e)
       by_test q false h = refl
 
+-- the labels that are given in a box are those that are in it
+pub unboxed : {inner given : GivenLabels} {labels : Option Labels} → inner ≡ given → labels ≡ labels_of inner → labels_of given ≡ labels
+unboxed is fits = ap labels_of (sym is) ∙ sym fits
+
 -- ---- an endpoint is closed
 
 module _ (ch : Mailbox) (e : Endpoint) (table : Table) (removed : table ≡ map.remove ch.endpoints e) (was : Bool) (told : was ≡ is_some (map.get ch.endpoints e)) where
@@ -153,7 +157,10 @@ module _ (V : Registry) (owned : SetBy cap_cmp) (process : Labels) where
           is_writable : refuse_if (not (writes opened.mode)) (NotWritable from) None
           is_writable = sym (ap (λ b. cond (not b) (Some (NotWritable from)) None) (sym told ∙ e))
 
-          module _ {r : Result (Unit {0}) Refusal} (checked : Checked (grant_check E message.caps) r) where
+          module _ (lent : Message) (is : lent ≡ message) {r : Result (Unit {0}) Refusal} (lent_checked : Checked (grant_check E lent.caps) r) where
+            checked : Checked (grant_check E message.caps) r
+            checked = subst (λ m. Checked (grant_check E m.caps) r) is lent_checked
+
             pub send_ungranted : (f : Refusal) → r ≡ Err f → (q : Result Outcome Refusal) → IsErr q × IsErrAnd q (λ g. g ≡ f) → IsDone (Send from receiver to message) q ch
             send_ungranted f u q s = subst (λ q. IsDone (Send from receiver to message) q ch) (sym (passed_on q f s)) (Mails.failed (verdict_of (Some f) (inr (is_writable, has_failed checked f u))))
 

@@ -137,7 +137,8 @@ impl Bench {
     {
         match self.processes.act(alloc, view, pid, act)? {
             Sequel::Answer(outcome) => Ok(outcome),
-            Sequel::Birth(child) => self.bear(child),
+            Sequel::Birth(Ok(child)) => self.bear(Ok(child.into_inner())),
+            Sequel::Birth(Err(error)) => self.bear(Err(error)),
             Sequel::End => {
                 self.processes.remove(pid);
                 Ok(Outcome::Reply(Reply::Done))
@@ -193,7 +194,7 @@ impl Bench {
             Job::Proc => self.bear(Ok(Process::new(alloc))),
             Job::By(pid, act) => self.act(alloc, view, pid, act),
             Job::Member(root, cap) => Ok(Outcome::Reply(reply_of(view.reaches(root, cap)))),
-            Job::Arrive(data) => self.processes.arrive(data),
+            Job::Arrive(data) => self.processes.arrive(data.into_inner()),
         }
     }
 

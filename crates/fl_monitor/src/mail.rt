@@ -16,6 +16,7 @@ use fl_labels::endpoint::Endpoint;
 use fl_labels::pid::Pid;
 use fl_mailbox::endpoints::OpenEndpoint;
 use fl_mailbox::mailbox::Mailbox;
+use fl_message::boxed::Boxed;
 use fl_message::message::{Data, Message};
 use fl_ops::view::View;
 use fl_rules::endpoint::Mode;
@@ -30,14 +31,14 @@ fn open<V: View>(
     process: LabelsRef<'_>,
     mailbox: &mut Mailbox,
     mode: Mode,
-    given: GivenLabels,
+    given: Boxed<GivenLabels>,
 ) -> Result<Outcome, Refusal>
     ensures mails { let registry = Listed (V.list view.old) in
         (pid : Pid) → Mails registry owned.now pid (sets_of process.entry) mailbox.old
         (Open mode given) result mailbox.new }
     ensures same { view.new ≡ view.old }
 {
-    let Some(labels) = given.labels() else {
+    let Some(labels) = given.into_inner().labels() else {
         return Err(Refusal::LabelTooLong);
     };
     let Some(endpoint) = mailbox.endpoints.least_free() else {
@@ -59,14 +60,14 @@ fn tune<V: View>(
     process: LabelsRef<'_>,
     mailbox: &mut Mailbox,
     endpoint: Endpoint,
-    given: GivenLabels,
+    given: Boxed<GivenLabels>,
 ) -> Result<Outcome, Refusal>
     ensures mails { let registry = Listed (V.list view.old) in
         (pid : Pid) → Mails registry owned.now pid (sets_of process.entry) mailbox.old
         (Tune endpoint given) result mailbox.new }
     ensures same { view.new ≡ view.old }
 {
-    let Some(labels) = given.labels() else {
+    let Some(labels) = given.into_inner().labels() else {
         return Err(Refusal::LabelTooLong);
     };
     let Some(opened) = mailbox.endpoints.get(endpoint) else {
@@ -105,22 +106,23 @@ fn packet_of(
     alloc: Global,
     route: Route,
     labels: &Labels,
-    message: Message,
-) -> Result<Data, AllocError>
+    message: Boxed<Message>,
+) -> Result<Boxed<Data>, AllocError>
     ensures { IfOk result (λ d. IsSent route.sender route.from labels.now route.receiver route.to message d) }
 {
     let secrecy = labels.secrecy.copy(alloc)?;
     let integrity = labels.integrity.copy(alloc)?;
     let _tags = (secrecy.len(), integrity.len());
-    Ok(Data {
+    let data = Data {
         sender: route.sender,
         from: route.from,
         receiver: route.receiver,
         to: route.to,
         secrecy,
         integrity,
-        message,
-    })
+        message: message.into_inner(),
+    };
+    Boxed::new(alloc, data)
 }
 
 // A message goes from an endpoint that is for writing, with what its sender may hand on.
@@ -130,7 +132,7 @@ fn send<V: View>(
     owned: &CapSet,
     mailbox: &Mailbox,
     route: Route,
-    message: Message,
+    message: Boxed<Message>,
 ) -> Result<Outcome, Refusal>
     ensures mails { let registry = Listed (V.list view.old) in
         (process : Labels) → Mails registry owned.now route.sender process mailbox.now

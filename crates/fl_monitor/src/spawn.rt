@@ -11,19 +11,21 @@ use fl_bench::process::{Holding, Process};
 use fl_jobs::answer::Refusal;
 use fl_labels::cap_set::CapSet;
 use fl_mailbox::mailbox::Mailbox;
+use fl_message::boxed::Boxed;
 use fl_ops::view::View;
 use fl_rules::labels::Labels;
 use std::alloc::{AllocError, Global};
 
 // A process with these labels, the owner of these capabilities.
-fn child_with(alloc: Global, labels: &Labels, caps: CapSet) -> Result<Process, AllocError>
+fn child_with(alloc: Global, labels: &Labels, caps: CapSet) -> Result<Boxed<Process>, AllocError>
     ensures { IfOk result (λ child. child ≡ born_with labels.now caps) }
 {
-    Ok(Process {
+    let child = Process {
         labels: labels.copy(alloc)?,
         owned: Holding::Idle(Owned::new(caps)),
         mailbox: Mailbox::new(alloc),
-    })
+    };
+    Boxed::new(alloc, child)
 }
 
 /// A process with these labels that owns the second capabilities is to be born, where the owner of

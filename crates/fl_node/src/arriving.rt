@@ -7,6 +7,7 @@ use crate::node::Node;
 use crate::state::running;
 use fl_jobs::answer::{Outcome, Reply};
 use fl_jobs::job::Job;
+use fl_message::boxed::Boxed;
 use fl_message::message::Data;
 use fl_store::keeper::Keeper;
 use fl_system::answer::Fault;
@@ -17,7 +18,7 @@ impl<K: Keeper> Node<K> {
     /// operation is asked for, so that nothing but the receiver's inbox changes, or, where the
     /// message is refused, nothing. A stopped node answers `Stopped`. A node without a desk is
     /// given none.
-    pub fn arrive(&mut self, alloc: Global, message: Data) -> Result<Reply, Fault>
+    pub fn arrive(&mut self, alloc: Global, message: Boxed<Data>) -> Result<Reply, Fault>
         requires { IsDeskOf self.old.node 1 }
         ensures desks { length self.new.node.views ≡ length self.old.node.views }
         ensures arrives { Arrives self.old.node message result self.new.node }

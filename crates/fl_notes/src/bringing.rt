@@ -14,6 +14,7 @@ ghost use Rattle.fl_notes.specs.Bringing.{Brought, Takes};
 use fl_audit::message::arrival;
 use fl_jobs::answer::Refusal;
 use fl_labels::pid::Pid;
+use fl_message::boxed::Boxed;
 use fl_message::message::Data;
 use fl_node::node::Node;
 use fl_store::keeper::Keeper;
@@ -27,7 +28,7 @@ use std::alloc::{AllocError, Global};
 // What is made of a message before it is handed in.
 #[derive(Drop)]
 struct Ready {
-    message: Data,
+    message: Boxed<Data>,
     entry: Option<Admission>,
 }
 
@@ -62,7 +63,7 @@ fn copied<K: Keeper>(
     ensures same { node.new ≡ node.old }
 {
     let entry = entry(alloc, node, sender, message.receiver)?;
-    let message = message.copy(alloc)?;
+    let message = Boxed::new(alloc, message.copy(alloc)?)?;
     Ok(Ready { message, entry })
 }
 

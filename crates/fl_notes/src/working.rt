@@ -78,7 +78,7 @@ fn show(number: NodeNumber, sender: Option<Party>, sent: &mut Vec<Sent>, answer:
         Answer::Reply(reply) => Reply::Job(reply),
         Answer::Begun(name) => Reply::Begun(name),
         Answer::Out(message) => {
-            let packet = Packet::Data(message);
+            let packet = Packet::Data(message.into_inner());
             let Ok(()) = sent.push(Sent {
                 from: number,
                 packet,

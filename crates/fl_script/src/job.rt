@@ -17,6 +17,7 @@ use fl_jobs::job::{Act, Job, Mail, Order};
 use fl_labels::endpoint::Endpoint;
 use fl_labels::pid::Pid;
 use fl_labels::text::{read_cap, read_endpoint, read_name, read_pid};
+use fl_message::boxed::Boxed;
 use std::alloc::Global;
 
 fn tag_order(rest: &[&str]) -> Option<Order>
@@ -159,7 +160,7 @@ fn open_act(alloc: Global, rest: &[&str]) -> Result<Act, Unread>
     };
     let mode = mode_from_word(mode).ok_or(Unread::Bad)?;
     let given = labels_from_words(alloc, secrecy, integrity)?;
-    Ok(Act::Mail(Mail::Open(mode, given)))
+    Ok(Act::Mail(Mail::Open(mode, Boxed::new(alloc, given)?)))
 }
 
 fn tune_act(alloc: Global, rest: &[&str]) -> Result<Act, Unread>
@@ -171,7 +172,7 @@ fn tune_act(alloc: Global, rest: &[&str]) -> Result<Act, Unread>
     };
     let endpoint = read_endpoint(endpoint).ok_or(Unread::Bad)?;
     let given = labels_from_words(alloc, secrecy, integrity)?;
-    Ok(Act::Mail(Mail::Tune(endpoint, given)))
+    Ok(Act::Mail(Mail::Tune(endpoint, Boxed::new(alloc, given)?)))
 }
 
 fn close_act(rest: &[&str]) -> Option<Act>
@@ -218,7 +219,7 @@ fn send_act(alloc: Global, rest: &[&str]) -> Result<Act, Unread>
         from: ends.from,
         receiver: ends.receiver,
         to: ends.to,
-        message,
+        message: Boxed::new(alloc, message)?,
     }))
 }
 
@@ -231,7 +232,8 @@ fn take_act(rest: &[&str]) -> Option<Act>
 }
 
 /// What a verb and the words after the process say that it does. `Bad` where they say nothing that
-/// a process does. Takes memory for a list alone: of tags, of capabilities or of bytes.
+/// a process does. Takes memory for a list alone: for its tags, capabilities or bytes, and for the
+/// box that the labels of an endpoint and a message stand in.
 pub fn act_from_words(alloc: Global, verb: &str, rest: &[&str]) -> Result<Act, Unread>
     ensures ok { (p : Pid) → Reads result (λ a.
         SpellsAct p a verb.now (map (λ w. w.now) rest.now)) }

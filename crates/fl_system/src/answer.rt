@@ -2,6 +2,7 @@
 
 use fl_jobs::answer::{Refusal, Reply};
 use fl_labels::name::Name;
+use fl_message::boxed::Boxed;
 use fl_message::message::Data;
 
 /// Why a node refused a call.
@@ -27,7 +28,7 @@ pub enum Fault {
 pub enum Answer {
     Reply(Reply),
     /// The packet is to be sent.
-    Out(Data),
+    Out(Boxed<Data>),
     /// An operation of this name is under way, to be saved and published.
     Begun(Name),
 }

@@ -94,7 +94,7 @@ pub(crate) fn settle<R: Wait>(
 {
     match answer {
         Ok(Outcome::Reply(reply)) => Ok(alone(Told::Reply(reply))),
-        Ok(Outcome::Out(packet)) => Ok(alone(Told::Out(packet))),
+        Ok(Outcome::Out(packet)) => Ok(alone(Told::Out(packet.into_inner()))),
         Ok(Outcome::Order(body, pid)) => {
             let ordered = Ordered { place, body, pid };
             order(rt, bench, ends, worker, ordered)

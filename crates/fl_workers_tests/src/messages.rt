@@ -7,6 +7,7 @@ use fl_labels::cap_set::CapSet;
 use fl_labels::endpoint::Endpoint;
 use fl_labels::label::Label;
 use fl_labels::pid::Pid;
+use fl_message::boxed::Boxed;
 use fl_message::message::{Data, Message};
 use fl_message::payload::Payload;
 use fl_rules::endpoint::Mode;
@@ -22,12 +23,13 @@ use std::thread::Threads;
 const ENDPOINT: Endpoint = Endpoint { number: 1 };
 
 // The process opens an endpoint for both ways, without tags.
-fn open(alloc: Global, pid: Pid) -> Job {
+fn open(alloc: Global, pid: Pid) -> Option<Job> {
     let given = GivenLabels {
         secrecy: Ok(Label::new(alloc)),
         integrity: Ok(Label::new(alloc)),
     };
-    Job::By(pid, Act::Mail(Mail::Open(Mode::Both, given)))
+    let given = Boxed::new(alloc, given).ok()?;
+    Some(Job::By(pid, Act::Mail(Mail::Open(Mode::Both, given))))
 }
 
 // Whether both processes open their first endpoint.
@@ -36,7 +38,7 @@ fn opens<R: Threads + Wait + Sync + Send + Copy + Drop + 'static>(
     alloc: Global,
     crew: &mut MemCrew<OpenGate>,
 ) -> Option<bool> {
-    let jobs = Vec::from_array(alloc, [open(alloc, ONE), open(alloc, TWO)]).ok()?;
+    let jobs = Vec::from_array(alloc, [open(alloc, ONE)?, open(alloc, TWO)?]).ok()?;
     let lines = serves(rt, alloc, crew, jobs, Vec::new(alloc))?;
     let opened = Line {
         said: Said::Opened(ENDPOINT),
@@ -72,7 +74,7 @@ fn sent<R: Threads + Wait + Sync + Send + Copy + Drop + 'static>(
         from: ENDPOINT,
         receiver: TWO,
         to: ENDPOINT,
-        message,
+        message: Boxed::new(alloc, message).ok()?,
     };
     match answer_to(rt, alloc, crew, Job::By(ONE, Act::Mail(send)))? {
         Reply::Told(Told::Out(data)) => Some(data),

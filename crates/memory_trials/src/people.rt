@@ -12,6 +12,7 @@ use fl_labels::error::SetError;
 use fl_labels::label::Label;
 use fl_labels::name::Name;
 use fl_labels::pid::Pid;
+use fl_message::boxed::Boxed;
 use fl_message::message::{Data, Message};
 use fl_message::payload::Payload;
 use fl_rules::endpoint::Mode;
@@ -221,12 +222,12 @@ impl Trial for Enter {
 pub struct OpenEndpoint;
 
 /// That of an endpoint for both ways, with this secrecy.
-pub fn open_act(alloc: Global, secrecy: Label) -> Act {
+pub fn open_act(alloc: Global, secrecy: Label) -> Result<Act, AllocError> {
     let given = GivenLabels {
         secrecy: Ok(secrecy),
         integrity: Ok(Label::new(alloc)),
     };
-    Act::Mail(Mail::Open(Mode::Both, given))
+    Ok(Act::Mail(Mail::Open(Mode::Both, Boxed::new(alloc, given)?)))
 }
 
 impl Trial for OpenEndpoint {
@@ -240,7 +241,10 @@ impl Trial for OpenEndpoint {
         let Ok(secrecy) = label_of(alloc, TAG) else {
             return Said::NotBegun;
         };
-        let answer = acts(alloc, node, open_act(alloc, secrecy));
+        let Ok(act) = open_act(alloc, secrecy) else {
+            return Said::NotBegun;
+        };
+        let answer = acts(alloc, node, act);
         Said::by_job(&answer, &Reply::Opened(ENDPOINT))
     }
 
@@ -259,28 +263,28 @@ pub struct Send;
 // A node whose process has an open endpoint.
 fn reachable(alloc: Global) -> Result<MemNode, NotBegun> {
     let mut node = peopled(alloc)?;
-    let act = open_act(alloc, label_of(alloc, TAG)?);
+    let act = open_act(alloc, label_of(alloc, TAG)?)?;
     acts(alloc, &mut node, act)?;
     Ok(node)
 }
 
-/// That of a message of nothing, which the process sends to itself; none is never answered.
+/// That of a message of nothing, which the process sends to itself; none where there is no memory
+/// for the message.
 pub fn send_act(alloc: Global) -> Option<Act> {
     let payload = Payload::from_vec(Vec::new(alloc));
+    let message = Message::new(CapSet::new(alloc), payload)?;
     Some(Act::Mail(Mail::Send {
         from: ENDPOINT,
         receiver: FIRST,
         to: ENDPOINT,
-        message: Message::new(CapSet::new(alloc), payload)?,
+        message: Boxed::new(alloc, message).ok()?,
     }))
 }
 
-// The message goes.
-fn sent(alloc: Global, node: &mut MemNode) -> Result<Answer, Fault> {
-    match send_act(alloc) {
-        Some(act) => acts(alloc, node, act),
-        None => Err(Fault::Stopped),
-    }
+// The message goes, unless there is no memory for it.
+fn sent(alloc: Global, node: &mut MemNode) -> Option<Result<Answer, Fault>> {
+    let act = send_act(alloc)?;
+    Some(acts(alloc, node, act))
 }
 
 impl Trial for Send {
@@ -292,8 +296,11 @@ impl Trial for Send {
 
     fn call(alloc: Global, node: &mut MemNode) -> Said {
         match &sent(alloc, node) {
-            Ok(Answer::Out(data)) if data.secrecy.as_slice() == [TAG].as_slice() => Said::Done,
-            other => Said::by_job(other, &Reply::Done),
+            Some(Ok(Answer::Out(data))) if data.secrecy.as_slice() == [TAG].as_slice() => {
+                Said::Done
+            }
+            Some(other) => Said::by_job(other, &Reply::Done),
+            None => Said::NotBegun,
         }
     }
 
@@ -319,7 +326,7 @@ fn is_waiting(alloc: Global, node: &mut MemNode) -> Option<bool> {
 }
 
 // The message comes.
-fn arrived(alloc: Global, node: &mut MemNode, data: Data) -> Said {
+fn arrived(alloc: Global, node: &mut MemNode, data: Boxed<Data>) -> Said {
     if node.desks() == 0 {
         return Said::Other;
     }
@@ -335,8 +342,8 @@ impl Trial for Arrive {
 
     fn call(alloc: Global, node: &mut MemNode) -> Said {
         match sent(alloc, node) {
-            Ok(Answer::Out(data)) => arrived(alloc, node, data),
-            Err(Fault::Refused(Refusal::Memory)) => Said::NotBegun,
+            Some(Ok(Answer::Out(data))) => arrived(alloc, node, data),
+            None | Some(Err(Fault::Refused(Refusal::Memory))) => Said::NotBegun,
             _ => Said::Other,
         }
     }

@@ -278,7 +278,7 @@ fn send(alloc: Global, world: &mut MemWorld) -> Result<(), NotBegun> {
         asked(alloc, world, Job::By(FIRST, raise)),
         &Reply::Job(Answer::Done),
     )?;
-    let open = open_act(alloc, label_of(alloc, TAG)?);
+    let open = open_act(alloc, label_of(alloc, TAG)?)?;
     let opened = Reply::Job(Answer::Opened(ENDPOINT));
     expected(asked(alloc, world, Job::By(FIRST, open)), &opened)?;
     let Some(send) = send_act(alloc) else {
