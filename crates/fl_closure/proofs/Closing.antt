@@ -16,8 +16,7 @@ use Rattle.fl_closure.specs.declared.rows.Rows.{Rows}
 use Rattle.fl_closure.specs.declared.rows.Owner.{Owner}
 use Rattle.fl_closure.specs.declared.rows.Owner.TheVariants.{Everybody, Group}
 use Rattle.fl_closure.specs.declared.closed.Entry.{Entry}
-use Rattle.fl_closure.specs.parts.Noted.{entry}
-use Rattle.fl_closure.specs.parts.Closed.{Alone, Gives, IsGiven, Renews, With, ClosesWith}
+use Rattle.fl_closure.specs.parts.Closed.{entry, Alone, Gives, IsGiven, Renews, With, ClosesWith}
 use Rattle.fl_closure.proofs.Members.{none}
 use Rattle.fl_closure.proofs.Growing.{GivesMore, renewed, same_gifts}
 

@@ -1,8 +1,6 @@
 -- What one operation more lets a group and everybody reach.
-use Rattle.std.specs.Prelude.{◌≡◌, ◌⊎◌, ◌↔◌, List, [], ◌∷◌, Result, Ok, Err, OnOk, refl}
+use Rattle.std.specs.Prelude.{◌≡◌, ◌⊎◌, refl}
 use Rattle.std.proofs.Common.{inl, inr, sym, subst}
-use Rattle.std.specs.List.{Contains}
-use Rattle.std.proofs.lemmas.List.Elements.{Contains-append_right}
 use Rattle.fl_labels.specs.Found.{Within}
 use Rattle.fl_labels.specs.declared.name.Name.{Name}
 use Rattle.fl_labels.specs.declared.cap.Cap.{Cap}
@@ -13,8 +11,7 @@ use Rattle.fl_closure.specs.declared.rows.Rows.{Rows}
 use Rattle.fl_closure.specs.declared.rows.Owner.{Owner}
 use Rattle.fl_closure.specs.declared.rows.Owner.TheVariants.{Everybody, Group}
 use Rattle.fl_closure.specs.parts.Rows.{Holds}
-use Rattle.fl_closure.specs.parts.Closed.{IsGiven, Way, AreClosed, Behind, Leads, IsUser, IsAbove, AreTransitive, AddsAbove, IsFirstOf, Renews}
-use Rattle.fl_closure.proofs.Leading.{led}
+use Rattle.fl_closure.specs.parts.Closed.{IsGiven, Way, AreClosed, Behind, Leads, IsUser, IsAbove, AreTransitive, Renews}
 
 -- V has what U has, and what it gives beyond that is b to the owner
 pub record GivesMore (U V : Registry) (owner : Owner) (b : Cap) : Type 0 where
@@ -148,7 +145,7 @@ module _ (rows : Rows) (transitive : AreTransitive rows) where
   on_leads owner (Minus tag) c h (inr m) = absurd m
   on_leads owner (Grow k) c h (inr m) = absurd m
 
-  on_above : (owner user : Owner) (c : Cap) → IsAbove rows owner user → Holds rows owner c → Holds rows user c
+  pub on_above : (owner user : Owner) (c : Cap) → IsAbove rows owner user → Holds rows owner c → Holds rows user c
   on_above owner user c (inl e) h = subst (λ k. Holds rows k c) (sym e) h
   on_above (Group group) user c (inr m) h = transitive.on user group c m h
   on_above Everybody user c (inr m) h = absurd m
@@ -158,9 +155,6 @@ module _ (rows : Rows) (transitive : AreTransitive rows) where
   renews_none owner b there = record {
     holds = λ user c. (λ h. inl h, λ h. elim h [ inl m ↦ m | inr two ↦ on_above owner user c two.0 (on_leads owner b c there two.1) ]);
   }
-
-  pub first_of_led : (b : Cap) (caps : List Cap) → ((c : Cap) → Contains caps c ↔ Leads rows b c) → IsFirstOf rows b caps
-  first_of_led b caps is = record { all = λ owner c h m. on_leads owner b c h ((is c).0 m) }
 
   -- over a user of the owner's group
   over : (owner user : Owner) (k : Name) → Holds rows user (Use k) → IsUser rows owner (Group k) → IsUser rows owner user
@@ -194,25 +188,3 @@ module _ (rows : Rows) (transitive : AreTransitive rows) where
       go user k c (inl h) (inr two) = inr (up user k h two.0, two.1)
       go user k c (inr one) (inl m) = inr (one.0, led k c one.1 m)
       go user k c (inr one) (inr two) = inr (one.0, two.1)
-
--- as the code has it, of what is behind a capability
-pub led_first : (rows : Rows) → AreTransitive rows → (b : Cap) (behind : List Cap)
-    → ((c : Cap) → Contains behind c ↔ Behind rows b c) → IsFirstOf rows b behind
-led_first rows transitive b behind is = record {
-  all = λ group c h m. (first_of_led rows transitive b (b ∷ behind) (led rows b behind is)).all group c h (Contains-append_right (b ∷ []) behind c m);
-}
-
-pub renewed_above : (old new : Rows) (owner : Owner) (b : Cap) (behind : List Cap)
-    → ((c : Cap) → Contains behind c ↔ Behind old b c) → AddsAbove old owner (b ∷ behind) new → Renews old owner b new
-renewed_above old new owner b behind is adds = record {
-  holds = λ user c. (
-    λ h. elim ((adds.holds user c).0 h) [ inl m ↦ inl m | inr two ↦ inr (two.0, (led old b behind is c).0 two.1) ],
-    λ h. (adds.holds user c).1 (elim h [ inl m ↦ inl m | inr two ↦ inr (two.0, (led old b behind is c).1 two.1) ]),
-  );
-}
-
-pub on_renewed : (old new : Rows) (owner : Owner) (b : Cap) (behind : List Cap)
-    → ((c : Cap) → Contains behind c ↔ Behind old b c) → {A E : Type 0} (r : Result A E)
-    → OnOk r (AddsAbove old owner (b ∷ behind) new) → OnOk r (Renews old owner b new)
-on_renewed old new owner b behind is (Err x) adds = adds
-on_renewed old new owner b behind is (Ok x) adds = renewed_above old new owner b behind is adds

@@ -1,13 +1,14 @@
-mod Rowing
 mod Members
+mod Exists
+mod Bits
+mod Rowing
 mod Listing
 mod Leading
 mod Noting
 mod Growing
-mod Adding
+mod Giving
 mod Closing
 mod Opening
 mod Following
 mod Indexing
 mod Looks
-mod Mirroring

@@ -1,124 +1,301 @@
--- Rows as lists.
-use Rattle.std.specs.Prelude.{◌≡◌, ◌⊎◌, ◌↔◌, Bool, true, false, not, ◌&&◌, Option, Some, None, List, [], ◌++◌, Result, Ok, Err, IfOk, OnOk, refl}
-use Rattle.std.proofs.Common.{inl, inr, sym, ap, subst, ◌∙◌}
-use Rattle.std.proofs.lemmas.Bool.{false≢true}
-use Rattle.std.specs.BTreeMap.{get}
-use Rattle.std.specs.BTreeSet.{BTreeSet, contains, IsDifference}
-use Rattle.std.specs.Cmp.{Equal-is}
-use Rattle.std.specs.List.{Contains, filter, list_any}
-use Rattle.std.specs.Ordering.{eq_by_cmp}
-use Rattle.std.proofs.lemmas.Map.Views.{any-filter_same}
-use Rattle.std.proofs.lemmas.List.{append-nil}
-use Rattle.std.proofs.lemmas.List.Elements.{Contains-append_left, Contains-append_right, Contains-append_cases}
-use Rattle.fl_labels.specs.Cap.{cap_cmp}
-use Rattle.fl_labels.specs.CapOrder.{cap_total, cap_exact}
-use Rattle.fl_labels.specs.Name.{name_cmp}
+-- Blocks and groups in lists.
+use Rattle.std.specs.Prelude.{◌≡◌, ◌⊎◌, ◌↔◌, ℕ, zero, suc, ◌+◌, ◌*◌, ◌/◌, ◌%◌, ◌^◌, ◌<◌, ◌≤◌, bit_and, Option, Some, None, List, [], ◌∷◌, ◌++◌, length, get_or, take, refl, unwrap_or}
+use Rattle.std.proofs.Common.{inl, inr, sym, ap, subst, ◌∙◌, arith}
+use Rattle.std.specs.BTreeMap.{BTreeMap, get, IsOrdered}
+use Rattle.std.specs.Int.{bit_at}
+use Rattle.std.specs.List.{Contains}
+use Rattle.std.proofs.lemmas.Nat.Bits.{bit_at-lt, shr_and_one}
+use Rattle.std.proofs.lemmas.Map.Views.{btree_map_get_iff}
+use Rattle.std.proofs.lemmas.List.Elements.{Contains-push_cases, Contains-push, Contains-append_left}
 use Rattle.fl_labels.specs.declared.name.Name.{Name}
 use Rattle.fl_labels.specs.declared.cap.Cap.{Cap}
-use Rattle.fl_labels.specs.declared.cap.Cap.TheVariants.{Plus, Minus, Use, Grow}
-use Rattle.fl_closure.specs.declared.rows.Rows.{Rows}
-use Rattle.fl_closure.specs.declared.rows.Owner.TheVariants.{Everybody, Group}
-use Rattle.fl_closure.specs.parts.Rows.{row_has, has, Holds, listed, row_caps}
-use Rattle.fl_closure.specs.parts.Closed.{Behind}
-use Rattle.fl_closure.proofs.Members.{none, any_has, has_any}
+use Rattle.fl_labels.specs.declared.cap.Cap.TheVariants.{Use}
+use Rattle.fl_closure.specs.declared.place.Place.{Place}
+use Rattle.fl_closure.specs.declared.block.Block.{Block}
+use Rattle.fl_closure.specs.parts.Block.{place_cmp, place_of, bit_of, Marks, IsIn, AreIn}
+use Rattle.fl_labels.specs.Caps.{Caps}
+use Rattle.fl_labels.specs.NameOrder.{same_name}
+use Rattle.fl_closure.specs.parts.Rows.{Bits, bits_in, row_bits, Has, IsNew}
+use Rattle.fl_closure.proofs.Bits.{place_total, place_exact, no_marks, bit_below, use_at, at_use}
+use Rattle.fl_closure.proofs.Exists.{Exists, exists_none, exists_none_yet, exists_push, exists_more, exists_all, exists_cons, exists_one}
 
--- a row as the code walks it, after what was there and has room now
-pub row_pushed : (rows : Rows) (name : Name) (old roomy now keys left : List Cap) (row : BTreeSet Cap)
-    → left ≡ [] → roomy ≡ old → now ++ left ≡ roomy ++ keys → keys ≡ row.keys → Some row ≡ get name_cmp rows.groups name
-    → (c : Cap) → Contains now c ↔ (Contains old c ⊎ Holds rows (Group name) c)
-row_pushed rows name old roomy now keys left row done kept same is there c =
-    let whole : now ≡ old ++ row.keys = sym (append-nil now) ∙ ap (λ l. now ++ l) (sym done) ∙ same ∙ (λ i. kept i ++ is i) in
-    let held : contains cap_cmp row c ≡ row_has (get name_cmp rows.groups name) c = ap (λ r. row_has r c) there in (
-      λ h. elim (Contains-append_cases old row.keys c (subst (λ l. Contains l c) whole h)) [
-        | inl m ↦ inl m
-        | inr m ↦ inr (sym held ∙ has_any cap_total cap_exact row.keys c m)
+-- ---- the blocks of a row
+
+-- one entry has the capability
+abbrev pub IsInEntry : Cap → Place × ℕ → Type 0
+IsInEntry c e = (place_of c ≡ e.0) × Marks e.1 c
+
+-- one of these entries does
+abbrev pub AreInEntries : List (Place × ℕ) → Cap → Type 0
+AreInEntries entries c = Exists entries (IsInEntry c)
+
+pub in_entries : (row : BTreeMap Place ℕ) → IsOrdered place_cmp row → (c : Cap) → AreInEntries row.entries c ↔ Has (bits_in row) c
+in_entries row ordered c = (to, from (get place_cmp row (place_of c)) refl)
+  where
+    to : AreInEntries row.entries c → Has (bits_in row) c
+    to (e, m, is) =
+        let found : get place_cmp row e.0 ≡ Some e.1 = (btree_map_get_iff place_total place_exact row ordered e.0 e.1).1 m in
+        subst (λ b. Marks b c) (sym (ap (bits_in row) is.0 ∙ ap (λ o. unwrap_or o 0) found)) is.1
+
+    from : (o : Option ℕ) → get place_cmp row (place_of c) ≡ o → Has (bits_in row) c → AreInEntries row.entries c
+    from None e h = absurd (no_marks c (subst (λ b. Marks b c) (ap (λ o. unwrap_or o 0) e) h))
+    from (Some bits) e h = (
+      (place_of c, bits),
+      (btree_map_get_iff place_total place_exact row ordered (place_of c) bits).0 e,
+      (refl, subst (λ b. Marks b c) (ap (λ o. unwrap_or o 0) e) h),
+    )
+
+-- an entry that moves into a list
+pub entry_moves : (blocks now : List Block) (entries rest : List (Place × ℕ)) (p : Place) (bits : ℕ) → entries ≡ (p, bits) ∷ rest
+    → now ≡ blocks ++ record { place = p; bits = bits } ∷ []
+    → (c : Cap) → (AreIn now c ⊎ AreInEntries rest c) ↔ (AreIn blocks c ⊎ AreInEntries entries c)
+entry_moves blocks now entries rest p bits split pushed c =
+    let push = exists_push (λ b. IsIn b c) blocks (record { place = p; bits = bits }) in
+    let cons = exists_cons (IsInEntry c) (p, bits) rest in (
+      λ h. elim h [
+        | inl m ↦ elim (push.0 (subst (λ l. AreIn l c) pushed m)) [
+          | inl k ↦ inl k
+          | inr k ↦ inr (subst (λ l. AreInEntries l c) (sym split) (cons.1 (inl k)))
+        ]
+        | inr m ↦ inr (subst (λ l. AreInEntries l c) (sym split) (cons.1 (inr m)))
       ],
-      λ h. subst (λ l. Contains l c) (sym whole) (elim h [
-        | inl m ↦ Contains-append_left old row.keys c m
-        | inr m ↦ Contains-append_right old row.keys c (any_has cap_total cap_exact row.keys c (held ∙ m))
-      ]),
+      λ h. elim h [
+        | inl m ↦ inl (subst (λ l. AreIn l c) (sym pushed) (push.1 (inl m)))
+        | inr m ↦ elim (cons.0 (subst (λ l. AreInEntries l c) split m)) [
+          | inl k ↦ inl (subst (λ l. AreIn l c) (sym pushed) (push.1 (inr k)))
+          | inr k ↦ inr k
+        ]
+      ],
     )
 
--- ---- a row as a set
+pub moved_on : (A B C : Type 0) → (A ↔ B) → (B ↔ C) → (A ↔ C)
+moved_on A B C f g = (λ a. g.0 (f.0 a), λ c. f.1 (g.1 c))
 
-listed_has : (row : Option (BTreeSet Cap)) (c : Cap) → Contains (listed row) c ↔ (row_has row c ≡ true)
-listed_has None c = (λ h. absurd (none c h), λ h. absurd (false≢true h))
-listed_has (Some row) c = (has_any cap_total cap_exact row.keys c, any_has cap_total cap_exact row.keys c)
-
-pub row_behind : {E : Type 0} (rows inside : Rows) (root : Cap) (group : Name) (r : Result (BTreeSet Cap) E) → root ≡ Use group
-    → inside ≡ rows → IfOk r (λ row. row.keys ≡ row_caps inside group)
-    → IfOk r (λ caps. (c : Cap) → Contains caps.keys c ↔ Behind rows root c)
-row_behind rows inside root group (Ok row) is view same = λ c.
-    let held = listed_has (get name_cmp inside.groups group) c in (
-      λ h. subst (λ b. Behind rows b c) (sym is) (subst (λ r. Holds r (Group group) c) view (held.0 (subst (λ l. Contains l c) same h))),
-      λ h. subst (λ l. Contains l c) (sym same) (held.1 (subst (λ r. Holds r (Group group) c) (sym view) (subst (λ b. Behind rows b c) is h))),
+-- all of them are in the list
+pub entries_moved : (row : BTreeMap Place ℕ) → IsOrdered place_cmp row → (old roomy now : List Block) (entries left : List (Place × ℕ))
+    → roomy ≡ old → entries ≡ row.entries → left ≡ []
+    → ((c : Cap) → (AreIn now c ⊎ AreInEntries left c) ↔ (AreIn roomy c ⊎ AreInEntries entries c))
+    → (c : Cap) → AreIn now c ↔ (AreIn old c ⊎ Has (bits_in row) c)
+entries_moved row ordered old roomy now entries left kept all done moved c =
+    let is = in_entries row ordered c in (
+      λ h. elim ((moved c).0 (inl h)) [
+        | inl m ↦ inl (subst (λ l. AreIn l c) kept m)
+        | inr m ↦ inr (is.0 (subst (λ l. AreInEntries l c) all m))
+      ],
+      λ h. elim ((moved c).1 (elim h [
+        | inl m ↦ inl (subst (λ l. AreIn l c) (sym kept) m)
+        | inr m ↦ inr (subst (λ l. AreInEntries l c) (sym all) (is.1 m))
+      ])) [
+        | inl m ↦ m
+        | inr m ↦ absurd (exists_none (IsInEntry c) (subst (λ l. AreInEntries l c) done m))
+      ],
     )
-row_behind rows inside root group (Err e) is view same = tt
 
-pub none_behind : (rows : Rows) (root : Cap) (caps : BTreeSet Cap) → ((group : Name) → ¬ (root ≡ Use group)) → caps.keys ≡ []
-    → (c : Cap) → Contains caps.keys c ↔ Behind rows root c
-none_behind rows root caps no_use empty c = (
-  λ h. absurd (none c (subst (λ l. Contains l c) empty h)),
-  λ h. absurd (by_cases root no_use h),
+-- the row of a group behind one capability
+module _ (cap : Cap) (only : Block) (empty start : List Block) (one : (c : Cap) → IsIn only c ↔ (c ≡ cap)) (nothing : empty ≡ [])
+    (began : start ≡ empty ++ only ∷ []) where
+  started : (c : Cap) → AreIn start c ↔ (c ≡ cap)
+  started c =
+      let is : start ≡ only ∷ [] = began ∙ ap (λ l. l ++ only ∷ []) nothing in (
+        λ h. (one c).0 ((exists_one (λ b. IsIn b c) only).0 (subst (λ l. AreIn l c) is h)),
+        λ e. subst (λ l. AreIn l c) (sym is) ((exists_one (λ b. IsIn b c) only).1 ((one c).1 e)),
+      )
+
+  pub with_row : (now : List Block) (bits : Bits) (held : Caps) → ((c : Cap) → AreIn now c ↔ (AreIn start c ⊎ Has bits c))
+      → ((c : Cap) → Has bits c ↔ held c) → (c : Cap) → AreIn now c ↔ ((c ≡ cap) ⊎ held c)
+  with_row now bits held more is c = (
+    λ h. elim ((more c).0 h) [ inl m ↦ inl ((started c).0 m) | inr m ↦ inr ((is c).0 m) ],
+    λ h. (more c).1 (elim h [ inl e ↦ inl ((started c).1 e) | inr m ↦ inr ((is c).1 m) ]),
+  )
+
+  pub with_none : (held : Caps) → ((c : Cap) → ¬ held c) → (c : Cap) → AreIn start c ↔ ((c ≡ cap) ⊎ held c)
+  with_none held never c = (
+    λ h. inl ((started c).0 h),
+    λ h. elim h [ inl e ↦ (started c).1 e | inr m ↦ absurd (never c m) ],
+  )
+
+-- what a map tells of the row of a group
+pub row_held : (o : Option (BTreeMap Place ℕ)) (row : BTreeMap Place ℕ) → Some row ≡ o → (c : Cap) → Has (bits_in row) c ↔ Has (row_bits o) c
+row_held o row e c = (λ h. subst (λ p. Has (row_bits p) c) e h, λ h. subst (λ p. Has (row_bits p) c) (sym e) h)
+
+pub none_held : (o : Option (BTreeMap Place ℕ)) → None ≡ o → (c : Cap) → ¬ Has (row_bits o) c
+none_held o e c h = no_marks c (subst (λ p. Has (row_bits p) c) (sym e) h)
+
+-- ---- what a row lacks
+
+-- those of the blocks that the row lacks are listed
+abbrev pub AreLacking : Bits → List Block → List Block → Type 0
+AreLacking bits blocks lacking = (c : Cap) → AreIn lacking c ↔ (AreIn blocks c × ¬ Has bits c)
+
+pub lacking_none : (bits : Bits) (blocks lacking : List Block) → lacking ≡ [] → AreLacking bits (take 0 blocks) lacking
+lacking_none bits blocks lacking e c = (
+  λ h. absurd (exists_none (λ b. IsIn b c) (subst (λ l. AreIn l c) e h)),
+  λ h. absurd (exists_none_yet (λ b. IsIn b c) blocks h.0),
+)
+
+module _ (bits : Bits) (blocks lacking : List Block) (i : ℕ) (block : Block) (within : i < length blocks) (at : block ≡ get_or blocks i block)
+    (so_far : AreLacking bits (take i blocks) lacking) (new : ℕ) (is : IsNew bits block new) where
+  pub lacking_more : AreLacking bits (take (i + 1) blocks) (lacking ++ record { place = block.place; bits = new } ∷ [])
+  lacking_more c =
+      let more = exists_more (λ b. IsIn b c) blocks i block within at in
+      let pushed = exists_push (λ b. IsIn b c) lacking (record { place = block.place; bits = new }) in (
+        λ h. elim (pushed.0 h) [
+          | inl m ↦ let two = (so_far c).0 m in (more.1 (inl two.0), two.1)
+          | inr m ↦ let two = (is.are c).0 m in (more.1 (inr two.0), two.1)
+        ],
+        λ h. pushed.1 (elim (more.0 h.0) [ inl m ↦ inl ((so_far c).1 (m, h.1)) | inr m ↦ inr ((is.are c).1 (m, h.1)) ]),
+      )
+
+  pub lacking_same : new ≡ 0 → AreLacking bits (take (i + 1) blocks) lacking
+  lacking_same e c =
+      let more = exists_more (λ b. IsIn b c) blocks i block within at in (
+        λ h. let two = (so_far c).0 h in (more.1 (inl two.0), two.1),
+        λ h. elim (more.0 h.0) [
+          | inl m ↦ (so_far c).1 (m, h.1)
+          | inr m ↦ absurd (no_marks c (subst (λ b. Marks b c) e ((is.are c).1 (m, h.1)).1))
+        ],
+      )
+
+pub lacking_all : (bits : Bits) (blocks lacking : List Block) (i : ℕ) → length blocks ≤ i → AreLacking bits (take i blocks) lacking
+    → AreLacking bits blocks lacking
+lacking_all bits blocks lacking i whole so_far c =
+    let all = exists_all (λ b. IsIn b c) blocks i whole in (
+      λ h. let two = (so_far c).0 h in (all.0 two.0, two.1),
+      λ h. (so_far c).1 (all.1 h.0, h.1),
+    )
+
+-- ---- groups whose uses are in blocks
+
+-- the list has what it had, and the groups whose uses are in the block, as far as their bits are below this
+abbrev pub AreUsedBelow : List Name → Block → ℕ → List Name → Type 0
+AreUsedBelow before block i now = (name : Name) → Contains now name ↔ (Contains before name ⊎ (IsIn block (Use name) × bit_of (Use name) < i))
+
+below_cases : (b i : ℕ) → b < i + 1 → (b < i) ⊎ (b ≡ i)
+below_cases zero zero h = inr refl
+below_cases zero (suc i) h = inl (omega arith)
+below_cases (suc b) zero h = absurd (omega arith)
+below_cases (suc b) (suc i) h = elim (below_cases b i (omega arith)) [ inl l ↦ inl (omega arith) | inr e ↦ inr (ap suc e) ]
+
+module _ (before now : List Name) (block : Block) (i : ℕ) (so_far : AreUsedBelow before block i now) where
+  pub used_more : (this : Name) → IsIn block (Use this) → bit_of (Use this) ≡ i → ((name : Name) → IsIn block (Use name) × (bit_of (Use name) ≡ i) → name ≡ this)
+      → AreUsedBelow before block (i + 1) (now ++ this ∷ [])
+  used_more this here bit only name = (
+    λ h. elim (Contains-push_cases now this name h) [
+      | inl m ↦ elim ((so_far name).0 m) [ inl k ↦ inl k | inr two ↦ inr (two.0, omega (arith, two.1)) ]
+      | inr e ↦ inr (subst (λ n. IsIn block (Use n)) e here, subst (λ n. bit_of (Use n) < i + 1) e (omega arith))
+    ],
+    λ h. elim h [
+      | inl m ↦ Contains-append_left now (this ∷ []) name ((so_far name).1 (inl m))
+      | inr two ↦ elim (below_cases (bit_of (Use name)) i two.1) [
+        | inl less ↦ Contains-append_left now (this ∷ []) name ((so_far name).1 (inr (two.0, less)))
+        | inr e ↦ subst (Contains (now ++ this ∷ [])) (sym (only name (two.0, e))) (Contains-push now this)
+      ]
+    ],
+  )
+
+  pub used_same : ((name : Name) → ¬ (IsIn block (Use name) × (bit_of (Use name) ≡ i))) → AreUsedBelow before block (i + 1) now
+  used_same never name = (
+    λ h. elim ((so_far name).0 h) [ inl k ↦ inl k | inr two ↦ inr (two.0, omega (arith, two.1)) ],
+    λ h. elim h [
+      | inl m ↦ (so_far name).1 (inl m)
+      | inr two ↦ elim (below_cases (bit_of (Use name)) i two.1) [
+        | inl less ↦ (so_far name).1 (inr (two.0, less))
+        | inr e ↦ absurd (never name (two.0, e))
+      ]
+    ],
+  )
+
+pub used_all : (before now : List Name) (block : Block) (i : ℕ) → 32 ≤ i → AreUsedBelow before block i now
+    → (name : Name) → Contains now name ↔ (Contains before name ⊎ IsIn block (Use name))
+used_all before now block i whole so_far name =
+    let below : bit_of (Use name) < 32 = bit_below (Use name) in (
+      λ h. elim ((so_far name).0 h) [ inl m ↦ inl m | inr two ↦ inr two.0 ],
+      λ h. (so_far name).1 (elim h [ inl m ↦ inl m | inr m ↦ inr (m, omega arith) ]),
+    )
+
+-- one bit of a block
+
+pub none_used : (block : Block) (b : ℕ) → ((name : Name) → IsIn block (Use name) → bit_of (Use name) ≡ b → ⊥)
+    → (name : Name) → (None ≡ Some name) ↔ (IsIn block (Use name) × (bit_of (Use name) ≡ b))
+none_used block b never name = (λ e. absurd (cc), λ h. absurd (never name h.0 h.1))
+
+pub no_bit : (block : Block) (b : ℕ) → bit_and (block.bits / 2 ^ b) 1 ≡ 0 → (name : Name) → IsIn block (Use name) → bit_of (Use name) ≡ b → ⊥
+no_bit block b e name here at =
+    let one : bit_at block.bits b ≡ 1 = ap (bit_at block.bits) (sym at) ∙ here.1 in
+    let none : bit_at block.bits b ≡ 0 = sym (shr_and_one block.bits b) ∙ e in
+    absurd (omega arith)
+
+pub no_use : (block : Block) (b : ℕ) → b < 32 → ¬ (block.place.part % 32 ≡ 3) → (name : Name) → IsIn block (Use name) → bit_of (Use name) ≡ b → ⊥
+no_use block b low never name here at = never (use_at name block.place b low here.0 at).2
+
+pub no_name : (block : Block) (b : ℕ) → b < 32 → block.place.part / 32 * 32 + b ≡ 0 → (name : Name) → IsIn block (Use name) → bit_of (Use name) ≡ b → ⊥
+no_name block b low e name here at =
+    let seq : block.place.part / 32 * 32 + b ≡ name.seq = (use_at name block.place b low here.0 at).1 in
+    let above : 0 < name.seq = name.seq_in_range.0 in
+    absurd (omega arith)
+
+pub some_used : (block : Block) (b : ℕ) → b < 32 → ¬ (bit_and (block.bits / 2 ^ b) 1 ≡ 0) → block.place.part % 32 ≡ 3
+    → (this : Name) → this.node ≡ block.place.node → this.seq ≡ block.place.part / 32 * 32 + b
+    → (name : Name) → (Some this ≡ Some name) ↔ (IsIn block (Use name) × (bit_of (Use name) ≡ b))
+some_used block b low set kind this node seq name = (to, from)
+  where
+    there : (place_of (Use this) ≡ block.place) × (bit_of (Use this) ≡ b)
+    there = at_use this block.place b low kind node seq
+
+    marked : bit_at block.bits b ≡ 1
+    marked =
+        let two : bit_at block.bits b < 2 = bit_at-lt block.bits b in
+        let never : ¬ (bit_at block.bits b ≡ 0) = λ e. set (shr_and_one block.bits b ∙ e) in
+        one_of (bit_at block.bits b) two never
+      where
+        one_of : (n : ℕ) → n < 2 → ¬ (n ≡ 0) → n ≡ 1
+        one_of zero l n = absurd (n refl)
+        one_of (suc zero) l n = refl
+        one_of (suc (suc m)) l n = absurd (omega arith)
+
+    it : IsIn block (Use this) × (bit_of (Use this) ≡ b)
+    it = ((there.0, ap (bit_at block.bits) there.1 ∙ marked), there.1)
+
+    same : Some this ≡ Some name → this ≡ name
+    same e = cc
+
+    to : Some this ≡ Some name → IsIn block (Use name) × (bit_of (Use name) ≡ b)
+    to e = subst (λ n. IsIn block (Use n) × (bit_of (Use n) ≡ b)) (same e) it
+
+    from : IsIn block (Use name) × (bit_of (Use name) ≡ b) → Some this ≡ Some name
+    from h =
+        let parts = use_at name block.place b low h.0.0 h.1 in
+        ap Some (same_name this name (node ∙ parts.0) (seq ∙ parts.1))
+
+-- block after block
+abbrev pub AreUsed : List Block → List Name → Type 0
+AreUsed blocks names = (name : Name) → Contains names name ↔ AreIn blocks (Use name)
+
+pub all_used_none : (blocks : List Block) (names : List Name) → names ≡ [] → AreUsed (take 0 blocks) names
+all_used_none blocks names e name = (
+  λ h. absurd (none_in (subst (λ l. Contains l name) e h)),
+  λ h. absurd (exists_none_yet (λ b. IsIn b (Use name)) blocks h),
 )
   where
-    by_cases : (r : Cap) → ((group : Name) → ¬ (r ≡ Use group)) → Behind rows r c → ⊥
-    by_cases (Use group) never m = never group refl
-    by_cases (Plus tag) never m = m
-    by_cases (Minus tag) never m = m
-    by_cases (Grow group) never m = m
+    none_in : Contains [] name → ⊥
+    none_in h = absurd (omega (arith, h.1))
 
-apart : (a b : Bool) → (a && not b) ≡ true → (a ≡ true) × ¬ (b ≡ true)
-apart true true h = absurd (false≢true h)
-apart true false h = (refl, false≢true)
-apart false b h = absurd (false≢true h)
-
-beside : (a b : Bool) → a ≡ true → ¬ (b ≡ true) → (a && not b) ≡ true
-beside true true h n = absurd (n refl)
-beside true false h n = refl
-beside false b h n = absurd (false≢true h)
-
--- what a set has and the row lacks
-pub lacks : (rows : Rows) (name : Name) (caps row : BTreeSet Cap) (items : List Cap) → IsDifference cap_cmp caps row items
-    → Some row ≡ get name_cmp rows.groups name
-    → (c : Cap) → Contains items c ↔ (Contains caps.keys c × ¬ Holds rows (Group name) c)
-lacks rows name caps row items is there c =
-    let held : contains cap_cmp row c ≡ row_has (get name_cmp rows.groups name) c = ap (λ r. row_has r c) there in (
-      λ h.
-          let two = apart (contains cap_cmp caps c) (contains cap_cmp row c) (sym (is c) ∙ has_any cap_total cap_exact items c h) in
-          (any_has cap_total cap_exact caps.keys c two.0, λ m. two.1 (held ∙ m)),
-      λ h. any_has cap_total cap_exact items c (is c ∙ beside (contains cap_cmp caps c) (contains cap_cmp row c) (has_any cap_total cap_exact caps.keys c h.0) (λ m. h.1 (sym held ∙ m))),
+pub all_used_more : (blocks : List Block) (i : ℕ) (block : Block) (before now : List Name) → i < length blocks → block ≡ get_or blocks i block
+    → AreUsed (take i blocks) before → ((name : Name) → Contains now name ↔ (Contains before name ⊎ IsIn block (Use name)))
+    → AreUsed (take (i + 1) blocks) now
+all_used_more blocks i block before now within at so_far more name =
+    let taken = exists_more (λ b. IsIn b (Use name)) blocks i block within at in (
+      λ h. taken.1 (elim ((more name).0 h) [ inl m ↦ inl ((so_far name).0 m) | inr m ↦ inr m ]),
+      λ h. (more name).1 (elim (taken.0 h) [ inl m ↦ inl ((so_far name).1 m) | inr m ↦ inr m ]),
     )
 
-without : (b a : Bool) → (not b && a) ≡ true → (a ≡ true) × ¬ (b ≡ true)
-without true a h = absurd (false≢true h)
-without false a h = (h, false≢true)
+pub all_used : (blocks : List Block) (i : ℕ) (names : List Name) → length blocks ≤ i → AreUsed (take i blocks) names → AreUsed blocks names
+all_used blocks i names whole so_far name =
+    let all = exists_all (λ b. IsIn b (Use name)) blocks i whole in
+    (λ h. all.0 ((so_far name).0 h), λ h. (so_far name).1 (all.1 h))
 
-outside : (b a : Bool) → a ≡ true → ¬ (b ≡ true) → (not b && a) ≡ true
-outside true a h n = absurd (n refl)
-outside false a h n = h
+pub same_some : {o : Option Name} {this name : Name} → o ≡ Some this → o ≡ Some name → name ≡ this
+same_some e f = cc
 
--- and what everybody's row does
-pub lacks_all : (rows : Rows) (some : BTreeSet Cap) (items : List Cap)
-    → items ≡ filter (λ c. not (has rows Everybody c)) some.keys
-    → (c : Cap) → Contains items c ↔ (Contains some.keys c × ¬ Holds rows Everybody c)
-lacks_all rows some items is c =
-    let lacking : Cap → Bool = λ d. not (has rows Everybody d) in
-    let same : list_any (eq_by_cmp cap_cmp c) items ≡ (lacking c && list_any (eq_by_cmp cap_cmp c) some.keys) =
-    ap (list_any (eq_by_cmp cap_cmp c)) is
-    ∙ any-filter_same (eq_by_cmp cap_cmp c) lacking (lacking c)
-    (λ k t. ap lacking (sym (cap_exact c k ((Equal-is (cap_cmp c k)).0 t)))) some.keys in (
-      λ h.
-          let two = without (has rows Everybody c) _ (sym same ∙ has_any cap_total cap_exact items c h) in
-          (any_has cap_total cap_exact some.keys c two.0, two.1),
-      λ h. any_has cap_total cap_exact items c
-          (same ∙ outside (has rows Everybody c) _ (has_any cap_total cap_exact some.keys c h.0) h.1),
-    )
-
-pub if_ok : {A E : Type 0} {P Q : A → Type 0} (r : Result A E) → ((a : A) → P a → Q a) → IfOk r P → IfOk r Q
-if_ok (Ok a) to p = to a p
-if_ok (Err e) to p = tt
-
-pub on_ok : {A E P Q : Type 0} (r : Result A E) → (P → Q) → OnOk r P → OnOk r Q
-on_ok (Ok a) to p = to p
-on_ok (Err e) to p = tt
+pub not_some : {o : Option Name} {name : Name} → o ≡ None → o ≡ Some name → ⊥
+not_some e f = absurd (cc)

@@ -1,5 +1,5 @@
 -- Members of lists, and of sets as lists.
-use Rattle.std.specs.Prelude.{◌≡◌, Bool, true, false, not, List, [], ◌∷◌, ℕ, ◌≤◌, length, take, refl}
+use Rattle.std.specs.Prelude.{◌≡◌, ◌⊎◌, Bool, true, false, cond, not, List, [], ◌∷◌, ℕ, ◌≤◌, length, take, refl}
 use Rattle.std.proofs.Common.{inl, inr, sym, subst, ◌∙◌, arith}
 use Rattle.std.specs.Cmp.{IsTotalOrder, Equal-is, eq_by_cmp_equiv}
 use Rattle.std.specs.FinMap.{IsAntisymmetric}
@@ -39,6 +39,23 @@ module _ {K : Type 0} {R : K → K → Ordering} (o : IsTotalOrder R) (exact : I
 
   pub has_in : (s : SetBy R) (q : K) → Contains (members s) q → In s q
   has_in s q h = contains-members s q ∙ has_any (members s) q h
+
+pub gain : (t b : Bool) → cond t true b ≡ true → (b ≡ true) ⊎ (t ≡ true)
+gain true b h = inr refl
+gain false b h = inl h
+
+pub gained : (t b : Bool) → (b ≡ true) ⊎ (t ≡ true) → cond t true b ≡ true
+gained true b h = refl
+gained false b (inl h) = h
+gained false b (inr h) = absurd (false≢true h)
+
+pub lose : (t b : Bool) → cond t false b ≡ true → (b ≡ true) × ¬ (t ≡ true)
+lose true b h = absurd (false≢true h)
+lose false b h = (h, false≢true)
+
+pub lost : (t b : Bool) → (b ≡ true) × ¬ (t ≡ true) → cond t false b ≡ true
+lost true b h = absurd (h.1 refl)
+lost false b h = h.0
 
 -- what an answer `new` says of the set before
 pub fresh : (new there : Bool) → new ≡ not there → new ≡ true → there ≡ false

@@ -17,7 +17,7 @@ use Rattle.fl_ops.specs.Registry.{open_op, IsOpened, Listed}
 use Rattle.fl_closure.specs.declared.opened.Opened.{Opened}
 use Rattle.fl_closure.specs.parts.Opened.{Has, Opens, OpensAll, GainsGroups, LosesGroups}
 use Rattle.fl_closure.proofs.Members.{none}
-use Rattle.fl_closure.proofs.Rowing.{gain, gained, lose, lost}
+use Rattle.fl_closure.proofs.Members.{gain, gained, lose, lost}
 
 -- ---- one group
 

@@ -1,4 +1,5 @@
 -- Relations that join functions. What the index answers is said by the definitions of fl_ops alone.
+pub mod Block
 pub mod Rows
 pub mod Closed
 pub mod Noted

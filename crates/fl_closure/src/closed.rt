@@ -1,5 +1,5 @@
 //! What each group reaches and what everybody does, and who reaches the use of a group.
-ghost use Rattle.std.specs.Prelude.{◌≡◌, ◌↔◌, ◌∷◌, Some, IfOk, OnOk, OnErr, [], not};
+ghost use Rattle.std.specs.Prelude.{◌≡◌, ◌↔◌, ◌⊎◌, Some, IfOk, OnOk, []};
 ghost use Rattle.std.specs.List.{Contains};
 ghost use Rattle.fl_labels.specs.Found.{Tells};
 ghost use Rattle.fl_labels.specs.declared.name.Name.{Name};
@@ -7,23 +7,43 @@ ghost use Rattle.fl_closure.specs.declared.rows.Owner.{Owner};
 ghost use Rattle.fl_closure.specs.declared.rows.Owner.TheVariants.{Everybody, Group};
 ghost use Rattle.fl_labels.specs.declared.cap.Cap.{Cap};
 ghost use Rattle.fl_labels.specs.declared.cap.Cap.TheVariants.{Use};
-ghost use Rattle.fl_closure.specs.parts.Rows.{has, Holds, Adds, Takes, IsSameRows};
-ghost use Rattle.fl_closure.specs.parts.Closed.{Gives, Behind, Leads, IsAbove, AreTransitive, AddsAll, AddsToEach, AddsAbove, IsFirstOf, Renews, ClosesWith};
-ghost use Rattle.fl_closure.specs.parts.Noted.{entry, Gains, Loses, Notes};
+ghost use Rattle.fl_closure.specs.parts.Block.{AreIn};
+ghost use Rattle.fl_closure.specs.parts.Rows.{Holds, Adds, OfOne};
+ghost use Rattle.fl_closure.specs.parts.Closed.{entry, Gives, Leads, IsAbove, AreTransitive, AreMirrored, AreLed, AreAbove, Renews, ClosesWith};
+ghost use Rattle.fl_closure.specs.parts.Noted.{GainsBoth, LosesBoth, NotesBoth};
 
-use crate::rows::{Owner, Rows};
+use crate::block::{Block, used};
+use crate::rows::{Note, Owner, Rows};
 use fl_labels::cap::Cap;
 use fl_labels::name::Name;
 use fl_ops::op::{Body, Op, Policy};
 use std::alloc::{AllocError, Global};
-use std::collections::BTreeSet;
-use std::marker::Model;
 
-/// A capability in a row.
+/// A capability for a row.
 #[derive(Clone, Copy, Debug)]
 pub struct Entry {
     pub owner: Owner,
     pub cap: Cap,
+}
+
+/// What is new in closed rows.
+#[derive(Debug, Drop)]
+pub struct Notes {
+    pub reached: Vec<Note>,
+    pub users: Vec<Note>,
+}
+
+impl Notes {
+    /// Nothing. Takes no memory.
+    pub fn new(alloc: Global) -> Self
+        ensures reached { result.reached.items ≡ [] }
+        ensures users { result.users.items ≡ [] }
+    {
+        Notes {
+            reached: Vec::new(alloc),
+            users: Vec::new(alloc),
+        }
+    }
 }
 
 /// For each group what it reaches, and the groups that reach the use of it; and what everybody
@@ -34,20 +54,6 @@ pub struct ClosedRows {
     // In the row of a group, the uses of the groups that have the use of it in their rows.
     users: Rows,
     alloc: Global,
-}
-
-impl Model for ClosedRows {
-    ghost use Rattle.fl_closure.specs.declared.rows.Rows.{Rows};
-    ghost use Rattle.fl_closure.specs.parts.Rows.{coded_rows};
-    ghost use Rattle.fl_closure.specs.parts.Closed.{AreMirrored};
-
-    ghost Value = { Rows };
-
-    ghost coded = { coded_rows };
-
-    ghost view = { λ a. a.reached };
-
-    ghost invariant = { λ a. AreMirrored a.reached a.users };
 }
 
 // What the operation gives, and to whom.
@@ -67,7 +73,8 @@ fn gift(op: &Op) -> Option<Entry>
 impl ClosedRows {
     /// No group reaches anything. Takes no memory.
     pub fn new(alloc: Global) -> Self
-        ensures { (owner : Owner) (c : Cap) → ¬ Holds result owner c }
+        ensures nothing { (owner : Owner) (c : Cap) → ¬ Holds result.reached owner c }
+        ensures mirrored { AreMirrored result }
     {
         ClosedRows {
             reached: Rows::new(alloc),
@@ -78,21 +85,21 @@ impl ClosedRows {
 
     /// Whether everybody reaches the capability. One search by hash.
     pub fn is_everybodys(&self, cap: Cap) -> bool
-        ensures { Tells result (Holds self.now Everybody cap) }
+        ensures { Tells result (Holds self.now.reached Everybody cap) }
     {
         self.reached.has(Owner::Everybody, cap)
     }
 
     /// Whether the one capability leads to the other: it is the same one, or the use of a group
-    /// that reaches it. Two searches by order.
+    /// that reaches it. A search by hash and one by order.
     pub fn leads(&self, root: Cap, cap: Cap) -> bool
-        ensures { Tells result (Leads self.now root cap) }
+        ensures { Tells result (Leads self.now.reached root cap) }
     {
         if root == cap {
             return true;
         }
         match root {
-            Cap::Use(group) => self.reached.group_has(group, cap),
+            Cap::Use(group) => self.reached.has(Owner::Group(group), cap),
             Cap::Plus(_) | Cap::Minus(_) | Cap::Grow(_) => false,
         }
     }
@@ -100,7 +107,8 @@ impl ClosedRows {
     /// Whether one of these leads to the capability. As `leads`, for each of these that is the use
     /// of a group, and a glance at each other one.
     pub fn one_leads(&self, roots: &[Cap], cap: Cap) -> bool
-        ensures { Tells result ((root : Cap) × Contains roots.now root × Leads self.now root cap) }
+        ensures { Tells result
+            ((root : Cap) × Contains roots.now root × Leads self.now.reached root cap) }
     {
         for root in roots {
             if self.leads(*root, cap) {
@@ -110,192 +118,106 @@ impl ClosedRows {
         false
     }
 
-    // Adds a capability to the owner's row, and answers whether it is new there. An error leaves
-    // the rows.
-    fn add(&mut self, owner: Owner, cap: Cap) -> Result<bool, AllocError>
-        ensures ok { OnOk result (Adds self.old owner cap self.new) }
-        ensures new { IfOk result (λ new. new ≡ not (has self.old owner cap)) }
-        ensures err { OnErr result (IsSameRows self.old self.new) }
+    // The capability, and what it leads to.
+    fn led(&self, cap: Cap) -> Result<Vec<Block>, AllocError>
+        ensures { IfOk result (λ led. AreLed self.now.reached cap led.items) }
     {
-        if !self.reached.add(owner, cap)? {
-            return Ok(false);
+        if let Cap::Use(group) = cap {
+            return self.reached.blocks_with(cap, group);
         }
-        let Owner::Group(group) = owner else {
-            return Ok(true);
-        };
+        let mut blocks = Vec::new(self.alloc);
+        blocks.push(Block::only(cap))?;
+        Ok(blocks)
+    }
+
+    // The uses of the group, and of each group that reaches the use of it, but of those that reach
+    // the capability if that is the use of a group. Who reaches it reaches what it leads to.
+    fn above(&self, group: Name, cap: Cap) -> Result<Vec<Block>, AllocError>
+        requires { AreMirrored self.now }
+        ensures { IfOk result (λ above. AreAbove self.now.reached group cap above.items) }
+    {
+        let above = self.users.blocks_with(Cap::Use(group), group)?;
         let Cap::Use(used) = cap else {
-            return Ok(true);
+            return Ok(above);
         };
-        if let Err(error) = self.users.add(Owner::Group(used), Cap::Use(group)) {
-            self.reached.take(owner, cap);
-            return Err(error);
-        }
-        Ok(true)
+        self.users.lacking(Owner::Group(used), &above)
     }
 
-    // Takes a capability out of the owner's row. Takes no memory.
-    fn take(&mut self, owner: Owner, cap: Cap)
-        ensures { Takes self.old owner cap self.new }
-    {
-        self.reached.take(owner, cap);
-        let Owner::Group(group) = owner else {
-            return;
-        };
-        if let Cap::Use(used) = cap {
-            self.users.take(Owner::Group(used), Cap::Use(group));
-        }
-    }
-
-    // What the group that the capability uses reaches; of any other capability nothing.
-    fn behind(&self, cap: Cap) -> Result<BTreeSet<Cap>, AllocError>
-        ensures { IfOk result (λ caps. (c : Cap) → Contains caps.keys c ↔ Behind self.now cap c) }
-    {
-        let Cap::Use(group) = cap else {
-            return Ok(BTreeSet::new(self.alloc));
-        };
-        self.reached.row(group)
-    }
-
-    // The use of the group, and of each that reaches it.
-    fn above(&self, group: Name) -> Result<Vec<Cap>, AllocError>
-        ensures { IfOk result (λ uses. (user : Name) →
-            Contains uses.items (Use user) ↔ IsAbove self.now (Group group) (Group user)) }
-    {
-        let mut uses = Vec::new(self.alloc);
-        uses.push(Cap::Use(group))?;
-        self.users.push_row(group, &mut uses)?;
-        Ok(uses)
-    }
-
-    // Adds a capability to the owner's row, and notes it if it is new there.
-    fn note(&mut self, owner: Owner, cap: Cap, news: &mut Vec<Entry>) -> Result<(), AllocError>
-        ensures ok { OnOk result (Adds self.old owner cap self.new) }
-        ensures news { Notes news.old.items self.old news.new.items self.new }
-    {
-        news.try_reserve(1)?;
-        if self.add(owner, cap)? {
-            news.push(Entry { owner, cap })?;
-        }
-        Ok(())
-    }
-
-    // Adds capabilities to the owner's row, and notes what is new there.
-    fn note_all(
-        &mut self,
-        owner: Owner,
-        caps: &BTreeSet<Cap>,
-        news: &mut Vec<Entry>,
-    ) -> Result<(), AllocError>
-        ensures ok { OnOk result (AddsAll self.old owner caps.now.keys self.new) }
-        ensures news { Notes news.old.items self.old news.new.items self.new }
-    {
-        let lacking = self.reached.lacking(owner, caps)?;
-        for cap in &lacking {
-            self.note(owner, *cap, news)?;
-        }
-        Ok(())
-    }
-
-    // The same of a capability and of what is behind it, where a row that has it has all of these:
-    // it is looked at alone then.
-    fn note_from(
-        &mut self,
-        owner: Owner,
-        first: Cap,
-        behind: &BTreeSet<Cap>,
-        news: &mut Vec<Entry>,
-    ) -> Result<(), AllocError>
-        requires { IsFirstOf self.old first behind.now.keys }
-        ensures ok { OnOk result (AddsAll self.old owner (first ∷ behind.now.keys) self.new) }
-        ensures news { Notes news.old.items self.old news.new.items self.new }
-    {
-        if self.reached.has(owner, first) {
-            return Ok(());
-        }
-        self.note(owner, first, news)?;
-        self.note_all(owner, behind, news)
-    }
-
-    // The same to the row of each group that is used here.
-    fn note_each(
-        &mut self,
-        uses: &[Cap],
-        first: Cap,
-        behind: &BTreeSet<Cap>,
-        news: &mut Vec<Entry>,
-    ) -> Result<(), AllocError>
-        requires { IsFirstOf self.old first behind.now.keys }
-        ensures ok { OnOk result (AddsToEach self.old uses.now (first ∷ behind.now.keys) self.new) }
-        ensures news { Notes news.old.items self.old news.new.items self.new }
-    {
-        for user in uses {
-            if let Cap::Use(group) = *user {
-                self.note_from(Owner::Group(group), first, behind, news)?;
-            }
-        }
-        Ok(())
-    }
-
-    // The same to the row of the group, and of each that reaches the use of it: everybody too,
-    // where everybody does.
-    fn note_above(
+    // Gives the owner of a group a capability, which leads to these, and notes what that adds to
+    // its row, to that of each group that reaches the use of it, and to everybody's where everybody
+    // does.
+    fn give_above(
         &mut self,
         group: Name,
-        first: Cap,
-        behind: &BTreeSet<Cap>,
-        news: &mut Vec<Entry>,
+        cap: Cap,
+        led: &[Block],
+        notes: &mut Notes,
     ) -> Result<(), AllocError>
-        requires { IsFirstOf self.old first behind.now.keys }
-        ensures ok { OnOk result
-            (AddsAbove self.old (Group group) (first ∷ behind.now.keys) self.new) }
-        ensures news { Notes news.old.items self.old news.new.items self.new }
+        requires transitive { AreTransitive self.old.reached }
+        requires mirrored { AreMirrored self.old }
+        requires led { AreLed self.old.reached cap led.now }
+        ensures ok { OnOk result (Renews self.old.reached (Group group) cap self.new.reached) }
+        ensures mirrored { OnOk result (AreMirrored self.new) }
+        ensures notes { NotesBoth notes.old self.old notes.new self.new }
     {
-        let uses = self.above(group)?;
-        if !self.is_everybodys(Cap::Use(group)) {
-            return self.note_each(&uses, first, behind, news);
+        let above = self.above(group, cap)?;
+        let new = self.reached.lacking(Owner::Group(group), led)?;
+        let users = used(self.alloc, &above)?;
+        let groups = used(self.alloc, &new)?;
+        self.users.note_each(&groups, &above, &mut notes.users)?;
+        self.reached.note_each(&users, &new, &mut notes.reached)?;
+        if self.is_everybodys(Cap::Use(group)) {
+            self.reached
+                .note_all(Owner::Everybody, &new, &mut notes.reached)?;
         }
-        self.note_each(&uses, first, behind, news)?;
-        self.note_from(Owner::Everybody, first, behind, news)
+        Ok(())
     }
 
     // Gives a capability to the owner, and notes what that adds to the rows.
-    fn give(&mut self, owner: Owner, cap: Cap, news: &mut Vec<Entry>) -> Result<(), AllocError>
-        requires { AreTransitive self.old }
-        ensures ok { OnOk result (Renews self.old owner cap self.new) }
-        ensures news { Notes news.old.items self.old news.new.items self.new }
+    fn give(&mut self, owner: Owner, cap: Cap, notes: &mut Notes) -> Result<(), AllocError>
+        requires transitive { AreTransitive self.old.reached }
+        requires mirrored { AreMirrored self.old }
+        ensures ok { OnOk result (Renews self.old.reached owner cap self.new.reached) }
+        ensures mirrored { OnOk result (AreMirrored self.new) }
+        ensures notes { NotesBoth notes.old self.old notes.new self.new }
     {
         if self.reached.has(owner, cap) {
             return Ok(());
         }
-        let behind = self.behind(cap)?;
+        let led = self.led(cap)?;
         match owner {
-            Owner::Group(group) => self.note_above(group, cap, &behind, news),
-            Owner::Everybody => self.note_from(Owner::Everybody, cap, &behind, news),
+            Owner::Group(group) => self.give_above(group, cap, &led, notes),
+            Owner::Everybody => {
+                let notes = &mut notes.reached;
+                self.reached.note_all(Owner::Everybody, &led, notes)
+            }
         }
     }
 
     /// Gives what the operations give, and notes what that adds to the rows: after an error too, so
     /// that it can be taken out again. Fails only where there is not enough memory.
-    pub fn give_all(&mut self, ops: &[Op], news: &mut Vec<Entry>) -> Result<(), AllocError>
-        requires transitive { AreTransitive self.old }
-        requires none { news.old.items ≡ [] }
-        ensures ok { OnOk result (ClosesWith self.old ops.now self.new) }
-        ensures news { Gains self.old news.new.items self.new }
+    pub fn give_all(&mut self, ops: &[Op], notes: &mut Notes) -> Result<(), AllocError>
+        requires transitive { AreTransitive self.old.reached }
+        requires mirrored { AreMirrored self.old }
+        requires reached { notes.old.reached.items ≡ [] }
+        requires users { notes.old.users.items ≡ [] }
+        ensures ok { OnOk result (ClosesWith self.old.reached ops.now self.new.reached) }
+        ensures mirrored { OnOk result (AreMirrored self.new) }
+        ensures notes { GainsBoth self.old notes.new self.new }
     {
         for op in ops {
             if let Some(entry) = gift(op) {
-                self.give(entry.owner, entry.cap, news)?;
+                self.give(entry.owner, entry.cap, notes)?;
             }
         }
         Ok(())
     }
 
-    /// Takes each of these out. Takes no memory.
-    pub fn take_all(&mut self, entries: &[Entry])
-        ensures { Loses self.old entries.now self.new }
+    /// Takes out what was noted. Takes no memory.
+    pub fn take_all(&mut self, notes: &Notes)
+        ensures { LosesBoth self.old notes.now self.new }
     {
-        for entry in entries {
-            self.take(entry.owner, entry.cap);
-        }
+        self.reached.take_all(&notes.reached);
+        self.users.take_all(&notes.users);
     }
 }

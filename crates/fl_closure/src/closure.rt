@@ -1,10 +1,10 @@
 //! What follows from operations.
 ghost use Rattle.std.specs.Prelude.{◌≡◌, OnOk, []};
 ghost use Rattle.fl_ops.specs.declared.op.Op.{Op};
-ghost use Rattle.fl_closure.specs.parts.Closed.{AreTransitive};
+ghost use Rattle.fl_closure.specs.parts.Closed.{AreTransitive, AreMirrored};
 ghost use Rattle.fl_closure.specs.parts.Closure.{IsClosure, FollowsWith, GainsAll, LosesAll};
 
-use crate::closed::{ClosedRows, Entry};
+use crate::closed::{ClosedRows, Notes};
 use crate::opened::Opened;
 use fl_labels::name::Name;
 use fl_ops::op::Op;
@@ -13,18 +13,19 @@ use std::alloc::{AllocError, Global};
 /// What is new in a closure, noted so that it can be taken out again.
 #[derive(Debug, Drop)]
 pub struct News {
-    pub entries: Vec<Entry>,
+    pub rows: Notes,
     pub groups: Vec<Name>,
 }
 
 impl News {
     /// Nothing. Takes no memory.
     pub fn new(alloc: Global) -> Self
-        ensures entries { result.entries.items ≡ [] }
+        ensures reached { result.rows.reached.items ≡ [] }
+        ensures users { result.rows.users.items ≡ [] }
         ensures groups { result.groups.items ≡ [] }
     {
         News {
-            entries: Vec::new(alloc),
+            rows: Notes::new(alloc),
             groups: Vec::new(alloc),
         }
     }
@@ -51,14 +52,16 @@ impl Closure {
     /// Adds what follows from these operations too, and notes what is new: after an error too, so
     /// that it can be taken out again. Fails only where there is not enough memory.
     pub fn give_all(&mut self, ops: &[Op], news: &mut News) -> Result<(), AllocError>
-        requires transitive { AreTransitive self.old.rows }
-        requires entries { news.old.entries.items ≡ [] }
+        requires transitive { AreTransitive self.old.rows.reached }
+        requires mirrored { AreMirrored self.old.rows }
+        requires reached { news.old.rows.reached.items ≡ [] }
+        requires users { news.old.rows.users.items ≡ [] }
         requires groups { news.old.groups.items ≡ [] }
         ensures ok { OnOk result (FollowsWith self.old ops.now self.new) }
         ensures news { GainsAll self.old news.new self.new }
     {
         self.opened.open_all(ops, &mut news.groups)?;
-        self.rows.give_all(ops, &mut news.entries)
+        self.rows.give_all(ops, &mut news.rows)
     }
 
     /// Takes what was noted out again. Takes no memory.
@@ -66,6 +69,6 @@ impl Closure {
         ensures { LosesAll self.old news.now self.new }
     {
         self.opened.take_all(&news.groups);
-        self.rows.take_all(&news.entries);
+        self.rows.take_all(&news.rows);
     }
 }

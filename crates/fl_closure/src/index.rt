@@ -23,9 +23,11 @@ use std::marker::Model;
 /// A set of operations, with all that each group and everybody reaches through them, so that a
 /// question is a look into a row or two.
 ///
-/// Each pair of a group and a capability that it reaches takes some 30 bytes, and as much again
-/// where that is the use of a group: ten thousand groups in a chain would have fifty million pairs.
-/// Each capability that everybody reaches takes 30 to 40 bytes, and each opened group some 20.
+/// What a group reaches stands in blocks, of up to 32 capabilities of one kind and one node whose
+/// numbers, divided by 32, are the same. Each block takes some 20 bytes, and of uses of groups the
+/// groups that are used have blocks of their users, as much again: ten thousand groups in a chain
+/// would have fifty million pairs in three million blocks. What everybody reaches takes 30 to 40
+/// bytes a block, and each opened group some 20.
 #[derive(Debug)]
 pub struct Index {
     ops: OpSet,
@@ -112,10 +114,11 @@ impl Index {
     /// Adds an operation; one that is there already changes nothing. Fails only of a new one for
     /// which there is not enough memory, and then leaves the index.
     ///
-    /// A search by order, and the operations above it move. A put also renews the rows of its
-    /// group, of each group that reaches the use of that, and of everybody where everybody does: a
-    /// look into each such row, and for each row without the capability a walk along it and what
-    /// the capability leads to, with two searches for each that is new there. A put of what its
+    /// A search by order, and the operations above it move. A put of what its group lacks also
+    /// renews the rows of that group, of each group that reaches the use of it, and of everybody
+    /// where everybody does; but where a use is put, of none that reaches it already. That costs
+    /// each of these rows a search by hash and one by order for each block that the group gains,
+    /// and each group whose use it gains as much for each block of those groups. A put of what its
     /// group reaches already looks into the one row. An operation that makes an export tag or an
     /// integrity tag so renews everybody's row alone, and so does one that opens a group, which is
     /// also looked for among the opened ones.
@@ -166,7 +169,8 @@ impl Index {
     }
 
     /// Whether the owner of the one capability reaches the other: it is the same one, or was put
-    /// into a group of which the owner reaches the use. Two searches by order; takes no memory.
+    /// into a group of which the owner reaches the use. A search by hash and one by order; takes no
+    /// memory.
     pub fn reaches(&self, root: Cap, cap: Cap) -> bool
         ensures { Tells result (Reach (In self.now) (From root) cap) }
     {
@@ -191,7 +195,7 @@ impl Index {
     /// owns, or from what everybody has. Takes no memory.
     ///
     /// A binary search in what is owned, and a search by hash in what everybody reaches. Where it
-    /// is in neither, then two searches by order for each use of a group that is owned.
+    /// is in neither, then one by hash and one by order for each use of a group that is owned.
     pub fn effective(&self, owned: &CapSet, cap: Cap) -> bool
         ensures { Tells result (InEffect (In self.now) (In owned.now) cap) }
     {

@@ -1,16 +1,21 @@
 //! Rows of capabilities.
-ghost use Rattle.std.specs.Prelude.{◌≡◌, ◌↔◌, ◌⊎◌, ◌++◌, IfOk, OnOk, OnErr, not};
+ghost use Rattle.std.specs.Prelude.{◌≡◌, ◌↔◌, ◌⊎◌, IfOk, OnOk, OnErr};
 ghost use Rattle.std.specs.List.{Contains};
+ghost use Rattle.fl_labels.specs.Found.{Tells};
 ghost use Rattle.fl_labels.specs.declared.name.Name.{Name};
+ghost use Rattle.fl_labels.specs.declared.cap.Cap.{Cap};
 ghost use Rattle.fl_closure.specs.declared.rows.Owner.{Owner};
 ghost use Rattle.fl_closure.specs.declared.rows.Owner.TheVariants.{Everybody, Group};
-ghost use Rattle.fl_labels.specs.declared.cap.Cap.{Cap};
-ghost use Rattle.fl_closure.specs.parts.Rows.{has, Holds, row_caps, Adds, Takes, IsSameRows};
+ghost use Rattle.fl_closure.specs.parts.Block.{AreIn};
+ghost use Rattle.fl_closure.specs.parts.Rows.{bits_in, bits_among, bits_at, Has, Holds, At, OfOne, OfEach, Joins, Parts, IsNew, Adds, Takes, IsSameBits, IsSameRows};
+ghost use Rattle.fl_closure.specs.parts.Noted.{Continues, Loses};
 
+use crate::block::{Block, marks, place_of};
+use crate::place::Place;
 use fl_labels::cap::Cap;
 use fl_labels::name::Name;
 use std::alloc::{AllocError, Global};
-use std::collections::{BTreeMap, BTreeSet, HashSet};
+use std::collections::{BTreeMap, HashMap};
 
 /// Whose a row is.
 #[derive(Clone, Copy, Debug)]
@@ -21,13 +26,84 @@ pub enum Owner {
     Everybody,
 }
 
-/// A row of capabilities for each group, in order, and one for everybody, which each question looks
-/// into.
+/// Capabilities that are new in a row.
+#[derive(Clone, Copy, Debug)]
+pub struct Note {
+    pub owner: Owner,
+    pub block: Block,
+}
+
+/// A row of capabilities for each group, and one for everybody, which each question looks into. A
+/// row has the bits of the capabilities by their places.
 #[derive(Debug, Drop)]
 pub struct Rows {
-    groups: BTreeMap<Name, BTreeSet<Cap>>,
-    everybody: HashSet<Cap>,
+    groups: HashMap<Name, BTreeMap<Place, u32>>,
+    everybody: HashMap<Place, u32>,
     alloc: Global,
+}
+
+// Adds a block to a row of a group, and answers which of its bits are new there. An error leaves
+// the row.
+fn add_to_row(row: &mut BTreeMap<Place, u32>, block: Block) -> Result<u32, AllocError>
+    ensures ok { OnOk result (Joins (bits_in row.old) block (bits_in row.new)) }
+    ensures new { IfOk result (IsNew (bits_in row.old) block) }
+    ensures err { OnErr result (IsSameBits (bits_in row.old) (bits_in row.new)) }
+{
+    let Some(bits) = row.get_mut(&block.place) else {
+        row.insert(block.place, block.bits)?;
+        return Ok(block.bits);
+    };
+    let new = block.bits & !*bits;
+    *bits |= block.bits;
+    Ok(new)
+}
+
+// The same of everybody's row.
+fn add_to_all(row: &mut HashMap<Place, u32>, block: Block) -> Result<u32, AllocError>
+    ensures ok { OnOk result (Joins (bits_among row.old) block (bits_among row.new)) }
+    ensures new { IfOk result (IsNew (bits_among row.old) block) }
+    ensures err { OnErr result (IsSameBits (bits_among row.old) (bits_among row.new)) }
+{
+    let Some(bits) = row.get_mut(&block.place) else {
+        row.insert(block.place, block.bits)?;
+        return Ok(block.bits);
+    };
+    let new = block.bits & !*bits;
+    *bits |= block.bits;
+    Ok(new)
+}
+
+// Takes a block out of a row of a group.
+fn take_from_row(row: &mut BTreeMap<Place, u32>, block: Block)
+    ensures { Parts (bits_in row.old) block (bits_in row.new) }
+{
+    if let Some(bits) = row.get_mut(&block.place) {
+        *bits &= !block.bits;
+    }
+}
+
+// Takes a block out of everybody's row.
+fn take_from_all(row: &mut HashMap<Place, u32>, block: Block)
+    ensures { Parts (bits_among row.old) block (bits_among row.new) }
+{
+    if let Some(bits) = row.get_mut(&block.place) {
+        *bits &= !block.bits;
+    }
+}
+
+// Adds the blocks of a row to a list.
+fn push_blocks(row: &BTreeMap<Place, u32>, blocks: &mut Vec<Block>) -> Result<(), AllocError>
+    ensures { OnOk result ((c : Cap) → AreIn blocks.new.items c
+        ↔ (AreIn blocks.old.items c ⊎ Has (bits_in row.now) c)) }
+{
+    blocks.try_reserve(row.len())?;
+    for (place, bits) in row {
+        blocks.push(Block {
+            place: *place,
+            bits: *bits,
+        })?;
+    }
+    Ok(())
 }
 
 impl Rows {
@@ -36,147 +112,158 @@ impl Rows {
         ensures { (owner : Owner) (c : Cap) → ¬ Holds result owner c }
     {
         Rows {
-            groups: BTreeMap::new(alloc),
-            everybody: HashSet::new(alloc),
+            groups: HashMap::new(alloc),
+            everybody: HashMap::new(alloc),
             alloc,
         }
     }
 
-    /// Whether the row of the group has the capability. Two searches by order.
-    pub fn group_has(&self, name: Name, cap: Cap) -> bool
-        ensures { result ≡ has self.now (Group name) cap }
+    // The bits of the owner's row at a place.
+    fn bits_at(&self, owner: Owner, place: Place) -> u32
+        ensures { result ≡ bits_at self.now owner place }
     {
-        match self.groups.get(&name) {
-            Some(row) => row.contains(&cap),
-            None => false,
-        }
-    }
-
-    /// Whether the owner's row has the capability. Two searches by order, and for everybody one by
-    /// hash.
-    pub fn has(&self, owner: Owner, cap: Cap) -> bool
-        ensures { result ≡ has self.now owner cap }
-    {
-        match owner {
-            Owner::Group(name) => self.group_has(name, cap),
-            Owner::Everybody => self.everybody.contains(&cap),
-        }
-    }
-
-    // Adds a capability to the row of the group, and answers whether it is new there. An error
-    // leaves the rows.
-    fn add_to_group(&mut self, name: Name, cap: Cap) -> Result<bool, AllocError>
-        ensures ok { OnOk result (Adds self.old (Group name) cap self.new) }
-        ensures new { IfOk result (λ new. new ≡ not (has self.old (Group name) cap)) }
-        ensures err { OnErr result (IsSameRows self.old self.new) }
-    {
-        let Some(row) = self.groups.get_mut(&name) else {
-            let mut row = BTreeSet::new(self.alloc);
-            let new = row.insert(cap)?;
-            self.groups.insert(name, row)?;
-            return Ok(new);
+        let bits = match owner {
+            Owner::Group(name) => match self.groups.get(&name) {
+                Some(row) => row.get(&place),
+                None => None,
+            },
+            Owner::Everybody => self.everybody.get(&place),
         };
-        let new = row.insert(cap)?;
-        Ok(new)
+        bits.copied().unwrap_or(0)
     }
 
-    /// Adds a capability to the owner's row, and answers whether it is new there. Two searches by
-    /// order, and for everybody one by hash, where now and then the row is made again for twice as
-    /// many. An error leaves the rows.
-    pub fn add(&mut self, owner: Owner, cap: Cap) -> Result<bool, AllocError>
-        ensures ok { OnOk result (Adds self.old owner cap self.new) }
-        ensures new { IfOk result (λ new. new ≡ not (has self.old owner cap)) }
+    /// Whether the owner's row has the capability. A search by hash, and then for a group one by
+    /// order.
+    pub fn has(&self, owner: Owner, cap: Cap) -> bool
+        ensures { Tells result (Holds self.now owner cap) }
+    {
+        marks(self.bits_at(owner, place_of(cap)), cap)
+    }
+
+    // Adds a block to the owner's row, and answers which of its bits are new there. An error leaves
+    // the rows.
+    fn add(&mut self, owner: Owner, block: Block) -> Result<u32, AllocError>
+        ensures ok { OnOk result (Adds self.old (At owner block) self.new) }
+        ensures new { IfOk result (IsNew (bits_at self.old owner) block) }
         ensures err { OnErr result (IsSameRows self.old self.new) }
     {
-        match owner {
-            Owner::Group(name) => self.add_to_group(name, cap),
-            Owner::Everybody => {
-                let new = self.everybody.insert(cap)?;
-                Ok(new)
-            }
+        let Owner::Group(name) = owner else {
+            return add_to_all(&mut self.everybody, block);
+        };
+        if let Some(row) = self.groups.get_mut(&name) {
+            return add_to_row(row, block);
         }
+        let mut row = BTreeMap::new(self.alloc);
+        row.insert(block.place, block.bits)?;
+        self.groups.insert(name, row)?;
+        Ok(block.bits)
     }
 
-    /// Takes a capability out of the owner's row. Two searches by order, and for everybody one by
-    /// hash; takes no memory.
-    pub fn take(&mut self, owner: Owner, cap: Cap)
-        ensures { Takes self.old owner cap self.new }
+    // Takes a block out of the owner's row.
+    fn take(&mut self, owner: Owner, block: Block)
+        ensures { Takes self.old (At owner block) self.new }
     {
         match owner {
             Owner::Group(name) => {
                 if let Some(row) = self.groups.get_mut(&name) {
-                    row.remove(&cap);
+                    take_from_row(row, block);
                 }
             }
-            Owner::Everybody => {
-                self.everybody.remove(&cap);
+            Owner::Everybody => take_from_all(&mut self.everybody, block),
+        }
+    }
+
+    /// The capability and the row of the group, as blocks. A search by hash, and a copy of the row.
+    /// Fails only where there is not enough memory.
+    pub fn blocks_with(&self, cap: Cap, name: Name) -> Result<Vec<Block>, AllocError>
+        ensures { IfOk result (λ blocks. (c : Cap) → AreIn blocks.items c
+            ↔ ((c ≡ cap) ⊎ Holds self.now (Group name) c)) }
+    {
+        let mut blocks = Vec::new(self.alloc);
+        blocks.push(Block::only(cap))?;
+        if let Some(row) = self.groups.get(&name) {
+            push_blocks(row, &mut blocks)?;
+        }
+        Ok(blocks)
+    }
+
+    /// What the owner's row lacks of these blocks. For each block a search as `has` makes. Fails
+    /// only where there is not enough memory.
+    pub fn lacking(&self, owner: Owner, blocks: &[Block]) -> Result<Vec<Block>, AllocError>
+        ensures { IfOk result (λ lacking. (c : Cap) → AreIn lacking.items c
+            ↔ (AreIn blocks.now c × ¬ Holds self.now owner c)) }
+    {
+        let mut lacking = Vec::new(self.alloc);
+        for block in blocks {
+            let bits = block.bits & !self.bits_at(owner, block.place);
+            if bits != 0 {
+                lacking.push(Block {
+                    place: block.place,
+                    bits,
+                })?;
             }
         }
+        Ok(lacking)
     }
 
-    /// The row of the group again. A search by order, and a copy of the row. Fails only where there
-    /// is not enough memory.
-    pub fn row(&self, name: Name) -> Result<BTreeSet<Cap>, AllocError>
-        ensures { IfOk result (λ row. row.keys ≡ row_caps self.now name) }
+    // Adds a block to the owner's row, and notes what is new there.
+    fn note(&mut self, owner: Owner, block: Block, news: &mut Vec<Note>) -> Result<(), AllocError>
+        ensures ok { OnOk result (Adds self.old (At owner block) self.new) }
+        ensures news { Continues news.old.items self.old news.new.items self.new }
     {
-        match self.groups.get(&name) {
-            Some(row) => row.clone(),
-            None => Ok(BTreeSet::new(self.alloc)),
-        }
-    }
-
-    // Those of these capabilities that the row of the group lacks.
-    fn lacking_of_group(&self, name: Name, caps: &BTreeSet<Cap>) -> Result<Vec<Cap>, AllocError>
-        ensures { IfOk result (λ lacking. (c : Cap) →
-            Contains lacking.items c ↔
-            (Contains caps.now.keys c × ¬ Holds self.now (Group name) c)) }
-    {
-        match self.groups.get(&name) {
-            Some(row) => caps.difference(row).copied().collect(self.alloc),
-            None => caps.iter().copied().collect(self.alloc),
-        }
-    }
-
-    // Those that everybody's row lacks.
-    fn lacking_of_all(&self, caps: &BTreeSet<Cap>) -> Result<Vec<Cap>, AllocError>
-        ensures { IfOk result (λ lacking. (c : Cap) →
-            Contains lacking.items c ↔ (Contains caps.now.keys c × ¬ Holds self.now Everybody c)) }
-    {
-        caps.iter()
-            .copied()
-            .filter(|cap| !self.everybody.contains(cap))
-            .collect(self.alloc)
-    }
-
-    /// Those of these capabilities that the owner's row lacks. One walk along both, or where these
-    /// are far fewer a search by order for each; for everybody a search by hash for each. Fails
-    /// only where there is not enough memory.
-    pub fn lacking(&self, owner: Owner, caps: &BTreeSet<Cap>) -> Result<Vec<Cap>, AllocError>
-        ensures { IfOk result (λ lacking. (c : Cap) →
-            Contains lacking.items c ↔ (Contains caps.now.keys c × ¬ Holds self.now owner c)) }
-    {
-        match owner {
-            Owner::Group(name) => self.lacking_of_group(name, caps),
-            Owner::Everybody => self.lacking_of_all(caps),
-        }
-    }
-
-    /// Adds the row of the group to a list, at the end and in order. A search by order, and a copy
-    /// of the row. Fails only where there is not enough memory, and then leaves the list.
-    pub fn push_row(&self, name: Name, caps: &mut Vec<Cap>) -> Result<(), AllocError>
-        ensures has { OnOk result ((c : Cap) →
-            Contains caps.new.items c ↔
-            (Contains caps.old.items c ⊎ Holds self.now (Group name) c)) }
-        ensures end { OnOk result (caps.new.items ≡ caps.old.items ++ row_caps self.now name) }
-        ensures err { OnErr result (caps.new.items ≡ caps.old.items) }
-    {
-        let Some(row) = self.groups.get(&name) else {
-            return Ok(());
-        };
-        caps.reserve(row.len())?;
-        for cap in row {
-            caps.push_reserved(*cap);
+        news.try_reserve(1)?;
+        let bits = self.add(owner, block)?;
+        if bits != 0 {
+            let block = Block {
+                place: block.place,
+                bits,
+            };
+            news.push(Note { owner, block })?;
         }
         Ok(())
+    }
+
+    /// Adds blocks to the owner's row, and notes what is new there: after an error too, so that it
+    /// can be taken out again. For each block a search as `has` makes. Fails only where there is
+    /// not enough memory.
+    pub fn note_all(
+        &mut self,
+        owner: Owner,
+        blocks: &[Block],
+        news: &mut Vec<Note>,
+    ) -> Result<(), AllocError>
+        ensures ok { OnOk result (Adds self.old (OfOne owner blocks.now) self.new) }
+        ensures news { Continues news.old.items self.old news.new.items self.new }
+    {
+        for block in blocks {
+            self.note(owner, *block, news)?;
+        }
+        Ok(())
+    }
+
+    /// The same to the row of each of these groups.
+    pub fn note_each(
+        &mut self,
+        names: &[Name],
+        blocks: &[Block],
+        news: &mut Vec<Note>,
+    ) -> Result<(), AllocError>
+        ensures ok { OnOk result (Adds self.old (OfEach names.now blocks.now) self.new) }
+        ensures news { Continues news.old.items self.old news.new.items self.new }
+    {
+        news.try_reserve(names.len())?;
+        for name in names {
+            self.note_all(Owner::Group(*name), blocks, news)?;
+        }
+        Ok(())
+    }
+
+    /// Takes out what was noted. Takes no memory.
+    pub fn take_all(&mut self, notes: &[Note])
+        ensures { Loses self.old notes.now self.new }
+    {
+        for note in notes {
+            self.take(note.owner, note.block);
+        }
     }
 }

@@ -12,7 +12,14 @@ use Rattle.fl_ops.specs.Registry.{Registry, Puts, Chain, IsGlobal}
 use Rattle.fl_closure.specs.declared.rows.Rows.{Rows}
 use Rattle.fl_closure.specs.declared.rows.Owner.{Owner}
 use Rattle.fl_closure.specs.declared.rows.Owner.TheVariants.{Everybody, Group}
+use Rattle.fl_closure.specs.declared.block.Block.{Block}
+use Rattle.fl_closure.specs.declared.closed.ClosedRows.{ClosedRows}
+use Rattle.fl_closure.specs.declared.closed.Entry.{Entry}
+use Rattle.fl_closure.specs.parts.Block.{AreIn}
 use Rattle.fl_closure.specs.parts.Rows.{Holds}
+
+abbrev pub entry : Owner → Cap → Entry
+entry owner c = record { owner = owner; cap = c }
 
 -- the registry of one operation
 abbrev pub Alone : Op → Registry
@@ -37,9 +44,9 @@ pub record AreClosed (U : Registry) (rows : Rows) : Type 0 where
   pub way : (owner : Owner) (c : Cap) → Holds rows owner c ↔ Way U owner c
 
 -- the users of a group are the groups that reach its use
-pub record AreMirrored (reached users : Rows) : Type 0 where
+pub record AreMirrored (rows : ClosedRows) : Type 0 where
   pub used : (user group : Name)
-      → Holds users (Group group) (Use user) ↔ Holds reached (Group user) (Use group)
+      → Holds rows.users (Group group) (Use user) ↔ Holds rows.reached (Group user) (Use group)
 
 -- what the group that the capability uses reaches
 abbrev pub Behind : Rows → Cap → Caps
@@ -66,30 +73,16 @@ pub record AreTransitive (rows : Rows) : Type 0 where
   pub on : (user : Owner) (group : Name) (c : Cap)
       → Holds rows user (Use group) → Holds rows (Group group) c → Holds rows user c
 
--- one row has these capabilities, and all else is as it was
-pub record AddsAll (old : Rows) (owner : Owner) (caps : List Cap) (new : Rows) : Type 0 where
-  pub holds : (other : Owner) (c : Cap)
-      → Holds new other c ↔ (Holds old other c ⊎ ((other ≡ owner) × Contains caps c))
+-- the blocks are of the capability and of what it leads to
+pub record AreLed (rows : Rows) (root : Cap) (blocks : List Block) : Type 0 where
+  pub led : (c : Cap) → AreIn blocks c ↔ Leads rows root c
 
--- the owner's group is used here
-abbrev pub IsUsed : List Cap → Owner → Type 0
-IsUsed uses (Group group) = Contains uses (Use group)
-IsUsed uses Everybody = ⊥
-
--- the row of each group that is used here has these capabilities, and all else is as it was
-pub record AddsToEach (old : Rows) (uses caps : List Cap) (new : Rows) : Type 0 where
-  pub holds : (other : Owner) (c : Cap)
-      → Holds new other c ↔ (Holds old other c ⊎ (IsUsed uses other × Contains caps c))
-
--- the row of the owner, and of each that reaches the use of it
-pub record AddsAbove (old : Rows) (owner : Owner) (caps : List Cap) (new : Rows) : Type 0 where
-  pub holds : (other : Owner) (c : Cap)
-      → Holds new other c ↔ (Holds old other c ⊎ (IsAbove old owner other × Contains caps c))
-
--- a row with the first of these has all of them
-pub record IsFirstOf (rows : Rows) (first : Cap) (caps : List Cap) : Type 0 where
-  pub all : (owner : Owner) (c : Cap)
-      → Holds rows owner first → Contains caps c → Holds rows owner c
+-- the blocks are of uses of the group and of those that reach its use: of all but some that reach
+-- the capability
+pub record AreAbove (rows : Rows) (group : Name) (c : Cap) (blocks : List Block) : Type 0 where
+  pub only : (user : Name) → AreIn blocks (Use user) → IsAbove rows (Group group) (Group user)
+  pub all : (user : Name) → IsAbove rows (Group group) (Group user)
+      → AreIn blocks (Use user) ⊎ Holds rows (Group user) c
 
 -- after b is given to the owner, those above it reach what b leads to
 pub record Renews (old : Rows) (owner : Owner) (b : Cap) (new : Rows) : Type 0 where

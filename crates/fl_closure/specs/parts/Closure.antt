@@ -7,13 +7,14 @@ use Rattle.fl_ops.specs.OpOrder.{op_cmp}
 use Rattle.fl_ops.specs.Registry.{Registry, IsOpened}
 use Rattle.fl_closure.specs.declared.closure.Closure.{Closure}
 use Rattle.fl_closure.specs.declared.closure.News.{News}
-use Rattle.fl_closure.specs.parts.Closed.{AreClosed, With}
-use Rattle.fl_closure.specs.parts.Noted.{Gains, Loses}
+use Rattle.fl_closure.specs.parts.Closed.{AreClosed, AreMirrored, With}
+use Rattle.fl_closure.specs.parts.Noted.{GainsBoth, LosesBoth}
 use Rattle.fl_closure.specs.parts.Opened.{Has, GainsGroups, LosesGroups}
 
 -- all that follows from the registry, and nothing else
 pub record IsClosure (U : Registry) (closure : Closure) : Type 0 where
-  pub closed : AreClosed U closure.rows
+  pub closed : AreClosed U closure.rows.reached
+  pub mirrored : AreMirrored closure.rows
   pub opened : (group : Name) → Has closure.opened group ↔ IsOpened U group
 
 -- what followed from a set follows from it and the operations
@@ -21,9 +22,9 @@ abbrev pub FollowsWith : Closure → List Op → Closure → Type 0
 FollowsWith old ops new = (s : SetBy op_cmp) → IsClosure (In s) old → IsClosure (With s ops) new
 
 pub record GainsAll (old : Closure) (news : News) (new : Closure) : Type 0 where
-  pub rows : Gains old.rows news.entries.items new.rows
+  pub rows : GainsBoth old.rows news.rows new.rows
   pub opened : GainsGroups old.opened news.groups.items new.opened
 
 pub record LosesAll (old : Closure) (news : News) (new : Closure) : Type 0 where
-  pub rows : Loses old.rows news.entries.items new.rows
+  pub rows : LosesBoth old.rows news.rows new.rows
   pub opened : LosesGroups old.opened news.groups.items new.opened

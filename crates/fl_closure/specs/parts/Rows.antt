@@ -1,55 +1,90 @@
 -- Rows of capabilities, one for each group and one for everybody.
-use Rattle.std.specs.Prelude.{◌≡◌, ◌⊎◌, ◌↔◌, Bool, true, false, Option, Some, None, List, []}
-use Rattle.std.specs.BTreeMap.{get}
-use Rattle.std.specs.BTreeSet.{BTreeSet, contains}
-use Rattle.std.specs.HashSet.{contains as is_among}
-use Rattle.fl_labels.specs.Cap.{cap_cmp}
-use Rattle.fl_labels.specs.Name.{name_cmp}
+use Rattle.std.specs.Prelude.{◌≡◌, ◌⊎◌, ◌↔◌, ℕ, Option, Some, None, List, unwrap_or}
+use Rattle.std.specs.BTreeMap.{BTreeMap, get}
+use Rattle.std.specs.HashMap.{HashMap, get as look}
+use Rattle.std.specs.List.{Contains}
+use Rattle.fl_labels.specs.Caps.{Caps}
 use Rattle.fl_labels.specs.declared.name.Name.{Name}
 use Rattle.fl_labels.specs.declared.cap.Cap.{Cap}
-use Rattle.fl_labels.specs.contracts.cap.CapPartialEq.TheImpl as caps
-use Rattle.fl_closure.specs.contracts.rows.Rows as rows_row
+use Rattle.fl_labels.specs.contracts.name.NamePartialEq.TheImpl as names
+use Rattle.fl_closure.specs.contracts.place.PlacePartialEq.TheImpl as places
+use Rattle.fl_closure.specs.declared.place.Place.{Place}
+use Rattle.fl_closure.specs.declared.block.Block.{Block}
 use Rattle.fl_closure.specs.declared.rows.Rows.{Rows}
 use Rattle.fl_closure.specs.declared.rows.Owner.{Owner}
 use Rattle.fl_closure.specs.declared.rows.Owner.TheVariants.{Everybody, Group}
-use Rattle.std.specs.Coded.{Coded}
+use Rattle.fl_closure.specs.parts.Block.{place_of, Marks, IsIn, AreIn, place_cmp}
 
-abbrev pub coded_rows : Coded Rows
-coded_rows = (rows_row.the_row).coded
+-- the bits of a row, by their places
+abbrev pub Bits : Type 0
+Bits = Place → ℕ
 
-abbrev pub row_has : Option (BTreeSet Cap) → Cap → Bool
-row_has None c = false
-row_has (Some row) c = contains cap_cmp row c
+abbrev pub bits_in : BTreeMap Place ℕ → Bits
+bits_in row p = unwrap_or (get place_cmp row p) 0
 
--- whether the owner's row has the capability
-abbrev pub has : Rows → Owner → Cap → Bool
-has rows (Group name) c = row_has (get name_cmp rows.groups name) c
-has rows Everybody c = is_among caps.ghosts.eq rows.everybody c
+abbrev pub row_bits : Option (BTreeMap Place ℕ) → Bits
+row_bits None p = 0
+row_bits (Some row) p = bits_in row p
 
-abbrev pub Holds : Rows → Owner → Cap → Type 0
-Holds rows owner c = has rows owner c ≡ true
+-- the same of everybody's row
+abbrev pub bits_among : {S : Type 0} → HashMap Place ℕ S → Bits
+bits_among row p = unwrap_or (look places.ghosts.eq row p) 0
 
-abbrev pub listed : Option (BTreeSet Cap) → List Cap
-listed None = []
-listed (Some row) = row.keys
+abbrev pub bits_at : Rows → Owner → Bits
+bits_at rows (Group name) p = row_bits (look names.ghosts.eq rows.groups name) p
+bits_at rows Everybody p = bits_among rows.everybody p
 
--- the row of the group, in order
-abbrev pub row_caps : Rows → Name → List Cap
-row_caps rows name = listed (get name_cmp rows.groups name)
+-- whether the row has the capability
+abbrev pub Has : Bits → Caps
+Has bits c = Marks (bits (place_of c)) c
 
--- the pair is that of this owner and this capability
-abbrev pub IsPair : Owner → Cap → Owner → Cap → Type 0
-IsPair owner c other d = (owner ≡ other) × (c ≡ d)
+abbrev pub Holds : Rows → Owner → Caps
+Holds rows owner c = Has (bits_at rows owner) c
 
--- one row has this capability, and all else is as it was
-pub record Adds (old : Rows) (owner : Owner) (c : Cap) (new : Rows) : Type 0 where
-  pub holds : (other : Owner) (d : Cap)
-      → Holds new other d ↔ (Holds old other d ⊎ IsPair owner c other d)
+-- ---- one row
 
--- one row has this capability no more, and all else is as it was
-pub record Takes (old : Rows) (owner : Owner) (c : Cap) (new : Rows) : Type 0 where
-  pub holds : (other : Owner) (d : Cap)
-      → Holds new other d ↔ (Holds old other d × ¬ IsPair owner c other d)
+-- a row with the block
+pub record Joins (old : Bits) (block : Block) (new : Bits) : Type 0 where
+  pub holds : (c : Cap) → Has new c ↔ (Has old c ⊎ IsIn block c)
+
+-- a row without it
+pub record Parts (old : Bits) (block : Block) (new : Bits) : Type 0 where
+  pub holds : (c : Cap) → Has new c ↔ (Has old c × ¬ IsIn block c)
+
+pub record IsSameBits (old new : Bits) : Type 0 where
+  pub holds : (c : Cap) → Has new c ↔ Has old c
+
+-- the bits of the block that the row lacks
+pub record IsNew (old : Bits) (block : Block) (bits : ℕ) : Type 0 where
+  pub are : (c : Cap)
+      → IsIn (record { place = block.place; bits = bits }) c ↔ (IsIn block c × ¬ Has old c)
+
+-- ---- all rows
+
+-- this owner, and what is in the block
+abbrev pub At : Owner → Block → Owner → Caps
+At owner block other c = (other ≡ owner) × IsIn block c
+
+-- this owner, and what is in the blocks
+abbrev pub OfOne : Owner → List Block → Owner → Caps
+OfOne owner blocks other c = (other ≡ owner) × AreIn blocks c
+
+-- the owner's group is one of these
+abbrev pub IsNamed : List Name → Owner → Type 0
+IsNamed names (Group name) = Contains names name
+IsNamed names Everybody = ⊥
+
+-- these groups, and what is in the blocks
+abbrev pub OfEach : List Name → List Block → Owner → Caps
+OfEach names blocks owner c = IsNamed names owner × AreIn blocks c
+
+-- the rows have these pairs too
+pub record Adds (old : Rows) (pairs : Owner → Caps) (new : Rows) : Type 0 where
+  pub holds : (owner : Owner) (c : Cap) → Holds new owner c ↔ (Holds old owner c ⊎ pairs owner c)
+
+-- the rows have none of these pairs
+pub record Takes (old : Rows) (pairs : Owner → Caps) (new : Rows) : Type 0 where
+  pub holds : (owner : Owner) (c : Cap) → Holds new owner c ↔ (Holds old owner c × ¬ pairs owner c)
 
 -- each row is as it was
 pub record IsSameRows (old new : Rows) : Type 0 where

@@ -1,7 +1,20 @@
-use Rattle.std.proofs.Common.{refl}
-use Rattle.fl_closure.proofs.Rowing.{add_to_all}
+use Rattle.std.proofs.Common.{sym, subst, refl, Some}
+use Rattle.std.specs.HashMap.{UpdatesBy}
+use Rattle.fl_labels.specs.contracts.name.NamePartialEq.TheImpl as names
+use Rattle.fl_closure.proofs.Giving.{on_ok, on_error}
+use Rattle.fl_closure.proofs.Rowing.{add_first, add_through, left_through}
 use Rattle.fl_closure.proofs.rows.Rows.add.Goals as goal
 
-pub returns-in_ok-new-in-Everybody-clause-ok : goal.returns-in_ok-new-in-Everybody-clause-ok
-returns-in_ok-new-in-Everybody-clause-ok c =
-    rw c.in-Everybody.is (add_to_all c.args.self.now _ c.args.cap refl c.in_ok-new-in-Everybody.ensures.updates)
+pub returns-in-Some-clause-ok : goal.returns-in-Some-clause-ok
+returns-in-Some-clause-ok c =
+    rw c.in-Group.is (on_ok c.add_to_row.result (add_through c.args.self.now _ c.in-Group.name refl _ _ (c.get_mut.follows.holds c.add_to_row.new.row).3 (sym c.in-Some.ensures.value) c.args.block) c.add_to_row.ensures.ok)
+
+pub returns-in-Some-clause-err : goal.returns-in-Some-clause-err
+returns-in-Some-clause-err c =
+    on_error c.add_to_row.result (left_through c.args.self.now _ c.in-Group.name refl _ _ (c.get_mut.follows.holds c.add_to_row.new.row).3 (sym c.in-Some.ensures.value)) c.add_to_row.ensures.err
+
+pub returns-clause-ok : goal.returns-clause-ok
+returns-clause-ok c =
+    rw c.in-Group.is (add_first c.args.self.now _ c.in-Group.name refl c.args.block c.new-row.result c.insert.new.self (sym c.in_default-get_mut.ensures.value)
+    (subst (λ m. UpdatesBy names.ghosts.eq (names.ghosts.eq c.in-Group.name) m c.insert-2.new.self (Some c.insert.new.self)) c.get_mut.follows.holds-at-none c.in_ok-insert-2.ensures.updates)
+    c.new-row.ensures.empty c.in_ok-insert.ensures.updates)
