@@ -79,6 +79,23 @@ pub fn dense(alloc: Global, size: u16, times: u16) -> Result<Index, AllocError> 
     Ok(index)
 }
 
+/// Ten times as many groups, at most 10,000, each with the use of the next, of the last the first,
+/// and of three others at random: in the end each reaches all.
+pub fn cycle(alloc: Global, size: u16) -> Result<Index, AllocError> {
+    let mut index = Index::new(alloc);
+    let mut state = 1;
+    let groups = size.saturating_mul(10).clamp(1, 10_000);
+    for number in 0..groups.saturating_mul(4) {
+        let group = number / 4;
+        let used = match number % 4 {
+            0 => (group + 1) % groups,
+            _ => draw(&mut state, groups),
+        };
+        index.absorb(&put(number, group, Cap::Use(name(used))))?;
+    }
+    Ok(index)
+}
+
 /// One group with ten times as many capabilities, in falling order.
 pub fn wide(alloc: Global, size: u16) -> Result<Index, AllocError> {
     let mut index = Index::new(alloc);

@@ -1,6 +1,6 @@
 //! The steps of closure.
 use crate::closure::graphs::{
-    chain_from_first, chain_from_last, dense, draw, name, opened, shared, wide,
+    chain_from_first, chain_from_last, cycle, dense, draw, name, opened, shared, wide,
 };
 use fl_closure::index::Index;
 use fl_labels::cap::Cap;
@@ -12,6 +12,8 @@ use std::alloc::{AllocError, Global};
 pub enum Step {
     /// Groups that use one another at random, by ten puts a group.
     Dense,
+    /// Ten times as many groups in one cycle, by four puts a group.
+    Cycle,
     /// A chain of groups, made from its first group on.
     ChainFromFirst,
     /// The same chain, from its last group on.
@@ -40,8 +42,9 @@ pub enum Step {
 }
 
 /// All steps, in order.
-pub const STEPS: [Step; 12] = [
+pub const STEPS: [Step; 13] = [
     Step::Dense,
+    Step::Cycle,
     Step::ChainFromFirst,
     Step::ChainFromLast,
     Step::Wide,
@@ -160,6 +163,7 @@ impl Step {
         match self {
             Step::Dense => "puts that make a dense graph",
             Step::Puts => "puts into a dense graph",
+            Step::Cycle => "ten times as many groups in one cycle",
             Step::ChainFromFirst => "chain from its first group",
             Step::ChainFromLast => "chain from its last group",
             Step::Wide => "one group of many capabilities",
@@ -179,6 +183,7 @@ impl Step {
         match self {
             Step::Dense => Ok(count_reached(&dense(alloc, size, 10)?, size)),
             Step::Puts => Ok(count_reached(&dense(alloc, size, 200)?, size)),
+            Step::Cycle => Ok(count_reached(&cycle(alloc, size)?, size)),
             Step::ChainFromFirst => Ok(count_reached(&chain_from_first(alloc, size)?, size)),
             Step::ChainFromLast => Ok(count_reached(&chain_from_last(alloc, size)?, size)),
             Step::Wide => Ok(count_tags(&wide(alloc, size)?, 0, size)),
