@@ -7,8 +7,9 @@
 ghost use Rattle.std.specs.Prelude.{◌<◌, ◌≤◌};
 
 use crate::people::{PEOPLE, People};
-use crate::serving::{crew_over, people_crew, serve_at_crew};
-use crate::subjects::{keeper_of, name_of};
+use crate::serving::people_crew;
+use crew_measuring::serving::serve_at_crew;
+use crew_measuring::subjects::{crew_over, keeper_of, name_of};
 use fl_dir_maker::maker::DirMaker;
 use fl_jobs::job::{Act, Job};
 use fl_labels::cap::Cap;

@@ -1,64 +1,14 @@
-//! A plain node and a crew, each with its people, and how they serve.
-ghost use Rattle.std.specs.Prelude.{◌<◌, ◌≤◌};
-
+//! The people of a plain node and of a crew, and what they ask for in batches.
 use crate::people::{Orders, PEOPLE, People, births};
-use fl_crew_model::record::Told;
-use fl_jobs::job::Job;
-use fl_labels::name::NodeNumber;
+use crew_measuring::serving::{is_done, serve_at_crew, serve_at_node};
 use fl_node::node::Node;
 use fl_store::keeper::Keeper;
-use fl_system::answer::{Answer, Fault};
 use fl_workers::crew::Crew;
-use fl_workers::entry::{Entry, Reply};
 use fl_workers::gate::Gate;
 use std::alloc::Global;
 use std::sync::Wait;
 use std::test::Fail;
 use std::thread::Threads;
-
-// Whether a job that was admitted was an order; none where it was refused.
-fn is_order(answer: Result<Answer, Fault>) -> Option<bool> {
-    Some(matches!(answer.ok()?, Answer::Begun(_)))
-}
-
-// Does a job at the one desk of a node. An order is saved and published at once. Says whether it
-// was admitted.
-fn is_done<K: Keeper>(alloc: Global, node: &mut Node<K>, job: Job) -> bool {
-    if node.desks() == 0 {
-        return false;
-    }
-    match is_order(node.job(alloc, 1, u64::MAX, job)) {
-        Some(true) => node.save().is_ok() && node.publish(alloc).is_ok(),
-        Some(false) => true,
-        None => false,
-    }
-}
-
-/// Does these jobs at a node, and says how many were admitted.
-pub fn serve_at_node<K: Keeper>(alloc: Global, node: &mut Node<K>, jobs: Vec<Job>) -> usize {
-    let mut count = 0usize;
-    for job in jobs {
-        count = count.wrapping_add(usize::from(is_done(alloc, node, job)));
-    }
-    count
-}
-
-// Whether the job was admitted.
-fn is_admitted(entry: &Entry) -> bool {
-    !matches!(&entry.reply, Reply::Told(Told::Refused(_)))
-}
-
-/// Has a crew serve a batch of these jobs, and says how many were admitted.
-pub fn serve_at_crew<
-    R: Threads + Wait + Sync + Send + Copy + Drop + 'static,
-    K: Keeper,
-    G: Gate + Send + Drop + 'static,
->(rt: R, alloc: Global, crew: &mut Crew<K, G>, jobs: Vec<Job>) -> Result<usize, Fail> {
-    match crew.batch(rt, alloc, jobs, Vec::new(alloc)) {
-        Ok(entries) => Ok(entries.iter().filter(|entry| is_admitted(entry)).count()),
-        Err(_) => Err(Fail::from("a batch was not begun")),
-    }
-}
 
 /// Makes the people of a node, and each of their tags.
 pub fn people_node<K: Keeper>(alloc: Global, node: &mut Node<K>) -> Result<People, Fail> {
@@ -127,38 +77,5 @@ impl Batches {
             count = count.wrapping_add(serve_at_crew(rt, alloc, crew, jobs)?);
         }
         Ok(count)
-    }
-}
-
-/// A node over a keeper, with one desk.
-pub fn node_over<K: Keeper + Drop>(
-    alloc: Global,
-    keeper: K,
-    number: NodeNumber,
-) -> Result<Node<K>, Fail>
-    requires { 0 < number }
-{
-    match Node::open(alloc, keeper, number, 1) {
-        Ok(node) => Ok(node),
-        Err(_) => Err(Fail::from("a node was not opened")),
-    }
-}
-
-/// A crew of so many workers over a keeper.
-pub fn crew_over<R: Wait, K: Keeper + Drop, G: Gate + Send + Drop + 'static>(
-    rt: &R,
-    alloc: Global,
-    keeper: K,
-    number: NodeNumber,
-    workers: u8,
-    gate: G,
-) -> Result<Crew<K, G>, Fail>
-    requires number { 0 < number }
-    requires some { 1 ≤ workers }
-    requires few { workers ≤ 16 }
-{
-    match Crew::open(rt, alloc, keeper, number, workers, gate) {
-        Ok(crew) => Ok(crew),
-        Err(_) => Err(Fail::from("a crew was not opened")),
     }
 }

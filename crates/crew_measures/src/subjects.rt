@@ -1,8 +1,8 @@
 //! What is measured: batches at a plain node, and at crews of one to four workers.
-ghost use Rattle.std.specs.Prelude.{◌<◌, ◌≤◌};
+ghost use Rattle.std.specs.Prelude.{◌≤◌};
 
-use crate::serving::{Batches, crew_over, node_over, people_crew, people_node};
-use fl_labels::name::NodeNumber;
+use crate::serving::{Batches, people_crew, people_node};
+use crew_measuring::subjects::{crew_over, keeper_of, name_of, node_over};
 use fl_makers::maker::MakesKeepers;
 use fl_store::keeper::Keeper;
 use fl_workers::crew::Crew;
@@ -13,20 +13,6 @@ use std::sync::Wait;
 use std::test::Fail;
 use std::thread::Threads;
 use std::time::Clock;
-
-/// A keeper for the node of this number.
-pub fn keeper_of<M: MakesKeepers>(
-    alloc: Global,
-    maker: &mut M,
-    number: NodeNumber,
-) -> Result<M::K, Fail>
-    requires { 0 < number }
-{
-    match maker.make(alloc, number) {
-        Ok(keeper) => Ok(keeper),
-        Err(_) => Err(Fail::from("no keeper was made")),
-    }
-}
 
 // Measures the batches at node 1.
 fn measure_node<R: Clock + Print, M: MakesKeepers>(
@@ -42,16 +28,6 @@ fn measure_node<R: Clock + Print, M: MakesKeepers>(
     measure_step(rt, "at a plain node", runs, || {
         batches.at_node(alloc, &mut node, people)
     })
-}
-
-/// In words, where a crew of so many workers is.
-pub fn name_of(workers: u8) -> &'static str {
-    match workers {
-        1 => "at a crew of one",
-        2 => "at a crew of two",
-        3 => "at a crew of three",
-        _ => "at a crew of four",
-    }
 }
 
 // Measures the batches at a crew.
