@@ -35,6 +35,10 @@ of_snoc x views v all one j u e = ⊎_elim (all j u) (λ (same : v ≡ u). subst
 pub admits : Admits Keeps None
 admits x views h = (h.0, λ seat v b at. of_snoc x views None (λ j u e b. h.1 j u b e) (none_of x) seat v at b)
 
+-- who begins saw nothing
+pub keeps_first : (x : Published) → IsWhole (shown_by x) → Keeps x (None ∷ [])
+keeps_first x whole = admits x [] (whole, λ seat v b at. absurd (cc (at)))
+
 -- what is published goes on by the same history
 pub turns : (seat : ℕ) (v : Option Shown) (x y : Published) → IsWhole (shown_by y) → y.known.book ≡ x.known.book → TurnsAt Keeps seat v x y Sees
 turns seat v x y whole same views h at = (
