@@ -1,4 +1,6 @@
 //! The people of a plain node and of a crew, and what they ask for in batches.
+ghost use Rattle.std.specs.Prelude.{◌≤◌};
+
 use crate::people::{Orders, PEOPLE, People, births};
 use crew_measuring::serving::{is_done, serve_at_crew, serve_at_node};
 use fl_node::node::Node;
