@@ -64,7 +64,7 @@ pub enum Reply {
     /// The endpoint that was opened.
     Opened(Endpoint),
     /// The message that was taken.
-    Taken(Letter),
+    Taken(Boxed<Letter>),
     /// No message waits.
     Empty,
     /// The process that a message came to.

@@ -3,6 +3,7 @@ ghost use Rattle.std.specs.Prelude.{◌≡◌, ◌++◌, ◌∷◌, [], length, 
 ghost use Rattle.fl_mailbox.specs.Mailbox.{oldest, without_oldest};
 ghost use Rattle.fl_mailbox.specs.Pushes.{Pushes};
 
+use fl_message::boxed::Boxed;
 use fl_message::message::Letter;
 use std::alloc::{AllocError, Global};
 use std::collections::VecDeque;
@@ -14,7 +15,7 @@ pub const MOST_LETTERS: usize = 256;
 /// The messages that wait for a process, the oldest first.
 #[derive(Debug, Drop)]
 pub struct Inbox {
-    letters: VecDeque<Letter>,
+    letters: VecDeque<Boxed<Letter>>,
 }
 
 impl Model for Inbox {
@@ -53,6 +54,7 @@ impl Inbox {
         ensures ok { OnOk result (self.new ≡ self.old ++ letter ∷ []) }
         ensures err { OnErr result (self.new ≡ self.old) }
     {
+        let letter = Boxed::new(*self.letters.allocator(), letter)?;
         self.letters.push_back(letter)?;
         Ok(())
     }
@@ -70,6 +72,7 @@ impl Inbox {
         ensures { Pushes F.FnOnce receive letter self.old owner.old result self.new owner.new }
     {
         self.letters.reserve(1)?;
+        let letter = Boxed::new(*self.letters.allocator(), letter)?;
         receive(owner, &letter)?;
         let Ok(()) = self.letters.push_back(letter) else {
             unreachable!("there is room");
@@ -78,7 +81,7 @@ impl Inbox {
     }
 
     /// Takes out the oldest message, or nothing where none waits. Takes no memory.
-    pub fn take(&mut self) -> Option<Letter>
+    pub fn take(&mut self) -> Option<Boxed<Letter>>
         ensures value { result ≡ oldest self.old }
         ensures rest { self.new ≡ without_oldest self.old }
     {
