@@ -1,8 +1,10 @@
 //! What a line asks of the world.
 ghost use Rattle.std.specs.Prelude.{◌≡◌, ◌<◌, All};
 ghost use Rattle.fl_script.specs.Grammar.{nodes_of};
+ghost use Rattle.fl_system.specs.WorldSteps.{node_of};
 ghost use Rattle.fl_calls.specs.Answer.{shown};
-ghost use Rattle.fl_calls.specs.Failing.{FailsOnceOpen, SaysFailed};
+ghost use Rattle.fl_calls.specs.Calls.{Asks};
+ghost use Rattle.fl_calls.specs.Failing.{FailsCompleting, FailsOnceOpen, SaysFailed};
 ghost use Rattle.fl_calls.specs.Over.{GoesOn};
 ghost use Rattle.fl_turns.specs.Failing.{FailsAsked, FailsSaid};
 ghost use Rattle.fl_turns.specs.Turn.{AsksNode, job_at};
@@ -35,6 +37,20 @@ fn job_at(node: NodeNumber, job: Job) -> Event
     }
 }
 
+// The event happens, as `Cluster::ask` has it. Out of line, so that the way of a job, which most
+// lines ask for, has no room for it.
+#[inline(never)]
+fn ask_seldom<M: MakesKeepers>(alloc: Global, cluster: &mut Cluster<M>, event: Event) -> Said
+    requires { 0 < node_of event }
+    ensures goes { GoesOn M.K.custody M.making cluster.old cluster.new
+        (λ openings w w'. Asks openings w event (shown cluster.new.world result) w') }
+    ensures cause { SaysFailed result
+        → FailsOnceOpen M.K.custody M.making cluster.old cluster.new (node_of event)
+        (λ between. FailsCompleting M.K.custody between.world cluster.new.world event) }
+{
+    cluster.ask(alloc, event)
+}
+
 // What is asked of the node is answered. Inlined, as its caller is, so that no job is copied on its
 // way down.
 #[inline(always)]
@@ -58,11 +74,11 @@ fn respond_for<M: MakesKeepers>(
         }
         Request::Deliver(packet) => cluster.deliver(alloc, node, packet),
         Request::BeginDeliver(packet) => cluster.begin_to_take(alloc, node, packet),
-        Request::Tell => cluster.ask(alloc, Event::Tell(node)),
-        Request::Save => cluster.ask(alloc, Event::Save(node)),
-        Request::Publish => cluster.ask(alloc, Event::Publish(node)),
-        Request::Cancel => cluster.ask(alloc, Event::Cancel(node)),
-        Request::Restart { kept } => cluster.ask(alloc, Event::Restart(node, kept)),
+        Request::Tell => ask_seldom(alloc, cluster, Event::Tell(node)),
+        Request::Save => ask_seldom(alloc, cluster, Event::Save(node)),
+        Request::Publish => ask_seldom(alloc, cluster, Event::Publish(node)),
+        Request::Cancel => ask_seldom(alloc, cluster, Event::Cancel(node)),
+        Request::Restart { kept } => ask_seldom(alloc, cluster, Event::Restart(node, kept)),
         Request::Text => cluster.text(alloc, node),
         Request::Check(bytes) => cluster.check(alloc, node, bytes.as_slice()),
     }

@@ -14,19 +14,19 @@ pub returns-in-BeginDeliver-clause-goes : goal.returns-in-BeginDeliver-clause-go
 returns-in-BeginDeliver-clause-goes g c = rw c.in-BeginDeliver.is c.begin_to_take.ensures.goes
 
 pub returns-in-Tell-clause-goes : goal.returns-in-Tell-clause-goes
-returns-in-Tell-clause-goes g c = rw c.in-Tell.is c.ask-in-Tell.ensures.goes
+returns-in-Tell-clause-goes g c = rw c.in-Tell.is c.ask_seldom.ensures.goes
 
 pub returns-in-Save-clause-goes : goal.returns-in-Save-clause-goes
-returns-in-Save-clause-goes g c = rw c.in-Save.is c.ask-in-Save.ensures.goes
+returns-in-Save-clause-goes g c = rw c.in-Save.is c.ask_seldom-in-Save.ensures.goes
 
 pub returns-in-Publish-clause-goes : goal.returns-in-Publish-clause-goes
-returns-in-Publish-clause-goes g c = rw c.in-Publish.is c.ask-in-Publish.ensures.goes
+returns-in-Publish-clause-goes g c = rw c.in-Publish.is c.ask_seldom-in-Publish.ensures.goes
 
 pub returns-in-Cancel-clause-goes : goal.returns-in-Cancel-clause-goes
-returns-in-Cancel-clause-goes g c = rw c.in-Cancel.is c.ask-in-Cancel.ensures.goes
+returns-in-Cancel-clause-goes g c = rw c.in-Cancel.is c.ask_seldom-in-Cancel.ensures.goes
 
 pub returns-in-Restart-clause-goes : goal.returns-in-Restart-clause-goes
-returns-in-Restart-clause-goes g c = rw c.in-Restart.is c.ask-in-Restart.ensures.goes
+returns-in-Restart-clause-goes g c = rw c.in-Restart.is c.ask_seldom-in-Restart.ensures.goes
 
 pub returns-in-Text-clause-goes : goal.returns-in-Text-clause-goes
 returns-in-Text-clause-goes g c = rw c.in-Text.is c.text.ensures.goes
@@ -52,23 +52,23 @@ returns-in-BeginDeliver-clause-cause g c says =
 
 pub returns-in-Tell-clause-cause : goal.returns-in-Tell-clause-cause
 returns-in-Tell-clause-cause g c says =
-    asked_tell g.M.K.Keeper.custody g.M.MakesKeepers.making _ _ _ _ (c.ask-in-Tell.ensures.cause says)
+    asked_tell g.M.K.Keeper.custody g.M.MakesKeepers.making _ _ _ _ (c.ask_seldom.ensures.cause says)
 
 pub returns-in-Save-clause-cause : goal.returns-in-Save-clause-cause
 returns-in-Save-clause-cause g c says =
-    asked_save g.M.K.Keeper.custody g.M.MakesKeepers.making _ _ _ _ (c.ask-in-Save.ensures.cause says)
+    asked_save g.M.K.Keeper.custody g.M.MakesKeepers.making _ _ _ _ (c.ask_seldom-in-Save.ensures.cause says)
 
 pub returns-in-Publish-clause-cause : goal.returns-in-Publish-clause-cause
 returns-in-Publish-clause-cause g c says =
-    asked_publish g.M.K.Keeper.custody g.M.MakesKeepers.making _ _ _ _ (c.ask-in-Publish.ensures.cause says)
+    asked_publish g.M.K.Keeper.custody g.M.MakesKeepers.making _ _ _ _ (c.ask_seldom-in-Publish.ensures.cause says)
 
 pub returns-in-Cancel-clause-cause : goal.returns-in-Cancel-clause-cause
 returns-in-Cancel-clause-cause g c says =
-    asked_cancel g.M.K.Keeper.custody g.M.MakesKeepers.making _ _ _ _ (c.ask-in-Cancel.ensures.cause says)
+    asked_cancel g.M.K.Keeper.custody g.M.MakesKeepers.making _ _ _ _ (c.ask_seldom-in-Cancel.ensures.cause says)
 
 pub returns-in-Restart-clause-cause : goal.returns-in-Restart-clause-cause
 returns-in-Restart-clause-cause g c says =
-    rw c.in-Restart.is (asked_restart g.M.K.Keeper.custody g.M.MakesKeepers.making _ _ _ _ (c.ask-in-Restart.ensures.cause says))
+    rw c.in-Restart.is (asked_restart g.M.K.Keeper.custody g.M.MakesKeepers.making _ _ _ _ (c.ask_seldom-in-Restart.ensures.cause says))
 
 pub returns-in-Text-clause-cause : goal.returns-in-Text-clause-cause
 returns-in-Text-clause-cause g c says =
