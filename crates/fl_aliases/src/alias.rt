@@ -52,6 +52,19 @@ impl Model for Alias {
 }
 
 impl Alias {
+    /// The alias of these letters, which are 1 to 32.
+    pub(crate) fn of_letters(letters: &[u8]) -> Self
+        requires { IsAlias letters.now }
+        ensures { result ≡ letters.now }
+    {
+        let mut bytes = [0; MOST_ALIAS_LETTERS];
+        bytes[..letters.len()].copy_from_slice(letters);
+        Alias {
+            bytes,
+            len: letters.len(),
+        }
+    }
+
     /// The alias of these letters. `None` where they are no 1 to 32 letters.
     pub(crate) fn from_letters(letters: &[u8]) -> Option<Self>
         ensures some { IfSome result (λ alias. (alias ≡ letters.now) × IsAlias letters.now) }
@@ -60,12 +73,7 @@ impl Alias {
         if !is_alias(letters) {
             return None;
         }
-        let mut bytes = [0; MOST_ALIAS_LETTERS];
-        bytes[..letters.len()].copy_from_slice(letters);
-        Some(Alias {
-            bytes,
-            len: letters.len(),
-        })
+        Some(Alias::of_letters(letters))
     }
 
     /// The alias that a word such as `$a` spells. `None` of any other word.
@@ -112,16 +120,17 @@ impl Eq for Alias {
 }
 
 impl Hash for Alias {
-    ghost use Rattle.std.specs.Hash as fed;
+    ghost use Rattle.std.specs.Prelude.{[], ◌∷◌, nat_eq};
     ghost use Rattle.std.specs.Cmp.Rules.{hashing};
     ghost use Rattle.std.proofs.Common.{rules};
 
-    ghost hash_input = { fed.slice fed.u8 };
+    // All letters at once, since a write of each costs more than the look-up.
+    ghost hash_input = { λ letters. letters ∷ [] };
 
     ghost respects_eq = { Prim.search (hashing, rules) };
 
     fn hash<H: Hasher>(&self, state: &mut H) {
-        self.letters().hash(state);
+        state.write(self.letters());
     }
 }
 

@@ -1,21 +1,13 @@
 //! Aliases replaced in a line.
-ghost use Rattle.std.specs.Prelude.{◌≡◌, ◌++◌, ◌∷◌, ℕ, List, IfOk, IfSome, IfNone, OnOk, MatchOption};
-ghost use Rattle.std.specs.Fmt.{decimal};
+ghost use Rattle.std.specs.Prelude.{◌≡◌, ◌++◌, ◌∷◌, ℕ, List, IfOk, IfSome, IfNone, MatchOption};
 ghost use Rattle.std.specs.Bool.{MatchBool};
 ghost use Rattle.std.specs.String.{string_bytes};
 ghost use Rattle.std.specs.List.{prefix_len};
 ghost use Rattle.fl_aliases.specs.Alias.{is_letter, IsAlias};
 ghost use Rattle.fl_aliases.specs.Expansion.{Expands, ExpandsBehind, NoDollar, NoLetterFirst};
-ghost use Rattle.fl_aliases.specs.TargetText.{target_text};
-ghost use Rattle.fl_labels.specs.Text.{endpoint_text, name_text, pid_text};
 
-use crate::alias::{Alias, is_letter};
+use crate::alias::{Alias, MOST_ALIAS_LETTERS, is_letter};
 use crate::table::Aliases;
-use crate::target::Target;
-use fl_labels::endpoint::Endpoint;
-use fl_labels::name::Name;
-use fl_labels::pid::Pid;
-use itoa::Buffer;
 use memchr::memchr;
 use std::alloc::AllocError;
 
@@ -47,8 +39,12 @@ fn split_alias(text: &str) -> Option<Front<'_>>
     ensures none { IfNone result ((letters rest : List ℕ) →
         IsAlias letters → NoLetterFirst rest → text.now ≡ letters ++ rest → ⊥) }
 {
-    let (letters, behind) = text.split_at(letters_in_front(text));
-    let alias = Alias::from_letters(letters.as_bytes())?;
+    let count = letters_in_front(text);
+    if count == 0 || count > MOST_ALIAS_LETTERS {
+        return None;
+    }
+    let (letters, behind) = text.split_at(count);
+    let alias = Alias::of_letters(letters.as_bytes());
     Some(Front { alias, behind })
 }
 
@@ -60,48 +56,6 @@ fn split_dollar(text: &str) -> Option<(&str, &str)>
     match memchr(b'$', text.as_bytes()) {
         None => None,
         Some(at) => Some((text.split_at(at).0, text.split_at(at + 1).1)),
-    }
-}
-
-fn push_number(buffer: &mut String, number: u32) -> Result<(), AllocError>
-    ensures ok { OnOk result (string_bytes buffer.new ≡ string_bytes buffer.old ++ decimal number) }
-{
-    buffer.push_str(Buffer::new().format(number))
-}
-
-fn push_name(buffer: &mut String, name: Name) -> Result<(), AllocError>
-    ensures ok { OnOk result (string_bytes buffer.new ≡ string_bytes buffer.old ++ name_text name) }
-{
-    push_number(buffer, name.node)?;
-    buffer.push_str(".")?;
-    push_number(buffer, name.seq)
-}
-
-fn push_pid(buffer: &mut String, pid: Pid) -> Result<(), AllocError>
-    ensures ok { OnOk result (string_bytes buffer.new ≡ string_bytes buffer.old ++ pid_text pid) }
-{
-    buffer.push_str("p")?;
-    push_number(buffer, pid.node)?;
-    buffer.push_str(".")?;
-    push_number(buffer, pid.boot)?;
-    buffer.push_str(".")?;
-    push_number(buffer, pid.serial)
-}
-
-fn push_endpoint(buffer: &mut String, endpoint: Endpoint) -> Result<(), AllocError>
-    ensures ok { OnOk result (string_bytes buffer.new ≡ string_bytes buffer.old ++ endpoint_text endpoint) }
-{
-    buffer.push_str("e")?;
-    push_number(buffer, u32::from(endpoint.number))
-}
-
-fn push_target(buffer: &mut String, target: Target) -> Result<(), AllocError>
-    ensures ok { OnOk result (string_bytes buffer.new ≡ string_bytes buffer.old ++ target_text target) }
-{
-    match target {
-        Target::Process(pid) => push_pid(buffer, pid),
-        Target::Operation(name) => push_name(buffer, name),
-        Target::Endpoint(endpoint) => push_endpoint(buffer, endpoint),
     }
 }
 
@@ -122,10 +76,10 @@ pub fn expand(aliases: &Aliases, line: &str, buffer: &mut String) -> Result<bool
         let Some(front) = split_alias(behind) else {
             return Ok(false);
         };
-        let Some(target) = aliases.get(&front.alias) else {
+        let Some(text) = aliases.text_of(&front.alias) else {
             return Ok(false);
         };
-        push_target(buffer, target)?;
+        buffer.push_str(text)?;
         rest = front.behind;
     }
     buffer.push_str(rest)?;

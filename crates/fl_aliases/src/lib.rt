@@ -5,6 +5,7 @@
 pub mod alias;
 pub mod expand;
 pub mod laws;
+mod placed;
 pub mod table;
 pub mod target;
 mod text;

@@ -1,10 +1,13 @@
 //! The aliases that are set.
-ghost use Rattle.std.specs.Prelude.{◌≡◌, ◌<◌, ◌++◌, [], ◌∷◌, IfOk, OnErr, IsTrue, IsSome, IsNone, ◌↔◌, None, length};
+ghost use Rattle.std.specs.Prelude.{◌≡◌, ◌<◌, ◌++◌, [], ◌∷◌, IfOk, MatchOption, OnErr, IsTrue, IsSome, IsNone, ◌↔◌, None, Some, length};
 ghost use Rattle.std.specs.Bool.{MatchBool};
 ghost use Rattle.fl_sink.specs.Sink.{Puts};
 ghost use Rattle.fl_aliases.specs.Table.{Entry, IsTable, target_of, retargeted, table_text};
+ghost use Rattle.fl_aliases.specs.TargetText.{target_text};
+ghost use Rattle.fl_aliases.specs.declared.target.Target.{Target};
 
 use crate::alias::Alias;
+use crate::placed::Placed;
 use crate::target::Target;
 use crate::text::write_line;
 use fl_sink::sink::{Sink, WriteFault};
@@ -20,7 +23,7 @@ pub const MOST_ALIASES: usize = 1024;
 /// [`MOST_ALIASES`] are set.
 #[derive(Drop)]
 pub struct Aliases {
-    targets: IndexMap<Alias, Target>,
+    targets: IndexMap<Alias, Placed>,
 }
 
 impl Model for Aliases {
@@ -69,7 +72,18 @@ impl Aliases {
     pub fn get(&self, alias: &Alias) -> Option<Target>
         ensures { result ≡ target_of self.now alias.now }
     {
-        self.targets.get(alias).copied()
+        let placed = self.targets.get(alias)?;
+        Some(placed.target())
+    }
+
+    /// How what the alias stands for is written, or `None` where it is not set. One look-up.
+    pub(crate) fn text_of(&self, alias: &Alias) -> Option<&str>
+        ensures { let found = target_of self.now alias.now in
+            MatchOption result (found ≡ None) (λ text. (target : Target) × (found ≡ Some target)
+            × (text.now ≡ target_text target)) }
+    {
+        let placed = self.targets.get(alias)?;
+        Some(placed.text())
     }
 
     /// Sets an alias that is not set, as the last one, and answers whether it did: one that is set
@@ -86,7 +100,8 @@ impl Aliases {
         if self.targets.contains_key(&alias) {
             return Ok(false);
         }
-        self.targets.insert(alias, target)?;
+        let placed = Placed::new(target);
+        self.targets.insert(alias, placed)?;
         Ok(true)
     }
 
@@ -95,7 +110,7 @@ impl Aliases {
         requires { IsSome (target_of self.old alias) }
         ensures { self.new ≡ retargeted self.old alias target }
     {
-        *self.targets.get_mut(&alias).unwrap() = target;
+        *self.targets.get_mut(&alias).unwrap() = Placed::new(target);
     }
 
     /// Takes the last alias out, by the order of first setting. Takes no memory.
@@ -116,8 +131,8 @@ impl Aliases {
             Puts (W.contents output.old) (W.contents output.new) sink.old text sink.new result }
         ensures cause { OnErr result (W.has_failed output.new) }
     {
-        for (alias, target) in self.targets.iter() {
-            write_line(alias, target, sink, output)?;
+        for (alias, placed) in self.targets.iter() {
+            write_line(alias, placed.target(), sink, output)?;
         }
         Ok(())
     }

@@ -12,11 +12,11 @@ use itoa::Buffer;
 // Puts the line of an alias into the sink.
 pub(crate) fn write_line<W: Writer>(
     alias: &Alias,
-    target: &Target,
+    target: Target,
     sink: &mut Sink,
     output: &mut W,
 ) -> Result<(), WriteFault>
-    ensures puts { let text = entry_line (alias.now, target.now) in
+    ensures puts { let text = entry_line (alias.now, target) in
         Puts (W.contents output.old) (W.contents output.new) sink.old text sink.new result }
     ensures cause { OnErr result (W.has_failed output.new) }
 {

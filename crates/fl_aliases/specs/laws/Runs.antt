@@ -1,8 +1,8 @@
 -- The letters at the front of bytes.
-use Rattle.std.proofs.Common.{◌≡◌, ℕ, suc, ◌+◌, Bool, true, false, cond, List, [], ◌∷◌, ◌++◌, get_or, take, drop, sym, ap, subst, refl, ◌∙◌, true≢false, arith}
+use Rattle.std.proofs.Common.{◌≡◌, ◌≢◌, ◌<◌, ◌≤◌, ◌⊎◌, inl, inr, ℕ, suc, ◌+◌, Bool, true, false, cond, List, [], ◌∷◌, ◌++◌, get_or, length, take, drop, sym, ap, subst, refl, ◌∙◌, true≢false, arith}
 use Rattle.std.specs.List.{prefix_len}
 use Rattle.std.specs.Str.{IsUtf8, IsCharBoundary}
-use Rattle.std.proofs.lemmas.List.{take-append-drop}
+use Rattle.std.proofs.lemmas.List.{take-append-drop, length-take}
 use Rattle.std.proofs.lemmas.List.Elements.{All-nil, All-cons, All-head, All-tail}
 use Rattle.std.proofs.lemmas.List.Sums.{prefix_len-le-length}
 use Rattle.std.proofs.lemmas.Str.{IsCharBoundary-from_take}
@@ -50,17 +50,36 @@ same_front (x ∷ xs) (y ∷ ys) r s ax nr ay ns e =
     let rest = same_front xs ys r s (All-tail IsLetter x xs ax) nr (All-tail IsLetter y ys ay) ns (tail_of e) in
     ((λ i. head_of e i ∷ rest.0 i), rest.1)
 
--- the letters in front are an alias
-pub found_front : (text front behind alias : List ℕ) (n : ℕ) → n ≡ prefix_len is_letter text → front ≡ take n text → behind ≡ drop n text → (alias ≡ front) × IsAlias front → (text ≡ alias ++ behind) × IsAlias alias × NoLetterFirst behind
-found_front text front behind alias n count f b is = (
-  sym (take-append-drop n text) ∙ ap (λ l. l ++ drop n text) (sym (is.0 ∙ f)) ∙ ap (λ l. alias ++ l) (sym b),
-  subst IsAlias (sym is.0) is.1,
+-- the letters in front are an alias where they are neither none nor too many
+pub front_alias : (text : List ℕ) (n : ℕ) → n ≡ prefix_len is_letter text → n ≢ 0 → n ≤ 32 → IsAlias (take n text)
+front_alias text n count some short =
+    let within : n ≤ length text = omega (arith, count, prefix_len-le-length is_letter text) in
+    record {
+      some = omega (arith, some, within, length-take n text);
+      short = omega (arith, short, length-take n text);
+      letters = subst (λ k. AllLetters (take k text)) (sym count) (front_letters text).0;
+    }
+
+none_in_none : (text : List ℕ) (n : ℕ) → n ≡ 0 → ¬ IsAlias (take n text)
+none_in_none text n none alias = absurd (omega (arith, none, alias.some, length-take n text))
+
+too_many_letters : (text : List ℕ) (n : ℕ) → n ≡ prefix_len is_letter text → 32 < n → ¬ IsAlias (take n text)
+too_many_letters text n count many alias =
+    let within : n ≤ length text = omega (arith, count, prefix_len-le-length is_letter text) in
+    absurd (omega (arith, many, within, alias.short, length-take n text))
+
+-- the text is the letters in front, and what is behind them
+pub found_front : (text front behind alias : List ℕ) (n : ℕ) → n ≡ prefix_len is_letter text → front ≡ take n text → behind ≡ drop n text → alias ≡ front → IsAlias (take n text) → (text ≡ alias ++ behind) × IsAlias alias × NoLetterFirst behind
+found_front text front behind alias n count f b is are = (
+  sym (take-append-drop n text) ∙ ap (λ l. l ++ drop n text) (sym (is ∙ f)) ∙ ap (λ l. alias ++ l) (sym b),
+  subst IsAlias (sym (is ∙ f)) are,
   subst NoLetterFirst (ap (λ k. drop k text) (sym count) ∙ sym b) (front_letters text).1,
 )
 
--- they are none, and then no alias is in front
-pub no_front : (text front : List ℕ) (n : ℕ) → n ≡ prefix_len is_letter text → front ≡ take n text → ¬ IsAlias front → (letters rest : List ℕ) → IsAlias letters → NoLetterFirst rest → text ≡ letters ++ rest → ⊥
-no_front text front n count f none letters rest alias longest e =
+-- they are none, or too many, and then no alias is in front
+pub no_front : (text : List ℕ) (n : ℕ) → n ≡ prefix_len is_letter text → (n ≡ 0) ⊎ (32 < n) → (letters rest : List ℕ) → IsAlias letters → NoLetterFirst rest → text ≡ letters ++ rest → ⊥
+no_front text n count bad letters rest alias longest e =
     let m = prefix_len is_letter text in
     let same = same_front (take m text) letters (drop m text) rest (front_letters text).0 (front_letters text).1 alias.letters longest (take-append-drop m text ∙ e) in
-    none (subst IsAlias (sym (f ∙ ap (λ k. take k text) count ∙ same.0)) alias)
+    let front = subst IsAlias (sym (ap (λ k. take k text) count ∙ same.0)) alias in
+    elim bad [ inl none ↦ none_in_none text n none front | inr many ↦ too_many_letters text n count many front ]

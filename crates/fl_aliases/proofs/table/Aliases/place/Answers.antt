@@ -8,7 +8,7 @@ use Rattle.fl_aliases.proofs.table.Aliases.place.Goals as goal
 pub returns-clause-ok : goal.returns-clause-ok
 returns-clause-ok c =
     let absent : target_of c.self.inside.targets.entries c.args.alias ≡ None = is_none _ (sym c.contains_key.ensures ∙ c.if-contains_key.false) in
-    c.in_ok-insert.ensures.entries ∙ insert_entry-new (pointwise nat_eq) c.self.inside.targets c.args.alias c.args.target absent ∙ ap (λ l. l ++ (c.args.alias, c.args.target) ∷ []) c.self.view_is
+    c.in_ok-insert.ensures.entries ∙ insert_entry-new (pointwise nat_eq) c.self.inside.targets c.args.alias c.new-placed.result absent ∙ ap (λ t. c.self.inside.targets.entries ++ (c.args.alias, t) ∷ []) c.new-placed.ensures ∙ ap (λ l. l ++ (c.args.alias, c.args.target) ∷ []) c.self.view_is
 
 pub invariant_of-self-2 : goal.invariant_of-self-2
 invariant_of-self-2 c =
