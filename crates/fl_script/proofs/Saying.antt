@@ -1,14 +1,13 @@
 -- What words say, and that they say nothing else.
-use Rattle.std.proofs.Common.{◌≡◌, ◌++◌, ◌<◌, inl, inr, false, sym, ap, subst, ◌∙◌, true≢false, ℕ, List, [], ◌∷◌, length, Option, None, Some, true, codes, length-append, arith}
+use Rattle.std.proofs.Common.{◌≡◌, ◌<◌, inl, inr, false, sym, ap, subst, ◌∙◌, true≢false, ℕ, List, [], ◌∷◌, length, Option, None, Some, true, codes, length-append, arith}
 use Rattle.std.specs.List.{All}
 use Rattle.std.proofs.lemmas.List.Elements.{length_all_zip}
-use Rattle.std.proofs.lemmas.List.Elements.{All-nil, All-cons, All-head, All-tail}
 use Rattle.fl_aliases.specs.Alias.{alias_text}
 use Rattle.fl_aliases.specs.Expansion.{Expands, NoDollar}
 use Rattle.fl_aliases.specs.Table.{Table}
 use Rattle.fl_aliases.specs.Words.{Word, words_of}
 use Rattle.fl_script.specs.Grammar.{Spells}
-use Rattle.fl_script.specs.parts.Meaning.{IsWord, EndsInAlias, CanBeNamed, WantsMemory}
+use Rattle.fl_script.specs.parts.Meaning.{EndsInAlias, CanBeNamed, WantsMemory}
 use Rattle.fl_script.specs.Reading.{makes, IsAsking, ReadingTakesMemory, WordsSay, SpellsReplaced, SpellsNamed}
 use Rattle.fl_script.specs.declared.line.Line.{Line}
 use Rattle.fl_script.specs.laws.Ends.{same_ends}
@@ -16,16 +15,8 @@ use Rattle.fl_script.specs.laws.OneReading.{none_with_as, same_line}
 use Rattle.fl_script.specs.laws.NamedLines.{named_dollar}
 use Rattle.fl_script.specs.laws.NoAs.{few_spell_made}
 use Rattle.fl_script.proofs.ReplacedWords.{too_many}
-use Rattle.fl_script.specs.laws.Spaced.{clean_stay, same_replaced}
+use Rattle.fl_script.specs.laws.Replacing.{clean_stay, same_replaced}
 use Rattle.fl_script.specs.laws.WordShape.{clean_words}
-
-front_all : (P : Word → Type 0) (front back : List Word) → All P (front ++ back) → All P front
-front_all P [] back h = All-nil P
-front_all P (w ∷ front) back h = All-cons P w front (All-head P w (front ++ back) h) (front_all P front back (All-tail P w (front ++ back) h))
-
--- the words before `as $x` are words
-pub front_words : (words front : List Word) (alias : List ℕ) → EndsInAlias front alias words → All IsWord words → All IsWord front
-front_words words front alias s are = front_all IsWord front _ (subst (All IsWord) s.split are)
 
 pub alias_wants : (words front : List Word) (alias : List ℕ) → EndsInAlias front alias words → WantsMemory words
 alias_wants words front alias s = record { is = inl (named_dollar words front alias s.split) }

@@ -6,6 +6,6 @@ pub mod OneLine
 pub mod Ends
 pub mod NoAs
 pub mod WordShape
-pub mod Spaced
+pub mod Replacing
 pub mod OneReading
 pub mod NamedLines

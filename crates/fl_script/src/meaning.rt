@@ -1,14 +1,14 @@
 //! What the words of a line say.
-ghost use Rattle.std.specs.Prelude.{◌≡◌, List, MatchOption, ℕ, map};
-ghost use Rattle.std.specs.List.{All};
+ghost use Rattle.std.specs.Prelude.{◌≡◌, ◌≤◌, List, MatchOption, ℕ, length, map};
 ghost use Rattle.fl_script.specs.parts.Reads.{Reads, StarvesIf};
 ghost use Rattle.fl_aliases.specs.Words.{Word};
-ghost use Rattle.fl_script.specs.parts.Meaning.{IsWord, EndsInAlias, CanBeNamed, WantsMemory};
+ghost use Rattle.fl_script.specs.parts.Meaning.{EndsInAlias, CanBeNamed, WantsMemory, replaced_bytes};
+ghost use Rattle.fl_script.specs.Grammar.{HoldsList, Spells};
 ghost use Rattle.fl_script.specs.Reading.{act_makes, makes, SpellsReplaced, WordsSay};
 
-use crate::cut::cut_line;
+use crate::cut::MOST_LINE_WORDS;
 use crate::line::{Line, line_from_words};
-use crate::replaced::{has_dollars, replaced_text};
+use crate::replaced::{Replaced, replace_words};
 use crate::request::Request;
 use crate::unread::Unread;
 use arrayvec::ArrayVec;
@@ -75,31 +75,34 @@ fn split_alias<'a, 'b>(words: &'a [&'b str]) -> Option<Named<'a, 'b>>
     Some(Named { front, alias })
 }
 
+// The line that words in which aliases are replaced spell.
+fn line_from_replaced(alloc: Global, replaced: &[Replaced<'_>]) -> Result<Line, Unread>
+    requires { length replaced.now ≤ 8 }
+    ensures ok { Reads result (λ line. Spells line (map replaced_bytes replaced.now)) }
+    ensures memory { StarvesIf result (HoldsList (map replaced_bytes replaced.now)) }
+{
+    let mut words = ArrayVec::<&str, MOST_LINE_WORDS>::new();
+    for word in replaced {
+        words.push(word.as_str());
+    }
+    line_from_words(alloc, words.as_slice())
+}
+
 // The line that the words spell with each alias in them replaced. Takes memory for the replaced
 // words, where an alias is in one, and for what a line of such words takes.
 fn replaced_line(alloc: Global, aliases: &Aliases, words: &[&str]) -> Result<Line, Unread>
-    requires { All IsWord (map (λ w. w.now) words.now) }
     ensures ok { Reads result (λ line.
         SpellsReplaced aliases.now line (map (λ w. w.now) words.now)) }
     ensures memory { StarvesIf result (WantsMemory (map (λ w. w.now) words.now)) }
 {
-    if !has_dollars(words) {
-        return line_from_words(alloc, words);
-    }
-    let Some(text) = replaced_text(alloc, aliases, words)? else {
-        return Err(Unread::Bad);
-    };
     let mut replaced = ArrayVec::new();
-    let Some(_) = cut_line(&text, &mut replaced) else {
-        return Err(Unread::Bad);
-    };
-    line_from_words(alloc, replaced.as_slice())
+    replace_words(alloc, aliases, words, &mut replaced)?;
+    line_from_replaced(alloc, replaced.as_slice())
 }
 
 // The line that the words before `as $x` spell. `Bad` where they spell no line that makes
 // something, or no more aliases can be set.
 fn named_line(alloc: Global, aliases: &Aliases, front: &[&str]) -> Result<Line, Unread>
-    requires { All IsWord (map (λ w. w.now) front.now) }
     ensures { Reads result (λ line. CanBeNamed aliases.now line (map (λ w. w.now) front.now)) }
 {
     if aliases.is_full() {
@@ -118,7 +121,6 @@ pub(crate) fn meaning_of(
     aliases: &Aliases,
     words: &[&str],
 ) -> Result<Meaning, Unread>
-    requires { All IsWord (map (λ w. w.now) words.now) }
     ensures ok { Reads result (λ meaning.
         WordsSay aliases.now meaning.line meaning.alias (map (λ w. w.now) words.now)) }
     ensures memory { StarvesIf result (WantsMemory (map (λ w. w.now) words.now)) }

@@ -1,59 +1,92 @@
 //! Words in which aliases are replaced.
-ghost use Rattle.std.specs.Prelude.{◌∷◌, ℕ, List, IfOk, MatchOption, map};
-ghost use Rattle.std.specs.Bool.{MatchBool};
+ghost use Rattle.std.specs.Prelude.{◌≡◌, ℕ, List, [], IfOk, IfErr, OnOk, map};
 ghost use Rattle.std.specs.List.{All, AllZip};
-ghost use Rattle.std.specs.String.{string_bytes};
-ghost use Rattle.fl_aliases.specs.Expansion.{Expands, ExpandsBehind, NoDollar};
-ghost use Rattle.fl_aliases.specs.Words.{Word};
-ghost use Rattle.fl_script.specs.parts.Meaning.{spaced};
+ghost use Rattle.fl_aliases.specs.Expansion.{Expands, NoDollar};
+ghost use Rattle.fl_script.specs.Reading.{SpellsReplaced};
+ghost use Rattle.fl_script.specs.declared.line.Line.{Line};
+ghost use Rattle.fl_script.specs.declared.unread.Unread.TheVariants.{Bad};
+ghost use Rattle.fl_script.specs.parts.Meaning.{replaced_bytes};
+ghost use Rattle.fl_script.specs.parts.Reads.{StarvesIf};
 
+use crate::cut::MOST_LINE_WORDS;
+use crate::unread::Unread;
+use arrayvec::ArrayVec;
 use fl_aliases::expand::{expand, has_dollar};
 use fl_aliases::table::Aliases;
-use std::alloc::{AllocError, Global};
+use std::alloc::Global;
 
-/// Whether a `$` stands in one of the words.
-pub(crate) fn has_dollars(words: &[&str]) -> bool
-    ensures { let said = map (λ w. w.now) words.now in
-        MatchBool result (¬ All NoDollar said) (All NoDollar said) }
-{
-    for word in words {
-        if has_dollar(word) {
-            return true;
+// Room for what one alias stands for, beside the word that has it. Most words have one at most.
+const ROOM: usize = 32;
+
+/// A word in which aliases are replaced.
+#[derive(Drop)]
+pub(crate) enum Replaced<'a> {
+    /// A word with no alias, which stays as it is.
+    Same(&'a str),
+    /// What a word with aliases becomes.
+    Text(String),
+}
+
+impl Replaced<'_> {
+    /// The bytes.
+    pub(crate) fn as_str(&self) -> &str
+        ensures { result.now ≡ replaced_bytes self.now }
+    {
+        match self {
+            Replaced::Same(word) => word,
+            Replaced::Text(text) => text.as_str(),
         }
     }
-    false
 }
 
-// Writes a space and the replaced word behind what the buffer holds, and answers whether this could
-// be done.
-fn push_replaced(aliases: &Aliases, word: &str, buffer: &mut String) -> Result<bool, AllocError>
-    ensures { IfOk result (λ done. MatchBool done
-        (ExpandsBehind aliases.now (32 ∷ word.now) (string_bytes buffer.old)
-        (string_bytes buffer.new))
-        ((out : List ℕ) → Expands aliases.now word.now out → ⊥)) }
-{
-    buffer.push(' ')?;
-    let done = expand(aliases, word, buffer)?;
-    Ok(done)
+impl<'a> Default for Replaced<'a> {
+    fn default() -> Replaced<'a> {
+        Replaced::Same("")
+    }
 }
 
-/// The words with each alias in them replaced, a space before each, or none where this cannot be
-/// done. Takes memory for the text.
-pub(crate) fn replaced_text(
+// The word with each alias in it replaced. `Bad` where this cannot be done. Takes memory for a word
+// that has an alias.
+fn replaced_word<'a>(
     alloc: Global,
     aliases: &Aliases,
-    words: &[&str],
-) -> Result<Option<String>, AllocError>
-    ensures { let said = map (λ w. w.now) words.now in
-        IfOk result (λ r. MatchOption r
-        ((replaced : List Word) → AllZip (Expands aliases.now) said replaced → ⊥)
-        (λ text. Expands aliases.now (spaced said) (string_bytes text))) }
+    word: &'a str,
+) -> Result<Replaced<'a>, Unread>
+    ensures ok { IfOk result (λ text. Expands aliases.now word.now (replaced_bytes text)) }
+    ensures bad { IfErr result (λ e.
+        e ≡ Bad → (out : List ℕ) → Expands aliases.now word.now out → ⊥) }
+    ensures memory { StarvesIf result (¬ NoDollar word.now) }
 {
-    let mut text = String::new(alloc);
-    for word in words {
-        if !push_replaced(aliases, word, &mut text)? {
-            return Ok(None);
-        }
+    if !has_dollar(word) {
+        return Ok(Replaced::Same(word));
     }
-    Ok(Some(text))
+    let mut text = String::with_capacity(alloc, word.len().saturating_add(ROOM))?;
+    if !expand(aliases, word, &mut text)? {
+        return Err(Unread::Bad);
+    }
+    Ok(Replaced::Text(text))
+}
+
+/// Adds the words with each alias in them replaced. `Bad` where this cannot be done, and where
+/// there are more than [`MOST_LINE_WORDS`]. Takes memory for the words that have an alias.
+pub(crate) fn replace_words<'a>(
+    alloc: Global,
+    aliases: &Aliases,
+    words: &[&'a str],
+    replaced: &mut ArrayVec<Replaced<'a>, MOST_LINE_WORDS>,
+) -> Result<(), Unread>
+    requires { replaced.old.items ≡ [] }
+    ensures ok { let said = map (λ w. w.now) words.now in
+        OnOk result (AllZip (Expands aliases.now) said (map replaced_bytes replaced.new.items)) }
+    ensures bad { let said = map (λ w. w.now) words.now in
+        IfErr result (λ e. e ≡ Bad → (line : Line) → SpellsReplaced aliases.now line said → ⊥) }
+    ensures memory { StarvesIf result (¬ All NoDollar (map (λ w. w.now) words.now)) }
+{
+    for word in words {
+        if replaced.is_full() {
+            return Err(Unread::Bad);
+        }
+        replaced.push(replaced_word(alloc, aliases, word)?);
+    }
+    Ok(())
 }

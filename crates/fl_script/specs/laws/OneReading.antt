@@ -13,7 +13,7 @@ use Rattle.fl_script.specs.declared.reading.Reading.TheVariants.{Quiet, Bad, Mea
 use Rattle.fl_script.specs.laws.Ends.{same_ends}
 use Rattle.fl_script.specs.laws.NoAs.{no_as}
 use Rattle.fl_script.specs.laws.OneLine.{one_line}
-use Rattle.fl_script.specs.laws.Spaced.{same_replaced, word_stays}
+use Rattle.fl_script.specs.laws.Replacing.{same_replaced, word_stays}
 
 as_is_clean : NoDollar (codes "as")
 as_is_clean = All-cons (λ b. b ≢ 36) 97 (115 ∷ []) (λ e. absurd (omega (arith, e))) (All-cons (λ b. b ≢ 36) 115 [] (λ e. absurd (omega (arith, e))) (All-nil (λ b. b ≢ 36)))

@@ -1,6 +1,7 @@
 -- What the words of a line say, where aliases in them are replaced.
-use Rattle.std.specs.Prelude.{◌≡◌, ◌≢◌, ◌<◌, ◌⊎◌, ℕ, true, List, [], ◌∷◌, ◌++◌, length, codes}
-use Rattle.std.specs.List.{All, flat_map}
+use Rattle.std.specs.Prelude.{◌≡◌, ◌<◌, ◌⊎◌, ℕ, true, List, [], ◌∷◌, ◌++◌, length, codes}
+use Rattle.std.specs.List.{All}
+use Rattle.std.specs.String.{string_bytes}
 use Rattle.fl_aliases.specs.Alias.{IsAlias, alias_text}
 use Rattle.fl_aliases.specs.Expansion.{NoDollar}
 use Rattle.fl_aliases.specs.Table.{Table}
@@ -8,15 +9,13 @@ use Rattle.fl_aliases.specs.Words.{Word}
 use Rattle.fl_script.specs.Grammar.{HoldsList}
 use Rattle.fl_script.specs.Reading.{makes, SpellsReplaced}
 use Rattle.fl_script.specs.declared.line.Line.{Line}
+use Rattle.fl_script.specs.declared.replaced.Replaced.{Replaced}
+use Rattle.fl_script.specs.declared.replaced.Replaced.TheVariants.{Same, Text}
 
--- the bytes are some, and none of them is a space
-pub record IsWord (word : Word) : Type 0 where
-  pub some : 0 < length word
-  pub whole : All (λ b. b ≢ 32) word
-
--- each word behind a space
-abbrev pub spaced : List Word → List ℕ
-spaced words = flat_map (λ word. 32 ∷ word) words
+-- the bytes of a word in which aliases are replaced
+abbrev pub replaced_bytes : Replaced → List ℕ
+replaced_bytes (Same word) = word.now
+replaced_bytes (Text text) = string_bytes text
 
 -- the words are these, and then `as $x`
 pub record EndsInAlias (front : List Word) (alias : List ℕ) (words : List Word) : Type 0 where

@@ -1,11 +1,8 @@
 use Rattle.std.proofs.Common.{map}
 use Rattle.fl_script.proofs.Found.{passed}
 use Rattle.fl_script.proofs.ReplacedWords.{may_starve}
-use Rattle.fl_script.proofs.Saying.{front_words, alias_wants, named_none}
+use Rattle.fl_script.proofs.Saying.{alias_wants, named_none}
 use Rattle.fl_script.proofs.meaning.meaning_of.Goals as goal
-
-pub named_line-requires : goal.named_line-requires
-named_line-requires c = front_words (map (λ w. w.now) c.args.words.now) (map (λ w. w.now) c.in-Some.named.front.now) c.in-Some.named.alias c.in-Some.ensures c.requires
 
 pub returns-in_err-line-2-clause-memory : goal.returns-in_err-line-2-clause-memory
 returns-in_err-line-2-clause-memory c = may_starve _ (alias_wants (map (λ w. w.now) c.args.words.now) (map (λ w. w.now) c.in-Some.named.front.now) c.in-Some.named.alias c.in-Some.ensures)

@@ -4,7 +4,7 @@ use Rattle.fl_aliases.specs.Words.{words_of}
 use Rattle.fl_script.specs.Grammar.{Spells}
 use Rattle.fl_script.specs.Reading.{IsQuiet, WordsSay}
 use Rattle.fl_script.specs.declared.unread.Unread.TheVariants.{Bad}
-use Rattle.fl_script.specs.laws.WordShape.{are_words, clean_words}
+use Rattle.fl_script.specs.laws.WordShape.{clean_words}
 use Rattle.fl_script.proofs.Found.{none_read}
 use Rattle.fl_script.proofs.Saying.{many_say_none, clean_says, clean_none}
 use Rattle.fl_script.proofs.reading.read_line.Goals as goal
@@ -50,11 +50,6 @@ returns-in-Err-Bad-clause-ok c =
       says_none = λ text. clean_none c.args.aliases.now (words_of c.args.bytes.now) clean (λ line s.
           none_read _ _ is c.line_from_words.ensures.ok line (subst (Spells line) (sym words) s));
     }
-
-pub meaning_of-requires : goal.meaning_of-requires
-meaning_of-requires c =
-    rw (c.as_slice-words.ensures.value, c.in-Some-cut_line.ensures.words)
-    (are_words c.in-Some.text.now)
 
 pub returns-in-Err-Bad-meaning_of-clause-ok : goal.returns-in-Err-Bad-meaning_of-clause-ok
 returns-in-Err-Bad-meaning_of-clause-ok c =
