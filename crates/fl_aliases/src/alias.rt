@@ -80,7 +80,10 @@ impl Alias {
     pub fn from_word(word: &str) -> Option<Self>
         ensures { Finds result (λ alias. IsAliasWord alias word.now) }
     {
-        Alias::from_letters(word.strip_prefix('$')?.as_bytes())
+        let [b'$', letters @ ..] = word.as_bytes() else {
+            return None;
+        };
+        Alias::from_letters(letters)
     }
 
     fn letters(&self) -> &[u8]

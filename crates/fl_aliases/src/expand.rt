@@ -1,5 +1,5 @@
 //! Aliases replaced in a line.
-ghost use Rattle.std.specs.Prelude.{◌≡◌, ◌++◌, ◌∷◌, ℕ, List, IfOk, IfSome, IfNone, MatchOption};
+ghost use Rattle.std.specs.Prelude.{◌≡◌, ◌++◌, ◌∷◌, ℕ, List, IfOk, IfSome, IfNone, OnOk, MatchOption};
 ghost use Rattle.std.specs.Bool.{MatchBool};
 ghost use Rattle.std.specs.String.{string_bytes};
 ghost use Rattle.std.specs.List.{prefix_len};
@@ -59,6 +59,16 @@ fn split_dollar(text: &str) -> Option<(&str, &str)>
     }
 }
 
+// Most words have nothing before their alias and nothing behind it.
+fn push_part(buffer: &mut String, part: &str) -> Result<(), AllocError>
+    ensures { OnOk result (string_bytes buffer.new ≡ string_bytes buffer.old ++ part.now) }
+{
+    if part.is_empty() {
+        return Ok(());
+    }
+    buffer.push_str(part)
+}
+
 /// Writes into the buffer, behind what it holds, the line with each alias in it replaced by the
 /// text of what it stands for, and answers whether this could be done: not where a `$` has no 1 to
 /// 32 letters behind it, or these are an alias that is not set. What was replaced is not looked at
@@ -72,7 +82,7 @@ pub fn expand(aliases: &Aliases, line: &str, buffer: &mut String) -> Result<bool
 {
     let mut rest = line;
     while let Some((plain, behind)) = split_dollar(rest) {
-        buffer.push_str(plain)?;
+        push_part(buffer, plain)?;
         let Some(front) = split_alias(behind) else {
             return Ok(false);
         };
@@ -82,6 +92,16 @@ pub fn expand(aliases: &Aliases, line: &str, buffer: &mut String) -> Result<bool
         buffer.push_str(text)?;
         rest = front.behind;
     }
-    buffer.push_str(rest)?;
+    push_part(buffer, rest)?;
     Ok(true)
+}
+
+/// What a line that is one alias expands to, as it is kept. `None` of any other line, and where the
+/// alias is not set. One look-up, and no memory.
+pub fn kept_expansion<'a>(aliases: &'a Aliases, line: &str) -> Option<&'a str>
+    ensures { IfSome result (λ text. Expands aliases.now line.now text.now) }
+{
+    let alias = Alias::from_word(line)?;
+    let text = aliases.text_of(&alias)?;
+    Some(text)
 }

@@ -52,6 +52,7 @@ fn node_line(alloc: Global, n: &str, verb: &str, rest: &[&str]) -> Result<Line, 
 
 /// The line that the words spell. `Bad` where they spell no line. Takes memory for a list alone: of
 /// tags, of capabilities or of bytes.
+#[inline(always)]
 pub(crate) fn line_from_words(alloc: Global, words: &[&str]) -> Result<Line, Unread>
     ensures ok { Reads result (λ l. Spells l (map (λ w. w.now) words.now)) }
     ensures memory { StarvesIf result (HoldsList (map (λ w. w.now) words.now)) }

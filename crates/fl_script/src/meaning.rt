@@ -90,7 +90,7 @@ fn line_from_replaced(alloc: Global, replaced: &[Replaced<'_>]) -> Result<Line, 
 
 // The line that the words spell with each alias in them replaced. Takes memory for the replaced
 // words, where an alias is in one, and for what a line of such words takes.
-fn replaced_line(alloc: Global, aliases: &Aliases, words: &[&str]) -> Result<Line, Unread>
+fn replaced_line<'a>(alloc: Global, aliases: &'a Aliases, words: &[&'a str]) -> Result<Line, Unread>
     ensures ok { Reads result (λ line.
         SpellsReplaced aliases.now line (map (λ w. w.now) words.now)) }
     ensures memory { StarvesIf result (WantsMemory (map (λ w. w.now) words.now)) }

@@ -11,7 +11,7 @@ ghost use Rattle.fl_script.specs.parts.Reads.{StarvesIf};
 use crate::cut::MOST_LINE_WORDS;
 use crate::unread::Unread;
 use arrayvec::ArrayVec;
-use fl_aliases::expand::{expand, has_dollar};
+use fl_aliases::expand::{expand, has_dollar, kept_expansion};
 use fl_aliases::table::Aliases;
 use std::alloc::Global;
 
@@ -21,9 +21,9 @@ const ROOM: usize = 32;
 /// A word in which aliases are replaced.
 #[derive(Drop)]
 pub(crate) enum Replaced<'a> {
-    /// A word with no alias, which stays as it is.
-    Same(&'a str),
-    /// What a word with aliases becomes.
+    /// What is kept elsewhere: a word with no alias, or what the one that a word is stands for.
+    Kept(&'a str),
+    /// What another word becomes.
     Text(String),
 }
 
@@ -33,7 +33,7 @@ impl Replaced<'_> {
         ensures { result.now ≡ replaced_bytes self.now }
     {
         match self {
-            Replaced::Same(word) => word,
+            Replaced::Kept(text) => text,
             Replaced::Text(text) => text.as_str(),
         }
     }
@@ -41,15 +41,15 @@ impl Replaced<'_> {
 
 impl<'a> Default for Replaced<'a> {
     fn default() -> Replaced<'a> {
-        Replaced::Same("")
+        Replaced::Kept("")
     }
 }
 
 // The word with each alias in it replaced. `Bad` where this cannot be done. Takes memory for a word
-// that has an alias.
+// that has an alias and is not one.
 fn replaced_word<'a>(
     alloc: Global,
-    aliases: &Aliases,
+    aliases: &'a Aliases,
     word: &'a str,
 ) -> Result<Replaced<'a>, Unread>
     ensures ok { IfOk result (λ text. Expands aliases.now word.now (replaced_bytes text)) }
@@ -57,8 +57,12 @@ fn replaced_word<'a>(
         e ≡ Bad → (out : List ℕ) → Expands aliases.now word.now out → ⊥) }
     ensures memory { StarvesIf result (¬ NoDollar word.now) }
 {
+    // Most words with an alias are one.
+    if let Some(text) = kept_expansion(aliases, word) {
+        return Ok(Replaced::Kept(text));
+    }
     if !has_dollar(word) {
-        return Ok(Replaced::Same(word));
+        return Ok(Replaced::Kept(word));
     }
     let mut text = String::with_capacity(alloc, word.len().saturating_add(ROOM))?;
     if !expand(aliases, word, &mut text)? {
@@ -68,10 +72,11 @@ fn replaced_word<'a>(
 }
 
 /// Adds the words with each alias in them replaced. `Bad` where this cannot be done, and where
-/// there are more than [`MOST_LINE_WORDS`]. Takes memory for the words that have an alias.
+/// there are more than [`MOST_LINE_WORDS`]. Takes memory for each word that has an alias and is not
+/// one.
 pub(crate) fn replace_words<'a>(
     alloc: Global,
-    aliases: &Aliases,
+    aliases: &'a Aliases,
     words: &[&'a str],
     replaced: &mut ArrayVec<Replaced<'a>, MOST_LINE_WORDS>,
 ) -> Result<(), Unread>

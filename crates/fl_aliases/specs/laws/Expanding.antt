@@ -161,6 +161,12 @@ module _ (table : Table) where
       let s = becomes_only (c.back out h).after in
       none s.letters s.rest s.alias s.longest s.read
 
+  -- a line that is one alias becomes the text of what that stands for
+  pub one_alias : (letters : List ℕ) (target : Target) → IsAlias letters → target_of table letters ≡ Some target → Expands table (36 ∷ letters) (target_text target)
+  one_alias letters target alias found =
+      subst (λ l. Expands table (36 ∷ l) (target_text target)) (append-nil letters)
+      (subst (Expands table (36 ∷ (letters ++ []))) (append-nil (target_text target)) (becomes alias tt found ends))
+
   -- the alias is not set
   pub not_set : (line done letters rest : List ℕ) → IsAlias letters → NoLetterFirst rest → target_of table letters ≡ None → Continues line done (36 ∷ (letters ++ rest)) → (out : List ℕ) → Expands table line out → ⊥
   not_set line done letters rest alias longest none c out h =

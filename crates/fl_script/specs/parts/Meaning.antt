@@ -10,11 +10,11 @@ use Rattle.fl_script.specs.Grammar.{HoldsList}
 use Rattle.fl_script.specs.Reading.{makes, SpellsReplaced}
 use Rattle.fl_script.specs.declared.line.Line.{Line}
 use Rattle.fl_script.specs.declared.replaced.Replaced.{Replaced}
-use Rattle.fl_script.specs.declared.replaced.Replaced.TheVariants.{Same, Text}
+use Rattle.fl_script.specs.declared.replaced.Replaced.TheVariants.{Kept, Text}
 
 -- the bytes of a word in which aliases are replaced
 abbrev pub replaced_bytes : Replaced → List ℕ
-replaced_bytes (Same word) = word.now
+replaced_bytes (Kept text) = text.now
 replaced_bytes (Text text) = string_bytes text
 
 -- the words are these, and then `as $x`

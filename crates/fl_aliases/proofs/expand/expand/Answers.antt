@@ -36,8 +36,8 @@ loop-plain-preserved c =
     let so_far = cut_at table _ _ _ _ _ cut behind.so_far in
     let done = behind.done ++ c.in-Some.plain.now in
     let more = alias_more table line done c.in-Some-split_alias.front.alias rest found_text.0 found.1 found.2 found_text.1 (subst (λ l. Continues table line done (36 ∷ l)) found.0 so_far) in
-    (search rules, behind_more table line before _ c.in-Some.plain.now _ text _ rest behind c.in_ok-push_str.ensures.bytes (rw found_text.2 at c.in_ok-push_str-2.ensures.bytes) more)
+    (search rules, behind_more table line before _ c.in-Some.plain.now _ text _ rest behind c.in_ok-push_part.ensures (rw found_text.2 at c.in_ok-push_str.ensures.bytes) more)
 
 pub returns : goal.returns
 returns c =
-    all_behind c.args.aliases.now c.args.line.now _ _ _ _ c.in_default.ensures c.loop-plain.invariant.1 c.in_ok-push_str-3.ensures.bytes
+    all_behind c.args.aliases.now c.args.line.now _ _ _ _ c.in_default.ensures c.loop-plain.invariant.1 c.in_ok-push_part-2.ensures
