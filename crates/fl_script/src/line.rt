@@ -40,6 +40,7 @@ fn union_line(rest: &[&str]) -> Option<Line>
 }
 
 // The line that a node's number, a verb and the words after it spell.
+#[inline(always)]
 fn node_line(alloc: Global, n: &str, verb: &str, rest: &[&str]) -> Result<Line, Unread>
     requires { n.now ≢ codes "union" }
     ensures ok { Reads result (λ l. Spells l (n.now ∷ verb.now ∷ map (λ w. w.now) rest.now)) }

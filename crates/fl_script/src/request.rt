@@ -161,6 +161,7 @@ fn other_request(alloc: Global, verb: &str, rest: &[&str]) -> Result<Request, Un
 
 /// What a verb and the words after it ask of a node. `Bad` where they ask nothing. Takes memory for
 /// a list alone: of tags, of capabilities or of bytes.
+#[inline(always)]
 pub(crate) fn request_from_words(
     alloc: Global,
     verb: &str,
