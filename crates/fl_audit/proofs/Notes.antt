@@ -1,10 +1,11 @@
 -- What would be noted may be noted.
-use Rattle.std.proofs.Common.{◌≡◌, ◌∙◌, refl, sym, ap, subst, arith, ℕ, zero, List, [], ◌∷◌, length}
+use Rattle.std.proofs.Common.{◌≡◌, ◌∙◌, refl, sym, ap, subst, arith, ℕ, zero, List, [], ◌∷◌, ◌++◌, length}
 use Rattle.std.proofs.Common.{Bool, true, false, is_some}
 use Rattle.std.proofs.Common.{Option, Some, None, Result, Ok, Err, OnErr}
-use Rattle.std.specs.Prelude.{cond, not, IfOk, ◌==◌}
-use Rattle.std.specs.declared.alloc.AllocError.{AllocError}
+use Rattle.std.specs.Prelude.{cond, not, take, ◌==◌}
+use Rattle.std.proofs.Math.Seq.{take-append_seam}
 use Rattle.std.proofs.lemmas.Bool.{false≢true}
+use Rattle.std.proofs.lemmas.List.{append-nil}
 use Rattle.std.proofs.lemmas.Result.{on_err_weaker}
 use Rattle.std.specs.FinMap as map
 use Rattle.std.specs.List.{Contains}
@@ -14,6 +15,7 @@ use Rattle.fl_labels.specs.SetBy as set
 use Rattle.fl_labels.specs.SetBy.{SetBy}
 use Rattle.fl_labels.specs.declared.cap.Cap.{Cap}
 use Rattle.fl_labels.specs.declared.cap.Cap.TheVariants.{Use}
+use Rattle.fl_labels.specs.declared.name.Name.{Name}
 use Rattle.fl_labels.specs.declared.pid.Pid.{Pid}
 use Rattle.fl_rules.specs.declared.endpoint.Mode.{Mode}
 use Rattle.fl_rules.specs.declared.labels.Labels.{Labels}
@@ -25,26 +27,28 @@ use Rattle.fl_jobs.specs.declared.job.Act.TheVariants.{Order, Relabel, Ask, Spaw
 use Rattle.fl_jobs.specs.declared.job.Act.TheVariants.{Drop, Enter, Emit, Mail}
 use Rattle.fl_jobs.specs.declared.job.GivenLabels.{GivenLabels}
 use Rattle.fl_jobs.specs.declared.job.Job.{Job}
-use Rattle.fl_jobs.specs.declared.job.Job.TheVariants.{By}
+use Rattle.fl_jobs.specs.declared.job.Job.TheVariants.{By, Member}
 use Rattle.fl_jobs.specs.declared.job.Mail as mails
 use Rattle.fl_jobs.specs.declared.job.Mail.TheVariants.{Open, Tune, Close, Send, Take}
 use Rattle.fl_jobs.specs.declared.job.Order as orders
 use Rattle.fl_jobs.specs.declared.answer.Reply.TheVariants as replies
+use Rattle.fl_jobs.specs.declared.secret.Secret.{Secret}
 use Rattle.fl_bench.specs.Process.{order_takes, takes_nothing}
+use Rattle.fl_bench.specs.Secrets.{digest_of}
 use Rattle.fl_bench.specs.declared.process.Process.{Process}
 use Rattle.fl_system.specs.Audit.{party, order_entries, endpoint_entries, tuned_entries}
-use Rattle.fl_system.specs.Audit.{mail_entries, act_entries, entries_by}
+use Rattle.fl_system.specs.Audit.{mail_entries, act_entries, entries_by, entries, if_yes, if_entered}
 use Rattle.fl_system.specs.Processes.{process_of}
 use Rattle.fl_system.specs.State.{NodeState}
 use Rattle.fl_system.specs.WorldJobs.{MayBeNoted}
 use Rattle.fl_system.specs.declared.admission.Admission.{Admission}
-use Rattle.fl_system.specs.declared.admission.Admission.TheVariants.{Grant}
+use Rattle.fl_system.specs.declared.admission.Admission.TheVariants.{Grant, Entry, Reached}
 use Rattle.fl_system.specs.declared.admission.Party.{Party}
 use Rattle.fl_system.specs.declared.answer.Answer.{Answer}
 use Rattle.fl_system.specs.declared.answer.Answer.TheVariants as answers
-use Rattle.fl_audit.specs.Drafts.{drafted, IsAskedAt}
+use Rattle.fl_audit.specs.Drafts.{IsDrafted, IsAskedAt, is_yes, entered}
 use Rattle.fl_audit.specs.declared.draft.Draft.{Draft}
-use Rattle.fl_audit.specs.declared.draft.Draft.TheVariants.{Always}
+use Rattle.fl_audit.specs.declared.draft.Draft.TheVariants.{IfYes, IfEntered}
 use Rattle.fl_audit.specs.Noted.{tuned_noted, mail_noted, act_noted}
 
 pub on_err : {T E P : Type 0} (r : Result T E) → P → OnErr r P
@@ -124,11 +128,18 @@ module _ (number boot : ℕ) (asker : Option Process) (job : Job) (pid : Pid) (p
       let asks : IsAskedAt number boot asker (By pid act) n = subst (λ j. IsAskedAt number boot asker j n) is asked in
       subst (MayBeNoted n) (sym is) (may_be n pid p act (asks.asker_is ∙ there) noted)
 
+  pub drafted_asked : (before after : List Admission) (d : Draft) → IsDrafted before after (act_entries pid p act) d
+      → (n : NodeState) → IsAskedAt number boot asker job n → IsDrafted before after (entries n job) d
+  drafted_asked before after d h n asked =
+      let asks : IsAskedAt number boot asker (By pid act) n = subst (λ j. IsAskedAt number boot asker j n) is asked in
+      let P : Option Process → Type 0 = λ o. IsDrafted before after (entries_by o pid act) d in
+      subst (λ j. IsDrafted before after (entries n j) d) (sym is) (subst P (sym (asks.asker_is ∙ there)) h)
+
   pub may_be_asked : {T E : Type 0} (r : Result T E) → OnErr r (act_noted p act ≡ true)
       → OnErr r ((n : NodeState) → IsAskedAt number boot asker job n → MayBeNoted n job)
   may_be_asked r h = on_err_weaker r noted_may h
 
--- ---- what is drafted of an order
+-- ---- what is noted of an order
 
 module _ (order : orders.Order) (caps : List Cap) (listed : caps ≡ set.members (order_takes order)) where
   -- whether nothing is taken
@@ -140,14 +151,91 @@ module _ (order : orders.Order) (caps : List Cap) (listed : caps ≡ set.members
   set_taken : (made : SetBy cap_cmp) → made ≡ set.of_list caps → made ≡ order_takes order
   set_taken made is = is ∙ ap set.of_list listed ∙ set.of_list-members cap_total cap_exact (order_takes order)
 
-  pub grant_drafted : (p : Party) (made : SetBy cap_cmp) → made ≡ set.of_list caps → takes_nothing order ≡ false
-      → (r : Result Draft AllocError) → IfOk r (λ draft. draft ≡ Always (Grant p made))
-      → IfOk r (λ draft. (a : Answer) → drafted draft a ≡ order_entries p order)
-  grant_drafted p made is some (Err e) h = tt
-  grant_drafted p made is some (Ok draft) h = λ a.
-      ap (λ d. drafted d a) h
-      ∙ ap (λ s. Grant p s ∷ []) (set_taken made is)
+  pub grant_listed : (p : Party) (made : SetBy cap_cmp) → made ≡ set.of_list caps → takes_nothing order ≡ false
+      → Grant p made ∷ [] ≡ order_entries p order
+  grant_listed p made is some =
+      ap (λ s. Grant p s ∷ []) (set_taken made is)
       ∙ ap (λ b. if_taken b (Grant p (order_takes order))) (sym some)
 
-pub nothing_drafted : (order : orders.Order) (p : Party) → takes_nothing order ≡ true → [] ≡ order_entries p order
-nothing_drafted order p e = ap (λ b. if_taken b (Grant p (order_takes order))) (sym e)
+pub nothing_listed : (order : orders.Order) (p : Party) → takes_nothing order ≡ true → [] ≡ order_entries p order
+nothing_listed order p e = ap (λ b. if_taken b (Grant p (order_takes order))) (sym e)
+
+-- ---- what is noted before the answer
+
+pub unchanged : (before entries : List Admission) → [] ≡ entries → before ≡ before ++ entries
+unchanged before entries none = sym (append-nil before) ∙ ap (λ l. before ++ l) none
+
+-- an act that is known
+pub act_drafted : (pid : Pid) (p : Process) {act : Act} (known : Act) (before : List Admission) {after : List Admission}
+    (d : Draft) → act ≡ known → IsDrafted before after (act_entries pid p known) d
+    → IsDrafted before after (act_entries pid p act) d
+act_drafted pid p known before {after} d is h = subst (λ a. IsDrafted before after (act_entries pid p a) d) (sym is) h
+
+-- the same, of a question of what a capability reaches
+module _ (number boot : ℕ) (asker : Option Process) (job : Job) (root c : Cap) (is : job ≡ Member root c) where
+  pub member_drafted : (before after : List Admission) (d : Draft)
+      → IsDrafted before after (λ a. if_yes a (Reached number boot root c)) d → (n : NodeState)
+      → IsAskedAt number boot asker job n → IsDrafted before after (entries n job) d
+  member_drafted before after d h n asked =
+      let P : ℕ → ℕ → Type 0 = λ number boot. IsDrafted before after (λ a. if_yes a (Reached number boot root c)) d in
+      let h' : P n.number n.boot =
+      subst (λ k. P k n.boot) (sym asked.number_is) (subst (λ k. P number k) (sym asked.boot_is) h) in
+      subst (λ j. IsDrafted before after (entries n j) d) (sym is) h'
+
+  pub member_may : (n : NodeState) → IsAskedAt number boot asker job n → MayBeNoted n job
+  member_may n asked =
+      subst (MayBeNoted n) (sym is) (record { answer = answers.Reply replies.Yes; entry = _; noted = first _ })
+
+-- ---- once it is answered
+
+yes_is : (a : Answer) (entry : Admission) → if_yes a entry ≡ cond (is_yes a) (entry ∷ []) []
+yes_is (answers.Reply replies.Yes) entry = refl
+yes_is (answers.Reply (replies.Made pid)) entry = refl
+yes_is (answers.Reply replies.Done) entry = refl
+yes_is (answers.Reply replies.NotYet) entry = refl
+yes_is (answers.Reply (replies.Entered c)) entry = refl
+yes_is (answers.Reply (replies.Emitted bytes)) entry = refl
+yes_is (answers.Reply (replies.Opened endpoint)) entry = refl
+yes_is (answers.Reply (replies.Taken letter)) entry = refl
+yes_is (answers.Reply replies.Empty) entry = refl
+yes_is (answers.Reply (replies.Arrived pid)) entry = refl
+yes_is (answers.Out d) entry = refl
+yes_is (answers.Begun name) entry = refl
+
+abbrev entered_entries : Option Cap → Party → Name → Secret → List Admission
+entered_entries None p login secret = []
+entered_entries (Some c) p login secret = Entry p login c (digest_of secret) ∷ []
+
+entered_is : (a : Answer) (p : Party) (login : Name) (secret : Secret)
+    → if_entered a p login secret ≡ entered_entries (entered a) p login secret
+entered_is (answers.Reply replies.Yes) p login secret = refl
+entered_is (answers.Reply (replies.Made pid)) p login secret = refl
+entered_is (answers.Reply replies.Done) p login secret = refl
+entered_is (answers.Reply replies.NotYet) p login secret = refl
+entered_is (answers.Reply (replies.Entered c)) p login secret = refl
+entered_is (answers.Reply (replies.Emitted bytes)) p login secret = refl
+entered_is (answers.Reply (replies.Opened endpoint)) p login secret = refl
+entered_is (answers.Reply (replies.Taken letter)) p login secret = refl
+entered_is (answers.Reply replies.Empty) p login secret = refl
+entered_is (answers.Reply (replies.Arrived pid)) p login secret = refl
+entered_is (answers.Out d) p login secret = refl
+entered_is (answers.Begun name) p login secret = refl
+
+module _ (before after : List Admission) (noted : Answer → List Admission) (a : Answer) where
+  taken_back : (entries : List Admission) (from : ℕ) (left : List Admission) → length before ≡ from
+      → after ≡ before ++ entries → left ≡ take from after → left ≡ before
+  taken_back entries from left long is cut =
+      cut ∙ ap (λ n. take n after) (sym long) ∙ ap (λ l. take (length before) l) is ∙ take-append_seam before entries
+
+  pub leaves_no_yes : (from : ℕ) (left : List Admission) → length before ≡ from → left ≡ take from after
+      → is_yes a ≡ false → IsDrafted before after noted IfYes → left ≡ before ++ noted a
+  leaves_no_yes from left long cut is_none (IsDrafted.on_yes entry is all) =
+      taken_back (entry ∷ []) from left long is cut
+      ∙ unchanged before (noted a) (ap (λ b. cond b (entry ∷ []) []) (sym is_none) ∙ sym (yes_is a entry) ∙ all a)
+
+  pub leaves_no_entry : (from : ℕ) (left : List Admission) → length before ≡ from → left ≡ take from after
+      → entered a ≡ None → IsDrafted before after noted IfEntered → left ≡ before ++ noted a
+  leaves_no_entry from left long cut is_none (IsDrafted.on_entry p login c secret is all) =
+      taken_back (Entry p login c (digest_of secret) ∷ []) from left long is cut
+      ∙ unchanged before (noted a)
+      (ap (λ o. entered_entries o p login secret) (sym is_none) ∙ sym (entered_is a p login secret) ∙ all a)

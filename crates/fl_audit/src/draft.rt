@@ -1,14 +1,22 @@
-//! What would be noted of a job, made before the job is done.
+//! What is noted of a job, before it is done and once it is answered.
 ghost use Rattle.std.specs.Option.{option_copied};
-ghost use Rattle.std.specs.Prelude.{◌≡◌, ℕ, true, false, is_some, IfOk, OnErr};
+ghost use Rattle.std.specs.Prelude.{◌≡◌, ◌++◌, ℕ, true, false, is_some, IfOk, OnOk, OnErr};
+ghost use Rattle.std.specs.Prelude.{List, [], ◌∷◌, length};
+ghost use Rattle.fl_labels.specs.declared.cap.Cap.{Cap};
+ghost use Rattle.fl_labels.specs.declared.cap.Cap.TheVariants as Cap;
+ghost use Rattle.fl_labels.specs.declared.name.Name.{Name};
+ghost use Rattle.fl_ops.specs.declared.digest.Digest.{Digest};
 ghost use Rattle.fl_jobs.specs.Given.{labels_of};
 ghost use Rattle.fl_bench.specs.Process.{owns, takes_nothing};
-ghost use Rattle.fl_system.specs.Audit.{party, entries};
+ghost use Rattle.fl_bench.specs.Secrets.{digest_of};
+ghost use Rattle.fl_system.specs.Audit.{party, entries, if_yes};
 ghost use Rattle.fl_system.specs.Audit.{order_entries, endpoint_entries, mail_entries, act_entries};
 ghost use Rattle.fl_system.specs.State.{NodeState};
 ghost use Rattle.fl_system.specs.WorldJobs.{MayBeNoted};
+ghost use Rattle.fl_system.specs.declared.admission.Admission.{Admission};
+ghost use Rattle.fl_system.specs.declared.admission.Party.{Party};
 ghost use Rattle.fl_system.specs.declared.answer.Answer.{Answer};
-ghost use Rattle.fl_audit.specs.Drafts.{drafted, listed, IsAskedAt};
+ghost use Rattle.fl_audit.specs.Drafts.{IsDrafted, IsAskedAt, is_yes, entered};
 ghost use Rattle.fl_audit.specs.Noted.{mail_noted, act_noted};
 ghost use Rattle.fl_audit.specs.Noted.{asker_noted, IsNotedWith};
 
@@ -19,38 +27,27 @@ use fl_bench::process::Process;
 use fl_bench::shared::SharedCaps;
 use fl_bench::taken::Taken;
 use fl_jobs::answer::Reply;
-use fl_jobs::job::{Act, GivenLabels, Job, Mail, Order};
+use fl_jobs::job::{Act, GivenLabels, Job, Mail, Order, Side};
 use fl_jobs::secret::Secret;
+use fl_labels::cap::Cap;
 use fl_labels::cap_set::CapSet;
+use fl_labels::label::Label;
 use fl_labels::name::{Name, NodeNumber};
 use fl_labels::pid::Pid;
 use fl_rules::endpoint::Mode;
-use fl_system::admission::{Admission, Party};
+use fl_system::admission::Admission;
 use fl_system::answer::Answer;
 use std::alloc::{AllocError, Global};
 
-/// What is noted of a job if it is admitted, but for what hangs on its answer.
+/// What becomes of what is noted of a job before it is done, once the job is answered.
+#[derive(Clone, Copy, Debug, PartialEq, Eq)]
 pub enum Draft {
-    /// Nothing, whatever the answer is.
-    Nothing,
-    /// This, whatever the answer is.
-    Always(Admission),
-    /// This, where the answer is yes.
-    IfYes(Admission),
-    /// That this process entered the login of this name by this secret, where the answer is the
-    /// login's capability.
-    IfEntered(Party, Name, Secret),
-}
-
-impl Drop for Draft {
-    fn drop(self) {
-        match self {
-            Draft::Nothing => {}
-            Draft::Always(_) => {}
-            Draft::IfYes(_) => {}
-            Draft::IfEntered(_, _, _) => {}
-        }
-    }
+    /// It stays, whatever the answer is. It may be nothing.
+    Always,
+    /// It stays where the answer is yes.
+    IfYes,
+    /// It stays where the answer is the capability of a login, and that is then put into it.
+    IfEntered,
 }
 
 // Whether neither label is too long.
@@ -100,181 +97,329 @@ pub fn names_asker(asker: Option<&Process>, job: &Job) -> bool
     }
 }
 
-// That the process hands these capabilities on.
-fn draft_grant(
+// Notes that the process hands these capabilities on.
+fn note_grant(
     alloc: Global,
     pid: Pid,
     process: &Process,
     owned: SharedCaps,
     caps: CapSet,
-) -> Result<Draft, AllocError>
+    audit: &mut Vec<Admission>,
+) -> Result<(), AllocError>
     requires { owned ≡ owns process.now }
-    ensures { IfOk result (λ draft.
-        draft ≡ Draft.Always (Admission.Grant (party pid process.now) caps)) }
+    ensures ok { let entry = Admission.Grant (party pid process.now) caps in
+        OnOk result (audit.new.items ≡ audit.old.items ++ entry ∷ []) }
+    ensures err { OnErr result (audit.new.items ≡ audit.old.items) }
 {
-    Ok(Draft::Always(Admission::Grant(party(alloc, pid, process, owned)?, caps)))
+    audit.reserve(1)?;
+    let party = party(alloc, pid, process, owned)?;
+    audit.push_reserved(Admission::Grant(party, caps));
+    Ok(())
 }
 
-// What is noted of an order.
-fn draft_order(
+// Notes that the label of this side of the process becomes this one.
+fn note_change(
+    alloc: Global,
+    pid: Pid,
+    process: &Process,
+    owned: SharedCaps,
+    side: Side,
+    label: &Label,
+    audit: &mut Vec<Admission>,
+) -> Result<(), AllocError>
+    requires { owned ≡ owns process.now }
+    ensures ok { let entry = Admission.Change (party pid process.now) side label.now in
+        OnOk result (audit.new.items ≡ audit.old.items ++ entry ∷ []) }
+    ensures err { OnErr result (audit.new.items ≡ audit.old.items) }
+{
+    audit.reserve(1)?;
+    let label = label.copy(alloc)?;
+    let party = party(alloc, pid, process, owned)?;
+    audit.push_reserved(Admission::Change(party, side, label));
+    Ok(())
+}
+
+// Notes that bytes of the process go to the outside.
+fn note_emission(
+    alloc: Global,
+    pid: Pid,
+    process: &Process,
+    owned: SharedCaps,
+    audit: &mut Vec<Admission>,
+) -> Result<(), AllocError>
+    requires { owned ≡ owns process.now }
+    ensures ok { let entry = Admission.Emission (party pid process.now) in
+        OnOk result (audit.new.items ≡ audit.old.items ++ entry ∷ []) }
+    ensures err { OnErr result (audit.new.items ≡ audit.old.items) }
+{
+    audit.reserve(1)?;
+    let party = party(alloc, pid, process, owned)?;
+    audit.push_reserved(Admission::Emission(party));
+    Ok(())
+}
+
+// Notes that the process is told that it has the capability in effect.
+fn note_yes(
+    alloc: Global,
+    pid: Pid,
+    process: &Process,
+    owned: SharedCaps,
+    cap: Cap,
+    audit: &mut Vec<Admission>,
+) -> Result<(), AllocError>
+    requires { owned ≡ owns process.now }
+    ensures ok { let entry = Admission.Yes (party pid process.now) cap in
+        OnOk result (audit.new.items ≡ audit.old.items ++ entry ∷ []) }
+    ensures err { OnErr result (audit.new.items ≡ audit.old.items) }
+{
+    audit.reserve(1)?;
+    let party = party(alloc, pid, process, owned)?;
+    audit.push_reserved(Admission::Yes(party, cap));
+    Ok(())
+}
+
+// Notes that the process enters the login of this name by this secret. Until the answer says what
+// capability the login gives, its use stands for that.
+fn note_entry(
+    alloc: Global,
+    pid: Pid,
+    process: &Process,
+    owned: SharedCaps,
+    login: Name,
+    secret: Secret,
+    audit: &mut Vec<Admission>,
+) -> Result<(), AllocError>
+    requires { owned ≡ owns process.now }
+    ensures ok { let digest = digest_of secret in
+        let entry = Admission.Entry (party pid process.now) login (Cap.Use login) digest in
+        OnOk result (audit.new.items ≡ audit.old.items ++ entry ∷ []) }
+    ensures err { OnErr result (audit.new.items ≡ audit.old.items) }
+{
+    audit.reserve(1)?;
+    let party = party(alloc, pid, process, owned)?;
+    let digest = digest_of_secret(secret);
+    audit.push_reserved(Admission::Entry(party, login, Cap::Use(login), digest));
+    Ok(())
+}
+
+// Notes what an order hands on.
+fn note_order(
     alloc: Global,
     pid: Pid,
     process: &Process,
     owned: SharedCaps,
     order: Order,
-) -> Result<Draft, AllocError>
+    audit: &mut Vec<Admission>,
+) -> Result<(), AllocError>
     requires { owned ≡ owns process.now }
-    ensures ok { IfOk result (λ draft. (a : Answer) →
-        drafted draft a ≡ order_entries (party pid process.now) order) }
+    ensures ok { let entries = order_entries (party pid process.now) order in
+        OnOk result (audit.new.items ≡ audit.old.items ++ entries) }
+    ensures same { OnErr result (audit.new.items ≡ audit.old.items) }
     ensures err { OnErr result (takes_nothing order ≡ false) }
 {
     let taken = Taken::by(order);
     if taken.as_slice().is_empty() {
-        return Ok(Draft::Nothing);
+        return Ok(());
     }
     let caps = set_of(alloc, taken.as_slice())?;
-    draft_grant(alloc, pid, process, owned, caps)
+    note_grant(alloc, pid, process, owned, caps, audit)
 }
 
-// What is noted of an endpoint of this mode that gets these labels.
-fn draft_endpoint(
+// Notes an endpoint of this mode that gets these labels.
+fn note_endpoint(
     alloc: Global,
     pid: Pid,
     process: &Process,
     owned: SharedCaps,
     mode: Mode,
     labels: &GivenLabels,
-) -> Result<Draft, AllocError>
+    audit: &mut Vec<Admission>,
+) -> Result<(), AllocError>
     requires { owned ≡ owns process.now }
-    ensures ok { IfOk result (λ draft. (a : Answer) →
-        drafted draft a ≡ endpoint_entries (party pid process.now) mode (labels_of labels.now)) }
+    ensures ok { let p = party pid process.now in
+        let entries = endpoint_entries p mode (labels_of labels.now) in
+        OnOk result (audit.new.items ≡ audit.old.items ++ entries) }
+    ensures same { OnErr result (audit.new.items ≡ audit.old.items) }
     ensures err { OnErr result (is_some (labels_of labels.now) ≡ true) }
 {
-    match given(alloc, labels)? {
-        None => Ok(Draft::Nothing),
-        Some(labels) => Ok(Draft::Always(Admission::Endpoint(
-            party(alloc, pid, process, owned)?,
-            mode,
-            labels,
-        ))),
-    }
+    let Some(labels) = given(alloc, labels)? else {
+        return Ok(());
+    };
+    audit.reserve(1)?;
+    let party = party(alloc, pid, process, owned)?;
+    audit.push_reserved(Admission::Endpoint(party, mode, labels));
+    Ok(())
 }
 
-// What is noted of what a process does with its endpoints and messages.
-fn draft_mail(
+// Notes what a process does with its endpoints and messages.
+fn note_mail(
     alloc: Global,
     pid: Pid,
     process: &Process,
     owned: SharedCaps,
     mail: &Mail,
-) -> Result<Draft, AllocError>
+    audit: &mut Vec<Admission>,
+) -> Result<(), AllocError>
     requires { owned ≡ owns process.now }
-    ensures ok { IfOk result (λ draft. (a : Answer) →
-        drafted draft a ≡ mail_entries (party pid process.now) process.now.mailbox mail.now) }
+    ensures ok { let entries = mail_entries (party pid process.now) process.now.mailbox mail.now in
+        OnOk result (audit.new.items ≡ audit.old.items ++ entries) }
+    ensures same { OnErr result (audit.new.items ≡ audit.old.items) }
     ensures err { OnErr result (mail_noted process.now.mailbox mail.now ≡ true) }
 {
     match mail {
-        Mail::Open(mode, labels) => draft_endpoint(alloc, pid, process, owned, *mode, labels),
+        Mail::Open(mode, labels) => {
+            note_endpoint(alloc, pid, process, owned, *mode, labels, audit)
+        }
         Mail::Tune(endpoint, labels) => match process.mailbox.endpoints.get(*endpoint) {
-            None => Ok(Draft::Nothing),
-            Some(opened) => draft_endpoint(alloc, pid, process, owned, opened.mode, labels),
+            None => Ok(()),
+            Some(opened) => note_endpoint(alloc, pid, process, owned, opened.mode, labels, audit),
         },
         Mail::Send { message, .. } => {
             let caps = message.caps.copy(alloc)?;
-            draft_grant(alloc, pid, process, owned, caps)
+            note_grant(alloc, pid, process, owned, caps, audit)
         }
-        Mail::Close(_) | Mail::Take => Ok(Draft::Nothing),
+        Mail::Close(_) | Mail::Take => Ok(()),
     }
 }
 
-// What is noted of an act of the process, which stands as this pid.
-fn draft_act(
+// Notes an act of the process, which stands as this pid.
+fn note_act(
     alloc: Global,
     pid: Pid,
     process: &Process,
     owned: SharedCaps,
     act: &Act,
+    audit: &mut Vec<Admission>,
 ) -> Result<Draft, AllocError>
     requires { owned ≡ owns process.now }
-    ensures ok { IfOk result (λ draft. (a : Answer) →
-        drafted draft a ≡ act_entries pid process.now act.now a) }
+    ensures ok { IfOk result (IsDrafted audit.old.items audit.new.items
+        (act_entries pid process.now act.now)) }
+    ensures same { OnErr result (audit.new.items ≡ audit.old.items) }
     ensures err { OnErr result (act_noted process.now act.now ≡ true) }
 {
     match act {
-        Act::Order(order) => draft_order(alloc, pid, process, owned, *order),
-        Act::Relabel(side, Ok(label)) => Ok(Draft::Always(Admission::Change(
-            party(alloc, pid, process, owned)?,
-            *side,
-            label.copy(alloc)?,
-        ))),
-        Act::Ask(cap) => Ok(Draft::IfYes(Admission::Yes(party(alloc, pid, process, owned)?, *cap))),
+        Act::Order(order) => note_order(alloc, pid, process, owned, *order, audit)?,
+        Act::Relabel(side, Ok(label)) => {
+            note_change(alloc, pid, process, owned, *side, label, audit)?
+        }
+        Act::Ask(cap) => {
+            note_yes(alloc, pid, process, owned, *cap, audit)?;
+            return Ok(Draft::IfYes);
+        }
         Act::Spawn(caps) => {
             let caps = caps.copy(alloc)?;
-            draft_grant(alloc, pid, process, owned, caps)
+            note_grant(alloc, pid, process, owned, caps, audit)?
         }
-        Act::Enter(login, secret) => Ok(Draft::IfEntered(
-            party(alloc, pid, process, owned)?,
-            *login,
-            *secret,
-        )),
-        Act::Emit(_) => Ok(Draft::Always(Admission::Emission(party(alloc, pid, process, owned)?))),
-        Act::Mail(mail) => draft_mail(alloc, pid, process, owned, mail),
-        Act::Relabel(_, Err(_)) | Act::Exit | Act::Drop(_) => Ok(Draft::Nothing),
+        Act::Enter(login, secret) => {
+            note_entry(alloc, pid, process, owned, *login, *secret, audit)?;
+            return Ok(Draft::IfEntered);
+        }
+        Act::Emit(_) => note_emission(alloc, pid, process, owned, audit)?,
+        Act::Mail(mail) => note_mail(alloc, pid, process, owned, mail, audit)?,
+        Act::Relabel(_, Err(_)) | Act::Exit | Act::Drop(_) => {}
+    }
+    Ok(Draft::Always)
+}
+
+// Notes a question of what a capability reaches, at the node of this number and boot.
+fn note_reached(
+    number: NodeNumber,
+    boot: u32,
+    root: Cap,
+    cap: Cap,
+    audit: &mut Vec<Admission>,
+) -> Result<Draft, AllocError>
+    ensures ok { let entry = Admission.Reached number boot root cap in
+        IfOk result (IsDrafted audit.old.items audit.new.items (λ a. if_yes a entry)) }
+    ensures same { OnErr result (audit.new.items ≡ audit.old.items) }
+{
+    audit.reserve(1)?;
+    audit.push_reserved(Admission::Reached(number, boot, root, cap));
+    Ok(Draft::IfYes)
+}
+
+// Whether the answer is yes.
+fn is_yes(answer: &Answer) -> bool
+    ensures { result ≡ is_yes answer.now }
+{
+    matches!(answer, Answer::Reply(Reply::Yes))
+}
+
+// The capability that the login gave, where the answer is one.
+fn entered(answer: &Answer) -> Option<Cap>
+    ensures { result ≡ entered answer.now }
+{
+    match answer {
+        Answer::Reply(Reply::Entered(cap)) => Some(*cap),
+        _ => None,
+    }
+}
+
+// Puts this capability into the entry that was noted last, of a login that was entered.
+fn put_cap(audit: &mut Vec<Admission>, cap: Cap)
+    ensures { (before : List Admission) (p : Party) (login : Name) (c : Cap) (digest : Digest) →
+        audit.old.items ≡ before ++ Admission.Entry p login c digest ∷ [] →
+        audit.new.items ≡ before ++ Admission.Entry p login cap digest ∷ [] }
+{
+    let Some(entry) = audit.last_mut() else {
+        return;
+    };
+    if let Admission::Entry(_, _, noted, _) = entry {
+        *noted = cap;
     }
 }
 
 impl Draft {
-    /// What is noted of the job if it is admitted at a node of this number and boot: the job is
-    /// asked for by this process, or by none that is there, which owns this, where that is noted.
-    /// Nothing is copied where nothing would be noted, and memory is wanted only where something
-    /// may be: then at most the labels of the process, and the label or the capabilities that the
-    /// job names.
-    pub fn new(
+    /// Notes the job, as it is noted if it is admitted at a node of this number and boot, and says
+    /// what becomes of that once it is answered: the job is asked for by this process, or by none
+    /// that is there, which owns this, where that is noted. Nothing is copied where nothing would
+    /// be noted, and memory is wanted only where something may be: then at most the labels of the
+    /// process, the label or the capabilities that the job names, and room for one entry. Of a
+    /// secret it takes the digest.
+    pub fn note(
         alloc: Global,
         number: NodeNumber,
         boot: u32,
         asker: Option<&Process>,
         owned: Option<SharedCaps>,
         job: &Job,
+        audit: &mut Vec<Admission>,
     ) -> Result<Draft, AllocError>
         requires { IsNotedWith (option_copied asker) job.now owned }
         ensures ok { IfOk result (λ draft. (n : NodeState) →
-            IsAskedAt number boot (option_copied asker.entry) job.now n → (a : Answer) →
-            drafted draft a ≡ entries n job.now a) }
+            IsAskedAt number boot (option_copied asker.entry) job.now n →
+            IsDrafted audit.old.items audit.new.items (entries n job.now) draft) }
+        ensures same { OnErr result (audit.new.items ≡ audit.old.items) }
         ensures err { OnErr result ((n : NodeState) →
             IsAskedAt number boot (option_copied asker.entry) job.now n → MayBeNoted n job.now) }
     {
         match job {
             Job::By(pid, act) => match (asker, owned) {
-                (Some(process), Some(owned)) => draft_act(alloc, *pid, process, owned, act),
-                _ => Ok(Draft::Nothing),
+                (Some(process), Some(owned)) => note_act(alloc, *pid, process, owned, act, audit),
+                _ => Ok(Draft::Always),
             },
-            Job::Member(root, cap) => Ok(Draft::IfYes(Admission::Reached(
-                number, boot, *root, *cap,
-            ))),
-            Job::Proc | Job::Arrive(_) => Ok(Draft::Nothing),
+            Job::Member(root, cap) => note_reached(number, boot, *root, *cap, audit),
+            Job::Proc | Job::Arrive(_) => Ok(Draft::Always),
         }
     }
 
-    /// What is noted of the job that was answered so. Takes no memory.
-    pub fn entry(self, answer: &Answer) -> Option<Admission>
-        ensures { listed result ≡ drafted self answer.now }
+    /// Leaves of what was noted of the job, from this length of the audit on, what is noted of it
+    /// with this answer. Takes no memory.
+    pub fn settle(self, audit: &mut Vec<Admission>, from: usize, answer: &Answer)
+        ensures { (before : List Admission) (noted : Answer → List Admission) →
+            length before ≡ from → IsDrafted before audit.old.items noted self →
+            audit.new.items ≡ before ++ noted answer.now }
     {
         match self {
-            Draft::Nothing => None,
-            Draft::Always(entry) => Some(entry),
-            Draft::IfYes(entry) => match answer {
-                Answer::Reply(Reply::Yes) => Some(entry),
-                _ => None,
-            },
-            Draft::IfEntered(party, login, secret) => match answer {
-                Answer::Reply(Reply::Entered(cap)) => Some(Admission::Entry(
-                    party,
-                    login,
-                    *cap,
-                    digest_of_secret(secret),
-                )),
-                _ => None,
+            Draft::Always => {}
+            Draft::IfYes => {
+                if !is_yes(answer) {
+                    audit.truncate(from);
+                }
+            }
+            Draft::IfEntered => match entered(answer) {
+                Some(cap) => put_cap(audit, cap),
+                None => audit.truncate(from),
             },
         }
     }

@@ -1,9 +1,10 @@
 -- A job at a node.
-use Rattle.std.proofs.Common.{◌≡◌, ◌≤◌, ◌<◌, ◌++◌, ◌∙◌, refl, sym, ap, subst, ℕ, zero, suc, List, [], ◌∷◌, length, Option, Some, None, Result, Ok, Err, arith, inl}
-use Rattle.std.specs.Prelude.{◌+◌, min, max, IsSome, OnOk}
+use Rattle.std.proofs.Common.{◌≡◌, ◌≤◌, ◌<◌, ◌++◌, ◌∙◌, refl, sym, ap, subst, ℕ, zero, suc, List, [], ◌∷◌, length, Option, Some, None, Ok, Err, arith, inl}
+use Rattle.std.specs.Prelude.{min, max, IsSome, take, false, ◌≢◌}
 use Rattle.std.specs.List.{Contains}
+use Rattle.std.proofs.Math.Seq.{take-append_seam}
+use Rattle.std.proofs.lemmas.Bool.{false≢true}
 use Rattle.std.proofs.lemmas.List.{append-nil}
-use Rattle.fl_labels.specs.declared.cap.Cap.TheVariants.{Grow}
 use Rattle.fl_labels.specs.declared.pid.Pid.{Pid}
 use Rattle.fl_message.specs.declared.message.Data.{Data}
 use Rattle.fl_wire.specs.declared.packet.Packet.TheVariants as packet
@@ -37,51 +38,26 @@ use Rattle.fl_system.specs.Processes.{process_of, process_at}
 use Rattle.fl_system.specs.State.{NodeState}
 use Rattle.fl_system.specs.Waiting.{IsRunning, NotRunning}
 use Rattle.fl_system.specs.WorldJobs.{MayBeNoted, party_at, sent_message}
-use Rattle.fl_audit.specs.Drafts.{asker_of, drafted, listed}
+use Rattle.fl_audit.specs.Drafts.{asker_of, IsDrafted}
 use Rattle.fl_audit.specs.Senders.{sender_of}
 use Rattle.fl_audit.specs.declared.draft.Draft.{Draft}
-use Rattle.fl_audit.specs.declared.draft.Draft.TheVariants.{Nothing, Always, IfYes, IfEntered}
 use Rattle.fl_node.specs.Desks.{IsDeskOf}
-use Rattle.fl_notes.specs.Working.{HasRoom, IsNotable, IsUnready, Shows, Works, Worked}
+use Rattle.fl_notes.specs.Working.{IsUnready, Shows, Works, Worked, is_sending}
 
 -- ---- drafts
+
+taken : (before after entries : List Admission) (from : ℕ) → length before ≡ from → after ≡ before ++ entries → take from after ≡ before
+taken before after entries from long is = (λ i. take (sym long i) (is i)) ∙ take-append_seam before entries
 
 in_one : {A : Type 0} (x : A) → Contains (x ∷ []) x
 in_one x = (0, omega arith, refl)
 
-pub notable : (draft : Draft) → (draft ≡ Nothing → ⊥) → IsNotable draft
-notable Nothing some = absurd (some refl)
-notable (Always entry) some = record { answer = answers.Reply replies.Done; entry = entry; noted = in_one entry }
-notable (IfYes entry) some = record { answer = answers.Reply replies.Yes; entry = entry; noted = in_one entry }
-notable (IfEntered p login secret) some = record { answer = answers.Reply (replies.Entered (Grow login)); entry = _; noted = in_one _ }
-
-pub no_need : (draft : Draft) (len capacity : ℕ) → draft ≡ Nothing → HasRoom draft len capacity
-no_need draft len capacity e = subst (λ d. HasRoom d len capacity) (sym e) tt
-
-pub roomy : (draft : Draft) (len capacity : ℕ) → len < capacity → HasRoom draft len capacity
-roomy Nothing len capacity h = tt
-roomy (Always entry) len capacity h = h
-roomy (IfYes entry) len capacity h = h
-roomy (IfEntered p login secret) len capacity h = h
-
-pub room_if_ok : {T E : Type 0} (r : Result T E) (draft : Draft) (len capacity : ℕ) → OnOk r (len + 1 ≤ capacity) → OnOk r (HasRoom draft len capacity)
-room_if_ok (Ok x) draft len capacity h = roomy draft len capacity (omega (arith, h))
-room_if_ok (Err e) draft len capacity h = tt
-
-pub ok_or_not : {T E : Type 0} (r : Result T E) (draft : Draft) (len capacity : ℕ) → len + 1 ≤ capacity → OnOk r (HasRoom draft len capacity)
-ok_or_not (Ok x) draft len capacity h = roomy draft len capacity (omega (arith, h))
-ok_or_not (Err e) draft len capacity h = tt
-
--- who notes something has room
-pub has_room : (draft : Draft) (a : Answer) (entry : Admission) (len capacity : ℕ) → entry ∷ [] ≡ drafted draft a
-    → HasRoom draft len capacity → len < capacity
-has_room Nothing a entry len capacity e h = absurd (cc)
-has_room (Always x) a entry len capacity e h = h
-has_room (IfYes x) a entry len capacity e h = h
-has_room (IfEntered p login secret) a entry len capacity e h = h
-
-pub listed_is : {A : Type 0} (o : Option A) (x : A) (l : List A) → o ≡ Some x → listed o ≡ l → x ∷ [] ≡ l
-listed_is o x l is e = ap listed (sym is) ∙ e
+-- what was noted of a job can be taken back
+pub take_back : (before after : List Admission) (noted : Answer → List Admission) (draft : Draft) (from : ℕ) → length before ≡ from
+    → IsDrafted before after noted draft → take from after ≡ before
+take_back before after noted draft from long (IsDrafted.always entries is all) = taken before after entries from long is
+take_back before after noted draft from long (IsDrafted.on_yes entry is all) = taken before after _ from long is
+take_back before after noted draft from long (IsDrafted.on_entry p login c secret is all) = taken before after _ from long is
 
 -- ---- a desk
 
@@ -117,23 +93,24 @@ sent_by n desk upto job d n' (Jobs.sent look did) =
       asked = s.asked;
     }
 
-granted : (n : NodeState) (job : Job) (d : Data) (a : Answer) (s : IsSentBy n job d)
-    → entries n job a ≡ Grant (party d.sender s.process) d.message.caps ∷ []
-granted n job d a s =
-    ap (λ j. entries n j a) s.asked
-    ∙ ap (λ o. entries_by o d.sender (Mail (Send d.from d.receiver d.to d.message)) a) s.stands
-
--- a message that is sent is noted, so that there is room for it
-pub sends_in_room : (n : NodeState) (desk upto : ℕ) (job : Job) (d : Data) (n' : NodeState) (draft : Draft) (len capacity : ℕ)
-    → Jobs n desk upto job (Ok (answers.Out d)) n' → ((a : Answer) → drafted draft a ≡ entries n job a)
-    → HasRoom draft len capacity → len < capacity
-sends_in_room n desk upto job d n' draft len capacity did drafts room =
-    let s = sent_by n desk upto job d n' did in
-    has_room draft (answers.Out d) _ len capacity (sym (drafts (answers.Out d) ∙ granted n job d (answers.Out d) s)) room
-
 sender_is : (n : NodeState) (desk upto : ℕ) (job : Job) (d : Data) (n' : NodeState) → Jobs n desk upto job (Ok (answers.Out d)) n'
     → sender_of (asker_of n job) job ≡ party_at d.sender (process_of n d.sender)
 sender_is n desk upto job d n' did = ap (λ j. sender_of (asker_of n j) j) (sent_by n desk upto job d n' did).asked
+
+-- a job that sends nothing has no message for an answer
+pub sends_none : (n : NodeState) (desk upto : ℕ) (job : Job) (a : Answer) (n' : NodeState) → is_sending job ≡ false
+    → Jobs n desk upto job (Ok a) n' → (d : Data) → a ≢ answers.Out d
+sends_none n desk upto job a n' none did d is =
+    let s = sent_by n desk upto job d n' (subst (λ x. Jobs n desk upto job (Ok x) n') is did) in
+    false≢true (sym none ∙ ap is_sending s.asked)
+
+-- who sends a message is there, so that there is room for it
+pub sends_in_room : (n : NodeState) (desk upto : ℕ) (job : Job) (d : Data) (n' : NodeState) (sender : Option Party) (len capacity : ℕ)
+    → Jobs n desk upto job (Ok (answers.Out d)) n' → sender ≡ sender_of (asker_of n job) job
+    → (IsSome sender → len < capacity) → len < capacity
+sends_in_room n desk upto job d n' sender len capacity did known room =
+    let s = sent_by n desk upto job d n' did in
+    room (subst IsSome (sym (known ∙ sender_is n desk upto job d n' did ∙ ap (party_at d.sender) s.stands)) refl)
 
 -- who would send is noted
 granted_by : (n : NodeState) (pid : Pid) (mail : mails.Mail) (o : Option Process) → process_of n pid ≡ o → IsSome (sender_of o (By pid (Mail mail)))
@@ -166,13 +143,6 @@ sender_noted n (By pid act) h = sender_noted_by n pid act h
 sender_noted n Proc h = absurd (cc)
 sender_noted n (Member root c) h = absurd (cc)
 sender_noted n (Arrive d) h = absurd (cc)
-
-pub draft_noted : (n : NodeState) (job : Job) (draft : Draft) → ((a : Answer) → drafted draft a ≡ entries n job a) → IsNotable draft → MayBeNoted n job
-draft_noted n job draft drafts h = record {
-  answer = h.answer;
-  entry = h.entry;
-  noted = subst (λ l. Contains l h.entry) (drafts h.answer) h.noted;
-}
 
 -- ---- what comes of a job
 

@@ -1,12 +1,14 @@
 -- What a job does at a node, and what it sends and has noted.
-use Rattle.std.specs.Prelude.{◌≡◌, ◌⊎◌, ◌<◌, ◌++◌, ℕ, suc, List, [], ◌∷◌, length}
-use Rattle.std.specs.List.{Contains}
+use Rattle.std.specs.Prelude.{◌≡◌, ◌⊎◌, ◌++◌, ℕ, suc, List, [], ◌∷◌, length, Bool, true, false}
 use Rattle.std.specs.declared.option.Option.{Option}
 use Rattle.std.specs.declared.result.Result.TheVariants.{Ok, Err}
 use Rattle.fl_labels.specs.declared.name.Name.{Name}
 use Rattle.fl_message.specs.declared.message.Data.{Data}
 use Rattle.fl_wire.specs.declared.packet.Packet.TheVariants as packet
+use Rattle.fl_jobs.specs.declared.job.Act.TheVariants.{Mail}
 use Rattle.fl_jobs.specs.declared.job.Job.{Job}
+use Rattle.fl_jobs.specs.declared.job.Job.TheVariants.{By}
+use Rattle.fl_jobs.specs.declared.job.Mail.TheVariants.{Send}
 use Rattle.fl_jobs.specs.declared.answer.Reply as jobs
 use Rattle.fl_jobs.specs.declared.answer.Refusal.TheVariants.{Memory}
 use Rattle.fl_system.specs.declared.admission.Admission.{Admission}
@@ -23,22 +25,11 @@ use Rattle.fl_system.specs.Jobs.{Jobs, Looks, looking}
 use Rattle.fl_system.specs.State.{NodeState}
 use Rattle.fl_system.specs.Waiting.{IsRunning, NotRunning}
 use Rattle.fl_system.specs.WorldJobs.{MayBeNoted, sent_message}
-use Rattle.fl_audit.specs.Drafts.{drafted}
-use Rattle.fl_audit.specs.declared.draft.Draft.{Draft}
-use Rattle.fl_audit.specs.declared.draft.Draft.TheVariants.{Nothing, Always, IfYes, IfEntered}
 
--- room for one more, unless nothing would be noted
-abbrev pub HasRoom : Draft → ℕ → ℕ → Type 0
-HasRoom Nothing len capacity = Unit {0}
-HasRoom (Always entry) len capacity = len < capacity
-HasRoom (IfYes entry) len capacity = len < capacity
-HasRoom (IfEntered p login secret) len capacity = len < capacity
-
--- some answer would be noted
-pub record IsNotable (draft : Draft) : Type 0 where
-  pub answer : Answer
-  pub entry : Admission
-  pub noted : Contains (drafted draft answer) entry
+-- by the job a message may be sent
+abbrev pub is_sending : Job → Bool
+is_sending (By pid (Mail (Send from receiver to message))) = true
+is_sending other = false
 
 -- why a job is not done: the node is stopped, or there is no room for what would be noted of it
 pub data IsUnready (n : NodeState) (job : Job) : Fault → Type 0 where

@@ -1,22 +1,26 @@
 //! A job at a node, with what it sends and what is noted of it.
-ghost use Rattle.std.specs.Prelude.{◌≡◌, ◌<◌, ◌++◌, length, IfOk, IfErr, OnOk, OnErr};
+ghost use Rattle.std.specs.Prelude.{◌≡◌, ◌≢◌, ◌<◌, ℕ, List, length, take};
+ghost use Rattle.std.specs.Prelude.{IfOk, IfErr, OnOk, OnErr, IsSome};
+ghost use Rattle.std.specs.declared.option.Option.{Option};
 ghost use Rattle.std.specs.Option.{option_copied};
 ghost use Rattle.std.specs.Vec.{vec_len, vec_capacity};
+ghost use Rattle.fl_system.specs.declared.admission.Party.{Party};
 ghost use Rattle.fl_system.specs.declared.answer.Answer.TheVariants as answers;
+ghost use Rattle.fl_system.specs.declared.sent.Sent.{Sent};
 ghost use Rattle.fl_system.specs.Audit.{entries};
 ghost use Rattle.fl_system.specs.WorldJobs.{MayBeNoted};
-ghost use Rattle.fl_audit.specs.Drafts.{asker_of, drafted};
+ghost use Rattle.fl_audit.specs.Drafts.{asker_of, IsDrafted};
 ghost use Rattle.fl_audit.specs.Noted.{IsNotedWith};
 ghost use Rattle.fl_audit.specs.Senders.{sender_of};
 ghost use Rattle.fl_node.specs.Desks.{IsDeskOf};
-ghost use Rattle.fl_notes.specs.Working.{HasRoom, IsNotable, IsUnready, Shows, Worked};
+ghost use Rattle.fl_notes.specs.Working.{IsUnready, Shows, Worked, is_sending};
 
 use fl_audit::draft::{Draft, names_asker};
 use fl_audit::party::sender;
 use fl_bench::process::Process;
 use fl_bench::shared::SharedCaps;
 use fl_jobs::answer::Refusal;
-use fl_jobs::job::{Job, let_go};
+use fl_jobs::job::{Act, Job, Mail, let_go};
 use fl_labels::name::NodeNumber;
 use fl_node::node::Node;
 use fl_store::keeper::Keeper;
@@ -38,67 +42,11 @@ fn asker<'a, K: Keeper>(node: &'a Node<K>, job: &Job) -> Option<&'a Process>
     }
 }
 
-// Takes room for what would be noted and sent. Takes none where nothing would be.
-fn take_room(
-    draft: &Draft,
-    audit: &mut Vec<Admission>,
-    sent: &mut Vec<Sent>,
-) -> Result<(), AllocError>
-    ensures audit { audit.new.items ≡ audit.old.items }
-    ensures sent { sent.new.items ≡ sent.old.items }
-    ensures to_note { OnOk result (HasRoom draft.now (vec_len audit.new) (vec_capacity audit.new)) }
-    ensures to_send { OnOk result (HasRoom draft.now (vec_len sent.new) (vec_capacity sent.new)) }
-    ensures err { OnErr result (IsNotable draft.now) }
+// Whether the job sends a message, where it is admitted.
+fn sends(job: &Job) -> bool
+    ensures { result ≡ is_sending job.now }
 {
-    if let Draft::Nothing = draft {
-        return Ok(());
-    }
-    audit.reserve(1)?;
-    sent.reserve(1)
-}
-
-// Notes what there is to note of the answer, in the room that there is.
-fn note(audit: &mut Vec<Admission>, draft: Draft, answer: &Answer)
-    requires { HasRoom draft (vec_len audit.old) (vec_capacity audit.old) }
-    ensures { audit.new.items ≡ audit.old.items ++ drafted draft answer.now }
-{
-    if let Some(entry) = draft.entry(answer) {
-        let Ok(()) = audit.push(entry) else {
-            unreachable!("there is room");
-        };
-    }
-}
-
-// Sends a message that was answered, in the room that there is, and shows the answer.
-fn show(number: NodeNumber, sender: Option<Party>, sent: &mut Vec<Sent>, answer: Answer) -> Reply
-    requires { (d : _) → answer ≡ answers.Out d → vec_len sent.old < vec_capacity sent.old }
-    ensures { Shows number sender sent.old.items answer result sent.new.items }
-{
-    match answer {
-        Answer::Reply(reply) => Reply::Job(reply),
-        Answer::Begun(name) => Reply::Begun(name),
-        Answer::Out(message) => {
-            let packet = Packet::Data(message.into_inner());
-            let Ok(()) = sent.push(Sent {
-                from: number,
-                packet,
-                sender,
-            }) else {
-                unreachable!("there is room");
-            };
-            Reply::Sent {
-                first: sent.len() as u64,
-                count: 1,
-            }
-        }
-    }
-}
-
-// What is made of a job before it is done.
-#[derive(Drop)]
-struct Prepared {
-    draft: Draft,
-    sender: Option<Party>,
+    matches!(job, Job::By(_, Act::Mail(Mail::Send { .. })))
 }
 
 // What the process that asks for the job owns, where that may be noted.
@@ -121,39 +69,146 @@ fn share<K: Keeper>(
     }
 }
 
-// Makes what would be noted of the job, and who would send by it.
-fn draft<K: Keeper>(alloc: Global, node: &mut Node<K>, job: &Job) -> Result<Prepared, AllocError>
-    ensures drafts { IfOk result (λ made. (a : _) →
-        drafted made.draft a ≡ entries node.old.node job.now a) }
+// Notes the job as it is noted if it is admitted.
+fn note<K: Keeper>(
+    alloc: Global,
+    node: &mut Node<K>,
+    job: &Job,
+    audit: &mut Vec<Admission>,
+) -> Result<Draft, AllocError>
+    ensures drafts { IfOk result (IsDrafted audit.old.items audit.new.items
+        (entries node.old.node job.now)) }
+    ensures audit { OnErr result (audit.new.items ≡ audit.old.items) }
+    ensures err { OnErr result (MayBeNoted node.old.node job.now) }
+    ensures same { node.new ≡ node.old }
+{
+    let owned = share(alloc, node, job)?;
+    let process = asker(node, job);
+    Draft::note(
+        alloc,
+        node.number(),
+        node.boot(),
+        process,
+        owned,
+        job,
+        audit,
+    )
+}
+
+// The same, where the node runs.
+fn prepare<K: Keeper>(
+    alloc: Global,
+    node: &mut Node<K>,
+    job: &Job,
+    audit: &mut Vec<Admission>,
+) -> Result<Draft, Fault>
+    ensures drafts { IfOk result (IsDrafted audit.old.items audit.new.items
+        (entries node.old.node job.now)) }
+    ensures audit { OnErr result (audit.new.items ≡ audit.old.items) }
+    ensures err { IfErr result (IsUnready node.old.node job.now) }
+    ensures same { node.new ≡ node.old }
+{
+    if let State::Stopped(_) = node.state() {
+        return Err(Fault::Stopped);
+    }
+    match note(alloc, node, job, audit) {
+        Ok(draft) => Ok(draft),
+        Err(_) => Err(Fault::Refused(Refusal::Memory)),
+    }
+}
+
+// Shows an answer that sends nothing.
+fn show(answer: Answer) -> Reply
+    requires { (d : _) → answer ≢ answers.Out d }
+    ensures { (number : ℕ) (sender : Option Party) (packets : List Sent) →
+        Shows number sender packets answer result packets }
+{
+    match answer {
+        Answer::Reply(reply) => Reply::Job(reply),
+        Answer::Begun(name) => Reply::Begun(name),
+        Answer::Out(_) => unreachable!("nothing is sent"),
+    }
+}
+
+// Takes back what was noted of the job from this length of the audit on, and shows why it is
+// refused.
+fn refuse(audit: &mut Vec<Admission>, from: usize, fault: Fault) -> Reply
+    ensures audit { audit.new.items ≡ take from audit.old.items }
+    ensures shown { result ≡ Reply.Refused fault }
+{
+    audit.truncate(from);
+    Reply::Refused(fault)
+}
+
+// What is made of a job that sends a message, before it is done.
+#[derive(Drop)]
+struct Sending {
+    draft: Draft,
+    sender: Option<Party>,
+}
+
+// Takes room for what this sender would send, if there is one.
+fn take_room(sender: &Option<Party>, sent: &mut Vec<Sent>) -> Result<(), AllocError>
+    ensures sent { sent.new.items ≡ sent.old.items }
+    ensures room { OnOk result (IsSome sender.now → vec_len sent.new < vec_capacity sent.new) }
+    ensures err { OnErr result (IsSome sender.now) }
+{
+    match sender {
+        None => Ok(()),
+        Some(_) => sent.reserve(1),
+    }
+}
+
+// Notes the job as it is noted if it is admitted, and makes who would send by it.
+fn note_sending<K: Keeper>(
+    alloc: Global,
+    node: &mut Node<K>,
+    job: &Job,
+    audit: &mut Vec<Admission>,
+    sent: &mut Vec<Sent>,
+) -> Result<Sending, AllocError>
+    ensures drafts { IfOk result (λ made. IsDrafted audit.old.items audit.new.items
+        (entries node.old.node job.now) made.draft) }
     ensures sender { IfOk result (λ made.
         made.sender ≡ sender_of (asker_of node.old.node job.now) job.now) }
+    ensures room { IfOk result (λ made.
+        IsSome made.sender → vec_len sent.new < vec_capacity sent.new) }
+    ensures audit { OnErr result (audit.new.items ≡ audit.old.items) }
+    ensures sent { sent.new.items ≡ sent.old.items }
     ensures err { OnErr result (MayBeNoted node.old.node job.now) }
     ensures same { node.new ≡ node.old }
 {
     let owned = share(alloc, node, job)?;
     let process = asker(node, job);
     let sender = sender(alloc, process, &owned, job)?;
-    let draft = Draft::new(alloc, node.number(), node.boot(), process, owned, job)?;
-    Ok(Prepared { draft, sender })
+    take_room(&sender, sent)?;
+    let draft = Draft::note(
+        alloc,
+        node.number(),
+        node.boot(),
+        process,
+        owned,
+        job,
+        audit,
+    )?;
+    Ok(Sending { draft, sender })
 }
 
-// The same, where the node runs, with room for what would be noted and sent.
-fn prepare<K: Keeper>(
+// The same, where the node runs.
+fn prepare_sending<K: Keeper>(
     alloc: Global,
     node: &mut Node<K>,
     job: &Job,
     audit: &mut Vec<Admission>,
     sent: &mut Vec<Sent>,
-) -> Result<Prepared, Fault>
-    ensures drafts { IfOk result (λ made. (a : _) →
-        drafted made.draft a ≡ entries node.old.node job.now a) }
+) -> Result<Sending, Fault>
+    ensures drafts { IfOk result (λ made. IsDrafted audit.old.items audit.new.items
+        (entries node.old.node job.now) made.draft) }
     ensures sender { IfOk result (λ made.
         made.sender ≡ sender_of (asker_of node.old.node job.now) job.now) }
-    ensures to_note { IfOk result (λ made.
-        HasRoom made.draft (vec_len audit.new) (vec_capacity audit.new)) }
-    ensures to_send { IfOk result (λ made.
-        HasRoom made.draft (vec_len sent.new) (vec_capacity sent.new)) }
-    ensures audit { audit.new.items ≡ audit.old.items }
+    ensures room { IfOk result (λ made.
+        IsSome made.sender → vec_len sent.new < vec_capacity sent.new) }
+    ensures audit { OnErr result (audit.new.items ≡ audit.old.items) }
     ensures sent { sent.new.items ≡ sent.old.items }
     ensures err { IfErr result (IsUnready node.old.node job.now) }
     ensures same { node.new ≡ node.old }
@@ -161,12 +216,37 @@ fn prepare<K: Keeper>(
     if let State::Stopped(_) = node.state() {
         return Err(Fault::Stopped);
     }
-    let Ok(made) = draft(alloc, node, job) else {
-        return Err(Fault::Refused(Refusal::Memory));
-    };
-    match take_room(&made.draft, audit, sent) {
-        Ok(()) => Ok(made),
+    match note_sending(alloc, node, job, audit, sent) {
+        Ok(made) => Ok(made),
         Err(_) => Err(Fault::Refused(Refusal::Memory)),
+    }
+}
+
+// Sends a message that was answered, in the room that there is, and shows the answer.
+fn show_sent(
+    number: NodeNumber,
+    sender: Option<Party>,
+    sent: &mut Vec<Sent>,
+    answer: Answer,
+) -> Reply
+    requires { (d : _) → answer ≡ answers.Out d → vec_len sent.old < vec_capacity sent.old }
+    ensures { Shows number sender sent.old.items answer result sent.new.items }
+{
+    match answer {
+        Answer::Reply(reply) => Reply::Job(reply),
+        Answer::Begun(name) => Reply::Begun(name),
+        Answer::Out(message) => {
+            let packet = Packet::Data(message.into_inner());
+            sent.push_reserved(Sent {
+                from: number,
+                packet,
+                sender,
+            });
+            Reply::Sent {
+                first: sent.len() as u64,
+                count: 1,
+            }
+        }
     }
 }
 
@@ -175,6 +255,40 @@ fn prepare<K: Keeper>(
 pub struct Look {
     pub desk: u8,
     pub upto: u64,
+}
+
+// Has the node of this number do a job that sends a message, as `work` has it.
+#[inline(never)]
+fn send<K: Keeper>(
+    alloc: Global,
+    number: NodeNumber,
+    node: &mut Node<K>,
+    look: Look,
+    job: Job,
+    audit: &mut Vec<Admission>,
+    sent: &mut Vec<Sent>,
+) -> Reply
+    requires { IsDeskOf node.old.node look.desk }
+    ensures works { Worked number node.old.node look.desk look.upto job result node.new.node
+        sent.old.items sent.new.items audit.old.items audit.new.items }
+    ensures desks { length node.new.node.views ≡ length node.old.node.views }
+    ensures keeper { node.new.keeper ≡ node.old.keeper }
+{
+    let from = audit.len();
+    let Sending { draft, sender } = match prepare_sending(alloc, node, &job, audit, sent) {
+        Ok(made) => made,
+        Err(fault) => {
+            let_go(job);
+            return Reply::Refused(fault);
+        }
+    };
+    match node.job(alloc, look.desk, look.upto, job) {
+        Ok(answer) => {
+            draft.settle(audit, from, &answer);
+            show_sent(number, sender, sent, answer)
+        }
+        Err(fault) => refuse(audit, from, fault),
+    }
 }
 
 /// Has the node of this number do the job at a desk, which looks first: gives the answer as it is
@@ -199,8 +313,12 @@ pub fn work<K: Keeper>(
     ensures desks { length node.new.node.views ≡ length node.old.node.views }
     ensures keeper { node.new.keeper ≡ node.old.keeper }
 {
-    let Prepared { draft, sender } = match prepare(alloc, node, &job, audit, sent) {
-        Ok(made) => made,
+    if sends(&job) {
+        return send(alloc, number, node, look, job, audit, sent);
+    }
+    let from = audit.len();
+    let draft = match prepare(alloc, node, &job, audit) {
+        Ok(draft) => draft,
         Err(fault) => {
             let_go(job);
             return Reply::Refused(fault);
@@ -208,9 +326,9 @@ pub fn work<K: Keeper>(
     };
     match node.job(alloc, look.desk, look.upto, job) {
         Ok(answer) => {
-            note(audit, draft, &answer);
-            show(number, sender, sent, answer)
+            draft.settle(audit, from, &answer);
+            show(answer)
         }
-        Err(fault) => Reply::Refused(fault),
+        Err(fault) => refuse(audit, from, fault),
     }
 }

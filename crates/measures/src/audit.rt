@@ -52,10 +52,9 @@ fn note_all(
     let mut audit = Vec::new(alloc);
     for _ in 0..count {
         let owned = process.share(alloc)?;
-        let draft = Draft::new(alloc, 1, 1, Some(process), Some(owned), &job)?;
-        if let Some(entry) = draft.entry(&answer) {
-            audit.push(entry)?;
-        }
+        let from = audit.len();
+        let draft = Draft::note(alloc, 1, 1, Some(process), Some(owned), &job, &mut audit)?;
+        draft.settle(&mut audit, from, &answer);
     }
     Ok(audit)
 }
