@@ -59,39 +59,57 @@ fn cycle_of_groups(alloc: Global) -> Result<Index, AllocError> {
     Ok(index)
 }
 
-#[test]
-fn cache_of_one(rt: HostRuntime) -> Result<(), Fail> {
-    let index = cycle_of_groups(rt.alloc())?;
-    let mut cache = YesCache::new(rt.alloc(), 1);
+// Whether a cache of one question answers it again, after another took its place and after a no.
+fn answers_again(alloc: Global, index: &Index) -> bool {
+    let mut cache = YesCache::new(alloc, 1);
+    let removal = Cap::Minus(EXPORT);
     let other = Cap::Plus(Name { node: 9, seq: 9 });
-    assert!(rt; cache.ask(&index, Cap::Use(FIRST), Cap::Minus(EXPORT)));
-    assert!(rt; cache.ask(&index, Cap::Use(SECOND), Cap::Minus(EXPORT)));
-    assert!(rt; cache.ask(&index, Cap::Use(FIRST), Cap::Minus(EXPORT)));
-    assert!(rt; !cache.ask(&index, Cap::Use(FIRST), other));
-    assert!(rt; cache.ask(&index, Cap::Use(FIRST), Cap::Minus(EXPORT)));
-    Ok(())
+    cache.ask(index, Cap::Use(FIRST), removal)
+        && cache.ask(index, Cap::Use(SECOND), removal)
+        && cache.ask(index, Cap::Use(FIRST), removal)
+        && !cache.ask(index, Cap::Use(FIRST), other)
+        && cache.ask(index, Cap::Use(FIRST), removal)
 }
 
 #[test]
-fn no_becomes_yes(rt: HostRuntime) -> Result<(), Fail> {
-    let mut index = CachedIndex::new(rt.alloc());
-    assert!(rt; !index.reaches(USE, Cap::Plus(TAG)));
-    index.absorb(&put(1, Cap::Plus(TAG)))?;
-    assert!(rt; index.reaches(USE, Cap::Plus(TAG)));
-    index.renew();
-    assert!(rt; index.reaches(USE, Cap::Plus(TAG)));
-    assert!(rt; !index.reaches(Cap::Plus(TAG), USE));
+fn cache_of_one(rt: HostRuntime) -> Result<(), AllocError> {
+    let index = cycle_of_groups(rt.alloc())?;
+    assert!(rt; answers_again(rt.alloc(), &index));
     Ok(())
+}
+
+// Whether a no becomes a yes by a put, and stays one as the cache is renewed.
+fn becomes_yes(index: &mut CachedIndex) -> Result<bool, AllocError> {
+    let is_no = !index.reaches(USE, Cap::Plus(TAG));
+    index.absorb(&put(1, Cap::Plus(TAG)))?;
+    let is_yes = index.reaches(USE, Cap::Plus(TAG));
+    index.renew();
+    let stays = index.reaches(USE, Cap::Plus(TAG));
+    Ok(is_no && is_yes && stays && !index.reaches(Cap::Plus(TAG), USE))
+}
+
+#[test]
+fn no_becomes_yes(rt: HostRuntime) -> Result<(), AllocError> {
+    let mut index = CachedIndex::new(rt.alloc());
+    assert!(rt; becomes_yes(&mut index)?);
+    Ok(())
+}
+
+// What the view answers, through the trait, where a tag is put into the group that is owned.
+fn tells(index: &mut CachedIndex, owned: &CapSet) -> Result<bool, AllocError> {
+    index.absorb(&put(1, Cap::Plus(TAG)))?;
+    Ok(
+        View::seen(index) == 1
+            && View::effective(index, owned, Cap::Plus(TAG))
+            && View::reaches(index, USE, Cap::Plus(TAG))
+            && View::login(index, TAG).is_none(),
+    )
 }
 
 #[test]
 fn view_asks_what_the_index_has(rt: HostRuntime) -> Result<(), Fail> {
-    let mut index = CachedIndex::new(rt.alloc());
-    index.absorb(&put(1, Cap::Plus(TAG)))?;
     let owned = CapSet::from_text(rt.alloc(), "{*1.1}")?;
-    assert!(rt; View::seen(&index) == 1);
-    assert!(rt; View::effective(&mut index, &owned, Cap::Plus(TAG)));
-    assert!(rt; View::reaches(&mut index, USE, Cap::Plus(TAG)));
-    assert!(rt; View::login(&mut index, TAG).is_none());
+    let mut index = CachedIndex::new(rt.alloc());
+    assert!(rt; tells(&mut index, &owned)?);
     Ok(())
 }

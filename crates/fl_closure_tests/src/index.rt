@@ -1,5 +1,5 @@
-//! Tests of the index by small graphs. Sets of capabilities stand as texts.
-use crate::made::{name, put};
+//! Tests of the index by small graphs. Capabilities stand as texts.
+use crate::made::{Question, all_answer, divides, name, put};
 use fl_closure::index::Index;
 use fl_labels::cap::Cap;
 use fl_labels::cap_set::CapSet;
@@ -35,40 +35,6 @@ fn index_of(alloc: Global, ops: &[Op]) -> Result<Index, AllocError> {
     Ok(index)
 }
 
-// Which of these capabilities the owner of the root reaches.
-fn reached(alloc: Global, index: &Index, root: Cap, among: &str) -> Result<String, Fail> {
-    let mut found = CapSet::new(alloc);
-    for cap in CapSet::from_text(alloc, among)?.iter() {
-        if index.reaches(root, *cap) {
-            found.insert(*cap)?;
-        }
-    }
-    Ok(format!(in alloc; "{found}")?)
-}
-
-// Which of these capabilities are in effect for the owner of those.
-fn effective(alloc: Global, index: &Index, owned: &str, among: &str) -> Result<String, Fail> {
-    let owned = CapSet::from_text(alloc, owned)?;
-    let mut found = CapSet::new(alloc);
-    for cap in CapSet::from_text(alloc, among)?.iter() {
-        if index.effective(&owned, *cap) {
-            found.insert(*cap)?;
-        }
-    }
-    Ok(format!(in alloc; "{found}")?)
-}
-
-// Which of these capabilities everybody has.
-fn global(alloc: Global, index: &Index, among: &str) -> Result<String, Fail> {
-    let mut found = CapSet::new(alloc);
-    for cap in CapSet::from_text(alloc, among)?.iter() {
-        if index.global(*cap) {
-            found.insert(*cap)?;
-        }
-    }
-    Ok(format!(in alloc; "{found}")?)
-}
-
 // Two groups, 1.4 and 1.5, each with the use of the other, and a capability in the second.
 fn two_groups(alloc: Global) -> Result<Index, AllocError> {
     let ops = [
@@ -79,25 +45,19 @@ fn two_groups(alloc: Global) -> Result<Index, AllocError> {
     index_of(alloc, &ops)
 }
 
+/// A capability, what its owner reaches, and what not.
+const CYCLE: [(Cap, &str, &str); 4] = [
+    (Cap::Use(FOURTH), "-1.1 *1.4 *1.5", "^1.5 +9.9"),
+    (Cap::Use(FIFTH), "-1.1 *1.4 *1.5", "^1.5 +9.9"),
+    (Cap::Minus(FIRST), "-1.1", "*1.4 *1.5"),
+    (Cap::Grow(FOURTH), "^1.4", "*1.4 *1.5"),
+];
+
 #[test]
-fn cycle_of_groups(rt: HostRuntime) -> Result<(), Fail> {
+fn cycle_of_groups(rt: HostRuntime) -> Result<(), AllocError> {
     let index = two_groups(rt.alloc())?;
-    for (root, among, expected) in [
-        (
-            Cap::Use(FOURTH),
-            "{-1.1,*1.4,*1.5,^1.5,+9.9}",
-            "{-1.1,*1.4,*1.5}",
-        ),
-        (
-            Cap::Use(FIFTH),
-            "{-1.1,*1.4,*1.5,^1.5,+9.9}",
-            "{-1.1,*1.4,*1.5}",
-        ),
-        (Cap::Minus(FIRST), "{-1.1,*1.4,*1.5}", "{-1.1}"),
-        (Cap::Grow(FOURTH), "{*1.4,*1.5}", "{}"),
-    ] {
-        let found = reached(rt.alloc(), &index, root, among)?;
-        assert_eq!(rt; found.as_str(), expected);
+    for (root, yes, no) in &CYCLE {
+        assert!(rt; divides(&index, Question::Reached(*root), yes, no));
     }
     Ok(())
 }
@@ -115,22 +75,20 @@ fn chain(alloc: Global) -> Result<Index, AllocError> {
 }
 
 #[test]
-fn chain_of_hundred_groups(rt: HostRuntime) -> Result<(), Fail> {
-    let alloc = rt.alloc();
-    let index = chain(alloc)?;
-    let found = reached(alloc, &index, Cap::Use(FIRST), "{+1.1,-1.1,*1.101}")?;
-    assert_eq!(rt; found.as_str(), "{+1.1,*1.101}");
-    let found = reached(alloc, &index, Cap::Use(name(100)), "{*1.1}")?;
-    assert_eq!(rt; found.as_str(), "{}");
+fn chain_of_hundred_groups(rt: HostRuntime) -> Result<(), AllocError> {
+    let index = chain(rt.alloc())?;
+    let first = Question::Reached(Cap::Use(FIRST));
+    let last = Question::Reached(Cap::Use(name(100)));
+    assert!(rt; divides(&index, first, "+1.1 *1.101", "-1.1"));
+    assert!(rt; all_answer(&index, last, "*1.1", false));
     Ok(())
 }
 
 #[test]
 fn a_chain_is_in_effect(rt: HostRuntime) -> Result<(), Fail> {
-    let alloc = rt.alloc();
-    let index = chain(alloc)?;
-    let found = effective(alloc, &index, "{*1.51}", "{*1.1,*1.101}")?;
-    assert_eq!(rt; found.as_str(), "{*1.101}");
+    let owned = CapSet::from_text(rt.alloc(), "{*1.51}")?;
+    let index = chain(rt.alloc())?;
+    assert!(rt; divides(&index, Question::Effective(&owned), "*1.101", "*1.1"));
     Ok(())
 }
 
@@ -153,23 +111,24 @@ fn three_tags(alloc: Global) -> Result<Index, AllocError> {
     index_of(alloc, &ops)
 }
 
-// Every capability on the three tags, and on a fourth that nobody made.
-const ON_TAGS: &str =
-    "{+1.1,-1.1,*1.1,^1.1,+1.2,-1.2,*1.2,^1.2,+1.3,-1.3,*1.3,^1.3,+1.4,-1.4,*1.4,^1.4}";
+// What everybody has of the three tags.
+const EVERYBODYS: &str = "+1.1 -1.3";
+
+// Every other capability on the three tags, and all on a fourth that nobody made.
+const OTHERS: &str = "-1.1 *1.1 ^1.1 +1.2 -1.2 *1.2 ^1.2 +1.3 *1.3 ^1.3 +1.4 -1.4 *1.4 ^1.4";
 
 #[test]
-fn a_policy_tells_what_everybody_has(rt: HostRuntime) -> Result<(), Fail> {
+fn a_policy_tells_what_everybody_has(rt: HostRuntime) -> Result<(), AllocError> {
     let index = three_tags(rt.alloc())?;
-    let found = global(rt.alloc(), &index, ON_TAGS)?;
-    assert_eq!(rt; found.as_str(), "{+1.1,-1.3}");
+    assert!(rt; divides(&index, Question::Global, EVERYBODYS, OTHERS));
     Ok(())
 }
 
 #[test]
-fn what_everybody_has_is_in_effect(rt: HostRuntime) -> Result<(), Fail> {
+fn what_everybody_has_is_in_effect(rt: HostRuntime) -> Result<(), AllocError> {
+    let nothing = CapSet::new(rt.alloc());
     let index = three_tags(rt.alloc())?;
-    let found = effective(rt.alloc(), &index, "{}", ON_TAGS)?;
-    assert_eq!(rt; found.as_str(), "{+1.1,-1.3}");
+    assert!(rt; divides(&index, Question::Effective(&nothing), EVERYBODYS, OTHERS));
     Ok(())
 }
 
@@ -201,7 +160,7 @@ fn logins(alloc: Global) -> Result<Index, AllocError> {
 }
 
 #[test]
-fn the_least_login_is_told(rt: HostRuntime) -> Result<(), Fail> {
+fn the_least_login_is_told(rt: HostRuntime) -> Result<(), AllocError> {
     let index = logins(rt.alloc())?;
     assert!(rt; index.login(FIRST) == Some((Cap::Plus(NINTH), HIGH)));
     assert!(rt; index.login(SECOND) == Some((Cap::Grow(NINTH), HIGH)));
@@ -210,19 +169,27 @@ fn the_least_login_is_told(rt: HostRuntime) -> Result<(), Fail> {
     Ok(())
 }
 
+// Whether the index has the group 1.4 and these two operations alone, each once.
+fn counts_once(index: &Index, owned: &CapSet, first: Op, second: Op) -> bool {
+    let group = Op {
+        name: FOURTH,
+        body: Body::MakeGroup,
+    };
+    index.ops().as_slice() == [group, first, second].as_slice()
+        && divides(index, Question::Effective(owned), "+1.1 *1.4", "-1.1")
+}
+
 #[test]
 fn an_operation_counts_once(rt: HostRuntime) -> Result<(), Fail> {
-    let alloc = rt.alloc();
+    let owned = CapSet::from_text(rt.alloc(), "{*1.4}")?;
     let first = put(0, 3, Cap::Plus(FIRST));
     let second = put(1, 3, Cap::Plus(FIRST));
     let group = Op {
         name: FOURTH,
         body: Body::MakeGroup,
     };
-    let index = index_of(alloc, &[first, second, first, group])?;
-    assert!(rt; index.ops().as_slice() == [group, first, second].as_slice());
-    let found = effective(alloc, &index, "{*1.4}", "{+1.1,-1.1,*1.4}")?;
-    assert_eq!(rt; found.as_str(), "{+1.1,*1.4}");
+    let index = index_of(rt.alloc(), &[first, second, first, group])?;
+    assert!(rt; counts_once(&index, &owned, first, second));
     Ok(())
 }
 
@@ -244,24 +211,28 @@ fn nested_groups(alloc: Global) -> Result<Index, AllocError> {
 
 #[test]
 fn what_is_owned_leads_on(rt: HostRuntime) -> Result<(), Fail> {
+    let owned = CapSet::from_text(rt.alloc(), "{+1.6,*1.11}")?;
     let index = nested_groups(rt.alloc())?;
-    let among = "{+1.1,-1.1,+1.2,-1.2,+1.6,*1.11,^1.11,*1.12,^1.12,*1.13,^1.13}";
-    let found = effective(rt.alloc(), &index, "{+1.6,*1.11}", among)?;
-    assert_eq!(rt; found.as_str(), "{+1.1,-1.1,+1.6,*1.11,*1.12,^1.13}");
+    let yes = "+1.1 -1.1 +1.6 *1.11 *1.12 ^1.13";
+    let no = "+1.2 -1.2 ^1.11 ^1.12 *1.13";
+    assert!(rt; divides(&index, Question::Effective(&owned), yes, no));
     Ok(())
 }
 
-// The last of four groups in a row grows after the others were put into one another.
-#[test]
-fn row_is_renewed_upstream(rt: HostRuntime) -> Result<(), Fail> {
-    let alloc = rt.alloc();
+// Four groups in a row, of which the last grows after the others were put into one another.
+fn row_of_four(alloc: Global) -> Result<Index, AllocError> {
     let ops = [
         put(0, 0, Cap::Use(SECOND)),
         put(1, 1, Cap::Use(THIRD)),
         put(2, 2, Cap::Use(FOURTH)),
         put(3, 3, Cap::Plus(NINTH)),
     ];
-    let index = index_of(alloc, &ops)?;
+    index_of(alloc, &ops)
+}
+
+#[test]
+fn row_is_renewed_upstream(rt: HostRuntime) -> Result<(), AllocError> {
+    let index = row_of_four(rt.alloc())?;
     assert!(rt; index.reaches(Cap::Use(FIRST), Cap::Plus(NINTH)));
     assert!(rt; !index.reaches(Cap::Use(FOURTH), Cap::Use(THIRD)));
     Ok(())
@@ -277,31 +248,33 @@ fn looks<V: View>(view: &mut V, owned: &CapSet) -> bool {
 
 #[test]
 fn an_index_is_a_view(rt: HostRuntime) -> Result<(), Fail> {
-    let alloc = rt.alloc();
-    let ops = [
-        put(0, 0, Cap::Use(SECOND)),
-        put(1, 1, Cap::Use(THIRD)),
-        put(2, 2, Cap::Use(FOURTH)),
-        put(3, 3, Cap::Plus(NINTH)),
-    ];
-    let mut index = index_of(alloc, &ops)?;
-    let owned = CapSet::from_text(alloc, "{*1.2}")?;
+    let owned = CapSet::from_text(rt.alloc(), "{*1.2}")?;
+    let mut index = row_of_four(rt.alloc())?;
     assert!(rt; looks(&mut index, &owned));
     Ok(())
 }
 
+fn set_of(alloc: Global, ops: &[Op]) -> Result<OpSet, AllocError> {
+    let mut set = OpSet::new(alloc);
+    for op in ops {
+        set.add(*op)?;
+    }
+    Ok(set)
+}
+
+fn absorb_twice(alloc: Global, index: &mut Index, batch: &OpSet) -> Result<(), AllocError> {
+    index.absorb_all(alloc, batch)?;
+    index.absorb_all(alloc, batch)
+}
+
 // A batch with an operation that is there already, and then the same batch again.
 #[test]
-fn a_batch_is_added_whole(rt: HostRuntime) -> Result<(), Fail> {
-    let alloc = rt.alloc();
+fn a_batch_is_added_whole(rt: HostRuntime) -> Result<(), AllocError> {
     let first = put(0, 0, Cap::Use(SECOND));
     let second = put(1, 1, Cap::Plus(NINTH));
-    let mut index = index_of(alloc, &[first])?;
-    let mut batch = OpSet::new(alloc);
-    batch.add(first)?;
-    batch.add(second)?;
-    index.absorb_all(alloc, &batch)?;
-    index.absorb_all(alloc, &batch)?;
+    let batch = set_of(rt.alloc(), &[first, second])?;
+    let mut index = index_of(rt.alloc(), &[first])?;
+    absorb_twice(rt.alloc(), &mut index, &batch)?;
     assert!(rt; index.ops().as_slice() == [first, second].as_slice());
     assert!(rt; index.reaches(Cap::Use(FIRST), Cap::Plus(NINTH)));
     Ok(())

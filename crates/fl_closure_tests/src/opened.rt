@@ -1,5 +1,5 @@
 //! Tests of what everybody has: opened groups and what they lead to, beside a plain search.
-use crate::made::{draw, name, put};
+use crate::made::{Question, divides, draw, name, put};
 use crate::plain::{CAPS, GROUPS, cap_of, search};
 use fl_closure::index::Index;
 use fl_labels::cap::Cap;
@@ -11,11 +11,20 @@ use std::alloc::{AllocError, Global};
 use std::test::Fail;
 
 // A registry, as the plain search takes it: the puts, and what everybody has, each once.
-#[derive(Drop)]
 struct Registry {
     ops: Vec<Op>,
     puts: Vec<(u16, u16)>,
     everybodys: Vec<u16>,
+}
+
+impl Drop for Registry {
+    fn drop(self) {
+        let Registry {
+            ops: _,
+            puts: _,
+            everybodys: _,
+        } = self;
+    }
 }
 
 // The operation, called 3.1 for 0 and on, that opens a group, which is called 1.1 for 0 and on.
@@ -64,6 +73,27 @@ fn set_of(alloc: Global, numbers: &[u16]) -> Result<CapSet, AllocError> {
     Ok(caps)
 }
 
+// What a search starts from for the owner of these capabilities: what everybody has, and these.
+fn roots_of(alloc: Global, registry: &Registry, owned: &[u16]) -> Result<Vec<u16>, AllocError> {
+    let mut roots = Vec::from_slice(alloc, &registry.everybodys)?;
+    for cap in owned {
+        if !roots.contains(cap) {
+            roots.push(*cap)?;
+        }
+    }
+    Ok(roots)
+}
+
+// Whether just what was met is in effect for the owner of these capabilities.
+fn all_alike(index: &Index, caps: &CapSet, met: &[u16]) -> bool {
+    for to in 0..CAPS {
+        if index.effective(caps, cap_of(to)) != met.contains(&to) {
+            return false;
+        }
+    }
+    true
+}
+
 // Whether the index answers as the search does for the owner of these capabilities.
 fn owner_alike(
     alloc: Global,
@@ -71,19 +101,10 @@ fn owner_alike(
     registry: &Registry,
     owned: &[u16],
 ) -> Result<bool, AllocError> {
-    let mut roots: Vec<u16> = registry.everybodys.iter().copied().collect(alloc)?;
-    for cap in owned {
-        if !roots.contains(cap) {
-            roots.push(*cap)?;
-        }
-    }
-    let met = search(alloc, &registry.puts, &roots)?;
     let caps = set_of(alloc, owned)?;
-    let mut alike = true;
-    for to in 0..CAPS {
-        alike = alike && index.effective(&caps, cap_of(to)) == met.contains(&to);
-    }
-    Ok(alike)
+    let roots = roots_of(alloc, registry, owned)?;
+    let met = search(alloc, &registry.puts, &roots)?;
+    Ok(all_alike(index, &caps, &met))
 }
 
 // Whether the index tells what everybody has, and what is in effect for the owner of nothing and of
@@ -108,6 +129,20 @@ fn batched(alloc: Global, ops: &[Op]) -> Result<Index, AllocError> {
     Ok(index)
 }
 
+// Adds a random operation to both. Whether the index is then as it should be.
+fn step_alike(
+    alloc: Global,
+    index: &mut Index,
+    registry: &mut Registry,
+    state: &mut u64,
+    number: u16,
+) -> Result<bool, AllocError> {
+    let op = grow(registry, state, number)?;
+    index.absorb(&op)?;
+    registry.ops.push(op)?;
+    index_alike(alloc, index, registry)
+}
+
 // Whether the index is as it should be after each of so many random operations, and after all of
 // them at once.
 fn steps_alike(alloc: Global, seed: u64, count: u16) -> Result<bool, AllocError> {
@@ -120,10 +155,7 @@ fn steps_alike(alloc: Global, seed: u64, count: u16) -> Result<bool, AllocError>
     };
     let mut alike = true;
     for number in 0..count {
-        let op = grow(&mut registry, &mut state, number)?;
-        index.absorb(&op)?;
-        registry.ops.push(op)?;
-        alike = alike && index_alike(alloc, &index, &registry)?;
+        alike = alike && step_alike(alloc, &mut index, &mut registry, &mut state, number)?;
     }
     let batch = batched(alloc, &registry.ops)?;
     Ok(alike && index_alike(alloc, &batch, &registry)?)
@@ -137,65 +169,70 @@ fn what_everybody_has_leads_as_a_search_does(rt: HostRuntime) -> Result<(), Fail
     Ok(())
 }
 
-// What is in effect for the owner of nothing, among these.
-fn everybodys(alloc: Global, index: &Index, among: &str) -> Result<String, Fail> {
-    let nothing = CapSet::new(alloc);
-    let mut found = CapSet::new(alloc);
-    for cap in CapSet::from_text(alloc, among)?.iter() {
-        if index.effective(&nothing, *cap) {
-            found.insert(*cap)?;
-        }
-    }
-    Ok(format!(in alloc; "{found}")?)
+// Absorbs an operation. Whether the first capabilities are in effect for the owner of nothing then,
+// and not the others.
+fn gives(
+    index: &mut Index,
+    nothing: &CapSet,
+    op: &Op,
+    yes: &str,
+    no: &str,
+) -> Result<bool, AllocError> {
+    index.absorb(op)?;
+    Ok(divides(index, Question::Effective(nothing), yes, no))
+}
+
+fn put_follows(index: &mut Index, nothing: &CapSet) -> Result<bool, AllocError> {
+    let later = put(0, 3, Cap::Plus(name(8)));
+    Ok(
+        gives(index, nothing, &open(0, 3), "*1.4", "+1.9 -1.9 ^1.4")?
+            && gives(index, nothing, &later, "*1.4 +1.9", "-1.9 ^1.4")?
+            && !index.reaches(Cap::Use(name(8)), Cap::Plus(name(8))),
+    )
 }
 
 #[test]
-fn a_later_put_into_an_opened_group_is_everybodys(rt: HostRuntime) -> Result<(), Fail> {
-    let alloc = rt.alloc();
-    let mut index = Index::new(alloc);
-    index.absorb(&open(0, 3))?;
-    let among = "{+1.9,-1.9,*1.4,^1.4}";
-    assert_eq!(rt; everybodys(alloc, &index, among)?.as_str(), "{*1.4}");
-    index.absorb(&put(0, 3, Cap::Plus(name(8))))?;
-    assert_eq!(rt; everybodys(alloc, &index, among)?.as_str(), "{*1.4,+1.9}");
-    assert!(rt; !index.reaches(Cap::Use(name(8)), Cap::Plus(name(8))));
+fn a_later_put_into_an_opened_group_is_everybodys(rt: HostRuntime) -> Result<(), AllocError> {
+    let mut index = Index::new(rt.alloc());
+    let nothing = CapSet::new(rt.alloc());
+    assert!(rt; put_follows(&mut index, &nothing)?);
     Ok(())
 }
 
 // An opened group that uses another, into which something is put last. What everybody has is the
 // use of the first alone.
-#[test]
-fn an_opened_group_leads_to_what_it_uses(rt: HostRuntime) -> Result<(), Fail> {
-    let alloc = rt.alloc();
-    let mut index = Index::new(alloc);
+fn group_follows(index: &mut Index, nothing: &CapSet) -> Result<bool, AllocError> {
     index.absorb(&put(0, 3, Cap::Use(name(4))))?;
     index.absorb(&open(0, 3))?;
-    index.absorb(&put(1, 4, Cap::Grow(name(0))))?;
-    let among = "{+1.1,^1.1,*1.4,^1.4,*1.5,^1.5}";
-    assert_eq!(rt;
-        everybodys(alloc, &index, among)?.as_str(),
-        "{^1.1,*1.4,*1.5}"
-    );
-    assert!(rt; index.global(Cap::Use(name(3))));
-    assert!(rt; !index.global(Cap::Use(name(4))));
-    assert!(rt; !index.global(Cap::Grow(name(0))));
+    let last = put(1, 4, Cap::Grow(name(0)));
+    Ok(
+        gives(index, nothing, &last, "^1.1 *1.4 *1.5", "+1.1 ^1.4 ^1.5")?
+            && divides(index, Question::Global, "*1.4", "*1.5 ^1.1"),
+    )
+}
+
+#[test]
+fn an_opened_group_leads_to_what_it_uses(rt: HostRuntime) -> Result<(), AllocError> {
+    let mut index = Index::new(rt.alloc());
+    let nothing = CapSet::new(rt.alloc());
+    assert!(rt; group_follows(&mut index, &nothing)?);
     Ok(())
 }
 
 // Everybody reaches the use of the second group before that is opened too.
-#[test]
-fn what_is_reached_is_not_yet_opened(rt: HostRuntime) -> Result<(), Fail> {
-    let alloc = rt.alloc();
-    let mut index = Index::new(alloc);
+fn opened_one_by_one(index: &mut Index, nothing: &CapSet) -> Result<bool, AllocError> {
     index.absorb(&open(0, 3))?;
     index.absorb(&put(0, 3, Cap::Use(name(4))))?;
-    assert!(rt; !index.global(Cap::Use(name(4))));
+    let is_reached_alone = !index.global(Cap::Use(name(4)));
     index.absorb(&open(1, 4))?;
-    index.absorb(&open(2, 4))?;
-    assert!(rt; index.global(Cap::Use(name(4))));
-    assert_eq!(rt;
-        everybodys(alloc, &index, "{*1.3,*1.4,*1.5}")?.as_str(),
-        "{*1.4,*1.5}"
-    );
+    let is_given = gives(index, nothing, &open(2, 4), "*1.4 *1.5", "*1.3")?;
+    Ok(is_reached_alone && is_given && index.global(Cap::Use(name(4))))
+}
+
+#[test]
+fn what_is_reached_is_not_yet_opened(rt: HostRuntime) -> Result<(), AllocError> {
+    let mut index = Index::new(rt.alloc());
+    let nothing = CapSet::new(rt.alloc());
+    assert!(rt; opened_one_by_one(&mut index, &nothing)?);
     Ok(())
 }
