@@ -5,7 +5,6 @@ use fl_labels::name::Name;
 use fl_ops::op::{Body, Op};
 use fl_opset::set::OpSet;
 use std::alloc::{AllocError, Global};
-use std::test::Fail;
 
 const GROUP: Name = Name { node: 1, seq: 1 };
 
@@ -35,14 +34,19 @@ fn three(alloc: Global) -> Result<OpSet, AllocError> {
     Ok(ops)
 }
 
+// The put alone, and then all three, twice.
+fn take_in(alloc: Global, index: &mut Index, ops: &OpSet) -> Result<(), AllocError> {
+    index.absorb(&PUT)?;
+    index.absorb_all(alloc, ops)?;
+    index.absorb_all(alloc, ops)
+}
+
 #[test]
-fn index_takes_in_a_set(rt: HostRuntime) -> Result<(), Fail> {
+fn index_takes_in_a_set(rt: HostRuntime) -> Result<(), AllocError> {
     let alloc = rt.alloc();
     let ops = three(alloc)?;
     let mut index = Index::new(alloc);
-    index.absorb(&PUT)?;
-    index.absorb_all(alloc, &ops)?;
-    index.absorb_all(alloc, &ops)?;
+    take_in(alloc, &mut index, &ops)?;
     assert!(rt; index.ops().as_slice() == [MADE, PUT, PUT_AGAIN].as_slice());
     assert!(rt; index.reaches(Cap::Use(GROUP), Cap::Plus(TAG)));
     assert!(rt; !index.reaches(Cap::Use(GROUP), Cap::Minus(TAG)));

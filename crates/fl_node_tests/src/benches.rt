@@ -4,11 +4,12 @@ use fl_jobs::answer::{Outcome, Refusal, Reply};
 use fl_jobs::job::{Act, Job, Order};
 use fl_labels::cap::Cap;
 use fl_labels::cap_set::CapSet;
+use fl_labels::error::SetError;
 use fl_labels::name::Name;
 use fl_labels::pid::Pid;
 use fl_monitor::bench::Bench;
 use fl_ops::op::{Body, Op, Policy};
-use std::alloc::Global;
+use std::alloc::{AllocError, Global};
 use std::test::Fail;
 
 const TAG: Name = Name { node: 1, seq: 1 };
@@ -25,15 +26,51 @@ const FIFTH: Pid = Pid {
     serial: 5,
 };
 
-// What the process is answered that is asked for a child with these capabilities.
-fn bears(
+// Whether the job is answered so.
+fn says(
+    alloc: Global,
+    bench: &mut Bench,
+    index: &mut Index,
+    job: Job,
+    wanted: Result<Outcome, Refusal>,
+) -> bool {
+    bench.job(alloc, index, job) == wanted
+}
+
+// Whether the process is made.
+fn makes(alloc: Global, bench: &mut Bench, index: &mut Index, pid: Pid) -> bool {
+    let made = Outcome::Reply(Reply::Made(pid));
+    says(alloc, bench, index, Job::Proc, Ok(made))
+}
+
+// Whether the process is refused so a child with these capabilities.
+fn bears_none(
     alloc: Global,
     bench: &mut Bench,
     index: &mut Index,
     caps: &str,
-) -> Result<Result<Outcome, Refusal>, Fail> {
+    refusal: Refusal,
+) -> Result<bool, SetError> {
     let caps = CapSet::from_text(alloc, caps)?;
-    Ok(bench.job(alloc, index, Job::By(SECOND, Act::Spawn(caps))))
+    let spawn = Job::By(SECOND, Act::Spawn(caps));
+    Ok(says(alloc, bench, index, spawn, Err(refusal)))
+}
+
+// Whether the second process is there once it is made, and no other is made then.
+fn makes_one(alloc: Global, bench: &mut Bench, index: &mut Index) -> bool {
+    let ask = Job::By(SECOND, Act::Ask(Cap::Plus(TAG)));
+    says(alloc, bench, index, ask, Err(Refusal::NoProcess(SECOND)))
+        && makes(alloc, bench, index, SECOND)
+        && says(alloc, bench, index, Job::Proc, Err(Refusal::NamesSpent))
+}
+
+// Whether the process is refused a child for want of a serial, and first for what it lacks.
+fn makes_no_child(alloc: Global, bench: &mut Bench, index: &mut Index) -> Result<bool, SetError> {
+    let missing = Refusal::MissingCap(Cap::Plus(TAG));
+    Ok(
+        bears_none(alloc, bench, index, "{}", Refusal::NamesSpent)?
+            && bears_none(alloc, bench, index, "{+1.1}", missing)?,
+    )
 }
 
 #[test]
@@ -41,39 +78,40 @@ fn spends_serials(rt: HostRuntime) -> Result<(), Fail> {
     let alloc = rt.alloc();
     let mut index = Index::new(alloc);
     let mut bench = Bench::new(alloc, 1, 1, 2, 4_294_967_295);
-    let ask = Job::By(SECOND, Act::Ask(Cap::Plus(TAG)));
-    assert!(rt; bench.job(alloc, &mut index, ask) == Err(Refusal::NoProcess(SECOND)));
-    let made = Ok(Outcome::Reply(Reply::Made(SECOND)));
-    assert!(rt; bench.job(alloc, &mut index, Job::Proc) == made);
-    let spent = Err(Refusal::NamesSpent);
-    assert!(rt; bench.job(alloc, &mut index, Job::Proc) == spent);
-    assert!(rt; bears(alloc, &mut bench, &mut index, "{}")? == spent);
-    let missing = Err(Refusal::MissingCap(Cap::Plus(TAG)));
-    assert!(rt; bears(alloc, &mut bench, &mut index, "{+1.1}")? == missing);
+    assert!(rt; makes_one(alloc, &mut bench, &mut index));
+    assert!(rt; makes_no_child(alloc, &mut bench, &mut index)?);
     Ok(())
 }
 
 // Whether the process may remove the tag.
 fn may_remove(alloc: Global, bench: &mut Bench, index: &mut Index, pid: Pid) -> bool {
     let ask = Job::By(pid, Act::Ask(Cap::Minus(TAG)));
-    bench.job(alloc, index, ask) == Ok(Outcome::Reply(Reply::Yes))
+    says(alloc, bench, index, ask, Ok(Outcome::Reply(Reply::Yes)))
+}
+
+const BODY: Body = Body::MakeTag(Policy::Export);
+
+// Whether the second process orders the tag, which is made then.
+fn orders(alloc: Global, bench: &mut Bench, index: &mut Index) -> Result<bool, AllocError> {
+    let order = Job::By(SECOND, Act::Order(Order::Tag(Policy::Export)));
+    let is_begun = says(alloc, bench, index, order, Ok(Outcome::Order(BODY, SECOND)));
+    let op = Op {
+        name: TAG,
+        body: BODY,
+    };
+    index.absorb(&op)?;
+    bench.finish(SECOND, &op);
+    Ok(is_begun)
 }
 
 #[test]
-fn makes_a_tag(rt: HostRuntime) -> Result<(), Fail> {
+fn makes_a_tag(rt: HostRuntime) -> Result<(), AllocError> {
     let alloc = rt.alloc();
     let mut index = Index::new(alloc);
     let mut bench = Bench::new(alloc, 1, 1, 2, 3);
-    for pid in [SECOND, FIFTH] {
-        let made = Ok(Outcome::Reply(Reply::Made(pid)));
-        assert!(rt; bench.job(alloc, &mut index, Job::Proc) == made);
-    }
-    let body = Body::MakeTag(Policy::Export);
-    let order = Job::By(SECOND, Act::Order(Order::Tag(Policy::Export)));
-    assert!(rt; bench.job(alloc, &mut index, order) == Ok(Outcome::Order(body, SECOND)));
-    let op = Op { name: TAG, body };
-    index.absorb(&op)?;
-    bench.finish(SECOND, &op);
+    assert!(rt; makes(alloc, &mut bench, &mut index, SECOND));
+    assert!(rt; makes(alloc, &mut bench, &mut index, FIFTH));
+    assert!(rt; orders(alloc, &mut bench, &mut index)?);
     assert!(rt; may_remove(alloc, &mut bench, &mut index, SECOND));
     assert!(rt; !may_remove(alloc, &mut bench, &mut index, FIFTH));
     Ok(())

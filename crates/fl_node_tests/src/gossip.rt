@@ -31,24 +31,46 @@ fn told(
     }
 }
 
+// Whether the group that the node makes is 1.1, and saved.
+fn saves_a_group(node: &mut Node<MemKeeper>) -> bool {
+    node.begin(Body::MakeGroup, None) == Ok(Name { node: 1, seq: 1 }) && node.save() == Ok(())
+}
+
+// Whether the node takes one operation, and publishes it.
+fn takes_one(alloc: Global, node: &mut Node<MemKeeper>, delta: &Packet) -> bool {
+    node.check(alloc, delta) == Ok(1)
+        && node.receive(alloc, delta) == Ok(1)
+        && node.save() == Ok(())
+        && node.publish(alloc) == Ok(1)
+}
+
+// Whether the listener takes what the teller answers to its summary, once, and both have the same.
+fn teaches(
+    alloc: Global,
+    teller: &mut Node<MemKeeper>,
+    listener: &mut Node<MemKeeper>,
+) -> Result<bool, Fail> {
+    let delta = told(alloc, teller, listener)?;
+    Ok(
+        takes_one(alloc, listener, &delta)
+            && teller.publish(alloc) == Ok(1)
+            && listener.published() == teller.published()
+            && listener.receive(alloc, &delta) == Ok(0),
+    )
+}
+
 #[test]
 fn gossip_teaches_a_group(rt: HostRuntime) -> Result<(), Fail> {
     let alloc = rt.alloc();
     let mut teller = opened(alloc, MemKeeper::new(alloc, 1), 1)?;
     let mut listener = opened(alloc, MemKeeper::new(alloc, 2), 2)?;
-    let name = given(teller.begin(Body::MakeGroup, None))?;
-    assert!(rt; name == Name { node: 1, seq: 1 });
-    given(teller.save())?;
-    let delta = told(alloc, &teller, &listener)?;
-    assert_eq!(rt; listener.check(alloc, &delta), Ok(1));
-    assert_eq!(rt; listener.receive(alloc, &delta), Ok(1));
-    given(listener.save())?;
-    assert_eq!(rt; listener.publish(alloc), Ok(1));
-    assert_eq!(rt; teller.publish(alloc), Ok(1));
-    assert!(rt; listener.published() == teller.published());
-    assert_eq!(rt; listener.receive(alloc, &delta), Ok(0));
+    assert!(rt; saves_a_group(&mut teller));
+    assert!(rt; teaches(alloc, &mut teller, &mut listener)?);
     Ok(())
 }
+
+/// The group 1.1, as a packet.
+const GROUP: &[u8] = b"\xf2\x03\x01\x02\x02\x00\x00\x00\x01\x00\x00\x00\x01";
 
 /// Deltas of two operations, and what node 2 answers, which has published the group 1.1: that
 /// another tag is 1.1, beside the group 1.2, and that a group is 2.9, beside that one.
@@ -91,16 +113,22 @@ fn has_one_group(alloc: Global, node: &Node<MemKeeper>) -> Result<bool, Fail> {
     Ok(text.as_slice() == b"1.1 group\n".as_slice() && node.saved().len() == 1)
 }
 
+// Whether the node refuses what offends, each time for its cause, and has what it had.
+fn takes_nothing(alloc: Global, node: &mut Node<MemKeeper>) -> Result<bool, Fail> {
+    for (bytes, fault) in &OFFENDING {
+        if !refuses(alloc, node, bytes, *fault)? || !has_one_group(alloc, node)? {
+            return Ok(false);
+        }
+    }
+    Ok(true)
+}
+
 #[test]
 fn takes_nothing_beside_what_offends(rt: HostRuntime) -> Result<(), Fail> {
     let alloc = rt.alloc();
     let mut node = opened(alloc, MemKeeper::new(alloc, 2), 2)?;
-    let group = b"\xf2\x03\x01\x02\x02\x00\x00\x00\x01\x00\x00\x00\x01";
-    learns(alloc, &mut node, group)?;
-    for (bytes, fault) in &OFFENDING {
-        assert!(rt; refuses(alloc, &mut node, bytes, *fault)?);
-        assert!(rt; has_one_group(alloc, &node)?);
-    }
+    learns(alloc, &mut node, GROUP)?;
+    assert!(rt; takes_nothing(alloc, &mut node)?);
     assert!(rt; node.save() == Err(Fault::Refused(Refusal::Busy)));
     Ok(())
 }

@@ -15,18 +15,20 @@ const FIRST: Name = Name { node: 1, seq: 1 };
 
 const SECOND: Name = Name { node: 1, seq: 2 };
 
+// Whether the node makes a process since this boot, which begins a group of this name.
+fn begins(alloc: Global, node: &mut Node<MemKeeper>, boot: u32, name: Name) -> bool {
+    makes(alloc, node, first(boot)) && node.begin(Body::MakeGroup, Some(first(boot))) == Ok(name)
+}
+
 // A node with a process that begins a group. Its keeper breaks at its second save.
 fn begun(alloc: Global, keeps: bool) -> Result<Node<MemKeeper>, Fail> {
     let mut keeper = MemKeeper::new(alloc, 1);
     keeper.break_at(2, keeps);
     let mut node = opened(alloc, keeper, 1)?;
-    if !makes(alloc, &mut node, first(1)) {
-        return Err(Fail::from("no process"));
-    }
-    if given(node.begin(Body::MakeGroup, Some(first(1))))? == FIRST {
+    if begins(alloc, &mut node, 1, FIRST) {
         Ok(node)
     } else {
-        Err(Fail::from("another name"))
+        Err(Fail::from("no group is begun"))
     }
 }
 
@@ -38,6 +40,13 @@ fn breaks(alloc: Global, node: &mut Node<MemKeeper>) -> Result<bool, Fail> {
     Ok(count == 1 && name == SECOND && node.save() == Err(Fault::KeeperFailed))
 }
 
+// Whether the node goes on after the group, with a process of its second boot.
+fn goes_on(alloc: Global, node: &mut Node<MemKeeper>) -> Result<bool, Fail> {
+    let mut text = Vec::new(alloc);
+    given(node.text(&mut text))??;
+    Ok(text.as_slice() == b"1.1 group\n".as_slice() && begins(alloc, node, 2, SECOND))
+}
+
 #[test]
 fn reopened_after_a_break(rt: HostRuntime) -> Result<(), Fail> {
     let alloc = rt.alloc();
@@ -47,12 +56,14 @@ fn reopened_after_a_break(rt: HostRuntime) -> Result<(), Fail> {
     assert!(rt; breaks(alloc, &mut node)?);
     let (mut node, boot) = node.reopen(alloc, |keeper: MemKeeper| keeper.mend());
     assert!(rt; boot == Ok(2));
-    let mut text = Vec::new(alloc);
-    given(node.text(&mut text))??;
-    assert_eq!(rt; text.as_slice(), b"1.1 group\n".as_slice());
-    assert!(rt; makes(alloc, &mut node, first(2)));
-    assert!(rt; node.begin(Body::MakeGroup, Some(first(2))) == Ok(SECOND));
+    assert!(rt; goes_on(alloc, &mut node)?);
     Ok(())
+}
+
+// Whether the node is stopped, and says nothing.
+fn is_silent(alloc: Global, node: &Node<MemKeeper>) -> bool {
+    let mut text = Vec::new(alloc);
+    node.text(&mut text) == Err(Fault::Stopped) && text.is_empty()
 }
 
 #[test]
@@ -65,8 +76,6 @@ fn reopened_with_what_was_in_doubt(rt: HostRuntime) -> Result<(), Fail> {
     assert!(rt; boot == Err(Fault::WrongNode));
     let (node, boot) = node.restart(alloc, false);
     assert!(rt; boot == Err(Fault::WrongNode));
-    let mut text = Vec::new(alloc);
-    assert!(rt; node.text(&mut text) == Err(Fault::Stopped));
-    assert!(rt; text.is_empty());
+    assert!(rt; is_silent(alloc, &node));
     Ok(())
 }

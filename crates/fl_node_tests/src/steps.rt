@@ -1,5 +1,5 @@
 //! Tests of orders: at the end of the names, and of a group that is opened.
-use crate::opened::{asked, first, given, makes, opened};
+use crate::opened::{asked, first, makes, opened};
 use fl_jobs::answer::{Refusal, Reply};
 use fl_jobs::job::{Act, Job, Order};
 use fl_labels::cap::Cap;
@@ -33,24 +33,42 @@ fn may_use(alloc: Global, node: &mut Node<MemKeeper>, pid: Pid, group: Group) ->
     matches!(&asked(alloc, node, job), Ok(Answer::Reply(Reply::Yes)))
 }
 
+const LAST_BUT_ONE: Op = Op {
+    name: Name {
+        node: 1,
+        seq: 4_294_967_294,
+    },
+    body: Body::MakeGroup,
+};
+
+// Whether the first process orders this under this name, and it is published as so many-th.
+fn is_made(
+    alloc: Global,
+    node: &mut Node<MemKeeper>,
+    order: Order,
+    name: Name,
+    count: u64,
+) -> bool {
+    matches!(&ordered(alloc, node, order), Ok(Answer::Begun(begun)) if *begun == name)
+        && node.save() == Ok(())
+        && node.publish(alloc) == Ok(count)
+}
+
+// Whether the first process is refused another group, since the names are spent.
+fn is_spent(alloc: Global, node: &mut Node<MemKeeper>) -> bool {
+    matches!(
+        &ordered(alloc, node, Order::Group),
+        Err(Fault::Refused(Refusal::NamesSpent))
+    )
+}
+
 #[test]
 fn last_name_is_spent(rt: HostRuntime) -> Result<(), Fail> {
     let alloc = rt.alloc();
-    let last_but_one = Op {
-        name: Name {
-            node: 1,
-            seq: 4_294_967_294,
-        },
-        body: Body::MakeGroup,
-    };
-    let mut node = opened(alloc, keeper_with(alloc, last_but_one)?, 1)?;
+    let mut node = opened(alloc, keeper_with(alloc, LAST_BUT_ONE)?, 1)?;
     assert!(rt; makes(alloc, &mut node, first(1)));
-    let begun = ordered(alloc, &mut node, Order::Group);
-    assert!(rt; matches!(&begun, Ok(Answer::Begun(LAST))));
-    given(node.save())?;
-    assert!(rt; node.publish(alloc) == Ok(2));
-    let spent = ordered(alloc, &mut node, Order::Group);
-    assert!(rt; matches!(&spent, Err(Fault::Refused(Refusal::NamesSpent))));
+    assert!(rt; is_made(alloc, &mut node, Order::Group, LAST, 2));
+    assert!(rt; is_spent(alloc, &mut node));
     assert!(rt; may_use(alloc, &mut node, first(1), LAST));
     Ok(())
 }
@@ -63,21 +81,26 @@ const SECOND: Pid = Pid {
     serial: 2,
 };
 
+const OPENED: Name = Name { node: 1, seq: 2 };
+
+// Whether only the first process may use the group before and after it is made, and both may once
+// it is opened.
+fn is_opened(alloc: Global, node: &mut Node<MemKeeper>) -> bool {
+    !may_use(alloc, node, SECOND, GROUP)
+        && is_made(alloc, node, Order::Group, GROUP, 1)
+        && may_use(alloc, node, first(1), GROUP)
+        && !may_use(alloc, node, SECOND, GROUP)
+        && is_made(alloc, node, Order::OpenGroup(GROUP), OPENED, 2)
+        && may_use(alloc, node, first(1), GROUP)
+        && may_use(alloc, node, SECOND, GROUP)
+}
+
 #[test]
 fn opened_group_is_everybodys(rt: HostRuntime) -> Result<(), Fail> {
     let alloc = rt.alloc();
     let mut node = opened(alloc, MemKeeper::new(alloc, 1), 1)?;
-    for pid in [first(1), SECOND] {
-        assert!(rt; makes(alloc, &mut node, pid));
-    }
-    for order in [Order::Group, Order::OpenGroup(GROUP)] {
-        assert!(rt; !may_use(alloc, &mut node, SECOND, GROUP));
-        let begun = ordered(alloc, &mut node, order);
-        assert!(rt; matches!(&begun, Ok(Answer::Begun(_))));
-        given(node.save())?;
-        assert!(rt; node.publish(alloc).is_ok());
-        assert!(rt; may_use(alloc, &mut node, first(1), GROUP));
-    }
-    assert!(rt; may_use(alloc, &mut node, SECOND, GROUP));
+    assert!(rt; makes(alloc, &mut node, first(1)));
+    assert!(rt; makes(alloc, &mut node, SECOND));
+    assert!(rt; is_opened(alloc, &mut node));
     Ok(())
 }
