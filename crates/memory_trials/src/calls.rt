@@ -6,7 +6,7 @@ use std::alloc::{AllocError, Global};
 use std::fmt;
 
 /// What a call is made over could not be made.
-#[derive(Clone, Copy, Debug)]
+#[derive(Clone, Copy)]
 pub struct NotBegun;
 
 impl From<AllocError> for NotBegun {
@@ -28,7 +28,7 @@ impl From<Fault> for NotBegun {
 }
 
 /// What a call answered.
-#[derive(Clone, Copy, Debug, PartialEq, Eq)]
+#[derive(Clone, Copy, PartialEq, Eq)]
 pub enum Said {
     /// What it is to answer where there is memory.
     Done,
@@ -51,17 +51,32 @@ impl Said {
     }
 
     /// What a node answered to a job, which is to be this.
-    pub fn by_job(answer: &Result<Answer, Fault>, wanted: &Reply) -> Said {
+    pub fn by_job(answer: Result<Answer, Fault>, wanted: Reply) -> Said {
+        match &answer {
+            Ok(Answer::Reply(reply)) if *reply == wanted => Said::Done,
+            other => Said::otherwise(other),
+        }
+    }
+
+    /// What a node answered to a job, where it is not what it is to answer.
+    pub fn otherwise(answer: &Result<Answer, Fault>) -> Said {
         match answer {
-            Ok(Answer::Reply(reply)) if reply == wanted => Said::Done,
             Err(Fault::Refused(Refusal::Memory)) => Said::Refused,
             _ => Said::Other,
         }
     }
 }
 
+/// What a node answered to a job, as a state is made.
+pub fn answered(answer: Result<Answer, Fault>) -> Result<(), NotBegun> {
+    match answer {
+        Ok(_) => Ok(()),
+        Err(_) => Err(NotBegun),
+    }
+}
+
 /// How a trial ended.
-#[derive(Clone, Copy, Debug, PartialEq, Eq)]
+#[derive(Clone, Copy)]
 pub enum Ending {
     /// What the call is made over could not be made.
     NotBegun,

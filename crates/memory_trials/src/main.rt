@@ -13,11 +13,7 @@ mod scene;
 mod sets;
 mod worlds;
 
-use crate::calls::{Ending, run};
-use crate::nodes::{Look, Open, Publish, Receive, Restart, RestartKept, Save};
-use crate::people::{Arrive, Enter, OpenEndpoint, Ordering, Proc, Send, Spawn};
-use crate::sets::{Absorb, AbsorbAll, Merge};
-use crate::worlds::{Ask, DeliverMessage, DeliverOperations, DeliverWindow, Join, Tell};
+use crate::calls::Ending;
 use std::alloc::Global;
 use std::env;
 use std::io::{Eprint, Print};
@@ -58,33 +54,19 @@ const TRIALS: [&str; 24] = [
 
 // How the trial of this name ends, if there is one.
 fn ending_of<R: Wait>(rt: &R, alloc: Global, name: &str) -> Option<Ending> {
-    Some(match name {
-        "merge" => run::<Merge>(alloc),
-        "absorb" => run::<Absorb>(alloc),
-        "absorb_all" => run::<AbsorbAll>(alloc),
-        "open" => run::<Open>(alloc),
-        "look" => run::<Look>(alloc),
-        "proc" => run::<Proc>(alloc),
-        "spawn" => run::<Spawn>(alloc),
-        "order" => run::<Ordering>(alloc),
-        "enter" => run::<Enter>(alloc),
-        "open_endpoint" => run::<OpenEndpoint>(alloc),
-        "send" => run::<Send>(alloc),
-        "arrive" => run::<Arrive>(alloc),
-        "save" => run::<Save>(alloc),
-        "publish" => run::<Publish>(alloc),
-        "receive" => run::<Receive>(alloc),
-        "restart" => run::<Restart>(alloc),
-        "restart_kept" => run::<RestartKept>(alloc),
-        "world_join" => run::<Join>(alloc),
-        "world_ask" => run::<Ask>(alloc),
-        "world_tell" => run::<Tell>(alloc),
-        "world_deliver_window" => run::<DeliverWindow>(alloc),
-        "world_deliver_operations" => run::<DeliverOperations>(alloc),
-        "world_deliver_message" => run::<DeliverMessage>(alloc),
-        "press" => boards::publish(rt, alloc),
-        _ => return None,
-    })
+    if name == "press" {
+        return Some(boards::publish(rt, alloc));
+    }
+    if let Some(ending) = sets::ending_of(alloc, name) {
+        return Some(ending);
+    }
+    if let Some(ending) = nodes::ending_of(alloc, name) {
+        return Some(ending);
+    }
+    if let Some(ending) = people::ending_of(alloc, name) {
+        return Some(ending);
+    }
+    worlds::ending_of(alloc, name)
 }
 
 // Makes the trial of this name, and says how it ended. Answers the status.

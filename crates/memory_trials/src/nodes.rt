@@ -1,14 +1,13 @@
 //! Trials of what a node saves, publishes and gets back.
-use crate::calls::{NotBegun, Said, Trial};
-use crate::people::{FIRST, orders, owns, peopled};
+use crate::calls::{Ending, NotBegun, Said, Trial, run};
+use crate::people::{FIRST, order, orders, owns, peopled};
 use crate::scene::{FEW, MORE, MemNode, NEXT, Stage, asked, filled, question, stands, watched};
 use fl_jobs::answer::Reply;
-use fl_jobs::job::{Act, Job, Order};
 use fl_labels::cap::Cap;
 use fl_node::node::Node;
 use fl_store::keeper::Keeper;
 use fl_store::mem::MemKeeper;
-use fl_system::answer::{Answer, Fault};
+use fl_system::answer::Fault;
 use fl_wire::reading::decode;
 use std::alloc::Global;
 
@@ -94,25 +93,24 @@ impl Trial for Look {
     }
 
     fn call(alloc: Global, node: &mut MemNode) -> Said {
-        Said::by_job(&asked(alloc, node, u64::MAX, question()), &Reply::Yes)
+        Said::by_job(asked(alloc, node, u64::MAX, question()), Reply::Yes)
     }
 
     fn left(alloc: Global, node: &mut MemNode) -> Option<&'static str> {
-        let is_left = Said::by_job(&asked(alloc, node, 0, question()), &Reply::NotYet);
+        let is_left = Said::by_job(asked(alloc, node, 0, question()), Reply::NotYet);
         (is_left == Said::Done).then_some("its desk sees what it saw")
     }
 
     fn is_done(alloc: Global, node: &mut MemNode) -> bool {
-        Said::by_job(&asked(alloc, node, 0, question()), &Reply::Yes) == Said::Done
+        Said::by_job(asked(alloc, node, 0, question()), Reply::Yes) == Said::Done
     }
 }
 
 // A node whose process ordered a group.
 fn ordered(alloc: Global) -> Result<MemNode, NotBegun> {
     let mut node = peopled(alloc)?;
-    let order = Job::By(FIRST, Act::Order(Order::Group));
-    match asked(alloc, &mut node, u64::MAX, order)? {
-        Answer::Begun(NEXT) => Ok(node),
+    match order(alloc, &mut node) {
+        Said::Done => Ok(node),
         _ => Err(NotBegun),
     }
 }
@@ -244,4 +242,18 @@ impl Trial for RestartKept {
     fn is_done(_alloc: Global, node: &mut MemNode) -> bool {
         stands(node, &MORE, &MORE, Stage::Idle)
     }
+}
+
+/// How the trial of this name ends, if it is one of these.
+pub fn ending_of(alloc: Global, name: &str) -> Option<Ending> {
+    Some(match name {
+        "open" => run::<Open>(alloc),
+        "look" => run::<Look>(alloc),
+        "save" => run::<Save>(alloc),
+        "publish" => run::<Publish>(alloc),
+        "receive" => run::<Receive>(alloc),
+        "restart" => run::<Restart>(alloc),
+        "restart_kept" => run::<RestartKept>(alloc),
+        _ => return None,
+    })
 }

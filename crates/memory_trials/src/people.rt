@@ -1,5 +1,5 @@
 //! Trials of jobs of processes at a node.
-use crate::calls::{NotBegun, Said, Trial};
+use crate::calls::{Ending, NotBegun, Said, Trial, answered, run};
 use crate::scene::{FEW, GROUP, LOGIN, MemNode, NEXT, Stage, TAG, asked, stands, watched};
 use fl_bench::process::{Holding, Process};
 use fl_jobs::answer::{Refusal, Reply};
@@ -96,12 +96,17 @@ pub fn relabel_act(secrecy: Label) -> Act {
     Act::Relabel(Side::Secrecy, Ok(secrecy))
 }
 
+// Has the node make a process, which takes the tag into its secrecy.
+fn people(alloc: Global, node: &mut MemNode) -> Result<(), NotBegun> {
+    answered(asked(alloc, node, u64::MAX, Job::Proc))?;
+    let act = relabel_act(label_of(alloc, TAG)?);
+    answered(acts(alloc, node, act))
+}
+
 /// A node with a process that has the tag in its secrecy.
 pub fn peopled(alloc: Global) -> Result<MemNode, NotBegun> {
     let mut node = watched(alloc)?;
-    asked(alloc, &mut node, u64::MAX, Job::Proc)?;
-    let act = relabel_act(label_of(alloc, TAG)?);
-    acts(alloc, &mut node, act)?;
+    people(alloc, &mut node)?;
     Ok(node)
 }
 
@@ -116,10 +121,7 @@ impl Trial for Proc {
     }
 
     fn call(alloc: Global, node: &mut MemNode) -> Said {
-        Said::by_job(
-            &asked(alloc, node, u64::MAX, Job::Proc),
-            &Reply::Made(FIRST),
-        )
+        Said::by_job(asked(alloc, node, u64::MAX, Job::Proc), Reply::Made(FIRST))
     }
 
     fn left(_alloc: Global, node: &mut MemNode) -> Option<&'static str> {
@@ -152,7 +154,7 @@ impl Trial for Spawn {
 
     fn call(alloc: Global, node: &mut MemNode) -> Said {
         match spawn_act(alloc) {
-            Ok(act) => Said::by_job(&acts(alloc, node, act), &Reply::Made(SECOND)),
+            Ok(act) => Said::by_job(acts(alloc, node, act), Reply::Made(SECOND)),
             Err(AllocError) => Said::NotBegun,
         }
     }
@@ -170,6 +172,18 @@ impl Trial for Spawn {
 /// A process orders a group.
 pub struct Ordering;
 
+fn begun(answer: &Result<Answer, Fault>) -> Said {
+    match answer {
+        Ok(Answer::Begun(NEXT)) => Said::Done,
+        other => Said::otherwise(other),
+    }
+}
+
+/// The first process orders the second group.
+pub fn order(alloc: Global, node: &mut MemNode) -> Said {
+    begun(&acts(alloc, node, Act::Order(Order::Group)))
+}
+
 impl Trial for Ordering {
     type State = MemNode;
 
@@ -178,10 +192,7 @@ impl Trial for Ordering {
     }
 
     fn call(alloc: Global, node: &mut MemNode) -> Said {
-        match &acts(alloc, node, Act::Order(Order::Group)) {
-            Ok(Answer::Begun(NEXT)) => Said::Done,
-            other => Said::by_job(other, &Reply::Done),
-        }
+        order(alloc, node)
     }
 
     fn left(_alloc: Global, node: &mut MemNode) -> Option<&'static str> {
@@ -206,7 +217,7 @@ impl Trial for Enter {
 
     fn call(alloc: Global, node: &mut MemNode) -> Said {
         let answer = acts(alloc, node, Act::Enter(LOGIN, SECRET));
-        Said::by_job(&answer, &Reply::Entered(Cap::Use(GROUP)))
+        Said::by_job(answer, Reply::Entered(Cap::Use(GROUP)))
     }
 
     fn left(_alloc: Global, node: &mut MemNode) -> Option<&'static str> {
@@ -230,6 +241,12 @@ pub fn open_act(alloc: Global, secrecy: Label) -> Result<Act, AllocError> {
     Ok(Act::Mail(Mail::Open(Mode::Both, Boxed::new(alloc, given)?)))
 }
 
+// What the node answers where the process opens an endpoint with the tag in its secrecy.
+fn opens(alloc: Global, node: &mut MemNode) -> Result<Result<Answer, Fault>, NotBegun> {
+    let act = open_act(alloc, label_of(alloc, TAG)?)?;
+    Ok(acts(alloc, node, act))
+}
+
 impl Trial for OpenEndpoint {
     type State = MemNode;
 
@@ -238,14 +255,10 @@ impl Trial for OpenEndpoint {
     }
 
     fn call(alloc: Global, node: &mut MemNode) -> Said {
-        let Ok(secrecy) = label_of(alloc, TAG) else {
-            return Said::NotBegun;
-        };
-        let Ok(act) = open_act(alloc, secrecy) else {
-            return Said::NotBegun;
-        };
-        let answer = acts(alloc, node, act);
-        Said::by_job(&answer, &Reply::Opened(ENDPOINT))
+        match opens(alloc, node) {
+            Ok(answer) => Said::by_job(answer, Reply::Opened(ENDPOINT)),
+            Err(NotBegun) => Said::NotBegun,
+        }
     }
 
     fn left(_alloc: Global, node: &mut MemNode) -> Option<&'static str> {
@@ -263,8 +276,7 @@ pub struct Send;
 // A node whose process has an open endpoint.
 fn reachable(alloc: Global) -> Result<MemNode, NotBegun> {
     let mut node = peopled(alloc)?;
-    let act = open_act(alloc, label_of(alloc, TAG)?)?;
-    acts(alloc, &mut node, act)?;
+    answered(opens(alloc, &mut node)?)?;
     Ok(node)
 }
 
@@ -287,6 +299,14 @@ fn sent(alloc: Global, node: &mut MemNode) -> Option<Result<Answer, Fault>> {
     Some(acts(alloc, node, act))
 }
 
+// Whether a message went out, with the tag in its secrecy.
+fn out(answer: &Result<Answer, Fault>) -> Said {
+    match answer {
+        Ok(Answer::Out(data)) if data.secrecy.as_slice() == [TAG].as_slice() => Said::Done,
+        other => Said::otherwise(other),
+    }
+}
+
 impl Trial for Send {
     type State = MemNode;
 
@@ -296,10 +316,7 @@ impl Trial for Send {
 
     fn call(alloc: Global, node: &mut MemNode) -> Said {
         match &sent(alloc, node) {
-            Some(Ok(Answer::Out(data))) if data.secrecy.as_slice() == [TAG].as_slice() => {
-                Said::Done
-            }
-            Some(other) => Said::by_job(other, &Reply::Done),
+            Some(answer) => out(answer),
             None => Said::NotBegun,
         }
     }
@@ -355,4 +372,18 @@ impl Trial for Arrive {
     fn is_done(alloc: Global, node: &mut MemNode) -> bool {
         is_waiting(alloc, node) == Some(true)
     }
+}
+
+/// How the trial of this name ends, if it is one of these.
+pub fn ending_of(alloc: Global, name: &str) -> Option<Ending> {
+    Some(match name {
+        "proc" => run::<Proc>(alloc),
+        "spawn" => run::<Spawn>(alloc),
+        "order" => run::<Ordering>(alloc),
+        "enter" => run::<Enter>(alloc),
+        "open_endpoint" => run::<OpenEndpoint>(alloc),
+        "send" => run::<Send>(alloc),
+        "arrive" => run::<Arrive>(alloc),
+        _ => return None,
+    })
 }

@@ -1,5 +1,5 @@
 //! The node that trials are made over, and what they ask of it.
-use crate::calls::NotBegun;
+use crate::calls::{NotBegun, answered};
 use fl_jobs::job::Job;
 use fl_labels::cap::Cap;
 use fl_labels::name::Name;
@@ -67,7 +67,7 @@ pub const FEW: [Op; 4] = [GROUP_MADE, TAG_MADE, LOGIN_MADE, PUT];
 pub const MORE: [Op; 5] = [GROUP_MADE, TAG_MADE, LOGIN_MADE, PUT, NEXT_MADE];
 
 /// Whether a node runs, and what is on its way.
-#[derive(Clone, Copy, Debug, PartialEq, Eq)]
+#[derive(Clone, Copy, PartialEq, Eq)]
 pub enum Stage {
     Idle,
     Unsaved,
@@ -126,6 +126,6 @@ pub fn question() -> Job {
 /// The node, whose desk has seen all.
 pub fn watched(alloc: Global) -> Result<MemNode, NotBegun> {
     let mut node = filled(alloc)?;
-    asked(alloc, &mut node, u64::MAX, question())?;
+    answered(asked(alloc, &mut node, u64::MAX, question()))?;
     Ok(node)
 }

@@ -1,5 +1,5 @@
 //! Trials of sets of operations, and of who reaches what by them.
-use crate::calls::{NotBegun, Said, Trial};
+use crate::calls::{Ending, NotBegun, Said, Trial, run};
 use fl_closure::index::Index;
 use fl_labels::cap::Cap;
 use fl_labels::cap_set::CapSet;
@@ -169,4 +169,14 @@ impl Trial for AbsorbAll {
     fn is_done(alloc: Global, state: &mut Taking) -> bool {
         knows(alloc, &state.index, &[MADE, PUT, OPENED], true)
     }
+}
+
+/// How the trial of this name ends, if it is one of these.
+pub fn ending_of(alloc: Global, name: &str) -> Option<Ending> {
+    Some(match name {
+        "merge" => run::<Merge>(alloc),
+        "absorb" => run::<Absorb>(alloc),
+        "absorb_all" => run::<AbsorbAll>(alloc),
+        _ => return None,
+    })
 }

@@ -1,5 +1,7 @@
 //! Trials of worlds: who joins, what nodes tell each other, and the messages between processes.
-use crate::calls::{NotBegun, Said, Trial};
+ghost use Rattle.std.specs.Prelude.{◌<◌};
+
+use crate::calls::{Ending, NotBegun, Said, Trial, run};
 use crate::people::{ENDPOINT, FIRST, label_of, open_act, relabel_act, send_act};
 use crate::scene::{Stage, stands};
 use fl_jobs::answer::{Refusal, Reply as Answer};
@@ -35,8 +37,8 @@ const OTHER: Op = Op {
 
 impl Said {
     // What a world answered, which is to be this.
-    fn by_world(answer: &Reply, wanted: &Reply) -> Said {
-        match answer {
+    fn by_world(answer: Reply, wanted: Reply) -> Said {
+        match &answer {
             Reply::Refused(Fault::Refused(Refusal::Memory)) => Said::Refused,
             _ if answer == wanted => Said::Done,
             _ => Said::Other,
@@ -45,8 +47,8 @@ impl Said {
 }
 
 // An answer as it must be, as a state is made.
-fn expected(answer: Reply, wanted: &Reply) -> Result<(), NotBegun> {
-    if answer == *wanted {
+fn expected(answer: Reply, wanted: Reply) -> Result<(), NotBegun> {
+    if answer == wanted {
         Ok(())
     } else {
         Err(NotBegun)
@@ -62,17 +64,25 @@ fn asked(alloc: Global, world: &mut MemWorld, job: Job) -> Reply {
     world.job(alloc, 1, look, job)
 }
 
-// Node 1 joins over a keeper of nothing, and its first process makes the tag.
-fn make_tag(alloc: Global, world: &mut MemWorld) -> Result<(), NotBegun> {
-    if world.join(alloc, 1, MemKeeper::new(alloc, 1)).is_err() {
-        return Err(NotBegun);
+// The node joins over a keeper of nothing.
+fn joined(alloc: Global, world: &mut MemWorld, number: NodeNumber) -> Result<(), NotBegun>
+    requires { 0 < number }
+{
+    match world.join(alloc, number, MemKeeper::new(alloc, number)) {
+        Ok(_) => Ok(()),
+        Err(_) => Err(NotBegun),
     }
+}
+
+// Node 1 joins, and its first process makes the tag.
+fn make_tag(alloc: Global, world: &mut MemWorld) -> Result<(), NotBegun> {
+    joined(alloc, world, 1)?;
     let made = Reply::Job(Answer::Made(FIRST));
-    expected(asked(alloc, world, Job::Proc), &made)?;
+    expected(asked(alloc, world, Job::Proc), made)?;
     let order = Job::By(FIRST, Act::Order(Order::Tag(Policy::Export)));
-    expected(asked(alloc, world, order), &Reply::Begun(TAG))?;
-    expected(world.save(1), &Reply::Done)?;
-    expected(world.publish(alloc, 1), &Reply::Published(TAG))
+    expected(asked(alloc, world, order), Reply::Begun(TAG))?;
+    expected(world.save(1), Reply::Done)?;
+    expected(world.publish(alloc, 1), Reply::Published(TAG))
 }
 
 // A world of node 1.
@@ -174,7 +184,7 @@ impl Trial for Ask {
 
     fn call(alloc: Global, world: &mut MemWorld) -> Said {
         let ask = Job::By(FIRST, Act::Ask(Cap::Plus(TAG)));
-        Said::by_world(&asked(alloc, world, ask), &Reply::Job(Answer::Yes))
+        Said::by_world(asked(alloc, world, ask), Reply::Job(Answer::Yes))
     }
 
     fn left(_alloc: Global, world: &mut MemWorld) -> Option<&'static str> {
@@ -197,7 +207,7 @@ impl Trial for Tell {
     }
 
     fn call(alloc: Global, world: &mut MemWorld) -> Said {
-        Said::by_world(&world.tell(alloc, 1), &Reply::Sent { first: 1, count: 1 })
+        Said::by_world(world.tell(alloc, 1), Reply::Sent { first: 1, count: 1 })
     }
 
     fn left(_alloc: Global, world: &mut MemWorld) -> Option<&'static str> {
@@ -209,14 +219,16 @@ impl Trial for Tell {
     }
 }
 
-// A world of node 1, and of node 2, which has nothing and told so in packet 1.
+// Node 2 joins, which has nothing, and tells so in packet 1.
+fn join_other(alloc: Global, world: &mut MemWorld) -> Result<(), NotBegun> {
+    joined(alloc, world, 2)?;
+    expected(world.tell(alloc, 2), Reply::Sent { first: 1, count: 1 })
+}
+
+// A world of node 1 and of this node 2.
 fn world_of_two(alloc: Global) -> Result<MemWorld, NotBegun> {
     let mut world = world_of_one(alloc)?;
-    if world.join(alloc, 2, MemKeeper::new(alloc, 2)).is_err() {
-        return Err(NotBegun);
-    }
-    let sent = Reply::Sent { first: 1, count: 1 };
-    expected(world.tell(alloc, 2), &sent)?;
+    join_other(alloc, &mut world)?;
     Ok(world)
 }
 
@@ -232,7 +244,7 @@ impl Trial for DeliverWindow {
 
     fn call(alloc: Global, world: &mut MemWorld) -> Said {
         let sent = Reply::Sent { first: 2, count: 1 };
-        Said::by_world(&world.deliver(alloc, 1, 1), &sent)
+        Said::by_world(world.deliver(alloc, 1, 1), sent)
     }
 
     fn left(_alloc: Global, world: &mut MemWorld) -> Option<&'static str> {
@@ -253,12 +265,12 @@ impl Trial for DeliverOperations {
     fn begin(alloc: Global) -> Result<MemWorld, NotBegun> {
         let mut world = world_of_two(alloc)?;
         let sent = Reply::Sent { first: 2, count: 1 };
-        expected(world.deliver(alloc, 1, 1), &sent)?;
+        expected(world.deliver(alloc, 1, 1), sent)?;
         Ok(world)
     }
 
     fn call(alloc: Global, world: &mut MemWorld) -> Said {
-        Said::by_world(&world.deliver(alloc, 2, 2), &Reply::Taking(1))
+        Said::by_world(world.deliver(alloc, 2, 2), Reply::Taking(1))
     }
 
     fn left(_alloc: Global, world: &mut MemWorld) -> Option<&'static str> {
@@ -270,22 +282,22 @@ impl Trial for DeliverOperations {
     }
 }
 
+// The process asks for this, which is answered so.
+fn acts(alloc: Global, world: &mut MemWorld, act: Act, wanted: Reply) -> Result<(), NotBegun> {
+    expected(asked(alloc, world, Job::By(FIRST, act)), wanted)
+}
+
 // The process takes the tag into its secrecy, opens an endpoint, and sends a message of nothing to
 // itself, in packet 1.
 fn send(alloc: Global, world: &mut MemWorld) -> Result<(), NotBegun> {
     let raise = relabel_act(label_of(alloc, TAG)?);
-    expected(
-        asked(alloc, world, Job::By(FIRST, raise)),
-        &Reply::Job(Answer::Done),
-    )?;
+    acts(alloc, world, raise, Reply::Job(Answer::Done))?;
     let open = open_act(alloc, label_of(alloc, TAG)?)?;
-    let opened = Reply::Job(Answer::Opened(ENDPOINT));
-    expected(asked(alloc, world, Job::By(FIRST, open)), &opened)?;
-    let Some(send) = send_act(alloc) else {
-        return Err(NotBegun);
-    };
-    let sent = Reply::Sent { first: 1, count: 1 };
-    expected(asked(alloc, world, Job::By(FIRST, send)), &sent)
+    acts(alloc, world, open, Reply::Job(Answer::Opened(ENDPOINT)))?;
+    match send_act(alloc) {
+        Some(send) => acts(alloc, world, send, Reply::Sent { first: 1, count: 1 }),
+        None => Err(NotBegun),
+    }
 }
 
 // How much was admitted before the message comes: the label, the endpoint, and what was sent.
@@ -317,7 +329,7 @@ impl Trial for DeliverMessage {
 
     fn call(alloc: Global, world: &mut MemWorld) -> Said {
         let arrived = Reply::Job(Answer::Arrived(FIRST));
-        Said::by_world(&world.deliver(alloc, 1, 1), &arrived)
+        Said::by_world(world.deliver(alloc, 1, 1), arrived)
     }
 
     fn left(alloc: Global, world: &mut MemWorld) -> Option<&'static str> {
@@ -327,4 +339,17 @@ impl Trial for DeliverMessage {
     fn is_done(alloc: Global, world: &mut MemWorld) -> bool {
         is_noted(alloc, world, ADMITTED + 1, true)
     }
+}
+
+/// How the trial of this name ends, if it is one of these.
+pub fn ending_of(alloc: Global, name: &str) -> Option<Ending> {
+    Some(match name {
+        "world_join" => run::<Join>(alloc),
+        "world_ask" => run::<Ask>(alloc),
+        "world_tell" => run::<Tell>(alloc),
+        "world_deliver_window" => run::<DeliverWindow>(alloc),
+        "world_deliver_operations" => run::<DeliverOperations>(alloc),
+        "world_deliver_message" => run::<DeliverMessage>(alloc),
+        _ => return None,
+    })
 }
