@@ -21,6 +21,10 @@ fn say(alloc: Global, out: &mut String, kind: &str, bytes: &[u8]) -> Result<(), 
 pub fn cut(alloc: Global, out: &mut String, rest: &str) -> Result<(), AllocError> {
     let (kind, digits) = parts(rest);
     let bytes = bytes_of(alloc, digits)?;
+    cut_all(alloc, out, kind, &bytes)
+}
+
+fn cut_all(alloc: Global, out: &mut String, kind: &str, bytes: &[u8]) -> Result<(), AllocError> {
     for length in 0..bytes.len() {
         say(alloc, out, kind, &bytes[..length])?;
         out.push_str(" ")?;
@@ -45,14 +49,24 @@ fn are_refused(alloc: Global, kind: &str, bytes: &[u8]) -> Result<bool, AllocErr
     let mut out = String::new(alloc);
     let mut field = 0;
     for length in 0..bytes.len() {
-        out.clear();
-        say(alloc, &mut out, kind, &bytes[..length])?;
-        match out.as_str().parse() {
-            Ok(place) if place == field || place == length => field = place,
+        match place_of(alloc, &mut out, kind, &bytes[..length])? {
+            Some(place) if place == field || place == length => field = place,
             _ => return Ok(false),
         }
     }
     Ok(true)
+}
+
+// The place of the fault of these bytes, if they are refused.
+fn place_of(
+    alloc: Global,
+    out: &mut String,
+    kind: &str,
+    bytes: &[u8],
+) -> Result<Option<usize>, AllocError> {
+    out.clear();
+    say(alloc, out, kind, bytes)?;
+    Ok(out.as_str().parse().ok())
 }
 
 /// What the bytes are with one of them changed, for each of these: a place, `=`, and the byte.
@@ -60,11 +74,21 @@ pub fn change(alloc: Global, out: &mut String, rest: &str) -> Result<(), AllocEr
     let (kind, rest) = parts(rest);
     let (digits, changes) = parts(rest);
     let mut bytes = bytes_of(alloc, digits)?;
+    change_each(alloc, out, kind, &mut bytes, changes)
+}
+
+fn change_each(
+    alloc: Global,
+    out: &mut String,
+    kind: &str,
+    bytes: &mut [u8],
+    changes: &str,
+) -> Result<(), AllocError> {
     for change in changes.split(' ') {
         let (place, byte) = change.split_once('=').unwrap_or((change, ""));
-        let before = put(&mut bytes, place, byte.parse().unwrap_or(0));
-        say(alloc, out, kind, &bytes)?;
-        put(&mut bytes, place, before);
+        let before = put(bytes, place, byte.parse().unwrap_or(0));
+        say(alloc, out, kind, bytes)?;
+        put(bytes, place, before);
         out.push_str(" ")?;
     }
     Ok(())
@@ -83,16 +107,21 @@ fn put(bytes: &mut [u8], place: &str, byte: u8) -> u8 {
 /// digits.
 pub fn bytes_of(alloc: Global, words: &str) -> Result<Vec<u8>, AllocError> {
     let mut digits = String::new(alloc);
-    for word in words.split(' ') {
-        match word.split_once('*') {
-            Some((count, piece)) => repeat(&mut digits, count.parse().unwrap_or(0), piece)?,
-            None => digits.push_str(word)?,
-        }
-    }
+    spell(&mut digits, words)?;
     match hex::decode(alloc, &digits) {
         Ok(bytes) => Ok(bytes),
         Err(_) => Ok(Vec::new(alloc)),
     }
+}
+
+fn spell(digits: &mut String, words: &str) -> Result<(), AllocError> {
+    for word in words.split(' ') {
+        match word.split_once('*') {
+            Some((count, piece)) => repeat(digits, count.parse().unwrap_or(0), piece)?,
+            None => digits.push_str(word)?,
+        }
+    }
+    Ok(())
 }
 
 fn repeat(digits: &mut String, count: u16, piece: &str) -> Result<(), AllocError> {

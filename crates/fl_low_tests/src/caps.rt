@@ -4,6 +4,7 @@ use fl_labels::cap::Cap;
 use fl_labels::cap_set::CapSet;
 use fl_labels::error::SetError;
 use fl_labels::list::read_items;
+use fl_labels::roomy::RoomyCapSet;
 use fl_labels::sorted::{arrange, rises};
 use fl_labels::text::{read_cap, read_number};
 use fl_rules::has::{Has, Owner};
@@ -15,7 +16,8 @@ pub fn say(alloc: Global, out: &mut String, rest: &str) -> Result<(), AllocError
     let (what, rest) = parts(rest);
     let (text, with) = parts(rest);
     match CapSet::from_text(alloc, text) {
-        Ok(caps) => ask(alloc, out, what, caps, with),
+        Ok(caps) if what == "room" => room(out, caps, with),
+        Ok(mut caps) => ask(alloc, out, what, &mut caps, with),
         Err(error) => write!(out, "{error:?}"),
     }
 }
@@ -24,31 +26,36 @@ fn ask(
     alloc: Global,
     out: &mut String,
     what: &str,
-    mut caps: CapSet,
+    caps: &mut CapSet,
     with: &str,
 ) -> Result<(), AllocError> {
-    if what == "room" {
-        return room(out, caps, with);
-    }
     match read_cap(with) {
-        Some(cap) => with_cap(out, what, &mut caps, cap)?,
-        None => with_set(alloc, out, what, &mut caps, with)?,
+        Some(cap) => with_cap(out, what, caps, cap)?,
+        None => with_set(alloc, out, what, caps, with)?,
     }
-    push_set(out, &caps)
+    push_set(out, caps)
 }
 
-// The set with room for two, with two capabilities in the room.
+// The set with room for two: how many it has, and what it is with two capabilities in the room.
 fn room(out: &mut String, caps: CapSet, words: &str) -> Result<(), AllocError> {
-    let (first, second) = parts(words);
     let Ok(roomy) = caps.with_room() else {
         return Err(AllocError);
     };
-    write!(out, "{} ", roomy.as_slice().len())?;
-    let caps = match (read_cap(first), read_cap(second)) {
+    let count = roomy.as_slice().len();
+    push_counted(out, count, &filled(roomy, words))
+}
+
+fn filled(roomy: RoomyCapSet, words: &str) -> CapSet {
+    let (first, second) = parts(words);
+    match (read_cap(first), read_cap(second)) {
         (Some(first), Some(second)) => roomy.with_both(first, second),
         _ => roomy.without_room(),
-    };
-    push_set(out, &caps)
+    }
+}
+
+fn push_counted(out: &mut String, count: usize, caps: &CapSet) -> Result<(), AllocError> {
+    write!(out, "{count} ")?;
+    push_set(out, caps)
 }
 
 fn push_set(out: &mut String, caps: &CapSet) -> Result<(), AllocError> {
@@ -113,13 +120,18 @@ pub fn sorted(alloc: Global, out: &mut String, rest: &str) -> Result<(), AllocEr
     if rest.starts_with('{') {
         return items(alloc, out, rest);
     }
+    let mut items = numbers(alloc, rest)?;
+    let is_rising = rises(&items);
+    arrange(&mut items);
+    write!(out, "{is_rising} {items:?}")
+}
+
+fn numbers(alloc: Global, words: &str) -> Result<Vec<u32>, AllocError> {
     let mut items = Vec::new(alloc);
-    for word in rest.split(' ') {
+    for word in words.split(' ') {
         items.push(read_number(word).unwrap_or(0))?;
     }
-    write!(out, "{}", rises(&items))?;
-    arrange(&mut items);
-    write!(out, " {items:?}")
+    Ok(items)
 }
 
 fn items(alloc: Global, out: &mut String, list: &str) -> Result<(), AllocError> {

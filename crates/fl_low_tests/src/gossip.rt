@@ -9,7 +9,7 @@ use crate::rows::parts;
 use fl_gossip::fault::GossipFault;
 use fl_gossip::replying::reply;
 use fl_gossip::taking::take;
-use fl_labels::name::Name;
+use fl_labels::name::{Name, NodeNumber};
 use fl_ops::op::{Body, Op, Policy};
 use fl_opset::intervals::Intervals;
 use fl_opset::set::OpSet;
@@ -96,13 +96,23 @@ pub fn say(alloc: Global, out: &mut String, what: &str, rest: &str) -> Result<()
         "windows" => windows(alloc, out, &saved),
         "copy" => compare(out, &saved.copy(alloc)?, &saved),
         "take" => take_all(alloc, out, &saved, second),
-        _ => {
-            let mut other = named(alloc, second)?;
-            let windows = other.have(alloc)?;
-            answer_all(alloc, out, &saved, &windows, &mut other)?;
-            compare(out, &other, &saved)
-        }
+        _ => answer_other(alloc, out, &saved, second),
     }
+}
+
+// What the set replies to the other one, which takes it.
+fn answer_other(
+    alloc: Global,
+    out: &mut String,
+    saved: &OpSet,
+    name: &str,
+) -> Result<(), AllocError>
+    requires { HaveNoClash (In saved.now) (In saved.now) }
+{
+    let mut other = named(alloc, name)?;
+    let windows = other.have(alloc)?;
+    answer_all(alloc, out, saved, &windows, &mut other)?;
+    compare(out, &other, saved)
 }
 
 fn compare(out: &mut String, first: &OpSet, second: &OpSet) -> Result<(), AllocError> {
@@ -150,7 +160,17 @@ fn answer(
 ) -> Result<(), AllocError>
     requires { HaveNoClash (In saved.now) (In saved.now) }
 {
-    for packet in &reply(alloc, saved, window)? {
+    let packets = reply(alloc, saved, window)?;
+    take_each(alloc, out, &packets, other)
+}
+
+fn take_each(
+    alloc: Global,
+    out: &mut String,
+    packets: &[Packet],
+    other: &mut OpSet,
+) -> Result<(), AllocError> {
+    for packet in packets {
         push_packet(alloc, out, packet, &[])?;
         take_new(alloc, other, packet)?;
     }
@@ -158,10 +178,14 @@ fn answer(
 }
 
 fn take_new(alloc: Global, ops: &mut OpSet, packet: &Packet) -> Result<(), AllocError> {
-    let Ok(new) = take(alloc, ops, 2, packet) else {
-        return Ok(());
-    };
-    for op in &new {
+    match take(alloc, ops, 2, packet) {
+        Ok(new) => add_all(ops, &new),
+        Err(_) => Ok(()),
+    }
+}
+
+fn add_all(ops: &mut OpSet, new: &[Op]) -> Result<(), AllocError> {
+    for op in new {
         ops.add(*op)?;
     }
     Ok(())
@@ -184,10 +208,20 @@ f2020000000100000400ffffffffffffffff0001000000010000040100000401;";
 fn take_all(alloc: Global, out: &mut String, saved: &OpSet, rest: &str) -> Result<(), AllocError> {
     let (number, digits) = parts(rest);
     let bytes = bytes_of(alloc, digits)?;
-    let Ok(packet) = decode(alloc, &bytes) else {
-        return out.push_str("no packet");
-    };
-    match take(alloc, saved, number.parse().unwrap_or(0), &packet) {
+    match decode(alloc, &bytes) {
+        Ok(packet) => take_one(alloc, out, saved, number.parse().unwrap_or(0), &packet),
+        Err(_) => out.push_str("no packet"),
+    }
+}
+
+fn take_one(
+    alloc: Global,
+    out: &mut String,
+    saved: &OpSet,
+    number: NodeNumber,
+    packet: &Packet,
+) -> Result<(), AllocError> {
+    match take(alloc, saved, number, packet) {
         Ok(new) => push_new(out, &new),
         Err(GossipFault::Impostor(name)) => write!(out, "impostor {name}"),
         Err(GossipFault::Clash(name)) => write!(out, "clash {name}"),

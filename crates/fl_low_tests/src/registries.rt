@@ -11,13 +11,23 @@ pub fn say(alloc: Global, out: &mut String, rest: &str) -> Result<(), AllocError
     let (what, rest) = parts(rest);
     let (lines, with) = rest.split_once(" | ").unwrap_or((rest, ""));
     let mut set = set_of(alloc, lines)?;
+    ask(alloc, out, what, &mut set, with)
+}
+
+fn ask(
+    alloc: Global,
+    out: &mut String,
+    what: &str,
+    set: &mut OpSet,
+    with: &str,
+) -> Result<(), AllocError> {
     match what {
-        "last" => last(out, &set, with),
-        "login" => login(out, &set, with),
-        "clash" => clash(out, &set, with),
+        "last" => last(out, set, with),
+        "login" => login(out, set, with),
+        "clash" => clash(out, set, with),
         _ => {
-            change(alloc, out, what, &mut set, with)?;
-            text(alloc, out, &set)
+            change(alloc, out, what, set, with)?;
+            text(alloc, out, set)
         }
     }
 }
@@ -73,10 +83,14 @@ fn change(
 // The text, with `; ` for a line feed.
 fn text(alloc: Global, out: &mut String, set: &OpSet) -> Result<(), AllocError> {
     let mut output = Vec::new(alloc);
-    if set.text(&mut output).is_err() {
-        return Err(AllocError);
+    match set.text(&mut output) {
+        Ok(()) => push_lines(out, &output),
+        Err(_) => Err(AllocError),
     }
-    for byte in &output {
+}
+
+fn push_lines(out: &mut String, text: &[u8]) -> Result<(), AllocError> {
+    for byte in text {
         if *byte == b'\n' {
             out.push_str("; ")?;
         } else {
