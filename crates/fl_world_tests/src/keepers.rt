@@ -1,6 +1,6 @@
 //! Tests of nodes that join over keepers.
-use crate::scene::{happens, job, joins};
-use fl_jobs::answer::{Refusal, Reply as Answer};
+use crate::scene::{group_is_begun, happens, is_made, job, joins, process_is_made};
+use fl_jobs::answer::Refusal;
 use fl_jobs::job::{Act, Job, Order};
 use fl_labels::name::Name;
 use fl_labels::pid::Pid;
@@ -8,11 +8,9 @@ use fl_ops::op::{Body, Op};
 use fl_store::keeper::Keeper;
 use fl_store::mem::MemKeeper;
 use fl_system::answer::Fault;
-use fl_system::event::Event;
 use fl_system::reply::Reply;
 use fl_world::world::World;
 use std::alloc::{AllocError, Global};
-use std::test::Fail;
 
 const MAKER: Pid = Pid {
     node: 1,
@@ -30,43 +28,51 @@ fn keeper_with(alloc: Global, op: Op) -> Result<MemKeeper, AllocError> {
     MemKeeper::with(alloc, 1, 0, &[op])
 }
 
-#[test]
-fn last_name_is_spent(rt: HostRuntime) -> Result<(), Fail> {
-    let alloc = rt.alloc();
-    let last_but_one = Op {
-        name: Name {
-            node: 1,
-            seq: 4_294_967_294,
-        },
-        body: Body::MakeGroup,
-    };
-    let mut world = World::new(alloc, 1);
-    joins(&mut world, alloc, 1, keeper_with(alloc, last_but_one)?)?;
-    let made = Reply::Job(Answer::Made(MAKER));
-    happens(&mut world, alloc, job(Job::Proc), &made)?;
-    let order = Job::By(MAKER, Act::Order(Order::Group));
-    happens(&mut world, alloc, job(order), &Reply::Begun(LAST))?;
-    happens(&mut world, alloc, Event::Save(1), &Reply::Done)?;
-    happens(
-        &mut world,
-        alloc,
-        Event::Publish(1),
-        &Reply::Published(LAST),
-    )?;
+const LAST_BUT_ONE: Op = Op {
+    name: Name {
+        node: 1,
+        seq: 4_294_967_294,
+    },
+    body: Body::MakeGroup,
+};
+
+// The first process of node 1 orders a group, and there is no name for it.
+fn has_no_name(world: &mut World<MemKeeper>, alloc: Global) -> bool {
     let order = Job::By(MAKER, Act::Order(Order::Group));
     let spent = Reply::Refused(Fault::Refused(Refusal::NamesSpent));
-    happens(&mut world, alloc, job(order), &spent)
+    happens(world, alloc, job(order), spent)
+}
+
+// Node 1 makes a group of the last name, and then no other.
+fn names_are_spent(world: &mut World<MemKeeper>, alloc: Global) -> bool {
+    process_is_made(world, alloc, 1)
+        && group_is_begun(world, alloc, 1, LAST)
+        && is_made(world, alloc, LAST)
+        && has_no_name(world, alloc)
 }
 
 #[test]
-fn keeper_of_another_node(rt: HostRuntime) -> Result<(), Fail> {
+fn last_name_is_spent(rt: HostRuntime) -> Result<(), AllocError> {
+    let alloc = rt.alloc();
+    let keeper = keeper_with(alloc, LAST_BUT_ONE)?;
+    let mut world = World::new(alloc, 1);
+    assert!(rt; joins(&mut world, alloc, 1, keeper));
+    assert!(rt; names_are_spent(&mut world, alloc));
+    Ok(())
+}
+
+// Node 2 does not join over a keeper of node 1, which is handed back.
+fn is_refused(world: &mut World<MemKeeper>, alloc: Global) -> bool {
+    match world.join(alloc, 2, MemKeeper::new(alloc, 1)) {
+        Ok(_) => false,
+        Err((fault, keeper)) => fault == Fault::WrongNode && keeper.number() == 1,
+    }
+}
+
+#[test]
+fn keeper_of_another_node(rt: HostRuntime) {
     let alloc = rt.alloc();
     let mut world = World::new(alloc, 1);
-    let Err((fault, keeper)) = world.join(alloc, 2, MemKeeper::new(alloc, 1)) else {
-        return Err(Fail::from("joined"));
-    };
-    assert!(rt; fault == Fault::WrongNode);
-    assert!(rt; keeper.number() == 1);
+    assert!(rt; is_refused(&mut world, alloc));
     assert!(rt; world.node(2).is_none());
-    Ok(())
 }

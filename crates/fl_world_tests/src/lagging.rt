@@ -1,5 +1,5 @@
 //! Tests of desks that look at a front of the list.
-use crate::scene::{happens, is_made, job, joins};
+use crate::scene::{happens, is_begun, is_made, job, joins, process_is_made};
 use fl_jobs::answer::Reply as Answer;
 use fl_jobs::job::{Act, Job, Order};
 use fl_labels::cap::Cap;
@@ -12,7 +12,6 @@ use fl_system::event::Event;
 use fl_system::reply::Reply;
 use fl_world::world::World;
 use std::alloc::Global;
-use std::test::Fail;
 
 const GROUP: Name = Name { node: 1, seq: 1 };
 
@@ -29,29 +28,17 @@ fn process(serial: u32) -> Pid {
 }
 
 // The first process of node 1 orders this, and it is published.
-fn is_ordered(
-    world: &mut World<MemKeeper>,
-    alloc: Global,
-    order: Order,
-    name: Name,
-) -> Result<(), Fail> {
-    let order = Job::By(process(1), Act::Order(order));
-    happens(world, alloc, job(order), &Reply::Begun(name))?;
-    is_made(world, alloc, name)
+fn is_ordered(world: &mut World<MemKeeper>, alloc: Global, order: Order, name: Name) -> bool {
+    is_begun(world, alloc, 1, order, name) && is_made(world, alloc, name)
 }
 
-// A world of two desks, in which desk 1 of node 1 sees that the group has the tag, and desk 2
-// nothing.
-fn lagging_world(alloc: Global) -> Result<World<MemKeeper>, Fail> {
-    let mut world = World::new(alloc, 2);
-    joins(&mut world, alloc, 1, MemKeeper::new(alloc, 1))?;
-    let made = Reply::Job(Answer::Made(process(1)));
-    happens(&mut world, alloc, job(Job::Proc), &made)?;
-    is_ordered(&mut world, alloc, Order::Group, GROUP)?;
-    is_ordered(&mut world, alloc, Order::Tag(Policy::Read), TAG)?;
-    let put = Order::Put(GROUP, Cap::Plus(TAG));
-    is_ordered(&mut world, alloc, put, PUT)?;
-    Ok(world)
+// In a world of two desks, desk 1 of node 1 sees that the group has the tag, and desk 2 nothing.
+fn lags(world: &mut World<MemKeeper>, alloc: Global) -> bool {
+    joins(world, alloc, 1, MemKeeper::new(alloc, 1))
+        && process_is_made(world, alloc, 1)
+        && is_ordered(world, alloc, Order::Group, GROUP)
+        && is_ordered(world, alloc, Order::Tag(Policy::Read), TAG)
+        && is_ordered(world, alloc, Order::Put(GROUP, Cap::Plus(TAG)), PUT)
 }
 
 // At this desk, which looks so far, it is asked whether the group has the tag.
@@ -64,42 +51,60 @@ fn asked(node: NodeNumber, desk: u8, upto: u64) -> Event {
     }
 }
 
-#[test]
-fn lagging_view_in_a_world(rt: HostRuntime) -> Result<(), Fail> {
-    let alloc = rt.alloc();
-    let mut world = lagging_world(alloc)?;
-    let yes = Reply::Job(Answer::Yes);
-    let not_yet = Reply::Job(Answer::NotYet);
-    for (desk, upto, wanted) in [
-        (2, 0, &not_yet),
-        (2, 2, &not_yet),
-        (1, 0, &yes),
-        (2, 9, &yes),
-        (2, 0, &yes),
-        (0, 9, &Reply::NoSuch),
-        (3, 9, &Reply::NoSuch),
-    ] {
-        happens(&mut world, alloc, asked(1, desk, upto), wanted)?;
+/// What is answered to that question.
+#[derive(Clone, Copy)]
+enum Seen {
+    Yes,
+    NotYet,
+    NoDesk,
+}
+
+fn reply_of(seen: Seen) -> Reply {
+    match seen {
+        Seen::Yes => Reply::Job(Answer::Yes),
+        Seen::NotYet => Reply::Job(Answer::NotYet),
+        Seen::NoDesk => Reply::NoSuch,
     }
-    happens(
-        &mut world,
-        alloc,
-        Event::Restart(1, false),
-        &Reply::Booted(2),
-    )?;
-    happens(&mut world, alloc, asked(1, 2, 0), &yes)
+}
+
+// Which desk looks how far, and what it sees, one after the other.
+const LOOKS: [(u8, u64, Seen); 7] = [
+    (2, 0, Seen::NotYet),
+    (2, 2, Seen::NotYet),
+    (1, 0, Seen::Yes),
+    (2, 9, Seen::Yes),
+    (2, 0, Seen::Yes),
+    (0, 9, Seen::NoDesk),
+    (3, 9, Seen::NoDesk),
+];
+
+#[test]
+fn lagging_view_in_a_world(rt: HostRuntime) {
+    let alloc = rt.alloc();
+    let mut world = World::new(alloc, 2);
+    assert!(rt; lags(&mut world, alloc));
+    for (desk, upto, seen) in LOOKS {
+        assert!(rt; happens(&mut world, alloc, asked(1, desk, upto), reply_of(seen)));
+    }
+    let restart = Event::Restart(1, false);
+    assert!(rt; happens(&mut world, alloc, restart, Reply::Booted(2)));
+    assert!(rt; happens(&mut world, alloc, asked(1, 2, 0), reply_of(Seen::Yes)));
+}
+
+// The process of this number is made by the job.
+fn makes(world: &mut World<MemKeeper>, alloc: Global, by: Job, serial: u32) -> bool {
+    let made = Reply::Job(Answer::Made(process(serial)));
+    happens(world, alloc, job(by), made)
 }
 
 #[test]
-fn benches_make_processes_in_turn(rt: HostRuntime) -> Result<(), Fail> {
+fn benches_make_processes_in_turn(rt: HostRuntime) {
     let alloc = rt.alloc();
     let mut world = World::new(alloc, 2);
-    joins(&mut world, alloc, 1, MemKeeper::new(alloc, 1))?;
+    assert!(rt; joins(&mut world, alloc, 1, MemKeeper::new(alloc, 1)));
     for serial in 1..5 {
-        let made = Reply::Job(Answer::Made(process(serial)));
-        happens(&mut world, alloc, job(Job::Proc), &made)?;
+        assert!(rt; makes(&mut world, alloc, Job::Proc, serial));
     }
     let child = Job::By(process(2), Act::Spawn(CapSet::new(alloc)));
-    let made = Reply::Job(Answer::Made(process(6)));
-    happens(&mut world, alloc, job(child), &made)
+    assert!(rt; makes(&mut world, alloc, child, 6));
 }

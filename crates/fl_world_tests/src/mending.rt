@@ -7,6 +7,7 @@ use crate::scene::tag_is_begun;
 use fl_file_store::file_keeper::FileKeeper;
 use fl_labels::name::NodeNumber;
 use fl_sql_store::sql_keeper::SqlKeeper;
+use fl_store::keeper::Keeper;
 use fl_system::answer::Fault;
 use fl_system::reply::Reply;
 use fl_world::world::World;
@@ -61,35 +62,54 @@ fn files(alloc: Global, writes: u64) -> Files<Hiccup<Memory>> {
     }
 }
 
-// A world with node 1 over such files, which began to make a tag; none where a write failed before.
-fn begun(alloc: Global, writes: u64) -> Result<Option<World<FileKeeper<Hiccup<Memory>>>>, Fail> {
-    let Some(keeper) = opened(alloc, files(alloc, writes)) else {
-        return Ok(None);
-    };
-    let mut world = World::new(alloc, 1);
+// Node 1 joins over the keeper, and begins to make a tag. False where a write failed before.
+fn begins<K: Keeper + Drop>(world: &mut World<K>, alloc: Global, keeper: K) -> Result<bool, Fail> {
     if world.join(alloc, 1, keeper).is_err() {
-        return Ok(None);
+        return Ok(false);
     }
-    tag_is_begun(&mut world, alloc, 1)?;
-    Ok(Some(world))
+    if tag_is_begun(world, alloc, 1) {
+        Ok(true)
+    } else {
+        Err(Fail::from("the tag is not begun"))
+    }
 }
 
-// Saves the tag over such files. Where that fails the node is opened again, for the second time.
-fn saved(alloc: Global, writes: u64) -> Result<Failure, Fail> {
-    let Some(mut world) = begun(alloc, writes)? else {
+// Saves the tag. False where the keeper failed.
+fn saves<K: Keeper>(world: &mut World<K>) -> Result<bool, Fail> {
+    match &world.save(1) {
+        Reply::Done => Ok(true),
+        Reply::Refused(Fault::KeeperFailed) => Ok(false),
+        _ => Err(Fail::from("the save is refused for another cause")),
+    }
+}
+
+// Saves the tag over the keeper. Where that fails the node is opened again, for the second time.
+fn tried<D: Disk + Drop>(
+    world: &mut World<FileKeeper<D>>,
+    alloc: Global,
+    keeper: FileKeeper<D>,
+) -> Result<Failure, Fail> {
+    if !begins(world, alloc, keeper)? {
         return Ok(Failure::BeforeTheSave);
-    };
-    let reply = world.save(1);
-    if reply == Reply::Done {
+    }
+    if saves(world)? {
         return Ok(Failure::AfterTheSave);
     }
-    if reply != Reply::Refused(Fault::KeeperFailed) {
-        return Err(Fail::from("the save is refused for another cause"));
-    }
-    if mended(&mut world, alloc, 1) == Reply::Booted(2) {
+    if mended(world, alloc, 1) == Reply::Booted(2) {
         Ok(Failure::InTheSave)
     } else {
         Err(Fail::from("the node is not opened again"))
+    }
+}
+
+// The same over files that fail one write, after so many.
+fn saved(alloc: Global, writes: u64) -> Result<Failure, Fail> {
+    match opened(alloc, files(alloc, writes)) {
+        Some(keeper) => {
+            let mut world = World::new(alloc, 1);
+            tried(&mut world, alloc, keeper)
+        }
+        None => Ok(Failure::BeforeTheSave),
     }
 }
 

@@ -12,35 +12,30 @@ use fl_system::event::Event;
 use fl_system::reply::Reply;
 use fl_world::world::World;
 use std::alloc::Global;
-use std::test::Fail;
 
-/// Has a node join over a keeper.
+/// Has a node join over a keeper. Whether it is its first boot.
 pub fn joins(
     world: &mut World<MemKeeper>,
     alloc: Global,
     number: NodeNumber,
     keeper: MemKeeper,
-) -> Result<(), Fail>
+) -> bool
     requires { 0 < number }
 {
     match world.join(alloc, number, keeper) {
-        Ok(1) => Ok(()),
-        _ => Err(Fail::from("not joined")),
+        Ok(boot) => boot == 1,
+        Err(_) => false,
     }
 }
 
-/// Has the event happen, which is to be answered so.
+/// Has the event happen. Whether it is answered so.
 pub fn happens<K: Keeper>(
     world: &mut World<K>,
     alloc: Global,
     event: Event,
-    wanted: &Reply,
-) -> Result<(), Fail> {
-    if world.step(alloc, event) == *wanted {
-        Ok(())
-    } else {
-        Err(Fail::from("another answer"))
-    }
+    wanted: Reply,
+) -> bool {
+    world.step(alloc, event) == wanted
 }
 
 /// A job at node 1.
@@ -64,54 +59,63 @@ fn first(boot: u32) -> Pid
     }
 }
 
-/// The first process since this boot is made at node 1.
-pub fn process_is_made<K: Keeper>(
-    world: &mut World<K>,
-    alloc: Global,
-    boot: u32,
-) -> Result<(), Fail>
+/// Makes the first process since this boot at node 1. As all that follows, it says whether each
+/// answer is the one that is due.
+pub fn process_is_made<K: Keeper>(world: &mut World<K>, alloc: Global, boot: u32) -> bool
     requires { 0 < boot }
 {
     let made = Reply::Job(Answer::Made(first(boot)));
-    happens(world, alloc, job(Job::Proc), &made)
+    happens(world, alloc, job(Job::Proc), made)
 }
 
 /// The process that is made first at node 1 since this boot begins to make a tag there.
-pub fn tag_is_begun<K: Keeper>(world: &mut World<K>, alloc: Global, boot: u32) -> Result<(), Fail>
+pub fn tag_is_begun<K: Keeper>(world: &mut World<K>, alloc: Global, boot: u32) -> bool
     requires { 0 < boot }
 {
-    process_is_made(world, alloc, boot)?;
     let name = Name { node: 1, seq: 1 };
-    let order = Job::By(first(boot), Act::Order(Order::Tag(Policy::Export)));
-    happens(world, alloc, job(order), &Reply::Begun(name))
+    process_is_made(world, alloc, boot)
+        && is_begun(world, alloc, boot, Order::Tag(Policy::Export), name)
+}
+
+/// The process that is made first at node 1 since this boot begins what it orders, under this name.
+pub fn is_begun<K: Keeper>(
+    world: &mut World<K>,
+    alloc: Global,
+    boot: u32,
+    order: Order,
+    name: Name,
+) -> bool
+    requires { 0 < boot }
+{
+    let order = Job::By(first(boot), Act::Order(order));
+    happens(world, alloc, job(order), Reply::Begun(name))
 }
 
 /// What is begun there is saved and published.
-pub fn tag_is_made(world: &mut World<MemKeeper>, alloc: Global) -> Result<(), Fail> {
+pub fn tag_is_made(world: &mut World<MemKeeper>, alloc: Global) -> bool {
     is_made(world, alloc, Name { node: 1, seq: 1 })
 }
 
 /// What is begun at node 1, under this name, is saved and published.
-pub fn is_made(world: &mut World<MemKeeper>, alloc: Global, name: Name) -> Result<(), Fail> {
-    happens(world, alloc, Event::Save(1), &Reply::Done)?;
-    happens(world, alloc, Event::Publish(1), &Reply::Published(name))
+pub fn is_made(world: &mut World<MemKeeper>, alloc: Global, name: Name) -> bool {
+    happens(world, alloc, Event::Save(1), Reply::Done)
+        && happens(world, alloc, Event::Publish(1), Reply::Published(name))
 }
 
 /// The first process of node 1 since this boot begins to make a group of this name.
-pub fn group_is_begun(
-    world: &mut World<MemKeeper>,
-    alloc: Global,
-    boot: u32,
-    name: Name,
-) -> Result<(), Fail>
+pub fn group_is_begun(world: &mut World<MemKeeper>, alloc: Global, boot: u32, name: Name) -> bool
     requires { 0 < boot }
 {
-    let order = Job::By(first(boot), Act::Order(Order::Group));
-    happens(world, alloc, job(order), &Reply::Begun(name))
+    is_begun(world, alloc, boot, Order::Group, name)
 }
 
 /// The first process of node 1 makes a group of this name.
-pub fn group_is_made(world: &mut World<MemKeeper>, alloc: Global, name: Name) -> Result<(), Fail> {
-    group_is_begun(world, alloc, 1, name)?;
-    is_made(world, alloc, name)
+pub fn group_is_made(world: &mut World<MemKeeper>, alloc: Global, name: Name) -> bool {
+    group_is_begun(world, alloc, 1, name) && is_made(world, alloc, name)
+}
+
+/// Whether this is the text of the node.
+pub fn has_text(world: &World<MemKeeper>, alloc: Global, number: NodeNumber, wanted: &str) -> bool {
+    let mut text = Vec::new(alloc);
+    world.text(number, &mut text).is_some() && text.as_slice() == wanted.as_bytes()
 }
