@@ -51,9 +51,7 @@ fn ask_seldom<M: MakesKeepers>(alloc: Global, cluster: &mut Cluster<M>, event: E
     cluster.ask(alloc, event)
 }
 
-// What is asked of the node is answered. Inlined, as its caller is, so that no job is copied on its
-// way down.
-#[inline(always)]
+// What is asked of the node is answered.
 fn respond_for<M: MakesKeepers>(
     alloc: Global,
     cluster: &mut Cluster<M>,
@@ -68,7 +66,7 @@ fn respond_for<M: MakesKeepers>(
         (λ between. FailsAsked M.K.custody between.world cluster.new.world node request) }
 {
     match request {
-        Request::Job(job) => cluster.ask(alloc, job_at(node, job)),
+        Request::Job(job) => ask_seldom(alloc, cluster, job_at(node, job)),
         Request::Begin(pid, order) => {
             cluster.begin(alloc, job_at(node, Job::By(pid, Act::Order(order))))
         }
@@ -84,9 +82,9 @@ fn respond_for<M: MakesKeepers>(
     }
 }
 
-/// Answers the line, whatever the aliases are.
-#[inline(always)]
-pub fn respond_to<M: MakesKeepers>(alloc: Global, cluster: &mut Cluster<M>, line: Line) -> Response
+// Answers the line, whatever the aliases are. Out of line, as `ask_seldom` is.
+#[inline(never)]
+fn respond_seldom<M: MakesKeepers>(alloc: Global, cluster: &mut Cluster<M>, line: Line) -> Response
     requires { All (λ node. 0 < node) (nodes_of line) }
     ensures responds { RespondsTo M.K.custody M.making
         cluster.old line result cluster.new }
@@ -100,5 +98,24 @@ pub fn respond_to<M: MakesKeepers>(alloc: Global, cluster: &mut Cluster<M>, line
         Line::Union { first, second } => Response::Said(cluster.union(alloc, first, second)),
         Line::Audit => Response::Said(cluster.audit()),
         Line::Aliases => Response::Aliases,
+    }
+}
+
+/// Answers the line, whatever the aliases are. Inlined, as its caller is, so that no job is copied
+/// on its way down.
+#[inline(always)]
+pub fn respond_to<M: MakesKeepers>(alloc: Global, cluster: &mut Cluster<M>, line: Line) -> Response
+    requires { All (λ node. 0 < node) (nodes_of line) }
+    ensures responds { RespondsTo M.K.custody M.making
+        cluster.old line result cluster.new }
+    ensures cause { status_said result ≡ 3
+        → FailsSaid M.K.custody M.making cluster.old cluster.new line }
+{
+    match line {
+        Line::Node {
+            node,
+            request: Request::Job(job),
+        } => Response::Said(cluster.ask(alloc, job_at(node, job))),
+        other => respond_seldom(alloc, cluster, other),
     }
 }

@@ -2,7 +2,7 @@ use Rattle.fl_cluster.proofs.Failures.{asked_cancel, asked_job, asked_publish, a
 use Rattle.fl_cluster.proofs.asking.respond_for.Goals as goal
 
 pub returns-in-Job-clause-goes : goal.returns-in-Job-clause-goes
-returns-in-Job-clause-goes g c = rw c.in-Job.is (rw c.job_at.ensures at c.ask.ensures.goes)
+returns-in-Job-clause-goes g c = rw c.in-Job.is (rw c.job_at.ensures at c.ask_seldom.ensures.goes)
 
 pub returns-in-Begin-clause-goes : goal.returns-in-Begin-clause-goes
 returns-in-Begin-clause-goes g c = rw c.in-Begin.is (rw c.job_at-in-Begin.ensures at c.begin.ensures.goes)
@@ -14,7 +14,7 @@ pub returns-in-BeginDeliver-clause-goes : goal.returns-in-BeginDeliver-clause-go
 returns-in-BeginDeliver-clause-goes g c = rw c.in-BeginDeliver.is c.begin_to_take.ensures.goes
 
 pub returns-in-Tell-clause-goes : goal.returns-in-Tell-clause-goes
-returns-in-Tell-clause-goes g c = rw c.in-Tell.is c.ask_seldom.ensures.goes
+returns-in-Tell-clause-goes g c = rw c.in-Tell.is c.ask_seldom-in-Tell.ensures.goes
 
 pub returns-in-Save-clause-goes : goal.returns-in-Save-clause-goes
 returns-in-Save-clause-goes g c = rw c.in-Save.is c.ask_seldom-in-Save.ensures.goes
@@ -36,7 +36,7 @@ returns-in-Check-clause-goes g c = rw (c.in-Check.is, ← c.as_slice.ensures) c.
 
 pub returns-in-Job-clause-cause : goal.returns-in-Job-clause-cause
 returns-in-Job-clause-cause g c says =
-    asked_job g.M.K.Keeper.custody g.M.MakesKeepers.making _ _ _ _ _ ((rw c.job_at.ensures at c.ask.ensures.cause) says)
+    asked_job g.M.K.Keeper.custody g.M.MakesKeepers.making _ _ _ _ _ ((rw c.job_at.ensures at c.ask_seldom.ensures.cause) says)
 
 pub returns-in-Begin-clause-cause : goal.returns-in-Begin-clause-cause
 returns-in-Begin-clause-cause g c says =
@@ -52,7 +52,7 @@ returns-in-BeginDeliver-clause-cause g c says =
 
 pub returns-in-Tell-clause-cause : goal.returns-in-Tell-clause-cause
 returns-in-Tell-clause-cause g c says =
-    asked_tell g.M.K.Keeper.custody g.M.MakesKeepers.making _ _ _ _ (c.ask_seldom.ensures.cause says)
+    asked_tell g.M.K.Keeper.custody g.M.MakesKeepers.making _ _ _ _ (c.ask_seldom-in-Tell.ensures.cause says)
 
 pub returns-in-Save-clause-cause : goal.returns-in-Save-clause-cause
 returns-in-Save-clause-cause g c says =
