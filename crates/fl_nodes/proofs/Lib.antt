@@ -10,3 +10,4 @@ pub mod DeliverLemmas
 pub mod JoinLemmas
 pub mod Meets
 pub mod Newcomers
+pub mod Unsaved

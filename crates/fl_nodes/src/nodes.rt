@@ -167,12 +167,10 @@ impl<K: Keeper> Nodes<K> {
         let Some(node) = self.all.get_mut(&number) else {
             return Reply::NoSuch;
         };
-        let answer = match node.cancel() {
+        match node.cancel() {
             Ok(()) => Reply::Done,
             Err(fault) => Reply::Refused(fault),
-        };
-        self.highest = raised(self.highest, node.saved());
-        answer
+        }
     }
 
     /// Publishes what is due at the node, as `Node::publish` has it, and answers the name of an
@@ -186,12 +184,10 @@ impl<K: Keeper> Nodes<K> {
             return Reply::NoSuch;
         };
         let reply = once_published(node.state());
-        let answer = match node.publish(alloc) {
+        match node.publish(alloc) {
             Ok(_) => reply,
             Err(fault) => Reply::Refused(fault),
-        };
-        self.highest = raised(self.highest, node.saved());
-        answer
+        }
     }
 
     /// Restarts the node, as `Node::restart` has it, and answers its boot, or why not:
@@ -234,10 +230,15 @@ impl<K: Keeper> Nodes<K> {
             let_go(job);
             return Reply::NoSuch;
         }
-        let (audit, sent) = (&mut self.audit, &mut self.sent);
-        let answer = work(alloc, number, node, look, job, audit, sent);
-        self.highest = raised(self.highest, node.saved());
-        answer
+        work(
+            alloc,
+            number,
+            node,
+            look,
+            job,
+            &mut self.audit,
+            &mut self.sent,
+        )
     }
 
     /// Writes the text of the node's published operations, as `Node::text` has it, or nothing where

@@ -1,11 +1,11 @@
-use Rattle.std.proofs.Common.{◌∙◌, sym, ap, ℕ, subst}
+use Rattle.std.proofs.Common.{◌∙◌, sym, ap, ℕ}
 use Rattle.std.specs.BTreeMap.{BTreeMap}
 use Rattle.fl_system.specs.declared.event.Event.TheVariants as event
 use Rattle.fl_node.specs.Over.{NodeOver}
-use Rattle.fl_nodes.specs.parts.Highest.{IsUpTo}
 use Rattle.fl_nodes.proofs.Entries.{held, changed, unchanged}
 use Rattle.fl_nodes.proofs.CallLemmas.{no_such_left, given_up, not_given_up}
-use Rattle.fl_nodes.proofs.Highs.{changed_up, left_up}
+use Rattle.fl_nodes.proofs.Highs.{unraised, left_up}
+use Rattle.fl_nodes.proofs.Unsaved.{cancels_saved}
 use Rattle.fl_nodes.proofs.FailLemmas.{no_refusal_missing, no_refusal_done}
 use Rattle.fl_nodes.proofs.Unfailing.{cancel_refused}
 use Rattle.fl_nodes.proofs.nodes.Nodes.cancel.Goals as goal
@@ -19,11 +19,11 @@ returns-in_default-clause-goes g c =
 
 pub returns-clause-goes : goal.returns-clause-goes
 returns-clause-goes g c = elim c.match-cancel.branch [
-  | in-Ok w ↦ rw w.answer-is (given_up g.K.Keeper.custody c.args.self.now _ c.args.number c.in-Some.node.now c.cancel.new.self
+  | in-Ok w ↦ rw w.result-is (given_up g.K.Keeper.custody c.args.self.now _ c.args.number c.in-Some.node.now c.cancel.new.self
       (sym (held c.self.inside.all.entries c.self.inside.all.entries c.self.inside.sent.items c.self.inside.audit.items c.args.self.now c.self.view_is c.args.number) ∙ sym c.in-Some.ensures.value)
       (changed c.self.inside.all.entries _ c.self.inside.sent.items c.self.inside.audit.items c.args.self.now c.self.view_is c.args.number c.in-Some.node.now c.cancel.new.self (sym c.in-Some.ensures.value) (c.get_mut.follows.holds c.cancel.new.self).0)
       w.in-Ok.ensures.keeper w.in-Ok.ensures.cancels)
-  | in-Err w ↦ rw w.answer-is (not_given_up g.K.Keeper.custody c.args.self.now _ c.args.number c.in-Some.node.now c.cancel.new.self
+  | in-Err w ↦ rw w.result-is (not_given_up g.K.Keeper.custody c.args.self.now _ c.args.number c.in-Some.node.now c.cancel.new.self
       (sym (held c.self.inside.all.entries c.self.inside.all.entries c.self.inside.sent.items c.self.inside.audit.items c.args.self.now c.self.view_is c.args.number) ∙ sym c.in-Some.ensures.value)
       (changed c.self.inside.all.entries _ c.self.inside.sent.items c.self.inside.audit.items c.args.self.now c.self.view_is c.args.number c.in-Some.node.now c.cancel.new.self (sym c.in-Some.ensures.value) (c.get_mut.follows.holds c.cancel.new.self).0)
       _ w.in-Err.ensures.keeper w.in-Err.ensures.cancels)
@@ -34,16 +34,16 @@ returns-in_default-clause-cause g c failed = no_refusal_missing _ failed
 
 pub returns-clause-cause : goal.returns-clause-cause
 returns-clause-cause g c = elim c.match-cancel.branch [
-  | in-Ok w ↦ rw w.answer-is (no_refusal_done _)
-  | in-Err w ↦ rw w.answer-is (cancel_refused _ _ _ w.in-Err.ensures.cancels)
+  | in-Ok w ↦ rw w.result-is (no_refusal_done _)
+  | in-Err w ↦ rw w.result-is (cancel_refused _ _ _ w.in-Err.ensures.cancels)
 ]
 
 pub invariant_of-self-2 : goal.invariant_of-self-2
 invariant_of-self-2 g c = (
   c.self.invariant.0,
-  changed_up c.self.inside.highest _ c.self.inside.desks c.raised-self-inside.ensures.at_least c.self.inside.all.entries _ c.args.number c.in-Some.node.now c.cancel.new.self
+  unraised c.self.inside.highest c.self.inside.desks c.self.inside.all.entries _ c.args.number c.in-Some.node.now c.cancel.new.self
       (sym c.in-Some.ensures.value) (c.get_mut.follows.holds c.cancel.new.self).0 c.self.invariant.1
-      (subst (IsUpTo c.raised-self-inside.result) c.saved.ensures.saved c.raised-self-inside.ensures.covers) c.cancel.ensures.desks,
+      (cancels_saved _ _ _ c.cancel.ensures.cancels) c.cancel.ensures.desks,
 )
 
 pub invariant_of-self : goal.invariant_of-self

@@ -1,4 +1,4 @@
-use Rattle.std.proofs.Common.{◌∙◌, sym, ap, ℕ, refl, subst}
+use Rattle.std.proofs.Common.{◌∙◌, sym, ap, ℕ, refl}
 use Rattle.std.specs.BTreeMap.{BTreeMap}
 use Rattle.fl_system.specs.declared.event.Event.TheVariants as event
 use Rattle.fl_node.specs.Over.{NodeOver}
@@ -7,8 +7,8 @@ use Rattle.fl_nodes.proofs.CallLemmas.{no_such_left}
 use Rattle.fl_nodes.proofs.FailLemmas.{no_refusal_missing}
 use Rattle.fl_nodes.proofs.Unfailing.{job_replied}
 use Rattle.fl_nodes.proofs.JobLemmas.{no_such_job, worked}
-use Rattle.fl_nodes.specs.parts.Highest.{IsUpTo}
-use Rattle.fl_nodes.proofs.Highs.{changed_up, looked_up, left_up}
+use Rattle.fl_nodes.proofs.Highs.{unraised, looked_up, left_up}
+use Rattle.fl_nodes.proofs.Unsaved.{worked_saved}
 use Rattle.fl_nodes.proofs.nodes.Nodes.job.Goals as goal
 
 pub returns-in_default-clause-goes : goal.returns-in_default-clause-goes
@@ -26,9 +26,9 @@ returns-then-lacks-clause-goes g c =
 pub returns-clause-goes : goal.returns-clause-goes
 returns-clause-goes g c =
     worked g.K.Keeper.custody c.self.inside.all.entries _ c.self.inside.sent.items c.self.inside.audit.items c.args.self.now c.self.view_is
-    c.args.number c.args.look.desk c.args.look.upto c.args.job c.in-Some.node.now c.work-answer.new.node (sym c.in-Some.ensures.value) (c.get_mut.follows.holds c.work-answer.new.node).0
-    _ _ _ c.work-answer.ensures.keeper (c.lacks.ensures.there c.if-lacks.false)
-    c.work-answer.ensures.works
+    c.args.number c.args.look.desk c.args.look.upto c.args.job c.in-Some.node.now c.work.new.node (sym c.in-Some.ensures.value) (c.get_mut.follows.holds c.work.new.node).0
+    _ _ _ c.work.ensures.keeper (c.lacks.ensures.there c.if-lacks.false)
+    c.work.ensures.works
 
 pub returns-in_default-clause-cause : goal.returns-in_default-clause-cause
 returns-in_default-clause-cause g c failed = no_refusal_missing _ failed
@@ -38,7 +38,7 @@ returns-then-lacks-clause-cause g c failed = no_refusal_missing _ failed
 
 pub returns-clause-cause : goal.returns-clause-cause
 returns-clause-cause g c =
-    job_replied _ _ _ _ _ _ _ _ _ _ _ c.work-answer.ensures.works
+    job_replied _ _ _ _ _ _ _ _ _ _ _ c.work.ensures.works
 
 pub invariant_of-self-then-lacks : goal.invariant_of-self-then-lacks
 invariant_of-self-then-lacks g c = (
@@ -50,9 +50,9 @@ invariant_of-self-then-lacks g c = (
 pub invariant_of-self-2 : goal.invariant_of-self-2
 invariant_of-self-2 g c = (
   c.self.invariant.0,
-  changed_up c.self.inside.highest _ c.self.inside.desks c.raised-self-inside.ensures.at_least c.self.inside.all.entries _ c.args.number c.in-Some.node.now c.work-answer.new.node
-      (sym c.in-Some.ensures.value) (c.get_mut.follows.holds c.work-answer.new.node).0 c.self.invariant.1
-      (subst (IsUpTo c.raised-self-inside.result) c.saved.ensures.saved c.raised-self-inside.ensures.covers) c.work-answer.ensures.desks,
+  unraised c.self.inside.highest c.self.inside.desks c.self.inside.all.entries _ c.args.number c.in-Some.node.now c.work.new.node
+      (sym c.in-Some.ensures.value) (c.get_mut.follows.holds c.work.new.node).0 c.self.invariant.1
+      (worked_saved _ _ _ _ _ _ _ _ _ _ _ c.work.ensures.works) c.work.ensures.desks,
 )
 
 pub invariant_of-self : goal.invariant_of-self
