@@ -3,7 +3,8 @@ ghost use Rattle.std.specs.Prelude.{◌≤◌};
 
 use crate::ending::Ending;
 use crate::scene::{
-    GROUPS, MemCrew, Outcome, Served, ask, group, makes_three, opened, process, serve, stands,
+    GROUPS, MemCrew, Outcome, Served, ask, group, has_saved, makes_three, opened, process, serve,
+    stands,
 };
 use fl_jobs::job::Job;
 use std::alloc::Global;
@@ -119,7 +120,7 @@ fn went_on<R: Threads + Wait + Sync + Send + Copy + Drop + 'static>(
     if serve(rt, alloc, crew, jobs(1, 2)) != Served::Begun(ASKED) {
         return Ending::Wrong("once more, a question was refused");
     }
-    if crew.node().published() != crew.node().saved().as_slice() {
+    if !has_saved(crew, crew.node().published()) {
         return Ending::Wrong("the next batch did not publish what was due");
     }
     completed(rt, alloc, crew, room, 1, left)

@@ -167,7 +167,13 @@ pub fn opened<R: Wait>(rt: &R, alloc: Global) -> Result<MemCrew, NotBegun> {
     }
 }
 
+/// Whether the crew's node has saved just these, each of which is there once.
+pub fn has_saved(crew: &MemCrew, ops: &[Op]) -> bool {
+    let saved = crew.node().saved();
+    saved.len() == ops.len() && ops.iter().all(|op| saved.contains(op))
+}
+
 /// Whether the crew's node has saved these and published them.
 pub fn stands(crew: &MemCrew, ops: &[Op]) -> bool {
-    crew.node().saved().as_slice() == ops && crew.node().published() == ops
+    has_saved(crew, ops) && crew.node().published() == ops
 }

@@ -1,12 +1,11 @@
 -- Rows closed under the operations of an index.
-use Rattle.std.specs.Prelude.{◌≡◌, ◌⊎◌, ◌↔◌, Bool, true, false, ◌||◌, ◌&&◌, List, [], ◌∷◌, ◌++◌, ℕ, ◌+◌, ◌<◌, ◌≤◌, length, get_or, take, refl}
+use Rattle.std.specs.Prelude.{◌≡◌, ◌⊎◌, ◌↔◌, Bool, true, false, ◌||◌, ◌&&◌, List, [], ◌∷◌, refl}
 use Rattle.std.proofs.Common.{inl, inr, sym, ap, subst, ◌∙◌}
 use Rattle.std.specs.List.{Contains}
 use Rattle.std.specs.Cmp.{Equal-is, tied_itself}
 use Rattle.std.specs.Ordering.{eq_by_cmp, is_eq}
 use Rattle.std.proofs.lemmas.Bool.{or_cases, false≢true}
-use Rattle.std.proofs.lemmas.List.{take_more}
-use Rattle.std.proofs.lemmas.List.Elements.{Contains-get_or, Contains-append_cases}
+use Rattle.std.proofs.lemmas.List.Elements.{Contains-append_cases, Contains-append_right}
 use Rattle.fl_labels.specs.Cap.{cap_cmp, is_use}
 use Rattle.fl_labels.specs.CapOrder.{cap_total, cap_exact}
 use Rattle.fl_labels.specs.Caps.{Caps}
@@ -22,7 +21,7 @@ use Rattle.fl_ops.specs.declared.op.Op.{Op}
 use Rattle.fl_ops.specs.declared.op.Policy.TheVariants.{Export, Integrity}
 use Rattle.fl_ops.specs.OpOrder.{op_cmp}
 use Rattle.fl_ops.specs.OpLaws.{op_total, op_exact}
-use Rattle.fl_ops.specs.Registry.{Registry, Chain, Reach, From, tag_op, open_op, IsOpened, IsGlobal, WithGlobal, InEffect}
+use Rattle.fl_ops.specs.Registry.{Registry, Listed, Chain, Reach, From, tag_op, open_op, IsOpened, IsGlobal, WithGlobal, InEffect}
 use Rattle.fl_ops.specs.laws.Reaching.{from_chain, chain_from, owned_eff, global_more}
 use Rattle.fl_closure.specs.declared.rows.Rows.{Rows}
 use Rattle.fl_closure.specs.declared.rows.Owner.TheVariants.{Everybody}
@@ -32,7 +31,7 @@ use Rattle.fl_closure.specs.parts.Rows.{Holds}
 use Rattle.fl_closure.specs.parts.Closed.{Alone, IsGiven, AreClosed, Leads, With}
 use Rattle.fl_closure.specs.parts.Opened.{Has}
 use Rattle.fl_closure.specs.parts.Closure.{IsClosure, FollowsWith, GainsAll, LosesAll}
-use Rattle.fl_closure.proofs.Members.{none, one, first, in_all, any_has, has_any, in_has, has_in}
+use Rattle.fl_closure.proofs.Members.{none, one, first, any_has, has_any, in_has, has_in}
 use Rattle.fl_closure.proofs.Following.{same_closure, undone}
 use Rattle.fl_closure.proofs.Growing.{leads_chain, chain_leads}
 use Rattle.fl_closure.proofs.Leading.{told, told_yes}
@@ -101,47 +100,46 @@ closure_undone s last old mid new news e closure gains loses =
 
 -- ---- what is new
 
-abbrev pub HasAll : SetBy op_cmp → List Op → Type 0
-HasAll s ops = (op : Op) → Contains ops op → In s op
+-- the members of a batch are those of its list
+pub listed_within : (s more : SetBy op_cmp) (ops : List Op) → ops ≡ members more → Within (Listed ops) (In s) → Within (In more) (In s)
+listed_within s more ops is within q h = within q (subst (λ l. Contains l q) (sym is) (in_has op_total op_exact more q h))
 
-pub has_none_yet : (s : SetBy op_cmp) (ops : List Op) → HasAll s (take 0 ops)
-has_none_yet s [] op h = absurd (none _ h)
-has_none_yet s (x ∷ xs) op h = absurd (none _ h)
+pub within_listed : (s more : SetBy op_cmp) (ops : List Op) → ops ≡ members more → Within (In more) (In s) → Within (Listed ops) (In s)
+within_listed s more ops is within q h = within q (has_in op_total op_exact more q (subst (λ l. Contains l q) is h))
 
-pub has_one_more : (s : SetBy op_cmp) (ops : List Op) (i : ℕ) (this : Op) → i < length ops → this ≡ get_or ops i this
-    → HasAll s (take i ops) → In s this → HasAll s (take (i + 1) ops)
-has_one_more s ops i this within at front last op h =
-    let split = Contains-append_cases (take i ops) (this ∷ []) op (subst (λ xs. Contains xs op) (take_more ops i this within ∙ ap (λ x. take i ops ++ x ∷ []) (sym at)) h) in
-    elim split [ inl m ↦ front op m | inr m ↦ subst (λ o. In s o) (one m) last ]
-
-pub lacks_none : (s : SetBy op_cmp) (ops : List Op) (i : ℕ) → length ops ≤ i → HasAll s (take i ops)
-    → ¬ ((op : Op) × Contains ops op × (set.contains s op ≡ false))
-lacks_none s ops i whole front h = false≢true (sym h.2 ∙ front h.0 (in_all ops i h.0 whole h.1))
-
-pub lacks_at : (s : SetBy op_cmp) (ops : List Op) (i : ℕ) (this : Op) → i < length ops → this ≡ get_or ops i this
-    → set.contains s this ≡ false → (op : Op) × Contains ops op × (set.contains s op ≡ false)
-lacks_at s ops i this within at h = (this, subst (Contains ops) (sym at) (Contains-get_or ops i this within), h)
-
-pub nothing_new : (inside s more : SetBy op_cmp) (ops : List Op) → inside ≡ s → ops ≡ members more
-    → ¬ ((op : Op) × Contains ops op × (set.contains inside op ≡ false)) → s ≡ set.union s more
-nothing_new inside s more ops view listed never = subst (λ t. t ≡ set.union t more) view
+-- no operation of a batch is new
+pub nothing_new : (inside s more : SetBy op_cmp) → inside ≡ s → Within (In more) (In inside) → s ≡ set.union s more
+nothing_new inside s more view within = subst (λ t. t ≡ set.union t more) view
     (same_set op_total op_exact inside (set.union inside more) (λ q.
     go q (set.contains inside q) (set.contains more q) refl refl ∙ sym (contains-union op_total inside more q)))
   where
     go : (q : Op) (a b : Bool) → set.contains inside q ≡ a → set.contains more q ≡ b → a ≡ (a || b)
     go q true b e f = refl
-    go q false true e f = absurd (never (q, subst (λ l. Contains l q) (sym listed) (in_has op_total op_exact more q f), e))
+    go q false true e f = absurd (false≢true (sym e ∙ within q f))
     go q false false e f = refl
 
-pub one_is_new : (inside s more : SetBy op_cmp) (ops : List Op) → inside ≡ s → ops ≡ members more
-    → (op : Op) × Contains ops op × (set.contains inside op ≡ false) → (op : Op) × IsMissing more s op
-one_is_new inside s more ops view listed h = (
-  h.0,
-  record {
-    here = has_in op_total op_exact more h.0 (subst (λ l. Contains l h.0) listed h.1);
-    not_there = subst (λ t. set.contains t h.0 ≡ false) view h.2;
-  },
-)
+module _ (s : SetBy op_cmp) where
+  abbrev AnyNew : List Op → Type 0
+  AnyNew ops = (op : Op) × Contains ops op × (set.contains s op ≡ false)
+
+  abbrev NoneNew : List Op → Type 0
+  NoneNew ops = (op : Op) → Contains ops op → In s op
+
+  one_more : (x : Op) (xs : List Op) (b : Bool) → set.contains s x ≡ b → AnyNew xs ⊎ NoneNew xs → AnyNew (x ∷ xs) ⊎ NoneNew (x ∷ xs)
+  one_more x xs false e rest = inl (x, first xs refl, e)
+  one_more x xs true e (inl found) = inl (found.0, Contains-append_right (x ∷ []) xs found.0 found.1, found.2)
+  one_more x xs true e (inr all) = inr (λ op h. elim (Contains-append_cases (x ∷ []) xs op h) [ inl m ↦ subst (λ o. In s o) (one m) e | inr m ↦ all op m ])
+
+  new_or_none : (ops : List Op) → AnyNew ops ⊎ NoneNew ops
+  new_or_none [] = inr (λ op h. absurd (none op h))
+  new_or_none (x ∷ xs) = one_more x xs (set.contains s x) refl (new_or_none xs)
+
+-- one is
+pub one_is_new : (inside s more : SetBy op_cmp) → inside ≡ s → ¬ Within (In more) (In inside) → (op : Op) × IsMissing more s op
+one_is_new inside s more view some = subst (λ t. (op : Op) × IsMissing more t op) view (elim (new_or_none inside (members more)) [
+  | inl found ↦ (found.0, record { here = has_in op_total op_exact more found.0 found.1; not_there = found.2 })
+  | inr all ↦ absurd (some (λ q h. all q (in_has op_total op_exact more q h)))
+])
 
 pub known_already : (inside s : SetBy op_cmp) (op : Op) → inside ≡ s → set.contains inside op ≡ true → s ≡ set.insert s op
 known_already inside s op view there =

@@ -1,14 +1,13 @@
 //! The index of who reaches what.
 ghost use Rattle.std.specs.Prelude.{◌≡◌, OnOk, OnErr, false};
-ghost use Rattle.std.specs.List.{Contains};
-ghost use Rattle.fl_labels.specs.Found.{Tells};
+ghost use Rattle.fl_labels.specs.Found.{Tells, Within};
 ghost use Rattle.fl_labels.specs.SetBy as set;
 ghost use Rattle.fl_labels.specs.SetBy.{In, IsMissing};
 ghost use Rattle.fl_ops.specs.declared.op.Op.{Op};
 ghost use Rattle.fl_ops.specs.OpOrder.{op_cmp};
 ghost use Rattle.fl_ops.specs.Logins.{FindsLogin};
 ghost use Rattle.fl_ops.specs.Registry as spec;
-ghost use Rattle.fl_ops.specs.Registry.{Reach, From, IsGlobal, InEffect};
+ghost use Rattle.fl_ops.specs.Registry.{Reach, From, IsGlobal, InEffect, Listed};
 
 use crate::closure::{Closure, News};
 use fl_labels::cap::Cap;
@@ -71,17 +70,17 @@ fn tag_op(name: Name, policy: Policy) -> Op
     }
 }
 
-// Whether one of these operations is no member.
-fn lacks_one_of(ops: &OpSet, others: &[Op]) -> bool
-    ensures { Tells result
-        ((op : Op) × Contains others.now op × (set.contains ops.now op ≡ false)) }
+// Whether each of the operations is a member. A binary search for each, up to the first that is
+// none.
+fn has_all(ops: &OpSet, others: &[Op]) -> bool
+    ensures { Tells result (Within (Listed others.now) (In ops.now)) }
 {
     for op in others {
         if !ops.contains(op) {
-            return true;
+            return false;
         }
     }
-    false
+    true
 }
 
 impl Index {
@@ -145,19 +144,26 @@ impl Index {
     /// Adds operations, all or none. Fails only where one of them is new and there is not enough
     /// memory, and then leaves the index.
     ///
-    /// A binary search for each up to the first that is new; then as `OpSet::merge` for the
-    /// operations, and for each as `absorb` for the rows. Until it ends, what is new in the rows is
-    /// also in a list, so that it can be taken out again without memory.
+    /// A copy of the operations in one piece, and a binary search for each up to the first that is
+    /// new; then as `OpSet::merge` for the operations, and for each as `absorb` for the rows. Until
+    /// it ends, what is new in the rows is also in a list, so that it can be taken out again without
+    /// memory. Where there is no memory for the copy, as `OpSet::has_each`.
     pub fn absorb_all(&mut self, alloc: Global, ops: &OpSet) -> Result<(), AllocError>
         ensures ok { OnOk result (self.new ≡ set.union self.old ops.now) }
         ensures err { OnErr result (self.new ≡ self.old) }
         ensures absent { OnErr result ((op : Op) × IsMissing ops.now self.old op) }
     {
-        if !lacks_one_of(&self.ops, ops.as_slice()) {
+        let Ok(list) = ops.to_vec(alloc) else {
+            if self.ops.has_each(ops) {
+                return Ok(());
+            }
+            return Err(AllocError);
+        };
+        if has_all(&self.ops, &list) {
             return Ok(());
         }
         let mut news = News::new(alloc);
-        if let Err(error) = self.closure.give_all(ops.as_slice(), &mut news) {
+        if let Err(error) = self.closure.give_all(&list, &mut news) {
             self.closure.take_all(&news);
             return Err(error);
         }

@@ -175,7 +175,10 @@ fn counts_once(index: &Index, owned: &CapSet, first: Op, second: Op) -> bool {
         name: FOURTH,
         body: Body::MakeGroup,
     };
-    index.ops().as_slice() == [group, first, second].as_slice()
+    let ops = index.ops();
+    ops.len() == 3
+        && ops.of_node(1) == [group].as_slice()
+        && ops.of_node(2) == [first, second].as_slice()
         && divides(index, Question::Effective(owned), "+1.1 *1.4", "-1.1")
 }
 
@@ -275,7 +278,8 @@ fn a_batch_is_added_whole(rt: HostRuntime) -> Result<(), AllocError> {
     let batch = set_of(rt.alloc(), &[first, second])?;
     let mut index = index_of(rt.alloc(), &[first])?;
     absorb_twice(rt.alloc(), &mut index, &batch)?;
-    assert!(rt; index.ops().as_slice() == [first, second].as_slice());
+    assert!(rt; index.ops().len() == 2);
+    assert!(rt; index.ops().of_node(2) == [first, second].as_slice());
     assert!(rt; index.reaches(Cap::Use(FIRST), Cap::Plus(NINTH)));
     Ok(())
 }

@@ -1,9 +1,9 @@
 -- What desks see of a list.
 use Rattle.std.proofs.Common.{◌≡◌, ◌≤◌, ◌<◌, ◌+◌, ◌-◌, ◌++◌, ◌∙◌, refl, sym, ap, subst, arith, ℕ, zero, suc, List, [], ◌∷◌, length, take, drop, get_or, set, All, Result, Some, inl, inr}
-use Rattle.std.proofs.Common.{length-append, Bool, true, false, cond, Ok, Err}
+use Rattle.std.proofs.Common.{length-append, Bool, true, false, cond}
 use Rattle.std.proofs.lemmas.List.{take-append-le}
 use Rattle.std.proofs.lemmas.List.Elements.{All-weaker, All-set, All-get_or, All-nil, All-push}
-use Rattle.std.specs.Prelude.{max, min, IfOk}
+use Rattle.std.specs.Prelude.{max, min}
 use Rattle.std.specs.Ordering.{is_lt, nat_cmp, ord_min}
 use Rattle.std.proofs.lemmas.Bool.Decides.{nat_tests}
 use Rattle.std.specs.declared.option.Option.{Option}
@@ -27,11 +27,6 @@ use Rattle.fl_desks.specs.Benches.{BenchesState, bench_at, counted}
 use Rattle.fl_desks.specs.declared.listing.Desk.{Desk}
 use Rattle.fl_desks.specs.Listing.{ListingState, with_seen, extended}
 use Rattle.fl_desks.specs.parts.Fronts.{IsFront, IsListing, views_of}
-
--- what is answered is that
-pub if_ok_same : {A E : Type 0} {x y : A} (r : Result A E) → x ≡ y → IfOk r (λ z. z ≡ x) → IfOk r (λ z. z ≡ y)
-if_ok_same (Ok z) same is = is ∙ same
-if_ok_same (Err e) same is = tt
 
 -- the number of an item is one more than its place
 pub item_is : {A : Type 0} (xs : List A) (k : ℕ) (d : A) → k < length xs → item_at xs (suc k) ≡ Some (get_or xs k d)

@@ -14,30 +14,22 @@ use fl_jobs::job::Job;
 use fl_labels::sorted::arrange;
 use fl_monitor::bench::Bench;
 use fl_ops::op::Op;
+use fl_opset::batch::OpBatch;
 use fl_opset::set::OpSet;
 use fl_system::state::Batch;
 use std::alloc::{AllocError, Global};
 use std::cmp::min;
 use std::marker::Model;
 
-// The operations of a list, as a set, added one by one.
-fn added(alloc: Global, ops: &[Op]) -> Result<OpSet, AllocError>
-    ensures { IfOk result (λ all. all ≡ set.of_list ops.now) }
-{
-    let mut all = OpSet::new(alloc);
-    for op in ops {
-        all.add(*op)?;
-    }
-    Ok(all)
-}
-
-/// The operations of a list, as a set. Sorts a copy of the list, where it does not rise.
-pub fn collected(alloc: Global, ops: &[Op]) -> Result<OpSet, AllocError>
+// The operations of a list, as a set. Sorts a copy of the list, where it does not rise.
+fn collected(alloc: Global, ops: &[Op]) -> Result<OpSet, AllocError>
     ensures { IfOk result (λ all. all ≡ set.of_list ops.now) }
 {
     let mut rising = Vec::from_slice(alloc, ops)?;
     arrange(&mut rising);
-    added(alloc, &rising)
+    let mut all = OpSet::new(alloc);
+    all.merge_batch(&OpBatch::from_rising(rising))?;
+    Ok(all)
 }
 
 // Adds the operations of a list, all or none. One alone is put into no set before.
@@ -144,7 +136,7 @@ impl Listing {
         ensures made { IfOk result (λ made. made ≡ listing_of saved.now desks) }
         ensures desks { IfOk result (λ made. length made.views ≡ desks) }
     {
-        let list = Vec::from_slice(alloc, saved.as_slice())?;
+        let list = saved.to_vec(alloc)?;
         let desks = desks_of(alloc, saved, desks)?;
         Ok(Listing { list, desks })
     }

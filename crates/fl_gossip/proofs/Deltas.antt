@@ -1,10 +1,11 @@
 -- Operations cut into deltas.
-use Rattle.std.proofs.Common.{◌≡◌, ◌<◌, nat_le, ◌&&◌, not, Bool, true, false, cond, List, [], ◌∷◌, ◌++◌, length, take, drop, refl, sym, ap, subst, ◌∙◌, arith, append_assoc, append-nil, Ordering, Less, Equal, Greater}
+use Rattle.std.proofs.Common.{◌≡◌, ◌<◌, ◌≤◌, ◌+◌, ◌-◌, ℕ, get_or, nat_le, ◌&&◌, not, Bool, true, false, cond, List, [], ◌∷◌, ◌++◌, length, take, drop, refl, sym, ap, subst, ◌∙◌, arith, append_assoc, append-nil, Ordering, Less, Equal, Greater}
 use Rattle.std.specs.Cmp.{tied_itself}
 use Rattle.std.specs.List.{Contains, filter, flat_map, list_any, AllByRecursion}
 use Rattle.std.specs.List.Sorted.{IsStrictlySortedBy}
 use Rattle.std.specs.Ordering.{ordering_then}
-use Rattle.std.proofs.lemmas.List.{take-append-drop, length-take-le, flat_map_more, nil_from_length}
+use Rattle.std.proofs.lemmas.Grind.{flat_map-append}
+use Rattle.std.proofs.lemmas.List.{take-append-drop, take_all, take_more, length-append, length-take-le, flat_map_more, nil_from_length}
 use Rattle.std.proofs.lemmas.List.Elements.{recursion_from_All, All-contains_itself}
 use Rattle.std.proofs.lemmas.Bool.{le-leb}
 use Rattle.fl_labels.specs.NameOrder.{name_exact}
@@ -12,6 +13,8 @@ use Rattle.fl_labels.specs.SetBy.{SetBy, In, members, members_rise}
 use Rattle.fl_ops.specs.declared.op.Op.{Op}
 use Rattle.fl_ops.specs.OpOrder.{op_cmp}
 use Rattle.fl_ops.specs.OpLaws.{op_total}
+use Rattle.fl_opset.specs.ByNode.{all_ops}
+use Rattle.fl_opset.specs.declared.node_ops.NodeOps.{NodeOps}
 use Rattle.fl_opset.specs.declared.intervals.Intervals.{Intervals}
 use Rattle.fl_opset.specs.Catching.{HaveNoClash}
 use Rattle.fl_opset.specs.Rank.{name_rank}
@@ -22,6 +25,7 @@ use Rattle.fl_wire.specs.declared.packet.Packet.{Packet}
 use Rattle.fl_wire.specs.NameOrder.{by_name}
 use Rattle.fl_gossip.specs.Taking.{ops_of}
 use Rattle.fl_gossip.specs.Replying.{IsDelta, AreDeltas, AreInDeltas}
+use Rattle.fl_gossip.specs.parts.Filling.{AreFull, AreFilled, filled}
 use Rattle.fl_gossip.specs.parts.Nothing.{IsOfNothing}
 
 -- what rises, in part
@@ -104,11 +108,6 @@ module _ (w : Intervals) (nothing : IsOfNothing w) where
   pub nothing_lacks : (s : SetBy op_cmp) → lacking s w ≡ members s
   nothing_lacks s = all_lacking (members s)
 
--- deltas of 64 operations each
-abbrev pub AreFull : List Packet → Type 0
-AreFull [] = Unit {0}
-AreFull (p ∷ ps) = IsDelta p × (length (ops_of p) ≡ 64) × AreFull ps
-
 full_more : (ps : List Packet) (p : Packet) → AreFull ps → IsDelta p → length (ops_of p) ≡ 64 → AreFull (ps ++ p ∷ [])
 full_more [] p h is long = (is, long, tt)
 full_more (q ∷ ps) p h is long = (h.0, h.1, full_more ps p h.2 is long)
@@ -123,37 +122,98 @@ full_last [] p h is = is
 full_last (q ∷ []) p h is = (h.0, h.1, is)
 full_last (q ∷ r ∷ ps) p h is = (h.0, h.1, full_last (r ∷ ps) p h.2 is)
 
--- so far: the packets are full, and the rest is left
-pub record CutTo (ops : List Op) (packets : List Packet) (rest : List Op) : Type 0 where
-  pub full : AreFull packets
-  pub joined : flat_map ops_of packets ++ rest ≡ ops
-  pub rises : IsStrictlySortedBy by_name rest
+-- so far: the deltas are full, and the rest is left
+pub record FilledTo (all : List Op) (deltas : List Packet) (waiting rest : List Op) : Type 0 where
+  pub state : AreFilled deltas waiting
+  pub joined : filled deltas waiting ++ rest ≡ all
 
-pub cut_start : (ops : List Op) (packets : List Packet) → packets ≡ [] → IsStrictlySortedBy by_name ops → CutTo ops packets ops
-cut_start ops packets none up = subst (λ l. CutTo ops l ops) (sym none) (record { full = tt; joined = refl; rises = up })
+module _ (all : List Op) (deltas : List Packet) (waiting rest front back : List Op) (room : ℕ) (f : FilledTo all deltas waiting rest)
+    (is_front : front ≡ take room rest) (is_back : back ≡ drop room rest) where
+  parted : front ++ back ≡ rest
+  parted = (λ i. is_front i ++ is_back i) ∙ take-append-drop room rest
 
-pub parts_rise : (ops : List Op) (packets : List Packet) (rest front back : List Op) → CutTo ops packets rest → front ≡ take 64 rest → back ≡ drop 64 rest → IsStrictlySortedBy by_name front × IsStrictlySortedBy by_name back
-parts_rise ops packets rest front back c e f =
-    let up = subst (IsStrictlySortedBy by_name) (sym ((λ i. e i ++ f i) ∙ take-append-drop 64 rest)) c.rises in
-    (front_rises by_name front back up, back_rises by_name front back up)
+  regrouped : flat_map ops_of deltas ++ ((waiting ++ front) ++ back) ≡ all
+  regrouped =
+      ap (λ l. flat_map ops_of deltas ++ l) (append_assoc waiting front back ∙ ap (λ l. waiting ++ l) parted)
+      ∙ sym (append_assoc (flat_map ops_of deltas) waiting rest) ∙ f.joined
 
-pub cut_step : (ops : List Op) (packets more : List Packet) (rest front back : List Op) (p : Packet) → CutTo ops packets rest → front ≡ take 64 rest → back ≡ drop 64 rest → 64 < length rest
-    → IsDelta p × (ops_of p ≡ front) → more ≡ packets ++ p ∷ [] → CutTo ops more back
-cut_step ops packets more rest front back p c e f long is new = subst (λ l. CutTo ops l back) (sym new) (record {
-  full = full_more packets p c.full is.0 (ap length (is.1 ∙ e) ∙ length-take-le 64 rest (omega arith));
-  joined = ap (λ l. l ++ back) (sym (flat_map_more ops_of [] packets p)) ∙ append_assoc (flat_map ops_of packets) (ops_of p) back
-      ∙ ap (λ l. flat_map ops_of packets ++ l) ((λ i. (is.1 ∙ e) i ++ f i) ∙ take-append-drop 64 rest) ∙ c.joined;
-  rises = (parts_rise ops packets rest front back c e f).1;
+  -- what is waiting then rises
+  pub waiting_rises : (now : List Op) → now ≡ waiting ++ front → IsStrictlySortedBy by_name all → IsStrictlySortedBy by_name now
+  waiting_rises now is up =
+      subst (IsStrictlySortedBy by_name) (sym is)
+      (front_rises by_name (waiting ++ front) back (back_rises by_name (flat_map ops_of deltas) ((waiting ++ front) ++ back) (subst (IsStrictlySortedBy by_name) (sym regrouped) up)))
+
+  -- and is just enough
+  pub waiting_full : length waiting + room ≡ 64 → room ≤ length rest → (now : List Op) → now ≡ waiting ++ front → length now ≡ 64
+  waiting_full count enough now is =
+      omega (arith, count, ap length is ∙ length-append waiting front, ap length is_front ∙ length-take-le room rest enough)
+
+  -- one delta more
+  pub fill_step : (more : List Packet) (none : List Op) (p : Packet) → IsDelta p × (ops_of p ≡ waiting ++ front) → length (ops_of p) ≡ 64 → more ≡ deltas ++ p ∷ [] → none ≡ []
+      → FilledTo all more none back
+  fill_step more none p is long new empty = record {
+    state = record {
+      full = subst AreFull (sym new) (full_more deltas p f.state.full is.0 long);
+      few = subst (λ l. length l < 64) (sym empty) (omega arith);
+    };
+    joined = (λ i. filled (new i) (empty i) ++ back)
+        ∙ ap (λ l. l ++ back) (append-nil (flat_map ops_of (deltas ++ p ∷ [])) ∙ sym (flat_map_more ops_of [] deltas p) ∙ ap (λ l. flat_map ops_of deltas ++ l) is.1)
+        ∙ append_assoc (flat_map ops_of deltas) (waiting ++ front) back ∙ regrouped;
+  }
+
+-- what is left waits
+pub fill_end : (all : List Op) (deltas : List Packet) (waiting rest now : List Op) → FilledTo all deltas waiting rest → length rest < 64 - length waiting → now ≡ waiting ++ rest
+    → AreFilled deltas now × (filled deltas now ≡ all)
+fill_end all deltas waiting rest now f short is = (
+  record { full = f.state.full; few = omega (arith, short, ap length is ∙ length-append waiting rest) },
+  ap (λ l. flat_map ops_of deltas ++ l) is ∙ sym (append_assoc (flat_map ops_of deltas) waiting rest) ∙ f.joined,
+)
+
+-- the last delta
+pub last_delta : (deltas more : List Packet) (waiting : List Op) (p : Packet) → AreFilled deltas waiting → IsDelta p × (ops_of p ≡ waiting) → more ≡ deltas ++ p ∷ []
+    → AreInDeltas (filled deltas waiting) more
+last_delta deltas more waiting p f is new = subst (AreInDeltas (filled deltas waiting)) (sym new) (record {
+  deltas = full_last deltas p f.full is.0;
+  whole = sym (flat_map_more ops_of [] deltas p) ∙ ap (λ l. flat_map ops_of deltas ++ l) is.1;
 })
 
-pub cut_end : (ops : List Op) (packets more : List Packet) (rest : List Op) (p : Packet) → CutTo ops packets rest → IsDelta p × (ops_of p ≡ rest) → more ≡ packets ++ p ∷ [] → AreInDeltas ops more
-cut_end ops packets more rest p c is new = subst (AreInDeltas ops) (sym new) (record {
-  deltas = full_last packets p c.full is.0;
-  whole = sym (flat_map_more ops_of [] packets p) ∙ ap (λ l. flat_map ops_of packets ++ l) is.1 ∙ c.joined;
-})
+pub last_rises : (deltas : List Packet) (waiting : List Op) → IsStrictlySortedBy by_name (filled deltas waiting) → IsStrictlySortedBy by_name waiting
+last_rises deltas waiting up = back_rises by_name (flat_map ops_of deltas) waiting up
 
-pub cut_none : (ops : List Op) (packets more : List Packet) (rest : List Op) → CutTo ops packets rest → length rest ≡ 0 → more ≡ packets → AreInDeltas ops more
-cut_none ops packets more rest c none same = subst (AreInDeltas ops) (sym same) (record {
-  deltas = full_deltas packets c.full;
-  whole = sym (append-nil (flat_map ops_of packets)) ∙ ap (λ l. flat_map ops_of packets ++ l) (sym (nil_from_length rest none)) ∙ c.joined;
-})
+pub no_last_delta : (deltas : List Packet) (waiting : List Op) → AreFilled deltas waiting → length waiting ≡ 0 → AreInDeltas (filled deltas waiting) deltas
+no_last_delta deltas waiting f none = record {
+  deltas = full_deltas deltas f.full;
+  whole = sym (append-nil (flat_map ops_of deltas)) ∙ ap (λ l. flat_map ops_of deltas ++ l) (sym (nil_from_length waiting none));
+}
+
+-- ---- the operations of each node in turn
+
+-- those of the first nodes are filled in
+pub record FilledOf (nodes : List NodeOps) (i : ℕ) (deltas : List Packet) (waiting : List Op) : Type 0 where
+  pub state : AreFilled deltas waiting
+  pub whole : filled deltas waiting ≡ all_ops (take i nodes)
+
+pub filled_none : (nodes : List NodeOps) (deltas : List Packet) (waiting : List Op) → deltas ≡ [] → waiting ≡ [] → FilledOf nodes 0 deltas waiting
+filled_none nodes deltas waiting none empty =
+    subst (λ l. FilledOf nodes 0 l waiting) (sym none) (subst (λ l. FilledOf nodes 0 [] l) (sym empty) (record { state = record { full = tt; few = omega arith }; whole = refl }))
+
+pub none_filled : (deltas : List Packet) (waiting ops : List Op) → deltas ≡ [] → waiting ≡ [] → filled deltas waiting ++ ops ≡ ops
+none_filled deltas waiting ops none empty = λ i. filled (none i) (empty i) ++ ops
+
+module _ (nodes : List NodeOps) (i : ℕ) (x : NodeOps) (inside : i < length nodes) (at : x ≡ get_or nodes i x) (deltas : List Packet) (waiting ops : List Op) (f : FilledOf nodes i deltas waiting) (is : ops ≡ x.ops.items) where
+  one_node_more : filled deltas waiting ++ ops ≡ all_ops (take (i + 1) nodes)
+  one_node_more =
+      (λ k. f.whole k ++ is k) ∙ flat_map_more (λ (it : NodeOps). it.ops.items) [] (take i nodes) x
+      ∙ ap all_ops (ap (λ y. take i nodes ++ y ∷ []) at ∙ sym (take_more nodes i x inside))
+
+  pub with_node_rises : IsStrictlySortedBy by_name (all_ops nodes) → IsStrictlySortedBy by_name (filled deltas waiting ++ ops)
+  with_node_rises up =
+      let split : all_ops (take (i + 1) nodes) ++ all_ops (drop (i + 1) nodes) ≡ all_ops nodes =
+      sym (flat_map-append (λ (it : NodeOps). it.ops.items) (take (i + 1) nodes) (drop (i + 1) nodes)) ∙ ap all_ops (take-append-drop (i + 1) nodes) in
+      subst (IsStrictlySortedBy by_name) (sym one_node_more) (front_rises by_name (all_ops (take (i + 1) nodes)) (all_ops (drop (i + 1) nodes)) (subst (IsStrictlySortedBy by_name) (sym split) up))
+
+  pub with_node : (more : List Packet) (now : List Op) → AreFilled more now → filled more now ≡ filled deltas waiting ++ ops → FilledOf nodes (i + 1) more now
+  with_node more now state all = record { state = state; whole = all ∙ one_node_more }
+
+pub filled_all : (nodes : List NodeOps) (i : ℕ) (deltas : List Packet) (waiting : List Op) → length nodes ≤ i → FilledOf nodes i deltas waiting → filled deltas waiting ≡ all_ops nodes
+filled_all nodes i deltas waiting done f = f.whole ∙ ap all_ops (take_all i nodes done)

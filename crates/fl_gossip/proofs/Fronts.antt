@@ -1,9 +1,11 @@
 -- What is left of operations that rise, as an operation after another is taken.
-use Rattle.std.proofs.Common.{◌≡◌, ◌≢◌, ◌⊎◌, inl, inr, ℕ, ◌+◌, ◌-◌, ◌<◌, ◌≤◌, Bool, true, false, not, List, [], ◌∷◌, ◌++◌, length, get_or, take, drop, refl, sym, ap, subst, ◌∙◌, arith, Ordering, Less, Equal, Greater}
+use Rattle.std.proofs.Common.{◌≡◌, ◌≢◌, ◌⊎◌, nat_eq, inl, inr, ℕ, ◌+◌, ◌-◌, ◌<◌, ◌≤◌, Bool, true, false, not, List, [], ◌++◌, length, get_or, take, drop, refl, sym, ap, subst, ◌∙◌, arith, Option, Some, None, Ordering, Less, Equal, Greater}
 use Rattle.std.specs.Cmp.{tied_itself, Equal-is}
 use Rattle.std.specs.List.{All, AllWithin, Contains}
 use Rattle.std.specs.List.Sorted.{IsStrictlySortedBy, IsPartitionedBy}
+use Rattle.std.specs.Option.{option_eq}
 use Rattle.std.specs.Ordering.{is_lt, is_gt, is_ge, is_eq, eq_by_cmp}
+use Rattle.std.proofs.lemmas.Bool.Decides.{nat_tests}
 use Rattle.std.proofs.lemmas.Bool.{cases_lt, cases_Bool, false≢true}
 use Rattle.std.proofs.lemmas.List.{length-take-le, length-drop, get_or-take, get_or-drop, get_or_default, take-append-drop}
 use Rattle.std.proofs.lemmas.List.Elements.{All-contains, Contains-append_cases, Contains-append_right}
@@ -11,20 +13,19 @@ use Rattle.std.proofs.lemmas.Map.Keys.{Less-from_sorted}
 use Rattle.fl_labels.specs.Name.{name_cmp}
 use Rattle.fl_labels.specs.NameOrder.{name_total, name_exact}
 use Rattle.fl_labels.specs.declared.name.Name.{Name}
-use Rattle.fl_labels.specs.SetBy.{SetBy, In, contains, members, members_rise}
+use Rattle.fl_labels.specs.SetBy.{SetBy, In, contains}
 use Rattle.fl_ops.specs.declared.op.Op.{Op}
 use Rattle.fl_ops.specs.OpOrder.{op_cmp}
 use Rattle.fl_ops.specs.OpLaws.{op_total, op_exact}
 use Rattle.fl_ops.specs.Registry.{Listed}
 use Rattle.fl_opset.specs.Catching.{MayTake}
 use Rattle.fl_opset.specs.Windows.{IsName}
-use Rattle.fl_opset.specs.laws.Members.{member_listed, listed_member}
 use Rattle.fl_wire.specs.NameOrder.{by_name}
 use Rattle.fl_gossip.specs.declared.fault.GossipFault.{GossipFault}
 use Rattle.fl_gossip.specs.declared.fault.GossipFault.TheVariants.{Impostor, Clash, Memory}
 use Rattle.fl_gossip.specs.Taking.{Offends}
-use Rattle.fl_gossip.specs.parts.Ahead.{NotBelow, IsFrom, BeginsWith, IsNewAmong}
-use Rattle.fl_gossip.proofs.Deltas.{front_rises, back_rises}
+use Rattle.fl_gossip.specs.parts.Ahead.{NotBelow, IsFrom, IsAhead, BeginsWith, IsNewAmong}
+use Rattle.fl_gossip.proofs.Deltas.{back_rises}
 use Rattle.fl_gossip.proofs.Meetings.{first_part}
 
 pub ge_not_lt : (r : Ordering) → is_ge r ≡ true → is_lt r ≡ false
@@ -194,6 +195,10 @@ module _ (xs : List Op) (up : IsStrictlySortedBy op_cmp xs) (n : Name) (from : A
 
 -- ---- what the members from its name on have of an operation, all have
 
+module _ (xs : List Op) (up : IsStrictlySortedBy op_cmp xs) (op : Op) (from : All (NotBelow op.name) xs) where
+  pub first_other : BeginsWith xs op.name → (x : Op) → ((d : Op) → get_or xs 0 d ≡ x) → x ≢ op → (other : Op) × Listed xs other × (other.name ≡ op.name) × (other ≢ op)
+  first_other begins x is apart = (x, (0, begins.some, is x), sym (ap (λ (y : Op). y.name) (is x)) ∙ begins.named x, apart)
+
 module _ (me : ℕ) (xs : List Op) (up : IsStrictlySortedBy op_cmp xs) (op : Op) (from : All (NotBelow op.name) xs) where
   pub unknown : ¬ BeginsWith xs op.name → ¬ IsName (Listed xs) op.name
   unknown none h = none_named xs up op.name from none h.0 h.1 h.2
@@ -205,14 +210,12 @@ module _ (me : ℕ) (xs : List Op) (up : IsStrictlySortedBy op_cmp xs) (op : Op)
     had = λ e. absurd (cc);
   }
 
-  pub first_other : BeginsWith xs op.name → (x : Op) → ((d : Op) → get_or xs 0 d ≡ x) → x ≢ op → (other : Op) × Listed xs other × (other.name ≡ op.name) × (other ≢ op)
-  first_other begins x is apart = (x, (0, begins.some, is x), sym (ap (λ (y : Op). y.name) (is x)) ∙ begins.named x, apart)
-
-  pub had_already : BeginsWith xs op.name → ((d : Op) → get_or xs 0 d ≡ op) → (others : List Op) → others ≡ drop 1 xs → ¬ BeginsWith others op.name → IsNewAmong me (Listed xs) op false
-  had_already begins is others back none =
-      let there : Listed xs op = (0, begins.some, is op) in
+  pub had_already : BeginsWith xs op.name → ((x : Op) → Listed xs x → x.name ≡ op.name → x ≡ op) → IsNewAmong me (Listed xs) op false
+  had_already begins alone =
+      let first : Listed xs (get_or xs 0 op) = (0, begins.some, get_or_default xs 0 (get_or xs 0 op) op begins.some) in
+      let there : Listed xs op = subst (Listed xs) (alone (get_or xs 0 op) first (begins.named op)) first in
       record {
-        may = record { own = λ mine. (op, there, refl); agrees = λ other h e. single xs up op.name from others back begins op is none other h e };
+        may = record { own = λ mine. (op, there, refl); agrees = alone };
         lacked = λ e. absurd (cc);
         had = λ e. there;
       }
@@ -241,41 +244,37 @@ module _ (me : ℕ) (s : SetBy op_cmp) (xs : List Op) (op : Op) (of : (x : Op) �
 
 -- ---- one operation after another
 
--- each member is left, or below all operations from a place on
-pub record LeftOf (s : SetBy op_cmp) (ops : List Op) (i : ℕ) (rest : List Op) : Type 0 where
+-- each of the registry is left, or below all operations from a place on
+pub record LeftOf (U : Op → Type 0) (ops : List Op) (i : ℕ) (rest : List Op) : Type 0 where
   pub rise : IsStrictlySortedBy op_cmp rest
-  pub of : (x : Op) → Listed rest x → In s x
-  pub gone : (x : Op) → In s x → Listed rest x ⊎ ((k : ℕ) (d : Op) → i ≤ k → k < length ops → name_cmp x.name (get_or ops k d).name ≡ Less)
+  pub of : (x : Op) → Listed rest x → U x
+  pub gone : (x : Op) → U x → Listed rest x ⊎ ((k : ℕ) (d : Op) → i ≤ k → k < length ops → name_cmp x.name (get_or ops k d).name ≡ Less)
 
-module _ (s : SetBy op_cmp) (ops : List Op) where
-  pub left_all : (rest : List Op) → rest ≡ members s → LeftOf s ops 0 rest
-  left_all rest e = record {
-    rise = subst (IsStrictlySortedBy op_cmp) (sym e) (members_rise s);
-    of = λ x h. listed_member s x (subst (λ l. Contains l x) e h);
-    gone = λ x h. inl (subst (λ l. Contains l x) (sym e) (member_listed s x h));
-  }
+module _ (U : Op → Type 0) (ops : List Op) where
+  pub left_all : (i : ℕ) (rest : List Op) → IsStrictlySortedBy op_cmp rest → ((x : Op) → Listed rest x → U x) → ((x : Op) → U x → Listed rest x) → LeftOf U ops i rest
+  left_all i rest up of all = record { rise = up; of = of; gone = λ x h. inl (all x h) }
 
-  pub left_more : (i : ℕ) (rest : List Op) → LeftOf s ops i rest → LeftOf s ops (i + 1) rest
+  pub left_more : (i : ℕ) (rest : List Op) → LeftOf U ops i rest → LeftOf U ops (i + 1) rest
   left_more i rest t = record {
     rise = t.rise;
     of = t.of;
     gone = λ x h. elim (t.gone x h) [ inl there ↦ inl there | inr far ↦ inr (λ k d low within. far k d (omega arith) within) ];
   }
 
-  module _ (i : ℕ) (op : Op) (inside : i < length ops) (at : op ≡ get_or ops i op) (up : IsStrictlySortedBy by_name ops) where
+  -- where the operations' names rise
+  module _ (i : ℕ) (op : Op) (inside : i < length ops) (at : op ≡ get_or ops i op) (up : (k : ℕ) (d : Op) → i ≤ k → k < length ops → is_gt (name_cmp op.name (get_or ops k d).name) ≡ false) where
     below_rest : (x : Op) → name_cmp x.name op.name ≡ Less → (k : ℕ) (d : Op) → i ≤ k → k < length ops → name_cmp x.name (get_or ops k d).name ≡ Less
-    below_rest x less k d low within = elim (cases_lt i k) [
-      | inl later ↦
-          let here : get_or ops i d ≡ op = get_or_default ops i d op inside ∙ sym at in
-          let next : by_name (get_or ops i d) (get_or ops k d) ≡ Less = Less-from_sorted by_name ops i k d up later within in
-          name_total.trans x.name op.name (get_or ops k d).name less (ap (λ (y : Op). by_name y (get_or ops k d)) (sym here) ∙ next)
-      | inr same ↦
-          let index : i ≡ k = omega arith in
-          let is : op ≡ get_or ops k d = at ∙ get_or_default ops i op d inside ∙ ap (λ m. get_or ops m d) index in
-          ap (λ (y : Op). name_cmp x.name y.name) (sym is) ∙ less
-    ]
+    below_rest x less k d low within = under x.name op.name (get_or ops k d).name less (up k d low within)
+      where
+        next : (a b c : Name) (r : Ordering) → name_cmp b c ≡ r → is_gt r ≡ false → name_cmp a b ≡ Less → name_cmp a c ≡ Less
+        next a b c Less e g h = name_total.trans a b c h e
+        next a b c Equal e g h = ap (name_cmp a) (sym (name_exact b c e)) ∙ h
+        next a b c Greater e g h = absurd (cc)
 
-    pub left_from : (rest from : List Op) → LeftOf s ops i rest → IsFrom rest op.name from → LeftOf s ops i from
+        under : (a b c : Name) → name_cmp a b ≡ Less → is_gt (name_cmp b c) ≡ false → name_cmp a c ≡ Less
+        under a b c h g = next a b c (name_cmp b c) refl g h
+
+    pub left_from : (rest from : List Op) → LeftOf U ops i rest → IsFrom rest op.name from → LeftOf U ops i from
     left_from rest from t f = record {
       rise = f.rise;
       of = λ x h. t.of x (subst (λ l. Contains l x) (sym f.whole) (Contains-append_right f.before from x h));
@@ -288,8 +287,8 @@ module _ (s : SetBy op_cmp) (ops : List Op) where
       ];
     }
 
-    -- the members of the operation's name are left
-    pub same_left : (rest : List Op) → LeftOf s ops i rest → (x : Op) → In s x → x.name ≡ op.name → Listed rest x
+    -- those of the operation's name are left
+    pub same_left : (rest : List Op) → LeftOf U ops i rest → (x : Op) → U x → x.name ≡ op.name → Listed rest x
     same_left rest t x h named = elim (t.gone x h) [
       | inl there ↦ there
       | inr far ↦
@@ -298,3 +297,75 @@ module _ (s : SetBy op_cmp) (ops : List Op) where
           let below : name_cmp op.name op.name ≡ Less = (λ j. name_cmp (sym named j) (at j).name) ∙ less in
           absurd (cc)
     ]
+
+-- the names of operations of a packet rise
+pub packet_rises : (ops : List Op) (i : ℕ) (op : Op) → i < length ops → op ≡ get_or ops i op → IsStrictlySortedBy by_name ops
+    → (k : ℕ) (d : Op) → i ≤ k → k < length ops → is_gt (name_cmp op.name (get_or ops k d).name) ≡ false
+packet_rises ops i op inside at up k d low within = elim (cases_lt i k) [
+  | inl later ↦
+      let here : get_or ops i d ≡ op = get_or_default ops i d op inside ∙ sym at in
+      let next : by_name (get_or ops i d) (get_or ops k d) ≡ Less = Less-from_sorted by_name ops i k d up later within in
+      ap is_gt (ap (λ (y : Op). by_name y (get_or ops k d)) (sym here) ∙ next)
+  | inr same ↦
+      let index : i ≡ k = omega arith in
+      let is : op ≡ get_or ops k d = at ∙ get_or_default ops i op d inside ∙ ap (λ m. get_or ops m d) index in
+      ap is_gt (ap (λ (y : Op). name_cmp op.name y.name) (sym is) ∙ tied_itself name_total op.name)
+]
+
+-- so do those of operations that rise
+pub ops_rise : (ops : List Op) (i : ℕ) (op : Op) → i < length ops → op ≡ get_or ops i op → IsStrictlySortedBy op_cmp ops
+    → (k : ℕ) (d : Op) → i ≤ k → k < length ops → is_gt (name_cmp op.name (get_or ops k d).name) ≡ false
+ops_rise ops i op inside at up k d low within = elim (cases_lt i k) [
+  | inl later ↦
+      let here : get_or ops i d ≡ op = get_or_default ops i d op inside ∙ sym at in
+      let next : op_cmp (get_or ops i d) (get_or ops k d) ≡ Less = Less-from_sorted op_cmp ops i k d up later within in
+      let up_to : op_cmp op (get_or ops k d) ≡ Less = ap (λ (y : Op). op_cmp y (get_or ops k d)) (sym here) ∙ next in
+      first_part _ _ up_to
+  | inr same ↦
+      let index : i ≡ k = omega arith in
+      let is : op ≡ get_or ops k d = at ∙ get_or_default ops i op d inside ∙ ap (λ m. get_or ops m d) index in
+      ap is_gt (ap (λ (y : Op). name_cmp op.name y.name) (sym is) ∙ tied_itself name_total op.name)
+]
+
+-- ---- the members of one node after another
+
+-- what `==` says of the node before
+pub same_node : (of : Option ℕ) (n : ℕ) (b : Bool) → b ≡ option_eq nat_eq of (Some n) → b ≡ true → of ≡ Some n
+same_node None n b is h = absurd (cc)
+same_node (Some m) n b is h = ap Some (grind (arith, nat_tests, is, h))
+
+-- the members of the node
+abbrev pub AtNode : SetBy op_cmp → Option ℕ → Op → Type 0
+AtNode s node x = In s x × (node ≡ Some x.name.node)
+
+module _ (s : SetBy op_cmp) (ops : List Op) where
+  pub left_none : (rest : List Op) → rest ≡ [] → LeftOf (AtNode s None) ops 0 rest
+  unfolding IsStrictlySortedBy
+  left_none rest none = subst (LeftOf (AtNode s None) ops 0) (sym none) (left_all (AtNode s None) ops 0 [] tt (λ x c. absurd (omega (arith, c.1))) (λ x h. absurd (none_some x.name.node h.1)))
+    where
+      none_some : (n : ℕ) → None ≡ Some n → ⊥
+      none_some n e = cc
+
+  module _ (i : ℕ) (op : Op) (inside : i < length ops) (at : op ≡ get_or ops i op) (up : IsStrictlySortedBy by_name ops) where
+    pub left_ahead : (node : Option ℕ) (left rest : List Op) → LeftOf (AtNode s node) ops i left → IsAhead s node left op.name rest → LeftOf (AtNode s (Some op.name.node)) ops i rest
+    left_ahead of left rest t (inl f) =
+        left_from (AtNode s (Some op.name.node)) ops i op inside at (packet_rises ops i op inside at up) left rest (subst (λ n. LeftOf (AtNode s n) ops i left) f.0 t) f.1
+    left_ahead of left rest t (inr f) =
+        let a = f.1 in
+        left_from (AtNode s (Some op.name.node)) ops i op inside at (packet_rises ops i op inside at up) f.0 rest
+        (left_all (AtNode s (Some op.name.node)) ops i f.0 a.rise (λ x h. let p = a.only x h in (p.0, ap Some (sym p.1))) (λ x h. a.all x h.0 (same_number op.name.node x.name.node h.1)))
+        f.2
+      where
+        same_number : (m n : ℕ) → Some m ≡ Some n → n ≡ m
+        same_number m n e = cc
+
+    pub member_left : (rest : List Op) → LeftOf (AtNode s (Some op.name.node)) ops i rest → (x : Op) → In s x → x.name ≡ op.name → Listed rest x
+    member_left rest t x h named = same_left (AtNode s (Some op.name.node)) ops i op inside at (packet_rises ops i op inside at up) rest t x (h, ap (λ (m : Name). Some m.node) (sym named)) named
+
+    pub left_member : (rest : List Op) → LeftOf (AtNode s (Some op.name.node)) ops i rest → (x : Op) → Listed rest x → In s x
+    left_member rest t x h = (t.of x h).0
+
+-- what is ahead of a name is not below it
+pub ahead_from : (s : SetBy op_cmp) (node : Option ℕ) (left : List Op) (n : Name) (rest : List Op) → IsAhead s node left n rest → IsStrictlySortedBy op_cmp rest × All (NotBelow n) rest
+ahead_from s of left n rest (inl f) = (f.1.rise, f.1.above)
+ahead_from s of left n rest (inr f) = (f.2.rise, f.2.above)

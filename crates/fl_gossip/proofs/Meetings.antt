@@ -1,65 +1,26 @@
 -- The least clash and the least stray, among operations that rise.
-use Rattle.std.proofs.Common.{◌≡◌, inl, inr, ℕ, ◌+◌, ◌-◌, ◌<◌, ◌≤◌, Bool, true, false, List, length, get_or, take, drop, refl, sym, ap, subst, ◌∙◌, arith, ltb, Option, None, Ordering, Less, Equal, Greater}
+use Rattle.std.proofs.Common.{◌≡◌, inl, inr, zero, suc, ℕ, ◌+◌, ◌<◌, ◌≤◌, false, List, [], ◌∷◌, length, get_or, refl, sym, ap, subst, ◌∙◌, arith, Option, None, Ordering, Less, Equal, Greater}
 use Rattle.std.specs.Cmp.{tied_itself}
-use Rattle.std.specs.Cmp.Lexicographic.{slice_cmp}
-use Rattle.std.specs.List.{All, AllWithin, Contains}
-use Rattle.std.specs.List.Sorted.{IsStrictlySortedBy, IsNonDecreasingBy}
+use Rattle.std.specs.List.{All, Contains, flat_map}
+use Rattle.std.specs.List.Sorted.{IsStrictlySortedBy}
 use Rattle.std.specs.Ordering.{is_gt, nat_cmp, ordering_then, ordering_reverse}
 use Rattle.std.proofs.lemmas.Bool.{cases_lt, false≢true}
 use Rattle.std.proofs.lemmas.Bool.Decides.{nat_tests}
-use Rattle.std.proofs.lemmas.List.{length-take-le, length-drop, get_or-take, get_or-drop, get_or_default}
+use Rattle.std.proofs.lemmas.List.{get_or_default}
+use Rattle.std.proofs.lemmas.List.Elements.{All-contains, Contains-append_cases, Contains-append_left, Contains-append_right}
 use Rattle.std.proofs.lemmas.Map.Keys.{Less-from_sorted}
 use Rattle.fl_labels.specs.Name.{name_cmp}
 use Rattle.fl_labels.specs.NameOrder.{name_total}
 use Rattle.fl_labels.specs.declared.name.Name.{Name}
 use Rattle.fl_labels.specs.SetBy.{SetBy, In, members}
 use Rattle.fl_ops.specs.declared.op.Op.{Op}
-use Rattle.fl_ops.specs.OpOrder.{op_cmp, body_key}
+use Rattle.fl_ops.specs.OpOrder.{op_cmp}
 use Rattle.fl_ops.specs.Registry.{Listed}
+use Rattle.fl_opset.specs.ByNode.{all_ops, node_order, AreByNode}
+use Rattle.fl_opset.specs.declared.node_ops.NodeOps.{NodeOps}
 use Rattle.fl_opset.specs.laws.Members.{member_listed, listed_member}
 use Rattle.fl_gossip.specs.Meeting.{IsLeastOf, FindsLeast, IsClashOf, IsStrayOf}
 use Rattle.fl_gossip.specs.laws.Leasts.{least_same}
-
--- ---- the operations of a number
-
-node_low : (m n i j : ℕ) (r : Ordering) → ordering_then (ordering_then (nat_cmp m n) (nat_cmp i j)) r ≡ Less → m ≤ n
-node_low m n i j r h = elim (cases_lt n m) [
-  | inl above ↦ absurd (grind (arith, nat_tests))
-  | inr low ↦ low
-]
-
-pub nodes_rise : (xs : List Op) → IsStrictlySortedBy op_cmp xs → IsNonDecreasingBy (λ op. op.name.node) xs
-nodes_rise xs up i j d order within = elim (cases_lt i j) [
-  | inl before ↦
-      let x = get_or xs i d in
-      let y = get_or xs j d in
-      node_low x.name.node y.name.node x.name.seq y.name.seq (slice_cmp nat_cmp (body_key x.body) (body_key y.body)) (Less-from_sorted op_cmp xs i j d up before within)
-  | inr after ↦
-      let same : i ≡ j = omega arith in
-      omega (arith, ap (λ k. (get_or xs k d).name.node) same)
-]
-
--- the parts that a search cuts
-module _ (xs : List Op) (place bound : ℕ) (inside : place ≤ length xs) where
-  below_true : (a b : ℕ) → ltb a b ≡ true → a < b
-  below_true a b h = grind (arith, nat_tests)
-
-  above_false : (a b : ℕ) → ltb a b ≡ false → b ≤ a
-  above_false a b h = grind (arith, nat_tests)
-
-  pub cut_below : (ys : List Op) → ys ≡ take place xs → AllWithin (λ op. ltb op.name.node bound ≡ true) xs 0 place → All (λ op. op.name.node < bound) ys
-  cut_below ys is at k d within =
-      let long : length ys ≡ place = ap length is ∙ length-take-le place xs inside in
-      let here : k < place = omega (arith, long) in
-      let e : get_or ys k d ≡ get_or xs k d = ap (λ l. get_or l k d) is ∙ get_or-take place xs k d here in
-      omega (arith, ap (λ (op : Op). op.name.node) e, below_true (get_or xs k d).name.node bound (at k d (omega arith) here))
-
-  pub cut_above : (ys : List Op) → ys ≡ drop place xs → AllWithin (λ op. ltb op.name.node bound ≡ false) xs place (length xs) → All (λ op. bound ≤ op.name.node) ys
-  cut_above ys is at k d within =
-      let long : length ys ≡ length xs - place = ap length is ∙ length-drop place xs in
-      let here : place + k < length xs = omega (arith, long) in
-      let e : get_or ys k d ≡ get_or xs (place + k) d = ap (λ l. get_or l k d) is ∙ get_or-drop place xs k d in
-      omega (arith, ap (λ (op : Op). op.name.node) e, above_false (get_or xs (place + k) d).name.node bound (at (place + k) d (omega arith) here))
 
 -- ---- the first one found has the least name
 
@@ -71,25 +32,26 @@ first_part Greater q e = absurd (cc)
 not_after : (m n : Name) → is_gt (name_cmp m n) ≡ false → name_cmp n m ≡ Less → ⊥
 not_after m n h e = false≢true (sym h ∙ ap is_gt (name_total.antisymm m n ∙ ap ordering_reverse e))
 
--- the operations before a place are as P says
-abbrev pub SoFar : (Op → Type 0) → List Op → ℕ → Type 0
-SoFar P ops i = (k : ℕ) (d : Op) → k < i → P (get_or ops k d)
+-- the items before a place are as P says
+abbrev pub SoFar : {X : Type 0} → (X → Type 0) → List X → ℕ → Type 0
+SoFar {X} P xs i = (k : ℕ) (d : X) → k < i → P (get_or xs k d)
 
-module _ (P : Op → Type 0) (ops : List Op) where
-  pub so_far_none : SoFar P ops 0
+module _ {X : Type 0} (P : X → Type 0) (xs : List X) where
+  pub so_far_none : SoFar P xs 0
   so_far_none k d below = absurd (omega arith)
 
-  pub so_far_more : (i : ℕ) (x : Op) → i < length ops → x ≡ get_or ops i x → SoFar P ops i → P x → SoFar P ops (i + 1)
+  pub so_far_more : (i : ℕ) (x : X) → i < length xs → x ≡ get_or xs i x → SoFar P xs i → P x → SoFar P xs (i + 1)
   so_far_more i x inside at so here k d below = elim (cases_lt k i) [
     | inl before ↦ so k d before
     | inr last ↦
         let same : k ≡ i = omega arith in
-        subst P (at ∙ get_or_default ops i x d inside ∙ ap (λ n. get_or ops n d) (sym same)) here
+        subst P (at ∙ get_or_default xs i x d inside ∙ ap (λ n. get_or xs n d) (sym same)) here
   ]
 
-  pub so_far_all : (i : ℕ) → length ops ≤ i → SoFar P ops i → (op : Op) → Listed ops op → P op
-  so_far_all i done so op c = subst P c.2 (so c.0 op (omega (arith, c.1)))
+  pub so_far_all : (i : ℕ) → length xs ≤ i → SoFar P xs i → (x : X) → Contains xs x → P x
+  so_far_all i done so x c = subst P c.2 (so c.0 x (omega (arith, c.1)))
 
+module _ (P : Op → Type 0) (ops : List Op) where
   -- an operation of a lesser name stands before
   pub so_far_less : IsStrictlySortedBy op_cmp ops → (i : ℕ) (x : Op) → i < length ops → x ≡ get_or ops i x → SoFar P ops i → (op : Op) → Listed ops op → name_cmp op.name x.name ≡ Less → P op
   so_far_less up i x inside at so op c less = elim (cases_lt c.0 i) [
@@ -139,20 +101,103 @@ module _ (U V : Op → Type 0) (number : ℕ) (ops : List Op) (only : (op : Op) 
         least = λ k c less. c.unknown (so_far_less V ops up i x inside at so c.op (all c.op c.in_there c.of) (ap (λ n. name_cmp n x.name) c.op_name ∙ less));
       }
 
--- what is found among the members is found in the set
-pub least_of_members : (s : SetBy op_cmp) (V : Op → Type 0) (xs : List Op) → xs ≡ members s → (r : Option Name) → FindsLeast (IsClashOf (Listed xs) V) r → FindsLeast (IsClashOf (In s) V) r
-least_of_members s V xs e r h = least_same (IsClashOf (Listed xs) V) (IsClashOf (In s) V) there back r h
+-- ---- the operations of each node in turn
+
+module _ {X A : Type 0} (f : X → List A) where
+  from_part : (xs : List X) (k : ℕ) (d : X) (y : A) → k < length xs → Contains (f (get_or xs k d)) y → Contains (flat_map f xs) y
+  from_part [] k d y within h = absurd (omega arith)
+  from_part (x ∷ xs) zero d y within h = Contains-append_left (f x) (flat_map f xs) y h
+  from_part (x ∷ xs) (suc k) d y within h = Contains-append_right (f x) (flat_map f xs) y (from_part xs k d y (omega arith) h)
+
+  in_part : (xs : List X) (y : A) → Contains (flat_map f xs) y → (k : ℕ) × (k < length xs) × ((d : X) → Contains (f (get_or xs k d)) y)
+  in_part [] y h = absurd (omega (arith, h.1))
+  in_part (x ∷ xs) y h = elim (Contains-append_cases (f x) (flat_map f xs) y h) [
+    | inl here ↦ (0, omega arith, λ d. here)
+    | inr there ↦ let part = in_part xs y there in (suc part.0, omega (arith, part.1), part.2)
+  ]
+
+-- an item of a list that has one
+some_item : {X : Type 0} (xs : List X) (k : ℕ) → k < length xs → X
+some_item [] k within = absurd (omega arith)
+some_item (x ∷ xs) k within = x
+
+not_above : (m n i j : ℕ) → ordering_then (nat_cmp m n) (nat_cmp i j) ≡ Less → m ≤ n
+not_above m n i j h = elim (cases_lt n m) [
+  | inl above ↦ absurd (grind (arith, nat_tests))
+  | inr low ↦ low
+]
+
+is_below : (m n : ℕ) → nat_cmp m n ≡ Less → m < n
+is_below m n h = grind (arith, nat_tests)
+
+-- a node's operations against those of the other set that have its number are against all of that set
+least_at_node : (s : SetBy op_cmp) (node : ℕ) (xs ys : List Op) → All (λ op. op.name.node ≡ node) xs
+    → ((op : Op) → Contains ys op → In s op × (op.name.node ≡ node)) → ((op : Op) → In s op → op.name.node ≡ node → Contains ys op)
+    → (r : Option Name) → FindsLeast (IsClashOf (Listed xs) (Listed ys)) r → FindsLeast (IsClashOf (Listed xs) (In s)) r
+least_at_node s node xs ys own only all r h = least_same (IsClashOf (Listed xs) (Listed ys)) (IsClashOf (Listed xs) (In s)) there back r h
   where
-    there : (k : Name) → IsClashOf (Listed xs) V k → IsClashOf (In s) V k
-    there k c = record { ours = c.ours; theirs = c.theirs; in_ours = listed_member s c.ours (subst (λ l. Contains l c.ours) e c.in_ours); in_theirs = c.in_theirs; our_name = c.our_name; their_name = c.their_name; differ = c.differ }
+    there : (k : Name) → IsClashOf (Listed xs) (Listed ys) k → IsClashOf (Listed xs) (In s) k
+    there k c = record { ours = c.ours; theirs = c.theirs; in_ours = c.in_ours; in_theirs = (only c.theirs c.in_theirs).0; our_name = c.our_name; their_name = c.their_name; differ = c.differ }
 
-    back : (k : Name) → IsClashOf (In s) V k → IsClashOf (Listed xs) V k
-    back k c = record { ours = c.ours; theirs = c.theirs; in_ours = subst (λ l. Contains l c.ours) (sym e) (member_listed s c.ours c.in_ours); in_theirs = c.in_theirs; our_name = c.our_name; their_name = c.their_name; differ = c.differ }
+    back : (k : Name) → IsClashOf (Listed xs) (In s) k → IsClashOf (Listed xs) (Listed ys) k
+    back k c =
+        let of : c.theirs.name.node ≡ node = ap (λ (n : Name). n.node) (c.their_name ∙ sym c.our_name) ∙ All-contains (λ (op : Op). op.name.node ≡ node) xs c.ours own c.in_ours in
+        record { ours = c.ours; theirs = c.theirs; in_ours = c.in_ours; in_theirs = all c.theirs c.in_theirs of; our_name = c.our_name; their_name = c.their_name; differ = c.differ }
 
--- the operations of a number, of all members
-module _ (s : SetBy op_cmp) (number : ℕ) (xs ys : List Op) (e : xs ≡ members s) where
-  pub of_only : ((op : Op) → Contains ys op → Contains xs op × (op.name.node ≡ number)) → (op : Op) → Listed ys op → In s op × (op.name.node ≡ number)
-  of_only only op h = let p = only op h in (listed_member s op (subst (λ l. Contains l op) e p.0), p.1)
+pub least_at_entry : (s : SetBy op_cmp) (x : NodeOps) (xs ys : List Op) (node : ℕ) → All (λ op. op.name.node ≡ x.node) x.ops.items → xs ≡ x.ops.items → node ≡ x.node
+    → ((op : Op) → Contains ys op → In s op × (op.name.node ≡ node)) → ((op : Op) → In s op → op.name.node ≡ node → Contains ys op)
+    → (r : Option Name) → FindsLeast (IsClashOf (Listed xs) (Listed ys)) r → FindsLeast (IsClashOf (Listed x.ops.items) (In s)) r
+least_at_entry s x xs ys node own e f only all r h =
+    subst (λ l. FindsLeast (IsClashOf (Listed l) (In s)) r) e
+    (least_at_node s node xs ys (subst (λ l. All (λ (op : Op). op.name.node ≡ node) l) (sym e) (subst (λ n. All (λ (op : Op). op.name.node ≡ n) x.ops.items) (sym f) own)) only all r h)
 
-  pub of_all : ((op : Op) → Contains xs op → op.name.node ≡ number → Contains ys op) → (op : Op) → In s op → op.name.node ≡ number → Listed ys op
-  of_all all op h k = all op (subst (λ l. Contains l op) (sym e) (member_listed s op h)) k
+-- none of the node's operations clashes
+abbrev pub IsClean : (Op → Type 0) → NodeOps → Type 0
+IsClean V it = (name : Name) → ¬ IsClashOf (Listed it.ops.items) V name
+
+module _ (V : Op → Type 0) (nodes : List NodeOps) (s : SetBy op_cmp) (whole : all_ops nodes ≡ members s) (by : AreByNode nodes) where
+  in_set : (k : ℕ) (d : NodeOps) → k < length nodes → (op : Op) → Contains (get_or nodes k d).ops.items op → In s op
+  in_set k d within op h = listed_member s op (subst (λ l. Contains l op) whole (from_part (λ (it : NodeOps). it.ops.items) nodes k d op within h))
+
+  of_set : (op : Op) → In s op → (k : ℕ) × (k < length nodes) × ((d : NodeOps) → Contains (get_or nodes k d).ops.items op)
+  of_set op h = in_part (λ (it : NodeOps). it.ops.items) nodes op (subst (λ l. Contains l op) (sym whole) (member_listed s op h))
+
+  -- a clash in the one set, where an operation of it is in this list
+  abbrev with_ours : (U : Op → Type 0) (name : Name) (c : IsClashOf (In s) V name) → U c.ours → IsClashOf U V name
+  with_ours U name c h = record { ours = c.ours; theirs = c.theirs; in_ours = h; in_theirs = c.in_theirs; our_name = c.our_name; their_name = c.their_name; differ = c.differ }
+
+  pub all_clean : (i : ℕ) → length nodes ≤ i → SoFar (IsClean V) nodes i → FindsLeast (IsClashOf (In s) V) None
+  all_clean i done so name c =
+      let there = of_set c.ours c.in_ours in
+      let it = some_item nodes there.0 there.1 in
+      so there.0 it (omega (arith, there.1)) name (with_ours (Listed (get_or nodes there.0 it).ops.items) name c (there.2 it))
+
+  module _ (i : ℕ) (x : NodeOps) (inside : i < length nodes) (at : x ≡ get_or nodes i x) where
+    pub own_number : All (λ op. op.name.node ≡ x.node) x.ops.items
+    own_number = subst (λ (it : NodeOps). All (λ op. op.name.node ≡ it.node) it.ops.items) (sym at) (by.each i x inside).own
+
+    pub own_rise : IsStrictlySortedBy op_cmp x.ops.items
+    own_rise = subst (λ (it : NodeOps). IsStrictlySortedBy op_cmp it.ops.items) (sym at) (by.each i x inside).rise
+
+    -- the first node with a clash has the least one
+    pub first_of_nodes : SoFar (IsClean V) nodes i → (name : Name) → IsLeastOf (IsClashOf (Listed x.ops.items) V) name → IsLeastOf (IsClashOf (In s) V) name
+    first_of_nodes so name found = record {
+      holds = let c = found.holds in record { ours = c.ours; theirs = c.theirs; in_ours = in_set i x inside c.ours (subst (λ (it : NodeOps). Contains it.ops.items c.ours) at c.in_ours); in_theirs = c.in_theirs; our_name = c.our_name; their_name = c.their_name; differ = c.differ };
+      least = λ other c less.
+          let there = of_set c.ours c.in_ours in
+          elim (cases_lt there.0 i) [
+            | inl before ↦ so there.0 x before other (with_ours (Listed (get_or nodes there.0 x).ops.items) other c (there.2 x))
+            | inr after ↦ elim (cases_lt i there.0) [
+              | inl later ↦
+                  let up : nat_cmp (get_or nodes i x).node (get_or nodes there.0 x).node ≡ Less = Less-from_sorted node_order nodes i there.0 x by.rise later there.1 in
+                  let low : x.node < (get_or nodes there.0 x).node = is_below _ _ (ap (λ (it : NodeOps). nat_cmp it.node (get_or nodes there.0 x).node) at ∙ up) in
+                  let mine : found.holds.ours.name.node ≡ x.node = All-contains (λ (op : Op). op.name.node ≡ x.node) x.ops.items found.holds.ours own_number found.holds.in_ours in
+                  let its : c.ours.name.node ≡ (get_or nodes there.0 x).node = All-contains (λ (op : Op). op.name.node ≡ (get_or nodes there.0 x).node) (get_or nodes there.0 x).ops.items c.ours (by.each there.0 x there.1).own (there.2 x) in
+                  let most = not_above other.node name.node other.seq name.seq less in
+                  absurd (omega (arith, low, mine, its, most, ap (λ (n : Name). n.node) found.holds.our_name, ap (λ (n : Name). n.node) c.our_name))
+              | inr same ↦
+                  let index : there.0 ≡ i = omega arith in
+                  found.least other (with_ours (Listed x.ops.items) other c (subst (λ (it : NodeOps). Contains it.ops.items c.ours) (ap (λ k. get_or nodes k x) index ∙ sym at) (there.2 x))) less
+            ]
+          ];
+    }

@@ -1,3 +1,4 @@
 -- Relations that join functions, and that no public clause needs.
 pub mod Ahead
+pub mod Filling
 pub mod Nothing

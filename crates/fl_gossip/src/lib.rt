@@ -1,6 +1,7 @@
 //! What a node takes of others' packets, and what it answers them.
 #![tactic(auto)]
 
+mod ahead;
 pub mod fault;
 pub mod meeting;
 pub mod replying;

@@ -1,5 +1,5 @@
 //! What is answered to a window.
-ghost use Rattle.std.specs.Prelude.{◌≡◌, ◌<◌, ◌≤◌, length, IfOk};
+ghost use Rattle.std.specs.Prelude.{◌≡◌, ◌<◌, ◌≤◌, ◌++◌, vec_len, IfOk, OnOk};
 ghost use Rattle.std.specs.List.Sorted.{IsStrictlySortedBy};
 ghost use Rattle.fl_labels.specs.Found.{Tells};
 ghost use Rattle.fl_labels.specs.SetBy.{In};
@@ -8,6 +8,7 @@ ghost use Rattle.fl_opset.specs.Windows.{lacking};
 ghost use Rattle.fl_wire.specs.NameOrder.{by_name};
 ghost use Rattle.fl_gossip.specs.Replying.{IsDelta, AreInDeltas};
 ghost use Rattle.fl_gossip.specs.Taking.{ops_of};
+ghost use Rattle.fl_gossip.specs.parts.Filling.{AreFilled, filled};
 ghost use Rattle.fl_gossip.specs.parts.Nothing.{IsOfNothing};
 
 use fl_ops::op::Op;
@@ -17,39 +18,58 @@ use fl_opset::set::OpSet;
 use fl_wire::batch::{Batch, MOST_OPS, OpList};
 use fl_wire::packet::Packet;
 use std::alloc::{AllocError, Global};
+use std::mem::replace;
 
 // The ranks of the first name of all, 1.1, and of the last.
 const LEAST_RANK: u64 = 1;
 
 const GREATEST_RANK: u64 = 18_446_744_069_414_584_319;
 
-// The delta of these operations, which are copied.
-fn delta_of(alloc: Global, ops: &[Op]) -> Result<Packet, AllocError>
-    requires some { 0 < length ops.now }
-    requires few { length ops.now ≤ 64 }
-    requires rise { IsStrictlySortedBy by_name ops.now }
-    ensures { IfOk result (λ p. IsDelta p × (ops_of p ≡ ops.now)) }
+// The delta of these operations.
+fn delta_of(ops: Vec<Op>) -> Packet
+    requires some { 0 < vec_len ops }
+    requires few { vec_len ops ≤ 64 }
+    requires rise { IsStrictlySortedBy by_name ops.items }
+    ensures { IsDelta result × (ops_of result ≡ ops.items) }
 {
-    let ops = OpList::from_vec(Vec::from_slice(alloc, ops)?);
-    Ok(Packet::Delta(Batch { ops }))
+    let ops = OpList::from_vec(ops);
+    Packet::Delta(Batch { ops })
 }
 
-// The deltas of 64 of these operations each, the last one shorter.
-fn deltas_of(alloc: Global, ops: &[Op]) -> Result<Vec<Packet>, AllocError>
-    requires { IsStrictlySortedBy by_name ops.now }
-    ensures { IfOk result (λ packets. AreInDeltas ops.now packets.items) }
+// Copies operations behind those that wait, fewer than 64, and makes a delta of each 64. An error
+// says that there was no memory for it.
+fn fill(deltas: &mut Vec<Packet>, waiting: &mut Vec<Op>, ops: &[Op]) -> Result<(), AllocError>
+    requires full { AreFilled deltas.old.items waiting.old.items }
+    requires rise { IsStrictlySortedBy by_name
+        (filled deltas.old.items waiting.old.items ++ ops.now) }
+    ensures full { OnOk result (AreFilled deltas.new.items waiting.new.items) }
+    ensures whole { OnOk result (filled deltas.new.items waiting.new.items
+        ≡ filled deltas.old.items waiting.old.items ++ ops.now) }
 {
-    let mut packets = Vec::with_capacity(alloc, ops.len() / MOST_OPS + 1)?;
     let mut rest = ops;
-    while rest.len() > MOST_OPS {
-        let (front, back) = rest.split_at(MOST_OPS);
-        packets.push(delta_of(alloc, front)?)?;
+    while rest.len() >= MOST_OPS - waiting.len() {
+        let (front, back) = rest.split_at(MOST_OPS - waiting.len());
+        waiting.extend_from_slice(front)?;
+        let full = replace(waiting, Vec::new(*waiting.allocator()));
+        deltas.push(delta_of(full))?;
         rest = back;
     }
-    if rest.is_empty() {
+    waiting.extend_from_slice(rest)
+}
+
+// With one more delta of what waits, if something does. An error says that there was no memory for
+// it.
+fn finished(deltas: Vec<Packet>, waiting: Vec<Op>) -> Result<Vec<Packet>, AllocError>
+    requires full { AreFilled deltas.items waiting.items }
+    requires rise { IsStrictlySortedBy by_name (filled deltas.items waiting.items) }
+    ensures { IfOk result (λ packets.
+        AreInDeltas (filled deltas.items waiting.items) packets.items) }
+{
+    let mut packets = deltas;
+    if waiting.is_empty() {
         return Ok(packets);
     }
-    packets.push(delta_of(alloc, rest)?)?;
+    packets.push(delta_of(waiting))?;
     Ok(packets)
 }
 
@@ -70,9 +90,15 @@ pub fn reply(alloc: Global, saved: &OpSet, window: &Intervals) -> Result<Vec<Pac
     requires { HaveNoClash (In saved.now) (In saved.now) }
     ensures { IfOk result (λ packets. AreInDeltas (lacking saved.now window.now) packets.items) }
 {
-    if is_of_nothing(window) {
-        return deltas_of(alloc, saved.as_slice());
+    let mut deltas = Vec::new(alloc);
+    let mut waiting = Vec::new(alloc);
+    if !is_of_nothing(window) {
+        let ops = saved.lacking(alloc, window)?;
+        fill(&mut deltas, &mut waiting, &ops)?;
+        return finished(deltas, waiting);
     }
-    let ops = saved.lacking(alloc, window)?;
-    deltas_of(alloc, &ops)
+    for entry in saved.by_node() {
+        fill(&mut deltas, &mut waiting, entry.ops())?;
+    }
+    finished(deltas, waiting)
 }

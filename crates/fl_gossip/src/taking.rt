@@ -1,15 +1,15 @@
 //! What is taken of a packet.
-ghost use Rattle.std.specs.Prelude.{◌≡◌, ◌≤◌, ◌<◌, MatchResult, length, drop};
+ghost use Rattle.std.specs.Prelude.{◌≡◌, MatchResult};
 ghost use Rattle.std.specs.List.{All};
 ghost use Rattle.std.specs.List.Sorted.{IsStrictlySortedBy};
-ghost use Rattle.fl_labels.specs.Found.{Tells};
 ghost use Rattle.fl_labels.specs.SetBy.{In};
 ghost use Rattle.fl_ops.specs.OpOrder.{op_cmp};
 ghost use Rattle.fl_ops.specs.Registry.{Listed};
 ghost use Rattle.fl_wire.specs.NameOrder.{by_name};
 ghost use Rattle.fl_gossip.specs.Taking.{ops_of, Offends, AreTaken, Refuses};
-ghost use Rattle.fl_gossip.specs.parts.Ahead.{IsFrom, NotBelow, BeginsWith, IsNewAmong};
+ghost use Rattle.fl_gossip.specs.parts.Ahead.{NotBelow, IsAhead, IsNewAmong};
 
+use crate::ahead::{begins_with, from_name, has_other};
 use crate::fault::GossipFault;
 use fl_labels::name::{Name, NodeNumber};
 use fl_ops::op::Op;
@@ -28,43 +28,6 @@ fn operations(packet: &Packet) -> &[Op]
     }
 }
 
-// A place with none from it on below the name, at most twice as far as the first of these.
-fn bound(ops: &[Op], name: Name) -> usize
-    requires { IsStrictlySortedBy op_cmp ops.now }
-    ensures inside { result ≤ length ops.now }
-    ensures above { All (NotBelow name) (drop result ops.now) }
-{
-    let mut bound = 0;
-    while bound < ops.len() {
-        if ops[bound].name >= name {
-            return bound;
-        }
-        bound += (bound + 1).min(ops.len() - bound);
-    }
-    ops.len()
-}
-
-// The operations whose name is not below this one. A search in steps that double, so that it costs
-// little where few are below.
-fn from_name(ops: &[Op], name: Name) -> &[Op]
-    requires { IsStrictlySortedBy op_cmp ops.now }
-    ensures { IsFrom ops.now name result.now }
-{
-    let (near, _) = ops.split_at(bound(ops, name));
-    let (_, from) = ops.split_at(near.partition_point(|op| op.name < name));
-    from
-}
-
-// Whether the first of the operations has the name.
-fn begin_with(ops: &[Op], name: Name) -> bool
-    ensures { Tells result (BeginsWith ops.now name) }
-{
-    match ops.first() {
-        Some(first) => first.name == name,
-        None => false,
-    }
-}
-
 // Whether an operation that a node may take is new. The members from its name on are enough to
 // tell.
 fn is_new(members: &[Op], me: NodeNumber, op: &Op) -> Result<bool, GossipFault>
@@ -74,17 +37,28 @@ fn is_new(members: &[Op], me: NodeNumber, op: &Op) -> Result<bool, GossipFault>
         (IsNewAmong me (Listed members.now) op.now)
         (Offends me (Listed members.now) op.now) }
 {
-    if !begin_with(members, op.name) {
+    if !begins_with(members, op.name) {
         if op.name.node == me {
             return Err(GossipFault::Impostor(op.name));
         }
         return Ok(true);
     }
-    let (_, others) = members.split_at(1);
-    if members[0] != *op || begin_with(others, op.name) {
+    if has_other(members, op) {
         return Err(GossipFault::Clash(op.name));
     }
     Ok(false)
+}
+
+// The members of the name's node from that name on: among those that are left of this node's, or
+// among all, where that is another node.
+fn ahead<'a>(saved: &'a OpSet, node: Option<NodeNumber>, left: &'a [Op], name: Name) -> &'a [Op]
+    requires { IsStrictlySortedBy op_cmp left.now }
+    ensures { IsAhead saved.now node left.now name result.now }
+{
+    if node == Some(name.node) {
+        return from_name(left, name);
+    }
+    from_name(saved.of_node(name.node), name)
 }
 
 /// The operations of a packet that the set lacks, rising; of a packet without operations, none.
@@ -94,8 +68,9 @@ fn is_new(members: &[Op], me: NodeNumber, op: &Op) -> Result<bool, GossipFault>
 /// name. `Memory` only where there was not enough for an operation that the set lacks: where it
 /// lacks none of the packet's, nothing is allocated.
 ///
-/// Goes through the set with the packet, by a search for each operation, in steps that double from
-/// where the one before ended.
+/// Looks up the members of a node where the packet's operations come to another one, and goes
+/// through them with the packet, by a search for each operation, in steps that double from where
+/// the one before ended.
 pub fn take(
     alloc: Global,
     saved: &OpSet,
@@ -106,10 +81,12 @@ pub fn take(
         (Refuses me (In saved.now) (ops_of packet.now)) }
 {
     let mut new = Vec::new(alloc);
-    let mut rest = saved.as_slice();
+    let mut node = None;
+    let mut rest: &[Op] = &[];
     let ops = operations(packet);
     for op in ops {
-        rest = from_name(rest, op.name);
+        rest = ahead(saved, node, rest, op.name);
+        node = Some(op.name.node);
         if is_new(rest, me, op)? {
             new.push(*op)?;
         }

@@ -12,9 +12,9 @@ use fl_opset::set::OpSet;
 use fl_store::keeper::Keeper;
 use std::collections::BTreeMap;
 
-/// The least name under which an operation of the set and one of these nodes clash, or none. Costs
-/// a binary search for each operation of the smaller of the set and a node's own, for each node.
-/// Takes no memory.
+/// The least name under which an operation of the set and one of these nodes clash, or none. Costs,
+/// for each node, a search for each operation of the set or the node's own, whichever has fewer
+/// with that operation's number. Takes no memory.
 pub fn least_clash_with<K: Keeper>(
     all: &BTreeMap<NodeNumber, Node<K>>,
     saved: &OpSet,
@@ -47,8 +47,8 @@ fn stray_between<K: Keeper>(
 
 /// The least name of an operation of a newcomer of this number, which has saved these, that has the
 /// number of one of these nodes and is not saved there; or the other way round. None where there is
-/// no such operation. Costs two binary searches in each set for each node, and one for each
-/// operation of the one that has the number of the other. Takes no memory.
+/// no such operation. Costs, for each node, a search for each operation of the one that has the
+/// number of the other. Takes no memory.
 pub fn least_stray_with<K: Keeper>(
     all: &BTreeMap<NodeNumber, Node<K>>,
     number: NodeNumber,

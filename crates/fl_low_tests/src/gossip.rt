@@ -116,7 +116,7 @@ fn answer_other(
 }
 
 fn compare(out: &mut String, first: &OpSet, second: &OpSet) -> Result<(), AllocError> {
-    let is_same = first.as_slice() == second.as_slice();
+    let is_same = first.len() == second.len() && first.has_each(second);
     out.push_str(if is_same { "all" } else { "not all" })
 }
 

@@ -3,17 +3,13 @@ use Rattle.std.proofs.Common.{◌≡◌, ◌≤◌, ◌<◌, ◌+◌, ◌∙◌,
 use Rattle.std.proofs.Common.{inl, inr}
 use Rattle.std.specs.Cmp.{Equal-is}
 use Rattle.std.proofs.lemmas.Bool.{or_cases, false≢true}
-use Rattle.fl_labels.specs.SetBy.{SetBy, In, members, of_list, of_list-members, empty, contains-insert, contains-empty}
+use Rattle.fl_labels.specs.SetBy.{SetBy, In, of_list, empty, contains-insert, contains-empty}
 use Rattle.fl_labels.specs.declared.name.Name.{Name}
 use Rattle.fl_ops.specs.declared.op.Op.{Op}
 use Rattle.fl_ops.specs.OpOrder.{op_cmp}
 use Rattle.fl_ops.specs.OpLaws.{op_total, op_exact}
 use Rattle.fl_store.specs.Kept.{Kept, AreNew}
 use Rattle.fl_system.specs.Naming.{IsLast, IsNextAfter}
-
--- sets of the same members are equal
-pub same_registry : (s t : SetBy op_cmp) → members s ≡ members t → s ≡ t
-same_registry s t e = sym (of_list-members op_total op_exact s) ∙ ap (λ ops. of_list ops) e ∙ of_list-members op_total op_exact t
 
 -- the last name, where it is known to be this one
 pub is_last : {s : SetBy op_cmp} {node last n : ℕ} → last ≡ n → ((op : Op) → In s op → op.name.node ≡ node → op.name.seq ≤ last) → (0 < last → (op : Op) × In s op × (op.name.node ≡ node) × (op.name.seq ≡ last)) → IsLast s node n

@@ -1,16 +1,10 @@
 -- What a node gets back.
 use Rattle.std.proofs.Common.{◌≡◌, ◌⊎◌, inl, inr, ◌∙◌, refl, sym, ap, subst, ℕ, List, [], Bool, true, false, Ok, Result}
 use Rattle.std.proofs.Math.Bool.{or-false}
-use Rattle.std.specs.Cmp.{tied_itself}
-use Rattle.std.specs.Cmp.Lexicographic.{slice_cmp, lists_total}
-use Rattle.std.specs.FinMap.{slice_cmp-IsAntisymmetric}
 use Rattle.std.specs.Prelude.{◌||◌}
-use Rattle.std.specs.Ordering.{is_eq}
-use Rattle.std.specs.declared.cmp.Ordering.{Ordering}
-use Rattle.std.specs.declared.cmp.Ordering.TheVariants.{Less, Equal, Greater}
 use Rattle.std.proofs.lemmas.Bool.{false≢true}
-use Rattle.fl_labels.specs.Found.{Tells}
-use Rattle.fl_labels.specs.SetBy.{SetBy, members, of_list, contains, same_set, contains-union, contains-empty}
+use Rattle.fl_labels.specs.Found.{Tells, Within}
+use Rattle.fl_labels.specs.SetBy.{SetBy, In, of_list, contains, same_set, contains-union, contains-empty}
 use Rattle.fl_ops.specs.declared.op.Op.{Op}
 use Rattle.fl_ops.specs.OpOrder.{op_cmp}
 use Rattle.fl_ops.specs.OpLaws.{op_total, op_exact}
@@ -25,21 +19,24 @@ use Rattle.fl_system.specs.State.{NodeState}
 use Rattle.fl_system.specs.Saves.{Saves}
 use Rattle.fl_system.specs.Waiting.{NoneUnsaved, NotRunning}
 use Rattle.fl_system.specs.Openings.{OpensAgain, Reopens, Restarts, doubt_of}
-use Rattle.fl_node.proofs.NodeLemmas.{same_registry}
 
-is_equal : (o : Ordering) → is_eq o ≡ true → o ≡ Equal
-is_equal Less h = absurd (cc)
-is_equal Equal h = refl
-is_equal Greater h = absurd (cc)
+-- answers that follow from each other are one
+level : (a b : Bool) → (a ≡ true → b ≡ true) → (b ≡ true → a ≡ true) → a ≡ b
+level true b f g = sym (f refl)
+level false true f g = g refl
+level false false f g = refl
 
--- sets are equal where their members are, one by one
-pub tells_same : (s t : SetBy op_cmp) (xs ys : List Op) (o : Ordering) (b : Bool) → xs ≡ members s → ys ≡ members t → o ≡ slice_cmp op_cmp xs ys → b ≡ is_eq o → Tells b (s ≡ t)
-tells_same s t xs ys o b left right compared told = record {
-  holds = λ yes. same_registry s t (sym left ∙ slice_cmp-IsAntisymmetric op_exact xs ys (sym compared ∙ is_equal o (sym told ∙ yes)) ∙ right);
-  fails = λ no same.
-      let lists : xs ≡ ys = left ∙ ap members same ∙ sym right in
-      let level : o ≡ Equal = compared ∙ ap (slice_cmp op_cmp xs) (sym lists) ∙ tied_itself (lists_total op_total) xs in
-      false≢true (sym no ∙ told ∙ ap is_eq level);
+-- sets are the same where each has the members of the other
+pub tells_same : (s t : SetBy op_cmp) (b : Bool) → Within (In t) (In s) → Tells b (Within (In s) (In t)) → Tells b (s ≡ t)
+tells_same s t b within told = record {
+  holds = λ yes. same_set op_total op_exact s t (λ q. level _ _ (told.holds yes q) (within q));
+  fails = λ no same. told.fails no (λ q h. subst (λ x. In x q) same h);
+}
+
+pub not_same : (s t : SetBy op_cmp) (b : Bool) → b ≡ false → Tells b (Within (In t) (In s)) → Tells b (s ≡ t)
+not_same s t b lacks told = record {
+  holds = λ yes. absurd (false≢true (sym lacks ∙ yes));
+  fails = λ no same. told.fails no (λ q h. subst (λ x. In x q) (sym same) h);
 }
 
 -- with no operation in doubt

@@ -55,7 +55,7 @@ pub fn add_batch(saved: &mut OpSet, batch: &Batch) -> Result<(), AllocError>
             Ok(_) => Ok(()),
             Err(error) => Err(error),
         },
-        Batch::Received(ops) => saved.merge(ops),
+        Batch::Received(ops) => saved.merge_batch(ops),
     }
 }
 

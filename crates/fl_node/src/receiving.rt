@@ -10,11 +10,10 @@ ghost use Rattle.fl_node.specs.parts.Receiving.{untaken_as};
 
 use crate::node::Node;
 use crate::state::{idle, running};
-use fl_desks::listing::collected;
 use fl_gossip::fault::GossipFault;
 use fl_gossip::taking::take;
 use fl_jobs::answer::Refusal;
-use fl_opset::set::OpSet;
+use fl_opset::batch::OpBatch;
 use fl_store::keeper::Keeper;
 use fl_system::answer::Fault;
 use fl_system::state::{Batch, Pending, State};
@@ -34,7 +33,7 @@ fn shown(fault: GossipFault) -> Fault
 
 impl<K: Keeper> Node<K> {
     // What of a packet is new to the node, or why that is not taken.
-    fn news(&self, alloc: Global, packet: &Packet) -> Result<OpSet, Fault>
+    fn news(&self, alloc: Global, packet: &Packet) -> Result<OpBatch, Fault>
         ensures can { IfOk result (λ new. CanTake self.now.node (set.of_list (ops_of packet.now))) }
         ensures lacking { let ops = set.of_list {R = op_cmp} (ops_of packet.now) in
             IfOk result (λ new. AreLacking self.now.node ops new) }
@@ -43,10 +42,7 @@ impl<K: Keeper> Node<K> {
             IfErr result (AreRefused self.now.node ops) }
     {
         match take(alloc, &self.saved, self.number, packet) {
-            Ok(ops) => match collected(alloc, &ops) {
-                Ok(new) => Ok(new),
-                Err(_) => Err(Fault::Refused(Refusal::Memory)),
-            },
+            Ok(ops) => Ok(OpBatch::from_rising(ops)),
             Err(fault) => Err(shown(fault)),
         }
     }
@@ -61,7 +57,7 @@ impl<K: Keeper> Node<K> {
     /// - `Busy`: there is something new, and something else is on its way.
     /// - `Memory`: there was not enough.
     ///
-    /// Two binary searches for each operation, and a copy of what is new.
+    /// A search for each operation, and one copy of what is new.
     pub fn receive(&mut self, alloc: Global, packet: &Packet) -> Result<u64, Fault>
         ensures desks { length self.new.node.views ≡ length self.old.node.views }
         ensures receives { let ops = set.of_list {R = op_cmp} (ops_of packet.now) in

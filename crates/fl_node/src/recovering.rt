@@ -44,7 +44,7 @@ pub struct Recovered {
 fn same(left: &OpSet, right: &OpSet) -> bool
     ensures { Tells result (left.now ≡ right.now) }
 {
-    left.as_slice().cmp(right.as_slice()).is_eq()
+    left.has_each(right) && right.has_each(left)
 }
 
 /// Whether what is found is what was saved, or that with the batch in doubt.

@@ -47,7 +47,7 @@ fn index_takes_in_a_set(rt: HostRuntime) -> Result<(), AllocError> {
     let ops = three(alloc)?;
     let mut index = Index::new(alloc);
     take_in(alloc, &mut index, &ops)?;
-    assert!(rt; index.ops().as_slice() == [MADE, PUT, PUT_AGAIN].as_slice());
+    assert!(rt; index.ops().to_vec(alloc)?.as_slice() == [MADE, PUT, PUT_AGAIN].as_slice());
     assert!(rt; index.reaches(Cap::Use(GROUP), Cap::Plus(TAG)));
     assert!(rt; !index.reaches(Cap::Use(GROUP), Cap::Minus(TAG)));
     Ok(())

@@ -1,18 +1,15 @@
 -- Up to which number something is saved, by the last operation of each node.
-use Rattle.std.proofs.Common.{◌≡◌, ◌∙◌, ◌⊎◌, inl, inr, ℕ, ◌-◌, ◌<◌, ◌≤◌, Bool, true, cond, List, [], Option, Some, None, length, get_or, refl, sym, ap, subst, arith, false, Ordering, Less, Equal, Greater}
+use Rattle.std.proofs.Common.{◌≡◌, ◌∙◌, ℕ, ◌<◌, ◌≤◌, Bool, true, cond, List, [], Option, Some, None, length, refl, sym, ap, subst, arith, false}
 use Rattle.std.specs.BTreeMap.{is_at}
 use Rattle.std.specs.Cmp.{Equal-is}
 use Rattle.std.specs.FinMap as map
 use Rattle.std.specs.FinMap.{nat_cmp-IsAntisymmetric}
 use Rattle.std.specs.Map.{lookup, set_value}
 use Rattle.std.specs.List.{Contains}
-use Rattle.std.specs.Ordering.{is_gt, eq_by_cmp, nat_cmp, ordering_then}
-use Rattle.std.proofs.lemmas.Bool.{cases_lt}
+use Rattle.std.specs.Ordering.{eq_by_cmp, nat_cmp}
 use Rattle.std.proofs.lemmas.Cmp.{nat_cmp_total}
-use Rattle.std.proofs.lemmas.Bool.Decides.{nat_tests}
-use Rattle.std.proofs.lemmas.Map.Keys.{Less-from_sorted}
 use Rattle.std.proofs.lemmas.Map.Views.{Contains-from_any}
-use Rattle.fl_labels.specs.SetBy.{SetBy, In, members, contains-members, members_rise, len, len-members}
+use Rattle.fl_labels.specs.SetBy.{SetBy, In, members, contains-members, len, len-members}
 use Rattle.fl_ops.specs.OpLaws.{op_exact}
 use Rattle.fl_ops.specs.OpOrder.{op_cmp}
 use Rattle.fl_ops.specs.declared.op.Op.{Op}
@@ -29,42 +26,8 @@ use Rattle.fl_nodes.specs.parts.Highest.{IsUpTo, IsWithin, AreWithin}
 use Rattle.fl_nodes.proofs.Entries.{of_entries, changed}
 use Rattle.fl_nodes.proofs.Lifting.{at_other, here, same_number}
 
-first_part : (p q r : Ordering) → ordering_then (ordering_then p q) r ≡ Less → is_gt p ≡ false
-first_part Less q r e = refl
-first_part Equal q r e = refl
-first_part Greater q r e = absurd (cc)
-
-below_low : (a b : Op) → op_cmp a b ≡ Less → a.name.node ≤ b.name.node
-below_low a b e = at_most a.name.node b.name.node (first_part (nat_cmp a.name.node b.name.node) _ _ e)
-  where
-    at_most : (m n : ℕ) → is_gt (nat_cmp m n) ≡ false → m ≤ n
-    at_most m n h = grind (arith, nat_tests)
-
 listed : (s : SetBy op_cmp) (op : Op) → In s op → Contains (members s) op
 listed s op h = Contains-from_any (λ x y e. op_exact x y ((Equal-is (op_cmp x y)).0 e)) op (members s) (sym (contains-members s op) ∙ h)
-
-pub none_above : (s : SetBy op_cmp) (highest : ℕ) → length (members s) ≤ 0 → IsUpTo highest s
-none_above s highest empty op h = let at = listed s op h in absurd (omega (arith, at.1))
-
-abbrev number : Op → ℕ
-number op = op.name.node
-
-pub last_highest : (s : SetBy op_cmp) (last : Op) → 0 < length (members s)
-    → ((d : Op) → last ≡ get_or (members s) (length (members s) - 1) d) → IsUpTo last.name.node s
-last_highest s last some is op h = by_place (cases_lt at.0 (length (members s) - 1))
-  where
-    at : Contains (members s) op
-    at = listed s op h
-
-    by_place : (at.0 < length (members s) - 1) ⊎ (length (members s) - 1 ≤ at.0) → op.name.node ≤ last.name.node
-    by_place (inl before) =
-        subst (λ (x : Op). x.name.node ≤ last.name.node) at.2
-        (subst (λ (y : Op). (get_or (members s) at.0 op).name.node ≤ y.name.node) (sym (is op))
-        (below_low (get_or (members s) at.0 op) (get_or (members s) (length (members s) - 1) op) (Less-from_sorted op_cmp (members s) at.0 (length (members s) - 1) op (members_rise s) before (omega (arith, some)))))
-    by_place (inr end) =
-        let same : at.0 ≡ length (members s) - 1 = omega (arith, end, at.1) in
-        let greatest : number op ≡ number last = ap number (sym at.2 ∙ ap (λ i. get_or (members s) i op) same ∙ sym (is op)) in
-        omega (arith, greatest)
 
 -- ---- the nodes of a world
 
@@ -100,12 +63,19 @@ module _ {K : Type 0} (before after desks : ℕ) (raises : before ≤ after) whe
       subst (AreWithin after desks) (sym (one_put nat_cmp_total nat_cmp-IsAntisymmetric es fs (map.from_entries es) number y refl h))
       (one_more (map.from_entries es) number y all (record { upto = own; desked = desked }))
 
+-- a node was changed, and has saved what it had
+pub unraised : {K : Type 0} (highest desks : ℕ) (es fs : List (ℕ × NodeOver K)) (number : ℕ) (x y : NodeOver K) → lookup (is_at (nat_cmp number)) es ≡ Some x
+    → fs ≡ set_value (is_at (nat_cmp number)) es y → AreWithin highest desks (map.from_entries es)
+    → y.node.saved ≡ x.node.saved → length y.node.views ≡ length x.node.views → AreWithin highest desks (map.from_entries fs)
+unraised highest desks es fs number x y there f all same viewed =
+    changed_up highest highest desks (omega arith) es fs number x y there f all
+    (subst (IsUpTo highest) (sym same) (all number x (sym (get_held nat_cmp_total nat_cmp-IsAntisymmetric es (map.from_entries es) number refl) ∙ there)).upto)
+    viewed
+
 -- a node was looked at
 pub looked_up : {K : Type 0} (highest desks : ℕ) (es fs : List (ℕ × NodeOver K)) (number : ℕ) (x : NodeOver K) → lookup (is_at (nat_cmp number)) es ≡ Some x
     → fs ≡ set_value (is_at (nat_cmp number)) es x → AreWithin highest desks (map.from_entries es) → AreWithin highest desks (map.from_entries fs)
-looked_up highest desks es fs number x there f all =
-    changed_up highest highest desks (omega arith) es fs number x x there f all
-    (all number x (sym (get_held nat_cmp_total nat_cmp-IsAntisymmetric es (map.from_entries es) number refl) ∙ there)).upto refl
+looked_up highest desks es fs number x there f all = unraised highest desks es fs number x x there f all refl refl
 
 -- nothing was changed
 pub left_up : {K : Type 0} (highest desks : ℕ) (es fs : List (ℕ × NodeOver K)) → fs ≡ es → AreWithin highest desks (map.from_entries es)

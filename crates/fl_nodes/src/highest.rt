@@ -5,18 +5,13 @@ ghost use Rattle.fl_nodes.specs.parts.Highest.{IsUpTo};
 use fl_labels::name::NodeNumber;
 use fl_opset::set::OpSet;
 
-/// The greatest of this number and those of the nodes that made the operations. Looks at the last
-/// of them alone.
+/// The greatest of this number and those of the nodes that made the operations.
 pub(crate) fn raised(highest: NodeNumber, saved: &OpSet) -> NodeNumber
     ensures at_least { highest ≤ result }
     ensures covers { IsUpTo result saved.now }
 {
-    let Some(last) = saved.as_slice().last() else {
-        return highest;
-    };
-    if highest < last.name.node {
-        last.name.node
-    } else {
-        highest
+    match saved.last_node() {
+        Some(last) => highest.max(last),
+        None => highest,
     }
 }

@@ -62,7 +62,7 @@ impl<K: Keeper> Nodes<K> {
     fn clash(&self, saved: &OpSet) -> Option<Name>
         ensures { (w : World) → AreNodes self.now w → FindsLeast (IsClashAt w saved.now) result }
     {
-        if saved.len() == 0 {
+        if saved.is_empty() {
             return None;
         }
         least_clash_with(&self.all, saved)
@@ -75,7 +75,7 @@ impl<K: Keeper> Nodes<K> {
         ensures { (w : World) → AreNodes self.now w
             → FindsLeast (IsStrayWith w number saved.now) result }
     {
-        if saved.len() == 0 && self.highest < number {
+        if saved.is_empty() && self.highest < number {
             return None;
         }
         least_stray_with(&self.all, number, saved)
@@ -119,9 +119,9 @@ impl<K: Keeper> Nodes<K> {
     /// not looked at again: it is so in each world that a run leads to. A refused joining may have
     /// raised the boot, but where the number is a node's. Costs what the opening does. Where
     /// nothing is saved by the newcomer, and nothing by anyone with its number or a greater one, no
-    /// other node is looked at; else for each node that is there a binary search for each operation
-    /// of the smaller of its set and the new one's, two in each of them, and one for each operation
-    /// of the one that has the number of the other.
+    /// other node is looked at; else, for each node that is there, a search for each operation of
+    /// its set or the new one's, whichever has fewer with that operation's number, and one for each
+    /// operation of the one that has the number of the other.
     pub fn join(&mut self, alloc: Global, number: NodeNumber, keeper: K) -> Result<u32, (Fault, K)>
         requires { 0 < number }
         ensures joins { IfOk result (λ boot. TakesIn K.custody self.old keeper self.new

@@ -1,23 +1,16 @@
 -- Operations that fit between two others.
-use Rattle.std.proofs.Common.{◌≡◌, inl, inr, ℕ, ◌+◌, ◌-◌, ◌<◌, ◌≤◌, zero, suc, true, Bool, List, [], ◌∷◌, ◌++◌, length, take, drop, get_or, refl, sym, ap, subst, ◌∙◌, Ordering, Less, Equal, Greater, append-nil, append_assoc, arith}
-use Rattle.std.specs.Cmp.{tied_itself}
+use Rattle.std.proofs.Common.{◌≡◌, inl, inr, ℕ, ◌+◌, ◌-◌, ◌<◌, ◌≤◌, zero, suc, true, Bool, List, [], ◌∷◌, ◌++◌, length, take, drop, get_or, refl, sym, ap, ◌∙◌, Ordering, Less, Equal, Greater, append-nil, append_assoc, arith}
 use Rattle.std.specs.List.{All, insert_slice, HoldsAt}
 use Rattle.std.specs.List.Sorted.{IsStrictlySortedBy, IsPartitionPoint}
 use Rattle.std.specs.Set.{sorted_merge}
 use Rattle.std.proofs.lemmas.Bool.{cases_lt}
 use Rattle.std.proofs.lemmas.List.{take-append-drop, get_or-take, get_or-drop, length-take-le, length-drop}
 use Rattle.std.proofs.lemmas.Map.Keys.{Less-from_sorted, sorted_tail}
-use Rattle.fl_labels.specs.Found.{Within}
-use Rattle.fl_labels.specs.SetBy.{SetBy, In, of_list}
-use Rattle.fl_labels.specs.SetBy as set
 use Rattle.fl_labels.specs.laws.Rising.{turned, turned_back}
-use Rattle.fl_labels.specs.laws.SortedVec.{Lists}
 use Rattle.fl_ops.specs.declared.op.Op.{Op}
-use Rattle.fl_ops.specs.OpLaws.{op_total, op_exact}
+use Rattle.fl_ops.specs.OpLaws.{op_total}
 use Rattle.fl_ops.specs.OpOrder.{op_cmp}
-use Rattle.fl_opset.specs.laws.Members.{listed_in}
 use Rattle.fl_opset.specs.parts.Gap.{IsGap}
-use Rattle.fl_opset.proofs.MergeLemmas.{merged_lists}
 
 -- the rest of a list that rises does so
 pub rest_rises : {K : Type 0} (R : K → K → Ordering) (xs : List K) (i : ℕ) → IsStrictlySortedBy R xs → IsStrictlySortedBy R (drop i xs)
@@ -55,40 +48,11 @@ module _ (xs ys : List Op) (place : ℕ) (gap : IsGap xs ys place) where
       let here : place + k < length xs = omega (arith, length-drop place xs) in
       ap (λ x. op_cmp x (get_or ys j e)) (get_or-drop place xs k d) ∙ gap.parted.1 (place + k) d (omega arith) here j e inside
 
-  gap_merged : insert_slice xs place ys ≡ sorted_merge op_cmp true xs ys
+  pub gap_merged : insert_slice xs place ys ≡ sorted_merge op_cmp true xs ys
   gap_merged =
       append_assoc (take place xs) ys (drop place xs)
       ∙ sym (merge_between op_cmp true (take place xs) (drop place xs) ys front_below back_above)
       ∙ ap (λ l. sorted_merge op_cmp true l ys) (take-append-drop place xs)
-
-  -- an operation that fits there is none of the first ones
-  gap_new : (y : Op) (j : ℕ) → j < length ys → get_or ys j y ≡ y → (k : ℕ) → k < length xs → get_or xs k y ≡ y → ⊥
-  gap_new y j inside at k within is =
-      let ties : op_cmp y y ≡ Equal = tied_itself op_total y in
-      elim (cases_lt k place) [
-        | inl before ↦
-            let less : op_cmp y y ≡ Less = (λ i. op_cmp (sym is i) (sym at i)) ∙ gap.parted.0 k y (omega arith) before j y inside in
-            cc
-        | inr after ↦
-            let greater : op_cmp y y ≡ Greater = (λ i. op_cmp (sym is i) (sym at i)) ∙ gap.parted.1 k y after within j y inside in
-            cc
-      ]
-
--- the second operations, copied in where they fit, list the union
-pub inserted_lists : (xs ys zs xs' ys' more : List Op) (place : ℕ) (s t : SetBy op_cmp) → IsStrictlySortedBy op_cmp xs → IsStrictlySortedBy op_cmp ys → of_list xs ≡ s → of_list ys ≡ t → xs' ≡ xs → ys' ≡ ys → more ≡ ys
-    → IsGap xs' ys' place → zs ≡ insert_slice xs place more → Lists op_cmp zs (set.union s t)
-inserted_lists xs ys zs xs' ys' more place s t up_xs up_ys s_is t_is same_xs same_ys same_more gap is =
-    merged_lists op_total op_exact xs ys zs xs' ys' s t up_xs up_ys s_is t_is same_xs same_ys
-    (is ∙ (λ i. insert_slice (sym same_xs i) place ((same_more ∙ sym same_ys) i)) ∙ gap_merged xs' ys' place gap)
-
--- where operations fit between others and there are some, the first of them is new
-pub new_between : (xs ys xs' ys' : List Op) (place : ℕ) (s t : SetBy op_cmp) → of_list xs ≡ s → of_list ys ≡ t → xs' ≡ xs → ys' ≡ ys
-    → IsGap xs' ys' place → 0 < length ys → ¬ Within (In t) (In s)
-new_between xs [] xs' ys' place s t s_is t_is same_xs same_ys gap some = absurd (omega arith)
-new_between xs (y ∷ ys) xs' ys' place s t s_is t_is same_xs same_ys gap some = λ within.
-    let here : IsGap xs (y ∷ ys) place = subst (λ l. IsGap xs l place) same_ys (subst (λ l. IsGap l ys' place) same_xs gap) in
-    let at = (listed_in xs s s_is y).1 (within y ((listed_in (y ∷ ys) t t_is y).0 (0, omega arith, refl))) in
-    gap_new xs (y ∷ ys) place here y 0 (omega arith) refl at.0 at.1 at.2
 
 -- ---- searches
 

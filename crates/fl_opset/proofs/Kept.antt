@@ -12,13 +12,15 @@ use Rattle.fl_labels.specs.laws.SortedVec.{Lists}
 use Rattle.fl_ops.specs.declared.op.Op.{Op}
 use Rattle.fl_ops.specs.OpLaws.{op_total, op_exact}
 use Rattle.fl_ops.specs.OpOrder.{op_cmp}
+use Rattle.fl_opset.specs.declared.node_ops.NodeOps.{NodeOps}
 use Rattle.fl_opset.specs.declared.span.Span.{Span}
 use Rattle.fl_opset.specs.Rank.{name_rank, op_rank, last_rank, least_rank, greatest_rank}
 use Rattle.fl_opset.specs.Spans.{fit}
 use Rattle.fl_opset.specs.Windows.{IsName, AreSpans}
-use Rattle.fl_opset.specs.parts.Kept.{has_rank, ChangeAt, HaveNames, AddNames, AreKept}
+use Rattle.fl_opset.specs.parts.Kept.{has_rank, ChangeAt, HaveNames, AddNames, AreKept, AreKeptByNode}
 use Rattle.fl_opset.specs.laws.ByRank.{rank_exact}
 use Rattle.fl_opset.specs.laws.Members.{listed_in}
+use Rattle.fl_opset.proofs.ByNode.{rise_none, none_by_node}
 use Rattle.fl_opset.proofs.Walk.{are_spans}
 
 -- ---- sets
@@ -165,6 +167,14 @@ kept_none ops ss known up none empty =
       names = λ h. no_names;
     }))
 
+pub kept_nothing : (ns : List NodeOps) (ss : List Span) (known : Bool) → ns ≡ [] → ss ≡ [] → AreKeptByNode ns 0 ss known
+kept_nothing ns ss known none empty =
+    subst (λ l. AreKeptByNode l 0 ss known) (sym none) (record {
+      by_node = none_by_node;
+      counted = refl;
+      kept = kept_none [] ss known (rise_none op_cmp) refl empty;
+    })
+
 module _ (ops : List Op) (ss : List Span) (known : Bool) (s : SetBy op_cmp) (k : AreKept ops ss known) (view : of_list ops ≡ s) where
   names_of : known ≡ true → HaveNames (In s) ss
   names_of h = subst (λ t. HaveNames (In t) ss) view (k.names h)
@@ -223,16 +233,13 @@ module _ (ops : List Op) (ss : List Span) (known : Bool) (s : SetBy op_cmp) (k :
         (λ h. subst (λ t. HaveNames (In t) ts) (sym to)
         (subst (HaveNames (In (set.remove s op))) (sym same) (names_shared s op ss (names_of (sym is ∙ h)) q in_s named apart)))
 
+  -- the same set in another list
+  pub kept_alike : (zs : List Op) → Lists op_cmp zs s → AreKept zs ss known
+  kept_alike zs new = kept_as zs ss known s new k.fits names_of
+
 -- spans that a walk found
 pub kept_found : (ops : List Op) (ss : List Span) (known : Bool) → IsStrictlySortedBy op_cmp ops → AddNames ops [] ss → AreKept ops ss known
 kept_found ops ss known up a = record { rises = up; fits = a.fits; names = λ h. names_listed ops (of_list ops) ss refl a }
 
 pub found_spans : (ops : List Op) (s : SetBy op_cmp) (ss : List Span) → of_list ops ≡ s → AddNames ops [] ss → AreSpans (In s) ss
 found_spans ops s ss view a = spans_have (In s) ss a.fits (names_listed ops s ss view a)
-
--- spans that are not known
-pub kept_lost : (ops : List Op) (ss : List Span) (known : Bool) → IsStrictlySortedBy op_cmp ops → fit least_rank greatest_rank ss ≡ true → known ≡ false → AreKept ops ss known
-kept_lost ops ss known up fits lost = record { rises = up; fits = fits; names = λ h. absurd (false≢true (sym lost ∙ h)) }
-
-pub kept_same : (ops zs : List Op) (ss : List Span) (known : Bool) → zs ≡ ops → AreKept ops ss known → AreKept zs ss known
-kept_same ops zs ss known same k = subst (λ l. AreKept l ss known) (sym same) k

@@ -84,19 +84,19 @@ rest_above n xs place low x up here is le k d within =
     omega (arith, up place (place + k) d (omega arith) there, ap n first, ap n (get_or-drop place xs k d))
 
 -- tests that agree keep the same
-same_kept : {X : Type 0} (p q : X → Bool) (xs : List X) → AllByRecursion (λ x. p x ≡ q x) xs → filter p xs ≡ filter q xs
+pub same_kept : {X : Type 0} (p q : X → Bool) (xs : List X) → AllByRecursion (λ x. p x ≡ q x) xs → filter p xs ≡ filter q xs
 same_kept p q [] h = refl
 same_kept p q (x ∷ xs) h = λ i. cond (h.0 i) (x ∷ same_kept p q xs h.1 i) (same_kept p q xs h.1 i)
 
-all_kept : {X : Type 0} (p : X → Bool) (xs : List X) → AllByRecursion (λ x. p x ≡ true) xs → filter p xs ≡ xs
+pub all_kept : {X : Type 0} (p : X → Bool) (xs : List X) → AllByRecursion (λ x. p x ≡ true) xs → filter p xs ≡ xs
 all_kept p [] h = refl
 all_kept p (x ∷ xs) h = λ i. cond (h.0 i) (x ∷ all_kept p xs h.1 i) (all_kept p xs h.1 i)
 
-none_kept : {X : Type 0} (p : X → Bool) (xs : List X) → AllByRecursion (λ x. p x ≡ false) xs → filter p xs ≡ []
+pub none_kept : {X : Type 0} (p : X → Bool) (xs : List X) → AllByRecursion (λ x. p x ≡ false) xs → filter p xs ≡ []
 none_kept p [] h = refl
 none_kept p (x ∷ xs) h = λ i. cond (h.0 i) (x ∷ none_kept p xs h.1 i) (none_kept p xs h.1 i)
 
-weaker : {X : Type 0} (P Q : X → Type 0) → ((x : X) → P x → Q x) → (xs : List X) → AllByRecursion P xs → AllByRecursion Q xs
+pub weaker : {X : Type 0} (P Q : X → Type 0) → ((x : X) → P x → Q x) → (xs : List X) → AllByRecursion P xs → AllByRecursion Q xs
 weaker P Q f [] h = tt
 weaker P Q f (x ∷ xs) h = (f x h.0, weaker P Q f xs h.1)
 

@@ -1,7 +1,13 @@
+pub mod ByNode
 pub mod Partition
+pub mod OfNode
+pub mod LastNode
+pub mod OneEntry
 pub mod Names
 pub mod Written
 pub mod MergeLemmas
+pub mod JoinedNodes
+pub mod SplitNodes
 pub mod Gaps
 pub mod FirstLogin
 pub mod Rising
@@ -18,3 +24,7 @@ pub mod Whole
 pub mod CaughtUp
 pub mod Covers
 pub mod Outside
+pub mod Entries
+pub mod Passed
+pub mod Between
+pub mod Each

@@ -1,5 +1,5 @@
 -- Two lists that rise, merged.
-use Rattle.std.proofs.Common.{◌≡◌, ℕ, ◌-◌, ◌≤◌, true, Bool, ◌||◌, List, [], ◌∷◌, ◌++◌, ◌⊎◌, inl, inr, length, drop, get_or, Option, Some, None, is_some, not, false, Result, Ok, Err, OnErr, refl, sym, ap, subst, ◌∙◌, Ordering, Less, append-nil, arith}
+use Rattle.std.proofs.Common.{◌≡◌, ℕ, ◌-◌, ◌≤◌, true, Bool, ◌||◌, List, [], ◌∷◌, ◌++◌, ◌⊎◌, inl, inr, length, drop, get_or, Result, Ok, Err, OnErr, refl, sym, ap, subst, ◌∙◌, Ordering, Less, append-nil, arith}
 use Rattle.std.specs.Cmp.{IsTotalOrder}
 use Rattle.std.specs.FinMap.{IsAntisymmetric}
 use Rattle.std.specs.List.{All, list_any}
@@ -11,11 +11,10 @@ use Rattle.std.proofs.lemmas.Bool.{cases_lt}
 use Rattle.std.proofs.lemmas.List.{drop_all}
 use Rattle.std.proofs.lemmas.Map.Keys.{Less-from_sorted}
 use Rattle.fl_opset.proofs.Partition.{all_below}
-use Rattle.fl_labels.specs.Found.{Found, Tells, Within}
+use Rattle.fl_labels.specs.Found.{Within}
 use Rattle.fl_labels.specs.SetBy.{SetBy, In, of_list, contains, contains-of_list, contains-union, same_set}
 use Rattle.fl_labels.specs.SetBy as set
 use Rattle.fl_labels.specs.laws.SortedVec.{Lists}
-use Rattle.fl_ops.specs.declared.op.Op.{Op}
 use Rattle.fl_ops.specs.OpLaws.{op_total, op_exact}
 use Rattle.fl_ops.specs.OpOrder.{op_cmp}
 use Rattle.fl_opset.specs.laws.Unions.{same_members, union_least, union_upper}
@@ -57,20 +56,6 @@ module _ {K : Type 0} {R : K → K → Ordering} (o : IsTotalOrder R) where
             let here : j ≡ 0 = omega arith in
             ap (R (get_or xs k d)) (ap (λ n. get_or ys n e) here ∙ sym (at_first e)) ∙ under
       ]
-
--- what a walk along both tells of the sets
-module _ (xs ys xs' ys' : List Op) (s t : SetBy op_cmp) (s_is : of_list xs ≡ s) (t_is : of_list ys ≡ t) (same_xs : xs' ≡ xs) (same_ys : ys' ≡ ys) where
-  abbrev as_sets : (P : SetBy op_cmp → SetBy op_cmp → Type 0) → P (of_list ys') (of_list xs') → P t s
-  as_sets P h = subst (λ u. P t u) (ap of_list same_xs ∙ s_is) (subst (λ u. P u (of_list xs')) (ap of_list same_ys ∙ t_is) h)
-
-  pub none_outside : (b : Bool) (found : Option Op) → is_some found ≡ not b → Found op_cmp (In (of_list {R = op_cmp} ys')) (In (of_list {R = op_cmp} xs')) found → Tells b (Within (In t) (In s))
-  none_outside true None same found = record { holds = λ told. as_sets (λ u v. Within (In u) (In v)) found.is; fails = λ told. absurd (cc) }
-  none_outside false None same found = absurd (cc)
-  none_outside true (Some x) same found = absurd (cc)
-  none_outside false (Some x) same found = record {
-    holds = λ told. absurd (cc);
-    fails = λ told. as_sets (λ u v. ¬ Within (In u) (In v)) (λ within. found.is.lacking (within x found.is.member));
-  }
 
 -- where no member of another set is new, the set is the union
 pub none_new : (s t : SetBy op_cmp) → Within (In t) (In s) → s ≡ set.union s t

@@ -6,7 +6,7 @@ use Rattle.std.proofs.lemmas.List.Elements.{filter-append}
 use Rattle.std.specs.List.{flat_map, filter}
 
 module _ {X : Type 0} (f : X → List ℕ) (p : X → Bool) where
-  pieces-append : (xs ys : List X) → flat_map f (filter p (xs ++ ys)) ≡ flat_map f (filter p xs) ++ flat_map f (filter p ys)
+  pub pieces-append : (xs ys : List X) → flat_map f (filter p (xs ++ ys)) ≡ flat_map f (filter p xs) ++ flat_map f (filter p ys)
   pieces-append xs ys = ap (flat_map f) (filter-append p xs ys) ∙ flat_map-append f (filter p xs) (filter p ys)
 
   one_kept : (x : X) → p x ≡ true → flat_map f (filter p (x ∷ [])) ≡ f x

@@ -1,4 +1,5 @@
 pub mod RegistryText
+pub mod ByNode
 pub mod Rank
 pub mod Spans
 pub mod SpanCode

@@ -2,3 +2,4 @@
 pub mod LoginPlace
 pub mod Kept
 pub mod Gap
+pub mod Room

@@ -1,5 +1,5 @@
 //! What a window lacks, among operations that rise.
-ghost use Rattle.std.specs.Prelude.{◌≡◌, ◌<◌, ◌≤◌, ◌++◌, IfOk, length, drop};
+ghost use Rattle.std.specs.Prelude.{◌≡◌, ◌<◌, ◌≤◌, ◌++◌, OnOk, length, drop};
 ghost use Rattle.std.specs.List.{All, filter};
 ghost use Rattle.std.specs.List.Sorted.{IsNonDecreasingBy};
 ghost use Rattle.fl_opset.specs.Rank.{op_rank};
@@ -7,8 +7,9 @@ ghost use Rattle.fl_opset.specs.Windows.{is_lacking};
 
 use crate::intervals::Intervals;
 use crate::rank::{last_rank_of, rank};
+use crate::spans::count_below;
 use fl_ops::op::Op;
-use std::alloc::{AllocError, Global};
+use std::alloc::AllocError;
 
 // A place with none behind it that is below the rank, at most twice as far as the first of the
 // others.
@@ -41,22 +42,30 @@ fn cut(ops: &[Op], low: u64) -> (&[Op], &[Op])
     ops.split_at(near.partition_point(|op| rank(op.name) < low))
 }
 
-/// Those of the operations that the window lacks. Two searches a span, each in steps that double
-/// from where the one before ended, and then linear in what is lacking.
-pub fn lacking_of(alloc: Global, ops: &[Op], window: &Intervals) -> Result<Vec<Op>, AllocError>
+/// Adds those of the operations that the window lacks to the end of a list. A binary search finds
+/// the first span that may have one of them; from there on two searches a span, each in steps that
+/// double from where the one before ended, until none is left, and then linear in what is lacking.
+/// An error says that there was no memory for it, and may leave some of it added.
+pub fn add_lacking(ops: &[Op], window: &Intervals, lacking: &mut Vec<Op>) -> Result<(), AllocError>
     requires { IsNonDecreasingBy op_rank ops.now }
-    ensures { IfOk result (λ lacking. lacking.items ≡ filter (is_lacking window.now) ops.now) }
+    ensures { OnOk result
+        (lacking.new.items ≡ lacking.old.items ++ filter (is_lacking window.now) ops.now) }
 {
     let (_, above) = cut(ops, rank(window.from));
     let (mut rest, _) = cut(above, rank(window.to) + 1);
-    let mut lacking = Vec::new(alloc);
+    let Some(first) = rest.first() else {
+        return Ok(());
+    };
     let spans = window.spans.as_slice();
-    for span in spans {
+    let passed = count_below(spans, rank(first.name));
+    for span in &spans[passed..] {
+        if rest.is_empty() {
+            return Ok(());
+        }
         let (before, others) = cut(rest, rank(span.first));
         let (_, after) = cut(others, last_rank_of(span) + 1);
         lacking.extend_from_slice(before)?;
         rest = after;
     }
-    lacking.extend_from_slice(rest)?;
-    Ok(lacking)
+    lacking.extend_from_slice(rest)
 }

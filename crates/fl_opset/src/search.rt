@@ -1,5 +1,5 @@
 //! What binary searches find among operations that rise.
-ghost use Rattle.std.specs.Prelude.{◌≡◌, ◌≢◌, ◌≤◌, ◌<◌, length, true, false};
+ghost use Rattle.std.specs.Prelude.{◌≡◌, ◌≢◌, ◌<◌, length, true, false};
 ghost use Rattle.std.specs.List.{All, Any};
 ghost use Rattle.std.specs.List.Sorted.{IsStrictlySortedBy, IsSearchInRange, IsBinarySearchResult};
 ghost use Rattle.std.specs.Ordering.{is_lt};
@@ -9,7 +9,7 @@ ghost use Rattle.fl_ops.specs.Logins.{FindsLogin};
 ghost use Rattle.fl_opset.specs.parts.LoginPlace.{login_place};
 
 use fl_labels::cap::Cap;
-use fl_labels::name::{Name, NodeNumber};
+use fl_labels::name::Name;
 use fl_ops::digest::Digest;
 use fl_ops::op::{Body, Op};
 
@@ -27,24 +27,6 @@ pub fn place_of(ops: &[Op], op: &Op) -> Result<usize, usize>
         return Err(ops.len());
     }
     ops.binary_search(op)
-}
-
-/// The greatest sequence number of a node, or 0 where it has none.
-pub fn last_seq(ops: &[Op], node: NodeNumber) -> u32
-    requires { IsStrictlySortedBy op_cmp ops.now }
-    ensures upper { All (λ op. op.name.node ≡ node → op.name.seq ≤ result) ops.now }
-    ensures reached { 0 < result
-        → Any (λ op. (op.name.node ≡ node) × (op.name.seq ≡ result)) ops.now }
-{
-    let end = ops.partition_point(|op| op.name.node <= node);
-    let Some(last) = ops[..end].last() else {
-        return 0;
-    };
-    if last.name.node == node {
-        last.name.seq
-    } else {
-        0
-    }
 }
 
 /// Whether one of the operations has the name of this one, and another body.

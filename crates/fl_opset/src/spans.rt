@@ -1,5 +1,5 @@
 //! The spans of names that come and go.
-ghost use Rattle.std.specs.Prelude.{◌≡◌, ◌≤◌, ◌<◌, ◌+◌, OnOk, OnErr, IfOk, true, false, length, take, drop, [], vec_len, vec_capacity};
+ghost use Rattle.std.specs.Prelude.{◌≡◌, ◌≤◌, ◌<◌, ◌+◌, OnOk, OnErr, true, false, length, take, drop, vec_len, vec_capacity};
 ghost use Rattle.std.specs.List.{All};
 ghost use Rattle.fl_opset.specs.Rank.{name_rank, last_rank, least_rank, greatest_rank};
 ghost use Rattle.fl_opset.specs.Spans.{fit};
@@ -9,7 +9,7 @@ use crate::rank::{last_rank_of, rank};
 use crate::span::Span;
 use fl_labels::name::Name;
 use fl_ops::op::Op;
-use std::alloc::{AllocError, Global};
+use std::alloc::AllocError;
 
 // The name alone.
 fn lone(name: Name) -> Span
@@ -35,9 +35,9 @@ fn joined(span: Span, next: Span) -> Span
     }
 }
 
-// How many of the spans end below a rank. The last span is asked first, since most names come at
-// the end; else a binary search.
-fn count_below(spans: &[Span], low: u64) -> usize
+/// How many of the spans end below a rank. The last span is asked first, since most names come at
+/// the end; else a binary search.
+pub fn count_below(spans: &[Span], low: u64) -> usize
     requires { fit least_rank greatest_rank spans.now ≡ true }
     ensures bound { result ≤ length spans.now }
     ensures below { All (λ s. last_rank s < low) (take result spans.now) }
@@ -116,25 +116,19 @@ fn count_above(spans: &[Span], ops: &[Op]) -> usize
 }
 
 /// Adds the names of operations that rise, as [`add_names`] does, unless that could move more than
-/// so many spans in all. An error says that some are not added: for that, or for want of memory.
-pub fn add_near_names(spans: &mut Vec<Span>, ops: &[Op], most: usize) -> Result<(), AllocError>
+/// so many spans in all. Answers how many of these are left. An error says that some names are not
+/// added: for that, or for want of memory.
+pub fn add_near_names(spans: &mut Vec<Span>, ops: &[Op], most: usize) -> Result<usize, AllocError>
     requires { fit least_rank greatest_rank spans.old.items ≡ true }
     ensures ok { OnOk result (AddNames ops.now spans.old.items spans.new.items) }
     ensures fits { fit least_rank greatest_rank spans.new.items ≡ true }
 {
-    if count_above(spans, ops).saturating_mul(ops.len()) > most {
+    let moves = count_above(spans, ops).saturating_mul(ops.len());
+    let Some(left) = most.checked_sub(moves) else {
         return Err(AllocError);
-    }
-    add_names(spans, ops)
-}
-
-/// The spans of the operations' names. One walk.
-pub fn spans_of(alloc: Global, ops: &[Op]) -> Result<Vec<Span>, AllocError>
-    ensures { IfOk result (λ spans. AddNames ops.now [] spans.items) }
-{
-    let mut spans = Vec::new(alloc);
-    add_names(&mut spans, ops)?;
-    Ok(spans)
+    };
+    add_names(spans, ops)?;
+    Ok(left)
 }
 
 // The names of a span below one of them.

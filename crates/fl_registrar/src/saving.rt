@@ -1,13 +1,15 @@
 //! How what a node has begun is saved.
 ghost use Rattle.std.specs.Prelude.{◌≡◌, ◌↔◌, IsTrue, IfOk, filter, not};
+ghost use Rattle.std.specs.List.Sorted.{IsStrictlySortedBy};
 ghost use Rattle.fl_labels.specs.SetBy as set;
+ghost use Rattle.fl_ops.specs.OpOrder.{op_cmp};
 ghost use Rattle.fl_registrar.specs.Passing.{Passes};
 ghost use Rattle.fl_registrar.specs.Taking.{news_of};
 ghost use Rattle.fl_registrar.specs.parts.Saving.{Becomes};
 
-use fl_desks::listing::collected;
 use fl_node::node::Node;
 use fl_ops::op::Op;
+use fl_opset::batch::OpBatch;
 use fl_opset::set::OpSet;
 use fl_store::keeper::Keeper;
 use fl_system::answer::Fault;
@@ -63,9 +65,10 @@ fn lacking(alloc: Global, saved: &OpSet, ops: &[Op]) -> Result<Vec<Op>, AllocErr
 }
 
 /// Those of these operations that the set lacks. A search for each of them, and a copy.
-pub fn news(alloc: Global, saved: &OpSet, ops: &[Op]) -> Result<OpSet, AllocError>
+pub fn news(alloc: Global, saved: &OpSet, ops: &[Op]) -> Result<OpBatch, AllocError>
+    requires { IsStrictlySortedBy op_cmp ops.now }
     ensures { IfOk result (λ new. new ≡ news_of saved.now ops.now) }
 {
     let new = lacking(alloc, saved, ops)?;
-    collected(alloc, &new)
+    Ok(OpBatch::from_rising(new))
 }

@@ -136,7 +136,8 @@ fn migrate_with<S: Alter>(
     }
 }
 
-// Rewrites this node's database of the first format in the second.
+// Rewrites this node's database of the first format in the second. Copies the operations into one
+// piece.
 fn migrate_on<S: Alter>(
     alloc: Global,
     conn: &mut Connection<S>,
@@ -157,7 +158,12 @@ fn migrate_on<S: Alter>(
         → Stays (held_in number (state S.Store conn.old)) (held_in number (state S.Store conn.new)) }
 {
     match former_ops(alloc, conn, number) {
-        Ok(ops) => migrate_with(alloc, conn, number, ops.as_slice()),
+        Ok(former) => {
+            let Ok(ops) = former.to_vec(alloc) else {
+                return Err(KeeperFault::Memory);
+            };
+            migrate_with(alloc, conn, number, &ops)
+        }
         Err(fault) => Err(fault),
     }
 }

@@ -1,5 +1,5 @@
 -- What a call of a keeper in memory leaves to the next opening.
-use Rattle.std.proofs.Common.{◌≡◌, ◌⊎◌, inl, inr, ◌∙◌, refl, sym, ap, subst, ℕ, true, false, zero, suc, List, [], ◌∷◌, length, arith}
+use Rattle.std.proofs.Common.{◌≡◌, ◌⊎◌, inl, inr, ◌∙◌, refl, sym, ap, subst, ℕ, true, false, zero, suc, List, [], ◌∷◌, length, get_or, ◌≤◌, ◌<◌, arith}
 use Rattle.fl_labels.specs.SetBy as set
 use Rattle.fl_labels.specs.SetBy.{SetBy}
 use Rattle.fl_ops.specs.declared.op.Op.{Op}
@@ -9,7 +9,7 @@ use Rattle.fl_store.specs.declared.health.Health.{Health}
 use Rattle.fl_store.specs.declared.health.Health.TheVariants.{Sound, BreaksAfter, Broken}
 use Rattle.fl_store.specs.Kept.{Kept, HasNamesOnce, AreNew, with_batch, with_ops}
 use Rattle.fl_store.specs.Keeping.{Held, Follows}
-use Rattle.fl_store.specs.MemKeeping.{health_after, saved_after, is_broken_at}
+use Rattle.fl_store.specs.MemKeeping.{MemKept, health_after, saved_after, is_broken_at}
 use Rattle.fl_store.specs.laws.KeptSets.{once-more, with-none}
 
 -- an opening finds this alone
@@ -53,6 +53,10 @@ module _ (ops : List Op) (kept : Kept) (number boot : ℕ) (saved now : SetBy op
   broken_then broken = subst (λ k. Follows (λ k k'. (k' ≡ k) ⊎ (k' ≡ with_batch k ops)) (Just kept) (Just k)) (sym same)
       (just_broken ops kept health (ap is_broken_at (sym so) ∙ broken))
 
+-- a keeper that breaks at no save, with a set
+abbrev pub sound_with : ℕ → ℕ → SetBy op_cmp → MemKept
+sound_with number boot saved = record { kept = with_saved number boot saved; health = Sound }
+
 -- names still differ
 pub once_after : (health : Health) (ops : List Op) (saved : SetBy op_cmp) → AreNew ops saved → HasNamesOnce saved
     → HasNamesOnce (saved_after health saved ops)
@@ -76,3 +80,9 @@ none_saved saved none =
 pub add_none : (saved : SetBy op_cmp) (ops : List Op) → length ops ≡ 0 → saved ≡ with_ops saved ops
 add_none saved [] none = sym (with-none saved)
 add_none saved (op ∷ ops) none = absurd (omega (arith, none))
+
+-- a list of one item
+pub one_item : {X : Type 0} (xs : List X) (x : X) → 1 ≤ length xs → length xs < 2 → x ≡ get_or xs 0 x → xs ≡ x ∷ []
+one_item [] x some few is = absurd (omega (arith, some))
+one_item (y ∷ []) x some few is = ap (λ z. z ∷ []) (sym is)
+one_item (y ∷ z ∷ rest) x some few is = absurd (omega (arith, few))

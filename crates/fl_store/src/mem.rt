@@ -13,7 +13,9 @@ ghost use Rattle.fl_store.specs.MemKeeping.{mem_custody};
 use crate::health::Health;
 use crate::keeper::{Keeper, KeeperFault};
 use fl_labels::name::NodeNumber;
+use fl_labels::sorted::arrange;
 use fl_ops::op::Op;
+use fl_opset::batch::OpBatch;
 use fl_opset::set::OpSet;
 use std::alloc::{AllocError, Global};
 use std::marker::Model;
@@ -45,28 +47,29 @@ impl Model for MemKeeper {
     ghost invariant = { λ a. HasNamesOnce a.saved };
 }
 
-// The operations of a list, as a set.
-fn collected(alloc: Global, ops: &[Op]) -> Result<OpSet, AllocError>
+// The operations of a list, each once and rising. Linear where they rise already, and else a sort.
+fn collected(alloc: Global, ops: &[Op]) -> Result<OpBatch, AllocError>
     ensures { IfOk result (λ all. all ≡ set.of_list ops.now) }
 {
-    let mut all = OpSet::new(alloc);
-    for op in ops {
-        all.add(*op)?;
-    }
-    Ok(all)
+    let mut all = Vec::from_slice(alloc, ops)?;
+    arrange(&mut all);
+    Ok(OpBatch::from_rising(all))
 }
 
-// Adds the operations. None take no memory. An error leaves the set.
+// Adds the operations, one alone as it is. None take no memory. An error leaves the set.
 fn add_all(alloc: Global, saved: &mut OpSet, ops: &[Op]) -> Result<(), AllocError>
     ensures ok { OnOk result (saved.new ≡ with_ops saved.old ops.now) }
     ensures err { OnErr result (saved.new ≡ saved.old) }
     ensures some { OnErr result (0 < length ops.now) }
 {
-    if ops.is_empty() {
-        return Ok(());
+    match ops {
+        [] => Ok(()),
+        [op] => match saved.add(*op) {
+            Ok(_) => Ok(()),
+            Err(error) => Err(error),
+        },
+        _ => saved.merge_batch(&collected(alloc, ops)?),
     }
-    let batch = collected(alloc, ops)?;
-    saved.merge(&batch)
 }
 
 // Adds the operations as a keeper of this health does, and answers its health then. An error leaves
@@ -127,7 +130,8 @@ impl MemKeeper {
           health = Health.Sound;
         }) }
     {
-        let saved = collected(alloc, ops)?;
+        let mut saved = OpSet::new(alloc);
+        add_all(alloc, &mut saved, ops)?;
         Ok(MemKeeper {
             alloc,
             number,
@@ -186,7 +190,7 @@ impl Keeper for MemKeeper {
             return Err(KeeperFault::Broken);
         }
         let mut saved = OpSet::new(alloc);
-        if self.saved.len() == 0 {
+        if self.saved.is_empty() {
             return Ok(saved);
         }
         let Ok(()) = saved.merge(&self.saved) else {

@@ -8,7 +8,7 @@ ghost use Rattle.std.specs.declared.option.Option.TheVariants.{Some};
 
 use fl_labels::pid::Pid;
 use fl_ops::op::Op;
-use fl_opset::set::OpSet;
+use fl_opset::batch::OpBatch;
 
 /// Operations on their way into the saved set and the published list.
 pub enum Batch {
@@ -16,7 +16,7 @@ pub enum Batch {
     /// any.
     Ordered(Op, Option<Pid>, Option<u8>),
     /// Operations of other nodes.
-    Received(OpSet),
+    Received(OpBatch),
 }
 
 impl Drop for Batch {

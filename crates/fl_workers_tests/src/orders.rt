@@ -71,7 +71,8 @@ fn two_orders_at_once(rt: HostRuntime) -> Result<(), Fail> {
     let told = orders_two(rt, alloc, &mut crew);
     let ops = [tag_made(FIRST), tag_made(SECOND)];
     let is_published = crew.node().published() == ops.as_slice();
-    let is_saved = crew.node().saved().as_slice() == ops.as_slice();
+    let saved = crew.node().saved();
+    let is_saved = saved.len() == ops.len() && saved.of_node(1) == ops.as_slice();
     crew.close(&rt);
     assert!(rt; made == Some(true));
     assert!(rt; told == Some(true));

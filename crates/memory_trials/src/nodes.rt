@@ -2,6 +2,7 @@
 use crate::calls::{Ending, NotBegun, Said, Trial, run};
 use crate::people::{FIRST, order, orders, owns, peopled};
 use crate::scene::{FEW, MORE, MemNode, NEXT, Stage, asked, filled, question, stands, watched};
+use crate::sets::has_just;
 use fl_jobs::answer::Reply;
 use fl_labels::cap::Cap;
 use fl_node::node::Node;
@@ -69,7 +70,7 @@ impl Trial for Open {
             return None;
         };
         match keeper.load(alloc) {
-            Ok(saved) if saved.as_slice() == FEW.as_slice() => Some("its keeper has what it had"),
+            Ok(saved) if has_just(&saved, &FEW) => Some("its keeper has what it had"),
             _ => None,
         }
     }

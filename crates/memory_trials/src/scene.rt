@@ -1,5 +1,6 @@
 //! The node that trials are made over, and what they ask of it.
 use crate::calls::{NotBegun, answered};
+use crate::sets::has_just;
 use fl_jobs::job::Job;
 use fl_labels::cap::Cap;
 use fl_labels::name::Name;
@@ -86,7 +87,7 @@ fn stage_of(node: &MemNode) -> Stage {
 
 /// Whether the node has saved and published these, and is at this stage.
 pub fn stands(node: &MemNode, saved: &[Op], published: &[Op], stage: Stage) -> bool {
-    node.saved().as_slice() == saved && node.published() == published && stage_of(node) == stage
+    has_just(node.saved(), saved) && node.published() == published && stage_of(node) == stage
 }
 
 /// What the node answers to a job at its desk, which first looks at the list up to a length.

@@ -56,18 +56,23 @@ fn set_of(alloc: Global, ops: &[Op]) -> Result<OpSet, AllocError> {
     Ok(set)
 }
 
+/// Whether the set has just these members, each of which is there once. Takes no memory.
+pub fn has_just(set: &OpSet, ops: &[Op]) -> bool {
+    set.len() == ops.len() && ops.iter().all(|op| set.contains(op))
+}
+
 // Whether the index has these operations, and whether by them who uses the group may add the tag,
 // and so everybody where the group is opened.
 fn knows(alloc: Global, index: &Index, ops: &[Op], is_reached: bool) -> bool {
     let is_opened = ops.contains(&OPENED);
     let nothing = CapSet::new(alloc);
-    index.ops().as_slice() == ops
+    has_just(index.ops(), ops)
         && index.reaches(Cap::Use(GROUP), Cap::Plus(TAG)) == is_reached
         && index.global(Cap::Use(GROUP)) == is_opened
         && index.effective(&nothing, Cap::Plus(TAG)) == (is_reached && is_opened)
 }
 
-/// A set takes in the members of another, one of which comes between its own.
+/// A set of four operations takes in the members of another, one of which comes between its own.
 pub struct Merge;
 
 /// Both sets.
@@ -87,7 +92,7 @@ impl Trial for Merge {
 
     fn begin(alloc: Global) -> Result<Both, NotBegun> {
         Ok(Both {
-            set: set_of(alloc, &[MADE, OPENED])?,
+            set: set_of(alloc, &[MADE, TOLD, OPENED, LAST])?,
             other: set_of(alloc, &[PUT, OPENED])?,
         })
     }
@@ -97,12 +102,11 @@ impl Trial for Merge {
     }
 
     fn left(_alloc: Global, state: &mut Both) -> Option<&'static str> {
-        let is_kept = state.set.as_slice() == [MADE, OPENED].as_slice();
-        is_kept.then_some(KEPT)
+        has_just(&state.set, &[MADE, TOLD, OPENED, LAST]).then_some(KEPT)
     }
 
     fn is_done(_alloc: Global, state: &mut Both) -> bool {
-        state.set.as_slice() == [MADE, PUT, OPENED].as_slice()
+        has_just(&state.set, &[MADE, TOLD, PUT, OPENED, LAST])
     }
 }
 

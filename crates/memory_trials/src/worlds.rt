@@ -4,6 +4,7 @@ ghost use Rattle.std.specs.Prelude.{◌<◌};
 use crate::calls::{Ending, NotBegun, Said, Trial, run};
 use crate::people::{ENDPOINT, FIRST, label_of, open_act, relabel_act, send_act};
 use crate::scene::{Stage, stands};
+use crate::sets::has_just;
 use fl_jobs::answer::{Refusal, Reply as Answer};
 use fl_jobs::job::{Act, Job, Mail, Order};
 use fl_labels::cap::Cap;
@@ -158,7 +159,7 @@ impl Trial for Join {
             return None;
         };
         match keeper.load(alloc) {
-            Ok(saved) if saved.as_slice() == [OTHER].as_slice() => {
+            Ok(saved) if has_just(&saved, &[OTHER]) => {
                 let is_left = state.world.node(2).is_none()
                     && has_node(&state.world, 1, &[TAG_MADE], Stage::Idle);
                 is_left.then_some("the keeper came back")

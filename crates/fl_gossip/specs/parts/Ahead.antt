@@ -1,10 +1,13 @@
 -- What is left of operations that rise, from a name on.
-use Rattle.std.specs.Prelude.{◌≡◌, ◌<◌, ℕ, Bool, true, false, List, ◌++◌, length, slice_index_or}
-use Rattle.std.specs.List.{All}
+use Rattle.std.specs.Prelude.{◌≡◌, ◌<◌, ◌⊎◌, ℕ, Bool, true, false, List, ◌++◌, length, slice_index_or}
+use Rattle.std.specs.List.{All, Contains}
 use Rattle.std.specs.List.Sorted.{IsStrictlySortedBy}
 use Rattle.std.specs.Ordering.{is_lt}
 use Rattle.std.specs.declared.cmp.Ordering.TheVariants.{Less}
+use Rattle.std.specs.declared.option.Option.{Option}
+use Rattle.std.specs.declared.option.Option.TheVariants.{Some}
 use Rattle.fl_labels.specs.Name.{name_cmp}
+use Rattle.fl_labels.specs.SetBy.{SetBy, In}
 use Rattle.fl_labels.specs.declared.name.Name.{Name}
 use Rattle.fl_ops.specs.declared.op.Op.{Op}
 use Rattle.fl_ops.specs.OpOrder.{op_cmp}
@@ -21,6 +24,18 @@ pub record IsFrom (all : List Op) (name : Name) (rest : List Op) : Type 0 where
   pub below : All (λ op. name_cmp op.name name ≡ Less) before
   pub rise : IsStrictlySortedBy op_cmp rest
   pub above : All (NotBelow name) rest
+
+-- the members that a node made, rising
+pub record AreOf (saved : SetBy op_cmp) (node : ℕ) (ops : List Op) : Type 0 where
+  pub rise : IsStrictlySortedBy op_cmp ops
+  pub only : (op : Op) → Contains ops op → In saved op × (op.name.node ≡ node)
+  pub all : (op : Op) → In saved op → op.name.node ≡ node → Contains ops op
+
+-- of what is left of the node's members, or of all of the name's node, those whose name is not below it
+abbrev pub IsAhead : SetBy op_cmp → Option ℕ → List Op → Name → List Op → Type 0
+IsAhead saved node left name rest =
+    ((node ≡ Some name.node) × IsFrom left name rest)
+    ⊎ ((ops : List Op) × AreOf saved name.node ops × IsFrom ops name rest)
 
 -- the first of the operations has the name
 pub record BeginsWith (ops : List Op) (name : Name) : Type 0 where

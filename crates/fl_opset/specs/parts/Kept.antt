@@ -1,5 +1,5 @@
 -- The spans that are kept beside a set.
-use Rattle.std.specs.Prelude.{◌≡◌, ◌≢◌, ℕ, Bool, true, ◌&&◌, ◌⊎◌, List, nat_le}
+use Rattle.std.specs.Prelude.{◌≡◌, ◌≢◌, ℕ, Bool, true, ◌&&◌, ◌⊎◌, List, length, nat_le}
 use Rattle.std.specs.List.{list_any}
 use Rattle.std.specs.List.Sorted.{IsStrictlySortedBy}
 use Rattle.fl_labels.specs.SetBy.{In, of_list}
@@ -7,7 +7,9 @@ use Rattle.fl_labels.specs.declared.name.Name.{Name}
 use Rattle.fl_ops.specs.declared.op.Op.{Op}
 use Rattle.fl_ops.specs.OpOrder.{op_cmp}
 use Rattle.fl_ops.specs.Registry.{Registry, Listed}
+use Rattle.fl_opset.specs.declared.node_ops.NodeOps.{NodeOps}
 use Rattle.fl_opset.specs.declared.span.Span.{Span}
+use Rattle.fl_opset.specs.ByNode.{all_ops, AreByNode}
 use Rattle.fl_opset.specs.Rank.{name_rank, last_rank, least_rank, greatest_rank}
 use Rattle.fl_opset.specs.Spans.{fit}
 use Rattle.fl_opset.specs.Windows.{IsName}
@@ -40,3 +42,9 @@ pub record AreKept (ops : List Op) (spans : List Span) (known : Bool) : Type 0 w
   pub rises : IsStrictlySortedBy op_cmp ops
   pub fits : fit least_rank greatest_rank spans ≡ true
   pub names : known ≡ true → HaveNames (In (of_list {R = op_cmp} ops)) spans
+
+-- The entries are by node, their operations are counted, and the spans are kept beside them.
+pub record AreKeptByNode (nodes : List NodeOps) (count : ℕ) (spans : List Span) (known : Bool) : Type 0 where
+  pub by_node : AreByNode nodes
+  pub counted : count ≡ length (all_ops nodes)
+  pub kept : AreKept (all_ops nodes) spans known

@@ -1,17 +1,17 @@
-use Rattle.std.proofs.Common.{List, arith, sym, subst, ◌∙◌}
+use Rattle.std.proofs.Common.{List, Some, arith, refl, sym, subst, ◌∙◌}
 use Rattle.std.proofs.lemmas.Result.{err_from_is_err_and}
 use Rattle.fl_labels.specs.SetBy.{In}
 use Rattle.fl_ops.specs.declared.op.Op.{Op}
 use Rattle.fl_gossip.specs.Taking.{BringsNew, Refuses}
 use Rattle.fl_gossip.proofs.Take.{is_there, is_lacking, taken_none, taken_old, taken_new, brings_new, refused, all_taken}
-use Rattle.fl_gossip.proofs.Fronts.{left_all, left_more, left_from, same_left, may_all, offends_all}
+use Rattle.fl_gossip.proofs.Fronts.{AtNode, left_none, left_ahead, left_member, member_left, left_more, may_all, offends_all}
 use Rattle.fl_gossip.proofs.taking.take.Goals as goal
 use Rattle.fl_gossip.proofs.taking.take.Goals.{then-branch+in_ok-push, else-branch}
 
 pub loop-op-init : goal.loop-op-init
 loop-op-init c = record {
   taken = taken_none _ _ _ _ c.new-new.ensures.items;
-  left = left_all _ _ _ c.as_slice-rest.ensures;
+  left = left_none _ _ _ refl;
 }
 
 pub loop-op-preserved : goal.loop-op-preserved
@@ -20,17 +20,18 @@ loop-op-preserved c =
     let ops = c.operations-ops.result.now in
     let x = c.op-item.result in
     let i = c.loop-op.op-index in
-    let left = left_from s ops i x (omega arith) c.op-item.is c.operations-ops.ensures.rise _ _ c.loop-op.invariant.left c.from_name-rest.ensures in
-    let same = same_left s ops i x (omega arith) c.op-item.is c.operations-ops.ensures.rise _ left in
-    let e = may_all c.args.me s _ x left.of same _ c.in_ok-is_new.ensures in
+    let left = left_ahead s ops i x (omega arith) c.op-item.is c.operations-ops.ensures.rise _ _ _ c.loop-op.invariant.left c.ahead-rest.ensures in
+    let of = left_member s ops i x (omega arith) c.op-item.is c.operations-ops.ensures.rise _ left in
+    let same = member_left s ops i x (omega arith) c.op-item.is c.operations-ops.ensures.rise _ left in
+    let e = may_all c.args.me s _ x of same _ c.in_ok-is_new.ensures in
     elim c.if-branch.branch [
       | then-branch+in_ok-push w ↦ record {
         taken = taken_new _ _ _ _ x (omega arith) c.op-item.is _ c.loop-op.invariant.taken _ e.0 (is_lacking _ (sym e.1 ∙ w.if-branch.true)) ((λ i. (w.new-is i).items) ∙ w.in_ok-push.ensures.items);
-        left = left_more s ops i _ left;
+        left = left_more (AtNode s (Some x.name.node)) ops i _ left;
       }
       | else-branch w ↦ record {
         taken = taken_old _ _ _ _ x (omega arith) c.op-item.is _ c.loop-op.invariant.taken _ e.0 (is_there _ (sym e.1 ∙ w.if-branch.false)) (λ i. (w.new-is i).items);
-        left = left_more s ops i _ left;
+        left = left_more (AtNode s (Some x.name.node)) ops i _ left;
       }
     ]
 
@@ -40,12 +41,13 @@ returns-in_err-is_new c =
     let ops = c.operations-ops.result.now in
     let x = c.op-item.result in
     let i = c.loop-op.op-index in
-    let left = left_from s ops i x (omega arith) c.op-item.is c.operations-ops.ensures.rise _ _ c.loop-op.invariant.left c.from_name-rest.ensures in
-    let same = same_left s ops i x (omega arith) c.op-item.is c.operations-ops.ensures.rise _ left in
+    let left = left_ahead s ops i x (omega arith) c.op-item.is c.operations-ops.ensures.rise _ _ _ c.loop-op.invariant.left c.ahead-rest.ensures in
+    let of = left_member s ops i x (omega arith) c.op-item.is c.operations-ops.ensures.rise _ left in
+    let same = member_left s ops i x (omega arith) c.op-item.is c.operations-ops.ensures.rise _ left in
     let p = err_from_is_err_and c.from_residual.result c.from_residual.ensures.1 in
     rw (p.1, p.2) (subst (λ (l : List Op). Refuses c.args.me (In s) l c.in_err-is_new.field-0.0) c.operations-ops.ensures.ops
     (refused _ _ _ _ x (omega arith) c.op-item.is _ c.loop-op.invariant.taken c.operations-ops.ensures.rise c.in_err-is_new.field-0.0
-    (offends_all c.args.me s _ x left.of same c.in_err-is_new.field-0.0 c.in_err-is_new.ensures)))
+    (offends_all c.args.me s _ x of same c.in_err-is_new.field-0.0 c.in_err-is_new.ensures)))
 
 pub returns-in_err-push : goal.returns-in_err-push
 returns-in_err-push c =
@@ -53,9 +55,10 @@ returns-in_err-push c =
     let ops = c.operations-ops.result.now in
     let x = c.op-item.result in
     let i = c.loop-op.op-index in
-    let left = left_from s ops i x (omega arith) c.op-item.is c.operations-ops.ensures.rise _ _ c.loop-op.invariant.left c.from_name-rest.ensures in
-    let same = same_left s ops i x (omega arith) c.op-item.is c.operations-ops.ensures.rise _ left in
-    let e = may_all c.args.me s _ x left.of same _ c.in_ok-is_new.ensures in
+    let left = left_ahead s ops i x (omega arith) c.op-item.is c.operations-ops.ensures.rise _ _ _ c.loop-op.invariant.left c.ahead-rest.ensures in
+    let of = left_member s ops i x (omega arith) c.op-item.is c.operations-ops.ensures.rise _ left in
+    let same = member_left s ops i x (omega arith) c.op-item.is c.operations-ops.ensures.rise _ left in
+    let e = may_all c.args.me s _ x of same _ c.in_ok-is_new.ensures in
     let p = err_from_is_err_and c.from_residual-in_err-push.result c.from_residual-in_err-push.ensures.1 in
     rw (p.1, p.2) (subst (BringsNew (In s)) c.operations-ops.ensures.ops
     (brings_new _ _ _ _ x (omega arith) c.op-item.is _ c.loop-op.invariant.taken (is_lacking _ (sym e.1 ∙ c.if-branch.true))))

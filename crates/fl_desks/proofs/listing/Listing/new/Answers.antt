@@ -5,10 +5,9 @@ use Rattle.fl_desks.proofs.listing.Listing.new.Goals as goal
 
 pub invariant_of-result : goal.invariant_of-result
 invariant_of-result c =
-    let list = c.in_ok-list.ensures.items ∙ c.as_slice.ensures in
     record {
       few = omega (arith, c.in_ok-desks.ensures.count, c.ranges.desks.fits);
-      fronts = subst (λ l. All (IsFront l) c.in_ok-desks.desks.items) (sym list) c.in_ok-desks.ensures.fronts;
+      fronts = subst (λ l. All (IsFront l) c.in_ok-desks.desks.items) (sym c.in_ok-list.ensures) c.in_ok-desks.ensures.fronts;
     }
 
 pub returns-clause-desks : goal.returns-clause-desks

@@ -1,4 +1,4 @@
-use Rattle.std.proofs.Common.{◌∙◌, sym}
+use Rattle.std.proofs.Common.{rules}
 use Rattle.fl_nodes.proofs.Entries.{held}
 use Rattle.fl_nodes.proofs.Highs.{no_clash}
 use Rattle.fl_nodes.proofs.Meets.{clash_of_world}
@@ -10,5 +10,5 @@ returns g c w are =
     (held c.self.inside.all.entries c.self.inside.all.entries c.self.inside.sent.items c.self.inside.audit.items c.args.self.now c.self.view_is)
     w are c.args.saved.now _ c.least_clash_with.ensures.least
 
-pub returns-then-len-eq0 : goal.returns-then-len-eq0
-returns-then-len-eq0 g c w are = no_clash w c.args.saved.now (sym c.len.ensures ∙ c.if-len-eq0.true)
+pub returns-then-is_empty : goal.returns-then-is_empty
+returns-then-is_empty g c w are = no_clash w c.args.saved.now (c.is_empty.ensures.0 (search rules))

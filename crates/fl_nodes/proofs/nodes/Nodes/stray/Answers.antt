@@ -1,4 +1,4 @@
-use Rattle.std.proofs.Common.{◌∙◌, sym, subst}
+use Rattle.std.proofs.Common.{subst, rules}
 use Rattle.fl_nodes.specs.Over.{WorldOver}
 use Rattle.fl_nodes.specs.parts.Highest.{AreWithin}
 use Rattle.fl_nodes.proofs.Entries.{held}
@@ -16,4 +16,4 @@ pub returns-then-self-number : goal.returns-then-self-number
 returns-then-self-number g c w are =
     no_stray c.args.self.now w are c.self.inside.highest c.args.number c.self.inside.desks
     (subst (λ (over : WorldOver g.row.K.Denot). AreWithin c.self.inside.highest c.self.inside.desks over.nodes) c.self.view_is c.self.invariant.1)
-    c.if-self-number.true c.args.saved.now (sym c.len.ensures ∙ c.if-len-eq0.true)
+    c.if-self-number.true c.args.saved.now (c.is_empty.ensures.0 (search rules))

@@ -1,21 +1,15 @@
-use Rattle.std.proofs.Common.{◌≡◌, ◌≤◌, sym, subst}
-use Rattle.std.specs.List.{All, Any}
-use Rattle.std.specs.List.Sorted.{IsStrictlySortedBy}
-use Rattle.fl_ops.specs.declared.op.Op.{Op}
-use Rattle.fl_ops.specs.OpOrder.{op_cmp}
-use Rattle.fl_ops.specs.OpLaws.{op_total, op_exact}
-use Rattle.fl_labels.specs.laws.SortedVec.{every_member, item_member}
+use Rattle.std.proofs.Common.{◌-◌, length, refl, sym, subst, arith}
+use Rattle.std.specs.List.{Contains}
+use Rattle.std.proofs.lemmas.List.Elements.{Contains-get_or}
+use Rattle.fl_opset.proofs.OfNode.{last_number}
 use Rattle.fl_opset.proofs.set.OpSet.last_of.Goals as goal
 
-pub last_seq-requires : goal.last_seq-requires
-last_seq-requires c = subst (IsStrictlySortedBy op_cmp) (sym c.deref.ensures.value) c.self.invariant.rises
+pub returns-in-Some-clause-upper : goal.returns-in-Some-clause-upper
+returns-in-Some-clause-upper c =
+    last_number c.args.self.now c.args.node c.of_node.result.now c.of_node.ensures.only c.of_node.ensures.all c.of_node.ensures.rise c.in-Some.last.now c.in-Some.ensures.item.3.0 c.in-Some.ensures.item.3.1
 
-pub returns-clause-upper : goal.returns-clause-upper
-returns-clause-upper c =
-    every_member op_total op_exact (λ (op : Op). op.name.node ≡ c.args.node → op.name.seq ≤ c.last_seq.result) _ c.args.self.now c.self.view_is
-    (subst (All (λ (op : Op). op.name.node ≡ c.args.node → op.name.seq ≤ c.last_seq.result)) c.deref.ensures.value c.last_seq.ensures.upper)
-
-pub returns-clause-reached : goal.returns-clause-reached
-returns-clause-reached c = λ h.
-    let w = subst (Any (λ (op : Op). (op.name.node ≡ c.args.node) × (op.name.seq ≡ c.last_seq.result))) c.deref.ensures.value (c.last_seq.ensures.reached h) in
-    (w.1, item_member op_total op_exact _ c.args.self.now c.self.view_is w.1 w.0 w.2 w.3, w.4.0, w.4.1)
+pub returns-in-Some-clause-reached : goal.returns-in-Some-clause-reached
+returns-in-Some-clause-reached c = λ some.
+    let last = c.in-Some.last.now in
+    let has = c.of_node.ensures.only last (subst (Contains c.of_node.result.now) (sym (c.in-Some.ensures.item.3.1 last)) (Contains-get_or c.of_node.result.now (length c.of_node.result.now - 1) last (omega (arith, c.in-Some.ensures.item.3.0)))) in
+    (last, has.0, has.1, refl)

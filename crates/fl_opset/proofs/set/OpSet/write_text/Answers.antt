@@ -1,5 +1,6 @@
-use Rattle.std.proofs.Common.{ℕ, List, subst}
+use Rattle.std.proofs.Common.{ℕ, List, ap, subst}
 use Rattle.fl_sink.specs.Sink.{Puts}
+use Rattle.fl_opset.specs.ByNode.{all_ops}
 use Rattle.fl_opset.proofs.Written.{listed_text}
 use Rattle.fl_opset.proofs.set.OpSet.write_text.Goals as goal
 
@@ -7,4 +8,4 @@ pub returns-clause-puts : goal.returns-clause-puts
 returns-clause-puts g c =
     let W = g.W.Writer.contents in
     subst (λ (text : List ℕ). Puts (W c.args.output.now) (W c.write_lines.new.output) c.args.sink.now text c.write_lines.new.sink c.write_lines.result)
-    (listed_text _ _ _ c.self.invariant.rises c.self.view_is c.deref.ensures.value) c.write_lines.ensures.puts
+    (listed_text _ _ _ c.self.invariant.kept.rises c.self.view_is (ap (λ ns. all_ops ns) c.deref.ensures.value)) c.write_lines.ensures.puts

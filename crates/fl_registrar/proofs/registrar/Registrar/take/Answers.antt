@@ -1,10 +1,12 @@
 use Rattle.std.proofs.Common.{◌≡◌, ◌<◌, ◌∙◌, ◌++◌, true, Ok, Err, Some, ℕ, sym, ap, subst, refl}
 use Rattle.std.proofs.Common.{arith}
 use Rattle.std.specs.Prelude.{vec_capacity}
+use Rattle.std.specs.List.Sorted.{IsStrictlySortedBy}
 use Rattle.fl_labels.specs.SetBy as set
 use Rattle.fl_labels.specs.SetBy.{SetBy}
 use Rattle.fl_ops.specs.OpOrder.{op_cmp}
 use Rattle.fl_gossip.specs.Taking.{ops_of}
+use Rattle.fl_gossip.specs.laws.Rising.{brought_rise}
 use Rattle.fl_jobs.specs.declared.answer.Refusal.TheVariants as refusals
 use Rattle.fl_system.specs.declared.answer.Fault.TheVariants as faults
 use Rattle.fl_system.specs.declared.state.Batch.TheVariants.{Received}
@@ -26,6 +28,11 @@ use Rattle.fl_registrar.proofs.Brought.{declines_by, busy_waiting}
 use Rattle.fl_registrar.proofs.Taken.{declined_takes, no_room_takes, broken_takes, taken_takes}
 use Rattle.fl_registrar.proofs.Taken.{late_takes, given_up_stands, due_stands}
 use Rattle.fl_registrar.proofs.registrar.Registrar.take.Goals as goal
+
+pub news-requires : goal.news-requires
+news-requires g c =
+    let these = c.as_slice.ensures ∙ c.args.parcel.now.same in
+    subst (IsStrictlySortedBy op_cmp) (sym these) (brought_rise c.args.parcel.now.packet)
 
 pub invariant_of-self : goal.invariant_of-self
 invariant_of-self g c =

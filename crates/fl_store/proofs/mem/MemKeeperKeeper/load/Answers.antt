@@ -1,4 +1,4 @@
-use Rattle.std.proofs.Common.{◌≡◌, ◌∙◌, refl, sym, ap, subst, arith}
+use Rattle.std.proofs.Common.{◌≡◌, ◌∙◌, refl, sym, ap, subst, rules}
 use Rattle.fl_labels.specs.SetBy as set
 use Rattle.fl_ops.specs.OpLaws.{op_total, op_exact}
 use Rattle.fl_store.specs.Kept.{HasNamesOnce}
@@ -17,12 +17,12 @@ returns-clause-held c _ =
     let loaded : c.merge.new.self ≡ c.self.inside.saved = c.in-Ok.ensures.ok ∙ ap (λ s. set.union s c.self.inside.saved) c.new-saved.ensures ∙ union-nothing op_total op_exact _ in
     (tt, λ after is. (_, refl, (is, loaded ∙ ap (λ (k : MemKept). k.kept.saved) c.self.view_is)))
 
-pub returns-then-len-eq0-clause-names : goal.returns-then-len-eq0-clause-names
-returns-then-len-eq0-clause-names c = subst HasNamesOnce (sym c.new-saved.ensures) once-empty
+pub returns-then-is_empty-clause-names : goal.returns-then-is_empty-clause-names
+returns-then-is_empty-clause-names c = subst HasNamesOnce (sym c.new-saved.ensures) once-empty
 
-pub returns-then-len-eq0-clause-held : goal.returns-then-len-eq0-clause-held
-returns-then-len-eq0-clause-held c _ =
-    let none : set.len c.self.inside.saved ≡ 0 = grind arith in
+pub returns-then-is_empty-clause-held : goal.returns-then-is_empty-clause-held
+returns-then-is_empty-clause-held c _ =
+    let none : set.len c.self.inside.saved ≡ 0 = c.is_empty.ensures.0 (search rules) in
     let loaded : c.new-saved.result ≡ c.self.inside.saved =
     c.new-saved.ensures ∙ sym (none_saved c.self.inside.saved none) in
     (tt, λ after is. (_, refl, (is, loaded ∙ ap (λ (k : MemKept). k.kept.saved) c.self.view_is)))

@@ -1,0 +1,81 @@
+-- Spans below all of the operations, which a search leaves out.
+use Rattle.std.proofs.Common.{◌≡◌, ℕ, ◌+◌, ◌-◌, ◌<◌, ◌≤◌, true, ◌||◌, not, cond, List, [], ◌∷◌, ◌++◌, length, get_or, take, drop, refl, sym, ap, subst, ◌∙◌, append-nil, arith, eqb, Result, Ok, Err, OnOk, is_ok}
+use Rattle.std.specs.List.{All, AllByRecursion, filter, list_any}
+use Rattle.std.specs.List.Sorted.{IsNonDecreasingBy}
+use Rattle.std.proofs.lemmas.Bool.Decides.{nat_tests}
+use Rattle.std.proofs.lemmas.List.{take-append-drop, take_rest}
+use Rattle.std.proofs.lemmas.List.Elements.{recursion_from_All}
+use Rattle.fl_ops.specs.declared.op.Op.{Op}
+use Rattle.fl_opset.specs.declared.span.Span.{Span}
+use Rattle.fl_opset.specs.declared.intervals.Intervals.{Intervals}
+use Rattle.fl_opset.specs.Rank.{name_rank, op_rank, last_rank, least_rank, greatest_rank}
+use Rattle.fl_opset.specs.Spans.{in_span, fit}
+use Rattle.fl_opset.specs.laws.Fits.{too_high, fit_at, at_fit, fit_drop}
+use Rattle.fl_opset.proofs.Lacks.{outside, same_kept, weaker, rest_above, rest_taken}
+
+-- spans that fit between two ranks fit between any two around these
+fit_wider : (from to low high : ℕ) (ss : List Span) → low ≤ from → to ≤ high → fit from to ss ≡ true → fit low high ss ≡ true
+fit_wider from to low high [] below above h = refl
+fit_wider from to low high (s ∷ ss) below above h =
+    let f = fit_at from to s ss h in
+    at_fit low high s ss (record {
+      starts = omega (arith, f.starts);
+      ends = omega (arith, f.ends);
+      rest = fit_wider (last_rank s + 2) to (last_rank s + 2) high ss (omega arith) above f.rest;
+    })
+
+-- those of a window fit between all names
+pub window_fits : (w : Intervals) (ss : List Span) → ss ≡ w.spans → fit least_rank greatest_rank ss ≡ true
+window_fits w ss is =
+    subst (λ l. fit least_rank greatest_rank l ≡ true) (sym is)
+    (fit_wider (name_rank w.from) (name_rank w.to) least_rank greatest_rank w.spans
+    (omega (arith, w.from.seq_in_range.0)) (omega (arith, w.to.node_in_range.1, w.to.seq_in_range.1)) w.fitting)
+
+-- the spans behind a place
+module _ (ss : List Span) (passed : ℕ) where
+  abbrev pub left : List Span
+  left = take (length ss - passed) (drop passed ss)
+
+  left_is : left ≡ drop passed ss
+  left_is = take_rest ss passed
+
+  pub left_fits : (from to : ℕ) → fit from to ss ≡ true → (low : ℕ) × (fit low to left ≡ true)
+  left_fits from to h =
+      let f = fit_drop from to ss passed h in
+      (f.0, subst (λ l. fit f.0 to l ≡ true) (sym left_is) f.1)
+
+  outside_passed : (xs ys : List Span) (low : ℕ) (op : Op) → AllByRecursion (λ s. last_rank s < low) xs → low ≤ op_rank op → outside (xs ++ ys) op ≡ outside ys op
+  outside_passed [] ys low op h high = refl
+  outside_passed (x ∷ xs) ys low op h high =
+      let less = h.0 in
+      ap (λ b. not (b || list_any (λ s. in_span s op.name) (xs ++ ys))) (too_high (name_rank x.first) (op_rank op) (last_rank x) (omega arith))
+      ∙ outside_passed xs ys low op h.1 high
+
+  -- where those before it end below all of the operations, the others tell
+  pub passed_same : (ops : List Op) (low : ℕ) (first : Op) → IsNonDecreasingBy op_rank ops → 0 < length ops → first ≡ get_or ops 0 first → low ≡ op_rank first
+      → All (λ s. last_rank s < low) (take passed ss) → filter (outside left) ops ≡ filter (outside ss) ops
+  passed_same ops low first rises some at is below =
+      let above : All (λ op. low ≤ op_rank op) ops = rest_above op_rank ops 0 low first rises some at (omega arith) in
+      ap (λ l. filter (outside l) ops) left_is
+      ∙ same_kept (outside (drop passed ss)) (outside ss) ops
+      (weaker (λ op. low ≤ op_rank op) (λ op. outside (drop passed ss) op ≡ outside ss op)
+      (λ op high. sym (outside_passed (take passed ss) (drop passed ss) low op (recursion_from_All (λ s. last_rank s < low) (take passed ss) below) high) ∙ ap (λ l. outside l op) (take-append-drop passed ss))
+      ops (recursion_from_All (λ op. low ≤ op_rank op) ops above))
+
+empty : {X : Type 0} (xs : List X) → length xs ≡ 0 → xs ≡ []
+empty [] h = refl
+empty (x ∷ xs) h = absurd (omega arith)
+
+pub no_length : (n : ℕ) → eqb n 0 ≡ true → n ≡ 0
+no_length n h = grind (arith, nat_tests)
+
+-- nothing is left
+pub none_left : (ss : List Span) (rest taken wanted : List Op) → length rest ≡ 0 → taken ++ filter (outside ss) rest ≡ wanted → taken ≡ wanted
+none_left ss rest taken wanted none was =
+    sym (ap (λ l. taken ++ filter (outside ss) l) (empty rest none) ∙ append-nil taken) ∙ was
+
+-- the rest is taken after all spans
+pub rest_added : {T E : Type 0} (all : List Span) (i : ℕ) (wanted rest taken more : List Op) (r : Result T E) → length all ≤ i → more ≡ cond (is_ok r) (taken ++ rest) taken
+    → taken ++ filter (outside (drop i all)) rest ≡ wanted → OnOk r (more ≡ wanted)
+rest_added all i wanted rest taken more (Ok x) done new was = rest_taken all i wanted rest taken more done new was
+rest_added all i wanted rest taken more (Err e) done new was = tt

@@ -1,0 +1,14 @@
+use Rattle.std.proofs.Common.{◌≡◌, ◌++◌, drop}
+use Rattle.std.specs.List.{filter}
+use Rattle.std.specs.List.Sorted.{IsNonDecreasingBy}
+use Rattle.fl_opset.specs.Rank.{op_rank}
+use Rattle.fl_opset.specs.Windows.{is_lacking}
+use Rattle.fl_opset.proofs.Lacks.{outside}
+use Rattle.fl_opset.proofs.lacking.add_lacking.Given as goal
+
+-- what was taken, with what no span that is left has of the rest
+abbrev pub invariant-loop-span : goal.invariant-loop-span
+invariant-loop-span l = record {
+  rises : IsNonDecreasingBy op_rank l.rest;
+  taken : l.lacking.items ++ filter (outside (drop l.span-index l.span-items)) l.rest ≡ l.fn.lacking.items ++ filter (is_lacking l.window) l.fn.ops;
+}
