@@ -6,3 +6,4 @@ pub mod Walk
 pub mod Arrange
 pub mod UsesKept
 pub mod Digits
+pub mod Deques

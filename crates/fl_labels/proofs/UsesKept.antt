@@ -13,7 +13,9 @@ use Rattle.fl_labels.specs.CapOrder.{cap_total, cap_exact}
 use Rattle.fl_labels.specs.SetBy as set
 use Rattle.fl_labels.specs.SetBy.{SetBy, contains, of_list, contains-of_list, contains-empty, contains-insert, contains-remove, contains-union, same_set}
 use Rattle.fl_labels.specs.Uses.{AreUsesOf}
+use Rattle.fl_labels.specs.declared.deque.CapDeque.{CapDeque}
 use Rattle.fl_labels.specs.parts.Apart.{AreApart}
+use Rattle.fl_labels.specs.parts.Deque.{items, IsDeque}
 use Rattle.fl_labels.proofs.Unions.{Holds}
 
 put_in : (e u a : Bool) → (e ≡ true → u ≡ true) → (e || (u && a)) ≡ (u && (e || a))
@@ -49,10 +51,15 @@ pub moved : (s t : SetBy cap_cmp) (us vs : List Cap) → t ≡ s → vs ≡ us �
 moved s t us vs same list h =
     subst (λ r. AreUsesOf r vs) (sym same) (subst (λ l. AreUsesOf s l) (sym list) h)
 
--- a list that rises, and the uses of its set
-pub apart_as : (s : SetBy cap_cmp) (xs us : List Cap) → IsStrictlySortedBy cap_cmp xs → of_list xs ≡ s → AreUsesOf s us
-    → AreApart xs us
-apart_as s xs us up view h = record { rises = up; apart = moved s (of_list xs) us us view refl h }
+-- capabilities that rise, and the uses of their set
+pub apart_as : (s : SetBy cap_cmp) (caps uses : CapDeque) → IsStrictlySortedBy cap_cmp (items caps) → of_list (items caps) ≡ s
+    → AreUsesOf s (items uses) → IsDeque caps → IsDeque uses → AreApart caps uses
+apart_as s caps uses up view h fits uses_fit = record {
+  rises = up;
+  apart = moved s (of_list (items caps)) (items uses) (items uses) view refl h;
+  fits = fits;
+  uses_fit = uses_fit;
+}
 
 pub no_uses : (s : SetBy cap_cmp) (us : List Cap) → s ≡ set.empty → us ≡ [] → AreUsesOf s us
 unfolding IsStrictlySortedBy

@@ -9,6 +9,7 @@ ghost use Rattle.fl_labels.specs.Words.{IsListing};
 ghost use Rattle.fl_labels.specs.SetBy as set;
 
 use crate::cap::Cap;
+use crate::deque::CapDeque;
 use crate::error::SetError;
 use crate::list::read_items;
 use crate::roomy::{RoomyCapSet, put_all};
@@ -19,11 +20,11 @@ use std::fmt;
 use std::marker::Model;
 use std::slice::Iter;
 
-/// A set of capabilities, kept as a rising vector, with the uses of groups in another one beside.
+/// A set of capabilities, which rise in one piece, with the uses of groups in another one beside.
 #[derive(Debug, Drop)]
 pub struct CapSet {
-    pub(crate) caps: Vec<Cap>,
-    pub(crate) uses: Vec<Cap>,
+    pub(crate) caps: CapDeque,
+    pub(crate) uses: CapDeque,
 }
 
 impl Model for CapSet {
@@ -31,14 +32,15 @@ impl Model for CapSet {
     ghost use Rattle.fl_labels.specs.Cap.{cap_cmp};
     ghost use Rattle.fl_labels.specs.CapOrder.{coded_cap};
     ghost use Rattle.fl_labels.specs.parts.Apart.{AreApart};
+    ghost use Rattle.fl_labels.specs.parts.Deque.{items};
 
     ghost Value = { set.SetBy cap_cmp };
 
     ghost coded = { set.code coded_cap };
 
-    ghost view = { λ a. set.of_list a.caps.items };
+    ghost view = { λ a. set.of_list (items a.caps) };
 
-    ghost invariant = { λ a. AreApart a.caps.items a.uses.items };
+    ghost invariant = { λ a. AreApart a.caps a.uses };
 }
 
 impl PartialEq for CapSet {
@@ -71,7 +73,7 @@ impl fmt::Display for CapSet {
     ghost output = { λ s. Some (caps_text s) };
 
     fn fmt<W: fmt::Write>(&self, f: &mut fmt::Formatter<W>) -> fmt::Result {
-        match self.caps.split_first() {
+        match self.caps.as_slice().split_first() {
             None => f.write_str("{}"),
             Some((first, rest)) => {
                 write!(f, "{{{first}")?;
@@ -90,8 +92,8 @@ impl CapSet {
         ensures { result ≡ set.empty }
     {
         CapSet {
-            caps: Vec::new(alloc),
-            uses: Vec::new(alloc),
+            caps: CapDeque::new(alloc),
+            uses: CapDeque::new(alloc),
         }
     }
 
@@ -103,7 +105,10 @@ impl CapSet {
     {
         arrange(&mut caps);
         let uses = uses_of(*caps.allocator(), &caps)?;
-        Ok(CapSet { caps, uses })
+        Ok(CapSet {
+            caps: CapDeque::from_vec(caps),
+            uses: CapDeque::from_vec(uses),
+        })
     }
 
     /// Reads a text such as `{+1.1,-1.4}`: capabilities in any order, a repeated one once.
@@ -123,36 +128,39 @@ impl CapSet {
     pub fn contains(&self, cap: Cap) -> bool
         ensures { result ≡ set.contains self.now cap }
     {
-        self.caps.binary_search(&cap).is_ok()
+        self.caps.as_slice().binary_search(&cap).is_ok()
     }
 
     /// The members, rising.
     pub fn as_slice(&self) -> &[Cap]
         ensures { result.now ≡ set.members self.now }
     {
-        &self.caps
+        self.caps.as_slice()
     }
 
     /// The uses of groups among the members, rising. Takes no memory.
     pub fn uses(&self) -> &[Cap]
         ensures { AreUsesOf self.now result.now }
     {
-        &self.uses
+        self.uses.as_slice()
     }
 
     /// Adds a capability, and answers whether it is new. Fails only of a new one for which there is
-    /// not enough memory, and then leaves the set. Moves the capabilities above it.
+    /// not enough memory, and then leaves the set. Moves the capabilities above it, or those below
+    /// it where they are fewer and there is room before them. Where one comes in front of more than
+    /// some 60, as much room is made there as they take, if there is memory for it.
     pub fn insert(&mut self, cap: Cap) -> Result<bool, AllocError>
         ensures ok { OnOk result (self.new ≡ set.insert self.old cap) }
         ensures new { IfOk result (λ new. new ≡ not (set.contains self.old cap)) }
         ensures err { OnErr result (self.new ≡ self.old) }
         ensures absent { OnErr result (set.contains self.old cap ≡ false) }
     {
-        match self.caps.binary_search(&cap) {
+        match self.caps.as_slice().binary_search(&cap) {
             Ok(_) => Ok(false),
             Err(place) => {
                 make_room(&mut self.uses, cap)?;
-                self.caps.insert(place, cap)?;
+                self.caps.make_room(&[cap])?;
+                self.caps.put(place, cap);
                 put_use(&mut self.uses, cap);
                 Ok(true)
             }
@@ -165,7 +173,7 @@ impl CapSet {
         ensures after { self.new ≡ set.remove self.old cap }
         ensures was { result ≡ set.contains self.old cap }
     {
-        match self.caps.binary_search(&cap) {
+        match self.caps.as_slice().binary_search(&cap) {
             Ok(place) => {
                 self.caps.remove(place);
                 take_use(&mut self.uses, cap);
@@ -180,50 +188,53 @@ impl CapSet {
     pub fn first_missing(&self, other: &CapSet) -> Option<Cap>
         ensures { Found cap_cmp (set.In self.now) (set.In other.now) result }
     {
-        first_outside(&self.caps, &other.caps)
+        first_outside(self.caps.as_slice(), other.caps.as_slice())
     }
 
     /// How many capabilities there are.
     pub fn len(&self) -> usize
         ensures { result ≡ set.len self.now }
     {
-        self.caps.len()
+        self.caps.as_slice().len()
     }
 
     /// Whether there is no capability.
     pub fn is_empty(&self) -> bool
         ensures { IsTrue result ↔ (set.len self.now ≡ 0) }
     {
-        self.caps.is_empty()
+        self.caps.as_slice().is_empty()
     }
 
     /// The capabilities, rising.
     pub fn iter(&self) -> Iter<'_, Cap>
         ensures { result.rest.now ≡ set.members self.now }
     {
-        self.caps.iter()
+        self.caps.as_slice().iter()
     }
 
     /// The same set again. Fails only where there is not enough memory.
     pub fn copy(&self, alloc: Global) -> Result<Self, AllocError>
         ensures { IfOk result (λ made. made ≡ self.now) }
     {
-        let caps = Vec::from_slice(alloc, &self.caps)?;
-        let uses = Vec::from_slice(alloc, &self.uses)?;
-        Ok(CapSet { caps, uses })
+        let caps = Vec::from_slice(alloc, self.caps.as_slice())?;
+        let uses = Vec::from_slice(alloc, self.uses.as_slice())?;
+        Ok(CapSet {
+            caps: CapDeque::from_vec(caps),
+            uses: CapDeque::from_vec(uses),
+        })
     }
 
     // Whether each member of the other is one of this set. A binary search for each.
     fn has_each(&self, other: &CapSet) -> bool
         ensures { Tells result (Within (set.In other.now) (set.In self.now)) }
     {
-        other.caps.iter().all(|cap| self.contains(*cap))
+        other.caps.as_slice().iter().all(|cap| self.contains(*cap))
     }
 
     /// Adds each member of the other set, in place. Fails only where one of them is new and there
     /// is not enough memory, and then leaves the set. Where none is new it takes no memory. Two
-    /// binary searches for each member of the other; each that is new moves the capabilities above
-    /// it, and so is appended where it is above all.
+    /// binary searches for each member of the other; each that is new moves as many capabilities as
+    /// with `insert`, and so none where all come behind what is there, or all in front of it.
     pub fn insert_all(&mut self, other: &CapSet) -> Result<(), AllocError>
         ensures ok { OnOk result (self.new ≡ set.union self.old other.now) }
         ensures err { OnErr result (self.new ≡ self.old) }
@@ -232,10 +243,12 @@ impl CapSet {
         if self.has_each(other) {
             return Ok(());
         }
-        self.uses.reserve(other.uses.len())?;
-        self.caps.reserve(other.caps.len())?;
-        put_all(&mut self.caps, &other.caps);
-        put_all(&mut self.uses, &other.uses);
+        let caps = other.caps.as_slice();
+        let uses = other.uses.as_slice();
+        self.uses.make_room(uses)?;
+        self.caps.make_room(caps)?;
+        put_all(&mut self.caps, caps);
+        put_all(&mut self.uses, uses);
         Ok(())
     }
 
@@ -254,15 +267,13 @@ impl CapSet {
         ensures err { OnErr result (self.new ≡ self.old) }
         ensures judged { Judges J.FnOnce judge asked.old (set.remove self.old cap) result asked.new }
     {
-        let Ok(place) = self.caps.binary_search(&cap) else {
+        let Ok(place) = self.caps.as_slice().binary_search(&cap) else {
             return judge(asked, self);
         };
         self.caps.remove(place);
         take_use(&mut self.uses, cap);
         if let Err(refused) = judge(asked, self) {
-            let Ok(()) = self.caps.insert(place, cap) else {
-                unreachable!("what was taken out left room");
-            };
+            self.caps.put(place, cap);
             put_use(&mut self.uses, cap);
             return Err(refused);
         }

@@ -3,6 +3,7 @@
 
 pub mod cap;
 pub mod cap_set;
+mod deque;
 pub mod endpoint;
 pub mod error;
 pub mod label;

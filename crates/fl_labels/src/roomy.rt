@@ -6,17 +6,19 @@ ghost use Rattle.std.specs.Vec.{vec_len, vec_capacity};
 ghost use Rattle.std.specs.List.Sorted.{IsStrictlySortedBy};
 ghost use Rattle.fl_labels.specs.Cap.{cap_cmp};
 ghost use Rattle.fl_labels.specs.SetBy as set;
+ghost use Rattle.fl_labels.specs.parts.Deque.{items, IsDeque};
 
 use crate::cap::Cap;
 use crate::cap_set::CapSet;
+use crate::deque::CapDeque;
 use crate::uses::put_use;
 use std::marker::Model;
 
 /// A set of capabilities with room for two more, made by `CapSet::with_room`.
 #[derive(Debug, Drop)]
 pub struct RoomyCapSet {
-    pub(crate) caps: Vec<Cap>,
-    pub(crate) uses: Vec<Cap>,
+    pub(crate) caps: CapDeque,
+    pub(crate) uses: CapDeque,
 }
 
 impl Model for RoomyCapSet {
@@ -26,41 +28,44 @@ impl Model for RoomyCapSet {
     ghost use Rattle.fl_labels.specs.Cap.{cap_cmp};
     ghost use Rattle.fl_labels.specs.CapOrder.{coded_cap};
     ghost use Rattle.fl_labels.specs.parts.Apart.{AreApart};
+    ghost use Rattle.fl_labels.specs.parts.Deque.{items};
 
     ghost Value = { set.SetBy cap_cmp };
 
     ghost coded = { set.code coded_cap };
 
-    ghost view = { λ a. set.of_list a.caps.items };
+    ghost view = { λ a. set.of_list (items a.caps) };
 
     ghost invariant = { λ a.
-        AreApart a.caps.items a.uses.items × (vec_len a.caps + 2 ≤ vec_capacity a.caps)
-        × (vec_len a.uses + 2 ≤ vec_capacity a.uses) };
+        AreApart a.caps a.uses × (vec_len a.caps.all + 2 ≤ vec_capacity a.caps.all)
+        × (vec_len a.uses.all + 2 ≤ vec_capacity a.uses.all) };
 }
 
 // Adds a capability in the room that there is.
-pub(crate) fn put(caps: &mut Vec<Cap>, cap: Cap)
-    requires rises { IsStrictlySortedBy cap_cmp caps.old.items }
-    requires room { vec_len caps.old < vec_capacity caps.old }
-    ensures rises { IsStrictlySortedBy cap_cmp caps.new.items }
-    ensures members { set.of_list {R = cap_cmp} caps.new.items ≡ set.insert (set.of_list caps.old.items) cap }
-    ensures len { vec_len caps.new ≤ vec_len caps.old + 1 }
-    ensures capacity { vec_capacity caps.new ≡ vec_capacity caps.old }
+pub(crate) fn put(caps: &mut CapDeque, cap: Cap)
+    requires fits { IsDeque caps.old }
+    requires rises { IsStrictlySortedBy cap_cmp (items caps.old) }
+    requires room { vec_len caps.old.all < vec_capacity caps.old.all }
+    ensures fits { IsDeque caps.new }
+    ensures rises { IsStrictlySortedBy cap_cmp (items caps.new) }
+    ensures members { set.of_list {R = cap_cmp} (items caps.new) ≡ set.insert (set.of_list (items caps.old)) cap }
+    ensures len { vec_len caps.new.all ≤ vec_len caps.old.all + 1 }
+    ensures capacity { vec_capacity caps.new.all ≡ vec_capacity caps.old.all }
 {
-    if let Err(place) = caps.binary_search(&cap) {
-        let Ok(()) = caps.insert(place, cap) else {
-            unreachable!("there is room");
-        };
+    if let Err(place) = caps.as_slice().binary_search(&cap) {
+        caps.put(place, cap);
     }
 }
 
 // Adds each of some capabilities in the room that there is.
-pub(crate) fn put_all(caps: &mut Vec<Cap>, others: &[Cap])
-    requires rises { IsStrictlySortedBy cap_cmp caps.old.items }
-    requires room { vec_len caps.old + length others.now ≤ vec_capacity caps.old }
-    ensures rises { IsStrictlySortedBy cap_cmp caps.new.items }
-    ensures members { (cap : Cap) → set.contains (set.of_list {R = cap_cmp} caps.new.items) cap
-        ≡ (set.contains (set.of_list {R = cap_cmp} caps.old.items) cap || list_any (eq_by_cmp cap_cmp cap) others.now) }
+pub(crate) fn put_all(caps: &mut CapDeque, others: &[Cap])
+    requires fits { IsDeque caps.old }
+    requires rises { IsStrictlySortedBy cap_cmp (items caps.old) }
+    requires room { vec_len caps.old.all + length others.now ≤ vec_capacity caps.old.all }
+    ensures fits { IsDeque caps.new }
+    ensures rises { IsStrictlySortedBy cap_cmp (items caps.new) }
+    ensures members { (cap : Cap) → set.contains (set.of_list {R = cap_cmp} (items caps.new)) cap
+        ≡ (set.contains (set.of_list {R = cap_cmp} (items caps.old)) cap || list_any (eq_by_cmp cap_cmp cap) others.now) }
 {
     for cap in others {
         put(caps, *cap);
@@ -72,11 +77,11 @@ impl RoomyCapSet {
     pub fn as_slice(&self) -> &[Cap]
         ensures { result.now ≡ set.members self.now }
     {
-        &self.caps
+        self.caps.as_slice()
     }
 
     /// With both capabilities, in the room that is there: takes no memory. Moves the capabilities
-    /// above them.
+    /// on one side of each.
     pub fn with_both(self, first: Cap, second: Cap) -> CapSet
         ensures { result ≡ set.insert_all self (first ∷ second ∷ []) }
     {

@@ -5,8 +5,10 @@ ghost use Rattle.std.specs.List.Sorted.{IsStrictlySortedBy};
 ghost use Rattle.fl_labels.specs.Cap.{cap_cmp, is_use};
 ghost use Rattle.fl_labels.specs.SetBy as set;
 ghost use Rattle.fl_labels.specs.Uses.{AreUsesOf};
+ghost use Rattle.fl_labels.specs.parts.Deque.{items, IsDeque};
 
 use crate::cap::Cap;
+use crate::deque::CapDeque;
 use crate::roomy::put;
 use std::alloc::{AllocError, Global};
 
@@ -22,25 +24,29 @@ pub(crate) fn uses_of(alloc: Global, caps: &[Cap]) -> Result<Vec<Cap>, AllocErro
 }
 
 // Makes room among the uses for a capability that is one.
-pub(crate) fn make_room(uses: &mut Vec<Cap>, cap: Cap) -> Result<(), AllocError>
-    ensures same { uses.new.items ≡ uses.old.items }
-    ensures room { OnOk result (is_use cap ≡ true → vec_len uses.new < vec_capacity uses.new) }
+pub(crate) fn make_room(uses: &mut CapDeque, cap: Cap) -> Result<(), AllocError>
+    requires { IsDeque uses.old }
+    ensures fits { IsDeque uses.new }
+    ensures same { items uses.new ≡ items uses.old }
+    ensures room { OnOk result (is_use cap ≡ true → vec_len uses.new.all < vec_capacity uses.new.all) }
 {
     if cap.is_use() {
-        uses.reserve(1)?;
+        uses.make_room(&[cap])?;
     }
     Ok(())
 }
 
 // Adds a capability that is a use, in the room that there is.
-pub(crate) fn put_use(uses: &mut Vec<Cap>, cap: Cap)
-    requires rises { IsStrictlySortedBy cap_cmp uses.old.items }
-    requires room { is_use cap ≡ true → vec_len uses.old < vec_capacity uses.old }
-    ensures rises { IsStrictlySortedBy cap_cmp uses.new.items }
-    ensures uses { (s : set.SetBy cap_cmp) → AreUsesOf s uses.old.items
-        → AreUsesOf (set.insert s cap) uses.new.items }
-    ensures len { vec_len uses.new ≤ vec_len uses.old + 1 }
-    ensures capacity { vec_capacity uses.new ≡ vec_capacity uses.old }
+pub(crate) fn put_use(uses: &mut CapDeque, cap: Cap)
+    requires fits { IsDeque uses.old }
+    requires rises { IsStrictlySortedBy cap_cmp (items uses.old) }
+    requires room { is_use cap ≡ true → vec_len uses.old.all < vec_capacity uses.old.all }
+    ensures fits { IsDeque uses.new }
+    ensures rises { IsStrictlySortedBy cap_cmp (items uses.new) }
+    ensures uses { (s : set.SetBy cap_cmp) → AreUsesOf s (items uses.old)
+        → AreUsesOf (set.insert s cap) (items uses.new) }
+    ensures len { vec_len uses.new.all ≤ vec_len uses.old.all + 1 }
+    ensures capacity { vec_capacity uses.new.all ≡ vec_capacity uses.old.all }
 {
     if cap.is_use() {
         put(uses, cap);
@@ -48,15 +54,17 @@ pub(crate) fn put_use(uses: &mut Vec<Cap>, cap: Cap)
 }
 
 // Takes a capability out of the uses.
-pub(crate) fn take_use(uses: &mut Vec<Cap>, cap: Cap)
-    requires rises { IsStrictlySortedBy cap_cmp uses.old.items }
-    ensures rises { IsStrictlySortedBy cap_cmp uses.new.items }
-    ensures uses { (s : set.SetBy cap_cmp) → AreUsesOf s uses.old.items
-        → AreUsesOf (set.remove s cap) uses.new.items }
-    ensures room { set.contains (set.of_list {R = cap_cmp} uses.old.items) cap ≡ true
-        → vec_len uses.new < vec_capacity uses.new }
+pub(crate) fn take_use(uses: &mut CapDeque, cap: Cap)
+    requires fits { IsDeque uses.old }
+    requires rises { IsStrictlySortedBy cap_cmp (items uses.old) }
+    ensures fits { IsDeque uses.new }
+    ensures rises { IsStrictlySortedBy cap_cmp (items uses.new) }
+    ensures uses { (s : set.SetBy cap_cmp) → AreUsesOf s (items uses.old)
+        → AreUsesOf (set.remove s cap) (items uses.new) }
+    ensures room { set.contains (set.of_list {R = cap_cmp} (items uses.old)) cap ≡ true
+        → vec_len uses.new.all < vec_capacity uses.new.all }
 {
-    if let Ok(place) = uses.binary_search(&cap) {
+    if let Ok(place) = uses.as_slice().binary_search(&cap) {
         uses.remove(place);
     }
 }

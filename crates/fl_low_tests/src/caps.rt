@@ -4,6 +4,7 @@ use fl_labels::cap::Cap;
 use fl_labels::cap_set::CapSet;
 use fl_labels::error::SetError;
 use fl_labels::list::read_items;
+use fl_labels::name::Name;
 use fl_labels::roomy::RoomyCapSet;
 use fl_labels::sorted::{arrange, rises};
 use fl_labels::text::{read_cap, read_number};
@@ -115,6 +116,33 @@ fn with_set(
     }
 }
 
+// A use of a group for each other number, and else what adds a tag.
+fn numbered(number: u32) -> Cap {
+    let name = Name {
+        node: 1,
+        seq: number,
+    };
+    if number % 2 == 0 {
+        Cap::Use(name)
+    } else {
+        Cap::Plus(name)
+    }
+}
+
+/// So many capabilities that come in falling order: how many there are, how many uses of groups
+/// among them, and whether they are those that come in rising order.
+pub fn falling(alloc: Global, out: &mut String, count: &str) -> Result<(), AllocError> {
+    let count = read_number(count).unwrap_or(0);
+    let mut rising = CapSet::new(alloc);
+    let mut falling = CapSet::new(alloc);
+    for number in 0..count {
+        rising.insert(numbered(number))?;
+        falling.insert(numbered(count - 1 - number))?;
+    }
+    let is_same = falling == rising;
+    write!(out, "{} {} {is_same}", falling.len(), falling.uses().len())
+}
+
 /// Whether the numbers rise, and they in order; and how many items a list of capabilities has.
 pub fn sorted(alloc: Global, out: &mut String, rest: &str) -> Result<(), AllocError> {
     if rest.starts_with('{') {
@@ -179,4 +207,5 @@ sorted 1 2 3 => true [1, 2, 3]
 sorted 1 1 => false [1]
 sorted {+1.1} => 1
 sorted {+1.1,*1.2,+1.1} => 3
-sorted {+1.1 => BadText";
+sorted {+1.1 => BadText
+falling 200 => 200 100 true";

@@ -24,6 +24,7 @@ fn say(alloc: Global, out: &mut String, question: &str) -> Result<(), AllocError
         "label" => labels::say(alloc, out, rest),
         "caps" => caps::say(alloc, out, rest),
         "sorted" => caps::sorted(alloc, out, rest),
+        "falling" => caps::falling(alloc, out, rest),
         "spell" => operations::spell(alloc, out, rest),
         "read" => bytes::read(alloc, out, rest),
         "cut" => bytes::cut(alloc, out, rest),

@@ -9,12 +9,13 @@ pub returns-then-has_each-clause-ok : goal.returns-then-has_each-clause-ok
 returns-then-has_each-clause-ok c = union_within cap_total cap_exact _ _ (c.has_each.ensures.holds c.if-has_each.true)
 
 pub returns-clause-ok : goal.returns-clause-ok
-returns-clause-ok c = holds_union cap_total cap_exact _ _ _ _ _ (ap of_list c.in_ok-reserve-2.ensures.items ∙ c.self.view_is) (ap of_list c.deref.ensures.value ∙ c.other.view_is) c.put_all.ensures.members
+returns-clause-ok c = holds_union cap_total cap_exact _ _ _ _ _ (ap of_list c.in_ok-make_room-2.ensures.items ∙ c.self.view_is) (ap of_list c.as_slice-caps.ensures ∙ c.other.view_is) c.put_all.ensures.members
 
 pub invariant_of-self-2 : goal.invariant_of-self-2
 invariant_of-self-2 c =
-    let view = holds_union cap_total cap_exact _ _ _ _ _ (ap of_list c.in_ok-reserve-2.ensures.items ∙ c.self.view_is) (ap of_list c.deref.ensures.value ∙ c.other.view_is) c.put_all.ensures.members in
+    let view = holds_union cap_total cap_exact _ _ _ _ _ (ap of_list c.in_ok-make_room-2.ensures.items ∙ c.self.view_is) (ap of_list c.as_slice-caps.ensures ∙ c.other.view_is) c.put_all.ensures.members in
     apart_as _ _ _ c.put_all.ensures.rises view
     (uses_joined _ _ _ _ _ c.put_all-2.ensures.rises c.put_all-2.ensures.members
-    (moved _ _ _ _ (sym c.self.view_is) c.in_ok-reserve.ensures.items c.self.invariant.apart)
-    (moved _ _ _ _ (sym c.other.view_is) c.deref-2.ensures.value c.other.invariant.apart))
+    (moved _ _ _ _ (sym c.self.view_is) c.in_ok-make_room.ensures.items c.self.invariant.apart)
+    (moved _ _ _ _ (sym c.other.view_is) c.as_slice-uses.ensures c.other.invariant.apart))
+    c.put_all.ensures.fits c.put_all-2.ensures.fits

@@ -10,4 +10,6 @@ unfolding IsStrictlySortedBy
 invariant_of-result c = record {
   rises = subst (IsStrictlySortedBy cap_cmp) (sym c.new.ensures.items) tt;
   apart = no_uses _ _ (ap of_list c.new.ensures.items) c.new-2.ensures.items;
+  fits = c.new.ensures.fits;
+  uses_fit = c.new-2.ensures.fits;
 }

@@ -4,4 +4,4 @@ use Rattle.fl_labels.specs.SetBy.{members, members-of_list}
 use Rattle.fl_labels.proofs.roomy.RoomyCapSet.as_slice.Goals as goal
 
 pub returns : goal.returns
-returns c = c.deref.ensures.value ∙ sym (members-of_list cap_total cap_exact _ c.self.invariant.0.rises) ∙ ap members c.self.view_is
+returns c = c.as_slice.ensures ∙ sym (members-of_list cap_total cap_exact _ c.self.invariant.0.rises) ∙ ap members c.self.view_is

@@ -7,3 +7,4 @@ pub invariant_of-result : goal.invariant_of-result
 invariant_of-result c = apart_as _ _ _ c.put-2.ensures.rises
     (c.put-2.ensures.members ∙ ap (λ s. set.insert s c.args.first) c.put.ensures.members)
     (c.put_use-2.ensures.uses _ (c.put_use.ensures.uses _ c.self.invariant.0.apart))
+    c.put-2.ensures.fits c.put_use-2.ensures.fits
