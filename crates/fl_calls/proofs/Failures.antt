@@ -46,6 +46,9 @@ no_stop e = cc
 pub says_reply : (r : Reply) → SaysFailed (response.Reply r) → r ≡ reply.Refused faults.KeeperFailed
 says_reply r SaysFailed.refused = refl
 
+pub says_so : (r : Reply) → r ≡ reply.Refused faults.KeeperFailed → SaysFailed (response.Reply r)
+says_so r is = subst (λ other. SaysFailed (response.Reply other)) (sym is) SaysFailed.refused
+
 -- nothing else says so
 pub says_unknown : SaysFailed response.Unknown → ⊥
 says_unknown says = elim says [ ]

@@ -10,7 +10,7 @@ ghost use Rattle.fl_system.specs.WorldSteps.{node_of};
 ghost use Rattle.fl_node.specs.Over.{NodeOver};
 ghost use Rattle.fl_nodes.specs.Failing.{FailsIn, IsBrokenAt};
 ghost use Rattle.fl_nodes.specs.Goes.{MayBe};
-ghost use Rattle.fl_calls.specs.Answer.{registry_of, shown};
+ghost use Rattle.fl_calls.specs.Answer.{registry_of, replied, shown};
 ghost use Rattle.fl_calls.specs.Entering.{Enters};
 ghost use Rattle.fl_calls.specs.Over.{begun_over, GoesOn};
 ghost use Rattle.fl_calls.specs.Failing.{FailsCompleting, FailsOnceOpen, SaysFailed};
@@ -54,10 +54,10 @@ fn shut(fault: Fault) -> Response
 }
 
 // The same, of an event, which does not happen.
-fn turned_away(fault: Fault, _event: Event) -> Response
-    ensures { result ≡ Response.Reply (Reply.Refused fault) }
+fn turned_away(fault: Fault, _event: Event) -> Reply
+    ensures { result ≡ Reply.Refused fault }
 {
-    shut(fault)
+    Reply::Refused(fault)
 }
 
 // The packet of this number, counted from 1, or none where fewer were sent.
@@ -176,32 +176,32 @@ impl<M: MakesKeepers> Cluster<M> {
     /// opened, with which nothing has changed. Where saving wants memory what was begun is given
     /// up, and where publishing does it stays due: `Memory`.
     #[inline(always)]
-    pub fn ask(&mut self, alloc: Global, event: Event) -> Response
+    pub fn ask(&mut self, alloc: Global, event: Event) -> Reply
         requires { 0 < node_of event }
         ensures goes { GoesOn M.K.custody M.making self.old self.new
-            (λ openings w w'. Asks openings w event (shown self.new.world result) w') }
-        ensures cause { SaysFailed result
+            (λ openings w w'. Asks openings w event (replied result) w') }
+        ensures cause { result ≡ Reply.Refused Fault.KeeperFailed
             → FailsOnceOpen M.K.custody M.making self.old self.new (node_of event)
             (λ between. FailsCompleting M.K.custody between.world self.new.world event) }
     {
         match self.enter(alloc, number_of(&event)) {
-            Ok(()) => Response::Reply(complete(alloc, &mut self.world, event)),
+            Ok(()) => complete(alloc, &mut self.world, event),
             Err(fault) => turned_away(fault, event),
         }
     }
 
     /// Has the event happen at its node, which is opened where it is not there. What it begins is
     /// to be saved and published by further events.
-    pub fn begin(&mut self, alloc: Global, event: Event) -> Response
+    pub fn begin(&mut self, alloc: Global, event: Event) -> Reply
         requires { 0 < node_of event }
         ensures goes { GoesOn M.K.custody M.making self.old self.new
-            (λ openings w w'. AsksToBegin openings w event (shown self.new.world result) w') }
-        ensures cause { SaysFailed result
+            (λ openings w w'. AsksToBegin openings w event (replied result) w') }
+        ensures cause { result ≡ Reply.Refused Fault.KeeperFailed
             → FailsOnceOpen M.K.custody M.making self.old self.new (node_of event)
             (λ between. FailsIn M.K.custody between.world self.new.world event) }
     {
         match self.enter(alloc, number_of(&event)) {
-            Ok(()) => Response::Reply(self.world.step(alloc, event)),
+            Ok(()) => self.world.step(alloc, event),
             Err(fault) => turned_away(fault, event),
         }
     }

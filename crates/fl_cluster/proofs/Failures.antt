@@ -9,6 +9,7 @@ use Rattle.fl_system.specs.declared.answer.Fault.{Fault}
 use Rattle.fl_system.specs.declared.answer.Fault.TheVariants.{KeeperFailed}
 use Rattle.fl_system.specs.declared.event.Event.{Event}
 use Rattle.fl_system.specs.declared.event.Event.TheVariants as event
+use Rattle.fl_system.specs.declared.reply.Reply.{Reply}
 use Rattle.fl_system.specs.declared.reply.Reply.TheVariants.{Refused}
 use Rattle.fl_system.specs.WorldSteps.{node_of}
 use Rattle.fl_nodes.specs.Failing.{FailsIn, saving, restarting, IsBrokenAt}
@@ -38,6 +39,9 @@ refused_says other e = absurd (no_three e)
 dropped_says : (fault : Fault) → fault_status fault ≡ 3 → SaysFailed (calls.Dropped fault)
 dropped_says KeeperFailed e = SaysFailed.dropped
 dropped_says other e = absurd (no_three e)
+
+pub says_reply : (reply : Reply) → SaysFailed (calls.Reply reply) → reply ≡ Refused KeeperFailed
+says_reply reply SaysFailed.refused = refl
 
 pub says_failed : (said : Said) → status_said (response.Said said) ≡ 3 → SaysFailed said
 says_failed (calls.Reply (Refused fault)) e = refused_says fault e

@@ -25,8 +25,8 @@ use std::alloc::Global;
 /// The only desk of a node.
 const DESK: u8 = 1;
 
-// The job at the node's only desk, which looks at all that is published.
-fn job_at(node: NodeNumber, job: Job) -> Event
+/// The job at the node's only desk, which looks at all that is published.
+pub fn job_at(node: NodeNumber, job: Job) -> Event
     ensures { result ≡ job_at node job }
 {
     Event::Job {
@@ -48,7 +48,7 @@ fn ask_seldom<M: MakesKeepers>(alloc: Global, cluster: &mut Cluster<M>, event: E
         → FailsOnceOpen M.K.custody M.making cluster.old cluster.new (node_of event)
         (λ between. FailsCompleting M.K.custody between.world cluster.new.world event) }
 {
-    cluster.ask(alloc, event)
+    Said::Reply(cluster.ask(alloc, event))
 }
 
 // What is asked of the node is answered.
@@ -68,7 +68,8 @@ fn respond_for<M: MakesKeepers>(
     match request {
         Request::Job(job) => ask_seldom(alloc, cluster, job_at(node, job)),
         Request::Begin(pid, order) => {
-            cluster.begin(alloc, job_at(node, Job::By(pid, Act::Order(order))))
+            let order = Job::By(pid, Act::Order(order));
+            Said::Reply(cluster.begin(alloc, job_at(node, order)))
         }
         Request::Deliver(packet) => cluster.deliver(alloc, node, packet),
         Request::BeginDeliver(packet) => cluster.begin_to_take(alloc, node, packet),
@@ -115,7 +116,7 @@ pub fn respond_to<M: MakesKeepers>(alloc: Global, cluster: &mut Cluster<M>, line
         Line::Node {
             node,
             request: Request::Job(job),
-        } => Response::Said(cluster.ask(alloc, job_at(node, job))),
+        } => Response::Said(Said::Reply(cluster.ask(alloc, job_at(node, job)))),
         other => respond_seldom(alloc, cluster, other),
     }
 }

@@ -1,6 +1,7 @@
 //! What is answered to a line.
 ghost use Rattle.std.specs.Prelude.{◌≡◌};
 ghost use Rattle.fl_turns.specs.Answer.{fault_status};
+ghost use Rattle.fl_cluster.specs.Shown.{status_said};
 
 use fl_aliases::target::Target;
 use fl_calls::response::Response as Said;
@@ -28,6 +29,16 @@ impl Drop for Response {
     }
 }
 
+/// The status of a line that is replied this: 3 where a keeper failed, and else 0.
+pub fn reply_status(reply: &Reply) -> u8
+    ensures { result ≡ status_said (Response.Said (Said.Reply reply.now)) }
+{
+    match reply {
+        Reply::Refused(fault) => fault_status(*fault),
+        _ => 0,
+    }
+}
+
 // The status of a line with this fault.
 fn fault_status(fault: Fault) -> u8
     ensures { result ≡ fault_status fault }
@@ -39,7 +50,7 @@ fn fault_status(fault: Fault) -> u8
 }
 
 impl Response {
-    ghost use Rattle.fl_cluster.specs.Shown.{made_said, status_said};
+    ghost use Rattle.fl_cluster.specs.Shown.{made_said};
 
     /// The line is none of the script.
     pub fn bad_line() -> Self

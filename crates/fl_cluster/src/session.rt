@@ -7,22 +7,28 @@ ghost use Rattle.fl_turns.specs.Naming.{IsPlaced, renamed};
 ghost use Rattle.fl_turns.specs.Failing.{FailsRead, FailsSaid};
 ghost use Rattle.fl_turns.specs.Over.{TurnOver, begun_over};
 ghost use Rattle.fl_cluster.specs.Shown.{shown, status_said};
-ghost use Rattle.fl_cluster.specs.parts.Answering.{Names, NamesOrStarves};
+ghost use Rattle.fl_cluster.specs.parts.Answering.{IsRead, Names, NamesOrStarves};
 
 use crate::answers::write_response;
-use crate::asking::respond_to;
-use crate::response::Response;
+use crate::asking::{job_at, respond_to};
+use crate::response::{Response, reply_status};
 use fl_aliases::alias::Alias;
 use fl_aliases::table::Aliases;
 use fl_aliases::target::Target;
 use fl_calls::cluster::Cluster;
-use fl_labels::name::Name;
+use fl_calls::response::Response as Said;
+use fl_jobs::job::Job;
+use fl_labels::name::{Name, NodeNumber};
 use fl_makers::maker::MakesKeepers;
+use fl_replies::text::write_world_reply;
 use fl_script::line::Line;
 use fl_script::reading::{Reading, read_line};
+use fl_script::request::Request;
 use fl_sink::sink::{Sink, WriteFault};
 use fl_sink::writer::Writer;
 use fl_stream::machine::Machine;
+use fl_system::answer::Fault;
+use fl_system::reply::Reply;
 use std::alloc::{AllocError, Global};
 use std::marker::Model;
 
@@ -100,15 +106,32 @@ impl<M: MakesKeepers> Session<M> {
         &self.aliases
     }
 
-    /// What is answered to the line. Where memory is wanted before anything is asked of the world,
-    /// nothing changes.
-    pub(crate) fn respond(&mut self, alloc: Global, line: &[u8]) -> Response
-        ensures turns { TurnOver M.K.custody M.making
-            self.old line.now (shown self.new result) self.new }
-        ensures cause { status_said result ≡ 3 → FailsRead M.K.custody M.making
-            self.old.aliases self.old.cluster self.new.cluster line.now }
+    // Does the job at the only desk of the node, as `Cluster::ask` has it.
+    #[inline(always)]
+    fn work(&mut self, alloc: Global, node: NodeNumber, job: Job) -> Reply
+        requires { 0 < node }
+        ensures names { Names M.K.custody M.making self.old
+            (Line.Node node (Request.Job job)) None (Response.Said (Said.Reply result)) self.new }
+        ensures cause { result ≡ Reply.Refused Fault.KeeperFailed
+            → FailsSaid M.K.custody M.making self.old.cluster self.new.cluster
+            (Line.Node node (Request.Job job)) }
     {
-        match read_line(alloc, &self.aliases, line) {
+        self.cluster.ask(alloc, job_at(node, job))
+    }
+
+    // What is answered to a line of which this was read. Where memory was wanted to read it,
+    // nothing changes. Out of line, so that the way of a job has no room for it.
+    #[inline(never)]
+    fn respond(&mut self, alloc: Global, read: Result<Reading, AllocError>) -> Response
+        requires { (bytes : List ℕ) × IsRead self.old.aliases bytes read }
+        ensures turns { (bytes : List ℕ) → IsRead self.old.aliases bytes read
+            → TurnOver M.K.custody M.making
+            self.old bytes (shown self.new result) self.new }
+        ensures cause { (bytes : List ℕ) → IsRead self.old.aliases bytes read
+            → status_said result ≡ 3 → FailsRead M.K.custody M.making
+            self.old.aliases self.old.cluster self.new.cluster bytes }
+    {
+        match read {
             Ok(reading) => self.answer_reading(alloc, reading),
             Err(AllocError) => Response::starved(),
         }
@@ -179,8 +202,25 @@ impl<M: MakesKeepers> Machine for Session<M> {
         sink: &mut Sink,
         output: &mut W,
     ) -> Result<u8, WriteFault> {
-        let response = self.respond(alloc, line);
-        write_response(self, number, &response, sink, output)?;
-        Ok(response.status())
+        match read_line(alloc, &self.aliases, line) {
+            Ok(
+                Reading::Means {
+                    line: Line::Node {
+                        node,
+                        request: Request::Job(job),
+                    },
+                    alias: None,
+                },
+            ) => {
+                let reply = self.work(alloc, node, job);
+                write_world_reply(&reply, sink, output)?;
+                Ok(reply_status(&reply))
+            }
+            read => {
+                let response = self.respond(alloc, read);
+                write_response(self, number, &response, sink, output)?;
+                Ok(response.status())
+            }
+        }
     }
 }

@@ -1,4 +1,4 @@
-use Rattle.fl_cluster.proofs.Failures.{asked_cancel, asked_job, asked_publish, asked_restart, asked_save, asked_tell, begun_job, delivered, only_asked}
+use Rattle.fl_cluster.proofs.Failures.{asked_cancel, asked_job, asked_publish, asked_restart, asked_save, asked_tell, begun_job, delivered, only_asked, says_reply}
 use Rattle.fl_cluster.proofs.asking.respond_for.Goals as goal
 
 pub returns-in-Job-clause-goes : goal.returns-in-Job-clause-goes
@@ -40,7 +40,7 @@ returns-in-Job-clause-cause g c says =
 
 pub returns-in-Begin-clause-cause : goal.returns-in-Begin-clause-cause
 returns-in-Begin-clause-cause g c says =
-    begun_job g.M.K.Keeper.custody g.M.MakesKeepers.making _ _ _ _ _ ((rw c.job_at-in-Begin.ensures at c.begin.ensures.cause) says)
+    begun_job g.M.K.Keeper.custody g.M.MakesKeepers.making _ _ _ _ _ ((rw c.job_at-in-Begin.ensures at c.begin.ensures.cause) (says_reply _ says))
 
 pub returns-in-Deliver-clause-cause : goal.returns-in-Deliver-clause-cause
 returns-in-Deliver-clause-cause g c says =

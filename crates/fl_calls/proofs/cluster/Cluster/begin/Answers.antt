@@ -1,9 +1,10 @@
-use Rattle.std.proofs.Common.{refl}
+use Rattle.std.proofs.Common.{ap, refl}
 use Rattle.fl_system.specs.WorldSteps.{Step}
 use Rattle.fl_nodes.specs.Failing.{FailsIn}
 use Rattle.fl_calls.specs.Answer.{replied}
+use Rattle.fl_calls.specs.declared.response.Response.TheVariants as response
 use Rattle.fl_calls.specs.Calls.{Says}
-use Rattle.fl_calls.proofs.Failures.{once_asked, once_refused, says_reply}
+use Rattle.fl_calls.proofs.Failures.{once_asked, once_refused, says_so}
 use Rattle.fl_calls.proofs.Going.{goes_as}
 use Rattle.fl_calls.proofs.Opening.{once_open, once_shut}
 use Rattle.fl_calls.proofs.cluster.Cluster.begin.Goals as goal
@@ -26,9 +27,9 @@ returns-in-Ok-clause-cause g c says =
     once_asked g.M.K.Keeper.custody g.M.MakesKeepers.making _ _ _ _ _ _ _ _ _
     (λ between. FailsIn g.M.K.Keeper.custody between c.step.new.self c.args.event) c.self.view_is c.in-Ok.is
     (rw c.number_of.ensures at c.enter.ensures.goes) (rw c.number_of.ensures at c.enter.ensures.there)
-    c.step.ensures.goes (c.step.ensures.cause (says_reply _ says))
+    c.step.ensures.goes (c.step.ensures.cause says)
 
 pub returns-in-Err-clause-cause : goal.returns-in-Err-clause-cause
-returns-in-Err-clause-cause g c =
-    once_refused g.M.K.Keeper.custody g.M.MakesKeepers.making _ _ _ _ _ _ _ c.in-Err.is c.turned_away.ensures
-    (rw c.number_of.ensures at c.enter.ensures.cause)
+returns-in-Err-clause-cause g c says =
+    once_refused g.M.K.Keeper.custody g.M.MakesKeepers.making _ _ _ _ _ _ _ c.in-Err.is (ap response.Reply c.turned_away.ensures)
+    (rw c.number_of.ensures at c.enter.ensures.cause) (says_so _ says)

@@ -1,13 +1,59 @@
+use Rattle.std.proofs.Common.{rules, None}
 use Rattle.fl_sink.specs.laws.Passing.{on_err_always}
-use Rattle.fl_cluster.proofs.Turning.{passes_answer, cuts_answer}
+use Rattle.fl_script.specs.Reading.{IsReading}
+use Rattle.fl_script.specs.declared.line.Line.TheVariants as line
+use Rattle.fl_script.specs.declared.reading.Reading.TheVariants as reading
+use Rattle.fl_script.specs.declared.request.Request.TheVariants as requests
+use Rattle.fl_calls.specs.declared.response.Response.TheVariants as calls
+use Rattle.fl_cluster.specs.declared.response.Response.TheVariants as response
+use Rattle.fl_cluster.proofs.Failures.{says_failed, says_reply}
+use Rattle.fl_cluster.proofs.Turning.{turns_named, passes_answer, cuts_answer}
 use Rattle.fl_cluster.proofs.session.SessionMachine.answer.Goals as goal
 
-pub returns-clause-ok : goal.returns-clause-ok
-returns-clause-ok g c =
+pub returns-in_ok-write_world_reply-in-Ok-Means-Node-default-Job-None-clause-ok :
+    goal.returns-in_ok-write_world_reply-in-Ok-Means-Node-default-Job-None-clause-ok
+returns-in_ok-write_world_reply-in-Ok-Means-Node-default-Job-None-clause-ok g c =
+    let read = c.in-Ok-Means-Node-default-Job-None in
+    let asked = line.Node read.node (requests.Job read.job) in
+    let reply = response.Said (calls.Reply c.work-reply.result) in
+    let says : IsReading c.args.self.now.aliases c.args.line.now (reading.Means asked None) = search rules in
     passes_answer g.M.K.Keeper.custody g.M.MakesKeepers.making
-    _ _ _ _ _ _ c.status.ensures c.respond-response.ensures.turns c.respond-response.ensures.cause c.in_ok-write_response.ensures.puts.is
+    _ _ _ _ reply _ c.reply_status.ensures
+    (turns_named g.M.K.Keeper.custody g.M.MakesKeepers.making _ _ c.args.line.now asked None reply says c.work-reply.ensures.names)
+    (λ three. record {
+      line = asked;
+      alias = None;
+      says = says;
+      fails = c.work-reply.ensures.cause (says_reply _ (says_failed _ three));
+    })
+    c.in_ok-write_world_reply-in-Ok-Means-Node-default-Job-None.ensures.puts.is
 
-pub returns-in_err-write_response-clause-err : goal.returns-in_err-write_response-clause-err
-returns-in_err-write_response-clause-err g c =
+pub returns-in_err-write_world_reply-in-Ok-Means-Node-default-Job-None-clause-err :
+    goal.returns-in_err-write_world_reply-in-Ok-Means-Node-default-Job-None-clause-err
+returns-in_err-write_world_reply-in-Ok-Means-Node-default-Job-None-clause-err g c =
+    let read = c.in-Ok-Means-Node-default-Job-None in
+    let asked = line.Node read.node (requests.Job read.job) in
+    let reply = response.Said (calls.Reply c.work-reply.result) in
+    let says : IsReading c.args.self.now.aliases c.args.line.now (reading.Means asked None) = search rules in
     on_err_always _ (cuts_answer g.M.K.Keeper.custody g.M.MakesKeepers.making
-    _ _ _ _ c.respond-response.result c.respond-response.ensures.turns c.respond-response.ensures.cause c.in_err-write_response.ensures.puts.is)
+    _ _ _ _ reply
+    (turns_named g.M.K.Keeper.custody g.M.MakesKeepers.making _ _ c.args.line.now asked None reply says c.work-reply.ensures.names)
+    (λ three. record {
+      line = asked;
+      alias = None;
+      says = says;
+      fails = c.work-reply.ensures.cause (says_reply _ (says_failed _ three));
+    })
+    c.in_err-write_world_reply-in-Ok-Means-Node-default-Job-None.ensures.puts.is)
+
+pub returns-in_ok-write_response-in_default-clause-ok : goal.returns-in_ok-write_response-in_default-clause-ok
+returns-in_ok-write_response-in_default-clause-ok g c =
+    passes_answer g.M.K.Keeper.custody g.M.MakesKeepers.making
+    _ _ _ _ _ _ c.status.ensures (c.respond-response.ensures.turns c.args.line.now (search rules))
+    (c.respond-response.ensures.cause c.args.line.now (search rules)) c.in_ok-write_response-in_default.ensures.puts.is
+
+pub returns-in_err-write_response-in_default-clause-err : goal.returns-in_err-write_response-in_default-clause-err
+returns-in_err-write_response-in_default-clause-err g c =
+    on_err_always _ (cuts_answer g.M.K.Keeper.custody g.M.MakesKeepers.making
+    _ _ _ _ c.respond-response.result (c.respond-response.ensures.turns c.args.line.now (search rules))
+    (c.respond-response.ensures.cause c.args.line.now (search rules)) c.in_err-write_response-in_default.ensures.puts.is)
