@@ -1,4 +1,6 @@
 //! Sets of capabilities, sorted slices, and lists of items.
+ghost use Rattle.std.specs.Prelude.{◌<◌};
+
 use crate::rows::parts;
 use fl_labels::cap::Cap;
 use fl_labels::cap_set::CapSet;
@@ -117,7 +119,9 @@ fn with_set(
 }
 
 // A use of a group for each other number, and else what adds a tag.
-fn numbered(number: u32) -> Cap {
+fn numbered(number: u32) -> Cap
+    requires { 0 < number }
+{
     let name = Name {
         node: 1,
         seq: number,
@@ -136,8 +140,8 @@ pub fn falling(alloc: Global, out: &mut String, count: &str) -> Result<(), Alloc
     let mut rising = CapSet::new(alloc);
     let mut falling = CapSet::new(alloc);
     for number in 0..count {
-        rising.insert(numbered(number))?;
-        falling.insert(numbered(count - 1 - number))?;
+        rising.insert(numbered(number + 1))?;
+        falling.insert(numbered(count - number))?;
     }
     let is_same = falling == rising;
     write!(out, "{} {} {is_same}", falling.len(), falling.uses().len())
