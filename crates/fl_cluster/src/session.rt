@@ -203,6 +203,10 @@ impl<M: MakesKeepers> Machine for Session<M> {
         output: &mut W,
     ) -> Result<u8, WriteFault> {
         match read_line(alloc, &self.aliases, line) {
+            Ok(Reading::Quiet) => {
+                write_response(self, number, &Response::Silence, sink, output)?;
+                Ok(0)
+            }
             Ok(
                 Reading::Means {
                     line: Line::Node {

@@ -1,4 +1,4 @@
-use Rattle.std.proofs.Common.{rules, None}
+use Rattle.std.proofs.Common.{refl, rules, None}
 use Rattle.fl_sink.specs.laws.Passing.{on_err_always}
 use Rattle.fl_script.specs.Reading.{IsReading}
 use Rattle.fl_script.specs.declared.line.Line.TheVariants as line
@@ -6,9 +6,23 @@ use Rattle.fl_script.specs.declared.reading.Reading.TheVariants as reading
 use Rattle.fl_script.specs.declared.request.Request.TheVariants as requests
 use Rattle.fl_calls.specs.declared.response.Response.TheVariants as calls
 use Rattle.fl_cluster.specs.declared.response.Response.TheVariants as response
-use Rattle.fl_cluster.proofs.Failures.{says_failed, says_reply}
-use Rattle.fl_cluster.proofs.Turning.{turns_named, passes_answer, cuts_answer}
+use Rattle.fl_cluster.proofs.Failures.{no_three, says_failed, says_reply}
+use Rattle.fl_cluster.proofs.Turning.{turns_named, turns_quiet, passes_answer, cuts_answer}
 use Rattle.fl_cluster.proofs.session.SessionMachine.answer.Goals as goal
+
+pub returns-in_ok-write_response-in-Ok-Quiet-clause-ok : goal.returns-in_ok-write_response-in-Ok-Quiet-clause-ok
+returns-in_ok-write_response-in-Ok-Quiet-clause-ok g c =
+    let says : IsReading c.args.self.now.aliases c.args.line.now reading.Quiet = search rules in
+    passes_answer g.M.K.Keeper.custody g.M.MakesKeepers.making _ _ _ _ response.Silence _ refl
+    (turns_quiet g.M.K.Keeper.custody g.M.MakesKeepers.making _ c.args.line.now says)
+    (λ three. absurd (no_three three)) c.in_ok-write_response-in-Ok-Quiet.ensures.puts.is
+
+pub returns-in_err-write_response-in-Ok-Quiet-clause-err : goal.returns-in_err-write_response-in-Ok-Quiet-clause-err
+returns-in_err-write_response-in-Ok-Quiet-clause-err g c =
+    let says : IsReading c.args.self.now.aliases c.args.line.now reading.Quiet = search rules in
+    on_err_always _ (cuts_answer g.M.K.Keeper.custody g.M.MakesKeepers.making _ _ _ _ response.Silence
+    (turns_quiet g.M.K.Keeper.custody g.M.MakesKeepers.making _ c.args.line.now says)
+    (λ three. absurd (no_three three)) c.in_err-write_response-in-Ok-Quiet.ensures.puts.is)
 
 pub returns-in_ok-write_world_reply-in-Ok-Means-Node-default-Job-None-clause-ok :
     goal.returns-in_ok-write_world_reply-in-Ok-Means-Node-default-Job-None-clause-ok
