@@ -1,6 +1,7 @@
 mod Members
 mod Exists
 mod Bits
+mod OneRow
 mod Rowing
 mod Listing
 mod Leading

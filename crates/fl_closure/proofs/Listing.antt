@@ -1,7 +1,7 @@
 -- Blocks and groups in lists.
-use Rattle.std.specs.Prelude.{◌≡◌, ◌⊎◌, ◌↔◌, ℕ, zero, suc, ◌+◌, ◌*◌, ◌/◌, ◌%◌, ◌^◌, ◌<◌, ◌≤◌, bit_and, Option, Some, None, List, [], ◌∷◌, ◌++◌, length, get_or, take, refl, unwrap_or}
+use Rattle.std.specs.Prelude.{◌≡◌, ◌⊎◌, ◌↔◌, Bool, true, false, cond, ℕ, zero, suc, ◌+◌, ◌*◌, ◌/◌, ◌%◌, ◌^◌, ◌<◌, ◌≤◌, bit_and, Option, Some, None, List, [], ◌∷◌, ◌++◌, length, get_or, take, refl, unwrap_or}
 use Rattle.std.proofs.Common.{inl, inr, sym, ap, subst, ◌∙◌, arith}
-use Rattle.std.specs.BTreeMap.{BTreeMap, get, IsOrdered}
+use Rattle.std.specs.BTreeMap.{BTreeMap, get, is_at, IsOrdered}
 use Rattle.std.specs.Int.{bit_at}
 use Rattle.std.specs.List.{Contains}
 use Rattle.std.proofs.lemmas.Nat.Bits.{bit_at-lt, shr_and_one}
@@ -12,11 +12,15 @@ use Rattle.fl_labels.specs.declared.cap.Cap.{Cap}
 use Rattle.fl_labels.specs.declared.cap.Cap.TheVariants.{Use}
 use Rattle.fl_closure.specs.declared.place.Place.{Place}
 use Rattle.fl_closure.specs.declared.block.Block.{Block}
+use Rattle.fl_closure.specs.declared.row.Row.{Row}
 use Rattle.fl_closure.specs.parts.Block.{place_cmp, place_of, bit_of, Marks, IsIn, AreIn}
 use Rattle.fl_labels.specs.Caps.{Caps}
 use Rattle.fl_labels.specs.NameOrder.{same_name}
-use Rattle.fl_closure.specs.parts.Rows.{Bits, bits_in, row_bits, Has, IsNew}
-use Rattle.fl_closure.proofs.Bits.{place_total, place_exact, no_marks, bit_below, use_at, at_use}
+use Rattle.fl_closure.specs.parts.Bits.{Bits, Has, IsNew}
+use Rattle.fl_closure.specs.parts.Row.{bits_in}
+use Rattle.fl_closure.specs.parts.Rows.{row_bits}
+use Rattle.fl_closure.proofs.Bits.{place_total, place_exact, place_or, at_itself, at_other, no_marks, bit_below, use_at, at_use}
+use Rattle.fl_closure.proofs.OneRow.{bits_of}
 use Rattle.fl_closure.proofs.Exists.{Exists, exists_none, exists_none_yet, exists_push, exists_more, exists_all, exists_cons, exists_one}
 
 -- ---- the blocks of a row
@@ -29,15 +33,15 @@ IsInEntry c e = (place_of c ≡ e.0) × Marks e.1 c
 abbrev pub AreInEntries : List (Place × ℕ) → Cap → Type 0
 AreInEntries entries c = Exists entries (IsInEntry c)
 
-pub in_entries : (row : BTreeMap Place ℕ) → IsOrdered place_cmp row → (c : Cap) → AreInEntries row.entries c ↔ Has (bits_in row) c
+pub in_entries : (row : BTreeMap Place ℕ) → IsOrdered place_cmp row → (c : Cap) → AreInEntries row.entries c ↔ Has (bits_of row) c
 in_entries row ordered c = (to, from (get place_cmp row (place_of c)) refl)
   where
-    to : AreInEntries row.entries c → Has (bits_in row) c
+    to : AreInEntries row.entries c → Has (bits_of row) c
     to (e, m, is) =
         let found : get place_cmp row e.0 ≡ Some e.1 = (btree_map_get_iff place_total place_exact row ordered e.0 e.1).1 m in
-        subst (λ b. Marks b c) (sym (ap (bits_in row) is.0 ∙ ap (λ o. unwrap_or o 0) found)) is.1
+        subst (λ b. Marks b c) (sym (ap (bits_of row) is.0 ∙ ap (λ o. unwrap_or o 0) found)) is.1
 
-    from : (o : Option ℕ) → get place_cmp row (place_of c) ≡ o → Has (bits_in row) c → AreInEntries row.entries c
+    from : (o : Option ℕ) → get place_cmp row (place_of c) ≡ o → Has (bits_of row) c → AreInEntries row.entries c
     from None e h = absurd (no_marks c (subst (λ b. Marks b c) (ap (λ o. unwrap_or o 0) e) h))
     from (Some bits) e h = (
       (place_of c, bits),
@@ -71,20 +75,50 @@ entry_moves blocks now entries rest p bits split pushed c =
 pub moved_on : (A B C : Type 0) → (A ↔ B) → (B ↔ C) → (A ↔ C)
 moved_on A B C f g = (λ a. g.0 (f.0 a), λ c. f.1 (g.1 c))
 
--- all of them are in the list
-pub entries_moved : (row : BTreeMap Place ℕ) → IsOrdered place_cmp row → (old roomy now : List Block) (entries left : List (Place × ℕ))
-    → roomy ≡ old → entries ≡ row.entries → left ≡ []
-    → ((c : Cap) → (AreIn now c ⊎ AreInEntries left c) ↔ (AreIn roomy c ⊎ AreInEntries entries c))
+-- what stands at the last place, and at the others
+pub in_row : (row : Row) → get place_cmp row.others row.last.place ≡ None → (c : Cap)
+    → Has (bits_in row) c ↔ (IsIn row.last c ⊎ Has (bits_of row.others) c)
+in_row row apart c = by_place (place_or row.last.place (place_of c))
+  where
+    at : (t : Bool) → is_at (place_cmp row.last.place) (place_of c) ≡ t → bits_in row (place_of c) ≡ cond t row.last.bits (bits_of row.others (place_of c))
+    at t e = ap (λ b. cond b row.last.bits (bits_of row.others (place_of c))) e
+
+    by_place : (place_of c ≡ row.last.place) ⊎ ¬ (place_of c ≡ row.last.place) → Has (bits_in row) c ↔ (IsIn row.last c ⊎ Has (bits_of row.others) c)
+    by_place (inl e) =
+        let here : bits_in row (place_of c) ≡ row.last.bits = at true (ap (is_at (place_cmp row.last.place)) e ∙ at_itself row.last.place) in
+        let none : bits_of row.others (place_of c) ≡ 0 = ap (λ p. unwrap_or (get place_cmp row.others p) 0) e ∙ ap (λ o. unwrap_or o 0) apart in (
+          λ h. inl (e, subst (λ b. Marks b c) here h),
+          λ h. elim h [ inl m ↦ subst (λ b. Marks b c) (sym here) m.1 | inr m ↦ absurd (no_marks c (subst (λ b. Marks b c) none m)) ],
+        )
+    by_place (inr n) =
+        let there : bits_in row (place_of c) ≡ bits_of row.others (place_of c) = at false (at_other row.last.place (place_of c) n) in (
+          λ h. inr (subst (λ b. Marks b c) there h),
+          λ h. elim h [ inl m ↦ absurd (n m.0) | inr m ↦ subst (λ b. Marks b c) (sym there) m ],
+        )
+
+-- all of them are in the list, behind the last place
+pub entries_moved : (row : Row) → IsOrdered place_cmp row.others → get place_cmp row.others row.last.place ≡ None
+    → (old roomy begun now : List Block) (entries left : List (Place × ℕ))
+    → roomy ≡ old → begun ≡ roomy ++ row.last ∷ [] → entries ≡ row.others.entries → left ≡ []
+    → ((c : Cap) → (AreIn now c ⊎ AreInEntries left c) ↔ (AreIn begun c ⊎ AreInEntries entries c))
     → (c : Cap) → AreIn now c ↔ (AreIn old c ⊎ Has (bits_in row) c)
-entries_moved row ordered old roomy now entries left kept all done moved c =
-    let is = in_entries row ordered c in (
+entries_moved row ordered apart old roomy begun now entries left kept first all done moved c =
+    let is = in_entries row.others ordered c in
+    let row_is = in_row row apart c in
+    let push = exists_push (λ b. IsIn b c) roomy row.last in (
       λ h. elim ((moved c).0 (inl h)) [
-        | inl m ↦ inl (subst (λ l. AreIn l c) kept m)
-        | inr m ↦ inr (is.0 (subst (λ l. AreInEntries l c) all m))
+        | inl m ↦ elim (push.0 (subst (λ l. AreIn l c) first m)) [
+          | inl k ↦ inl (subst (λ l. AreIn l c) kept k)
+          | inr k ↦ inr (row_is.1 (inl k))
+        ]
+        | inr m ↦ inr (row_is.1 (inr (is.0 (subst (λ l. AreInEntries l c) all m))))
       ],
       λ h. elim ((moved c).1 (elim h [
-        | inl m ↦ inl (subst (λ l. AreIn l c) (sym kept) m)
-        | inr m ↦ inr (subst (λ l. AreInEntries l c) (sym all) (is.1 m))
+        | inl m ↦ inl (subst (λ l. AreIn l c) (sym first) (push.1 (inl (subst (λ l. AreIn l c) (sym kept) m))))
+        | inr m ↦ elim (row_is.0 m) [
+          | inl k ↦ inl (subst (λ l. AreIn l c) (sym first) (push.1 (inr k)))
+          | inr k ↦ inr (subst (λ l. AreInEntries l c) (sym all) (is.1 k))
+        ]
       ])) [
         | inl m ↦ m
         | inr m ↦ absurd (exists_none (IsInEntry c) (subst (λ l. AreInEntries l c) done m))
@@ -115,10 +149,10 @@ module _ (cap : Cap) (only : Block) (empty start : List Block) (one : (c : Cap) 
   )
 
 -- what a map tells of the row of a group
-pub row_held : (o : Option (BTreeMap Place ℕ)) (row : BTreeMap Place ℕ) → Some row ≡ o → (c : Cap) → Has (bits_in row) c ↔ Has (row_bits o) c
+pub row_held : (o : Option Row) (row : Row) → Some row ≡ o → (c : Cap) → Has (bits_in row) c ↔ Has (row_bits o) c
 row_held o row e c = (λ h. subst (λ p. Has (row_bits p) c) e h, λ h. subst (λ p. Has (row_bits p) c) (sym e) h)
 
-pub none_held : (o : Option (BTreeMap Place ℕ)) → None ≡ o → (c : Cap) → ¬ Has (row_bits o) c
+pub none_held : (o : Option Row) → None ≡ o → (c : Cap) → ¬ Has (row_bits o) c
 none_held o e c h = no_marks c (subst (λ p. Has (row_bits p) c) (sym e) h)
 
 -- ---- what a row lacks

@@ -10,7 +10,8 @@ use Rattle.fl_closure.specs.declared.rows.Note.{Note}
 use Rattle.fl_closure.specs.declared.rows.Owner.{Owner}
 use Rattle.fl_closure.specs.declared.rows.Owner.TheVariants.{Everybody, Group}
 use Rattle.fl_closure.specs.parts.Block.{place_of, IsIn, Marks}
-use Rattle.fl_closure.specs.parts.Rows.{bits_at, Holds, IsNew, At, OfOne, IsNamed, OfEach, Adds, Takes, IsSameRows}
+use Rattle.fl_closure.specs.parts.Bits.{IsNew}
+use Rattle.fl_closure.specs.parts.Rows.{bits_at, Holds, At, OfOne, IsNamed, OfEach, Adds, Takes, IsSameRows}
 use Rattle.fl_closure.specs.parts.Noted.{Into, Gains, Loses}
 use Rattle.fl_closure.proofs.Bits.{marks_or, no_marks}
 use Rattle.fl_closure.proofs.Exists.{exists_none, exists_none_yet, exists_more, exists_push, contains_more}

@@ -7,5 +7,6 @@ mod closure;
 pub mod index;
 mod opened;
 mod place;
+mod row;
 mod rows;
 mod view;

@@ -7,15 +7,17 @@ ghost use Rattle.fl_labels.specs.declared.cap.Cap.{Cap};
 ghost use Rattle.fl_closure.specs.declared.rows.Owner.{Owner};
 ghost use Rattle.fl_closure.specs.declared.rows.Owner.TheVariants.{Everybody, Group};
 ghost use Rattle.fl_closure.specs.parts.Block.{AreIn};
-ghost use Rattle.fl_closure.specs.parts.Rows.{bits_in, bits_among, bits_at, Has, Holds, At, OfOne, OfEach, Joins, Parts, IsNew, Adds, Takes, IsSameBits, IsSameRows};
+ghost use Rattle.fl_closure.specs.parts.Bits.{Joins, Parts, IsNew, IsSameBits};
+ghost use Rattle.fl_closure.specs.parts.Rows.{bits_among, bits_at, Holds, At, OfOne, OfEach, Adds, Takes, IsSameRows};
 ghost use Rattle.fl_closure.specs.parts.Noted.{Continues, Loses};
 
 use crate::block::{Block, marks, place_of};
 use crate::place::Place;
+use crate::row::Row;
 use fl_labels::cap::Cap;
 use fl_labels::name::Name;
 use std::alloc::{AllocError, Global};
-use std::collections::{BTreeMap, HashMap};
+use std::collections::HashMap;
 
 /// Whose a row is.
 #[derive(Clone, Copy, Debug)]
@@ -37,28 +39,13 @@ pub struct Note {
 /// row has the bits of the capabilities by their places.
 #[derive(Debug, Drop)]
 pub struct Rows {
-    groups: HashMap<Name, BTreeMap<Place, u32>>,
+    groups: HashMap<Name, Row>,
     everybody: HashMap<Place, u32>,
     alloc: Global,
 }
 
-// Adds a block to a row of a group, and answers which of its bits are new there. An error leaves
-// the row.
-fn add_to_row(row: &mut BTreeMap<Place, u32>, block: Block) -> Result<u32, AllocError>
-    ensures ok { OnOk result (Joins (bits_in row.old) block (bits_in row.new)) }
-    ensures new { IfOk result (IsNew (bits_in row.old) block) }
-    ensures err { OnErr result (IsSameBits (bits_in row.old) (bits_in row.new)) }
-{
-    let Some(bits) = row.get_mut(&block.place) else {
-        row.insert(block.place, block.bits)?;
-        return Ok(block.bits);
-    };
-    let new = block.bits & !*bits;
-    *bits |= block.bits;
-    Ok(new)
-}
-
-// The same of everybody's row.
+// Adds a block to everybody's row, and answers which of its bits are new there. An error leaves the
+// row.
 fn add_to_all(row: &mut HashMap<Place, u32>, block: Block) -> Result<u32, AllocError>
     ensures ok { OnOk result (Joins (bits_among row.old) block (bits_among row.new)) }
     ensures new { IfOk result (IsNew (bits_among row.old) block) }
@@ -73,15 +60,6 @@ fn add_to_all(row: &mut HashMap<Place, u32>, block: Block) -> Result<u32, AllocE
     Ok(new)
 }
 
-// Takes a block out of a row of a group.
-fn take_from_row(row: &mut BTreeMap<Place, u32>, block: Block)
-    ensures { Parts (bits_in row.old) block (bits_in row.new) }
-{
-    if let Some(bits) = row.get_mut(&block.place) {
-        *bits &= !block.bits;
-    }
-}
-
 // Takes a block out of everybody's row.
 fn take_from_all(row: &mut HashMap<Place, u32>, block: Block)
     ensures { Parts (bits_among row.old) block (bits_among row.new) }
@@ -89,21 +67,6 @@ fn take_from_all(row: &mut HashMap<Place, u32>, block: Block)
     if let Some(bits) = row.get_mut(&block.place) {
         *bits &= !block.bits;
     }
-}
-
-// Adds the blocks of a row to a list.
-fn push_blocks(row: &BTreeMap<Place, u32>, blocks: &mut Vec<Block>) -> Result<(), AllocError>
-    ensures { OnOk result ((c : Cap) → AreIn blocks.new.items c
-        ↔ (AreIn blocks.old.items c ⊎ Has (bits_in row.now) c)) }
-{
-    blocks.try_reserve(row.len())?;
-    for (place, bits) in row {
-        blocks.push(Block {
-            place: *place,
-            bits: *bits,
-        })?;
-    }
-    Ok(())
 }
 
 impl Rows {
@@ -122,14 +85,13 @@ impl Rows {
     fn bits_at(&self, owner: Owner, place: Place) -> u32
         ensures { result ≡ bits_at self.now owner place }
     {
-        let bits = match owner {
+        match owner {
             Owner::Group(name) => match self.groups.get(&name) {
-                Some(row) => row.get(&place),
-                None => None,
+                Some(row) => row.bits_at(place),
+                None => 0,
             },
-            Owner::Everybody => self.everybody.get(&place),
-        };
-        bits.copied().unwrap_or(0)
+            Owner::Everybody => self.everybody.get(&place).copied().unwrap_or(0),
+        }
     }
 
     /// Whether the owner's row has the capability. A search by hash, and then for a group one by
@@ -151,11 +113,9 @@ impl Rows {
             return add_to_all(&mut self.everybody, block);
         };
         if let Some(row) = self.groups.get_mut(&name) {
-            return add_to_row(row, block);
+            return row.add(block);
         }
-        let mut row = BTreeMap::new(self.alloc);
-        row.insert(block.place, block.bits)?;
-        self.groups.insert(name, row)?;
+        self.groups.insert(name, Row::new(self.alloc, block))?;
         Ok(block.bits)
     }
 
@@ -166,7 +126,7 @@ impl Rows {
         match owner {
             Owner::Group(name) => {
                 if let Some(row) = self.groups.get_mut(&name) {
-                    take_from_row(row, block);
+                    row.take(block);
                 }
             }
             Owner::Everybody => take_from_all(&mut self.everybody, block),
@@ -182,7 +142,7 @@ impl Rows {
         let mut blocks = Vec::new(self.alloc);
         blocks.push(Block::only(cap))?;
         if let Some(row) = self.groups.get(&name) {
-            push_blocks(row, &mut blocks)?;
+            row.push_to(&mut blocks)?;
         }
         Ok(blocks)
     }

@@ -1,6 +1,5 @@
 -- Rows of capabilities, one for each group and one for everybody.
 use Rattle.std.specs.Prelude.{◌≡◌, ◌⊎◌, ◌↔◌, ℕ, Option, Some, None, List, unwrap_or}
-use Rattle.std.specs.BTreeMap.{BTreeMap, get}
 use Rattle.std.specs.HashMap.{HashMap, get as look}
 use Rattle.std.specs.List.{Contains}
 use Rattle.fl_labels.specs.Caps.{Caps}
@@ -10,19 +9,16 @@ use Rattle.fl_labels.specs.contracts.name.NamePartialEq.TheImpl as names
 use Rattle.fl_closure.specs.contracts.place.PlacePartialEq.TheImpl as places
 use Rattle.fl_closure.specs.declared.place.Place.{Place}
 use Rattle.fl_closure.specs.declared.block.Block.{Block}
+use Rattle.fl_closure.specs.declared.row.Row.{Row}
 use Rattle.fl_closure.specs.declared.rows.Rows.{Rows}
 use Rattle.fl_closure.specs.declared.rows.Owner.{Owner}
 use Rattle.fl_closure.specs.declared.rows.Owner.TheVariants.{Everybody, Group}
-use Rattle.fl_closure.specs.parts.Block.{place_of, Marks, IsIn, AreIn, place_cmp}
+use Rattle.fl_closure.specs.parts.Block.{IsIn, AreIn}
+use Rattle.fl_closure.specs.parts.Bits.{Bits, Has}
+use Rattle.fl_closure.specs.parts.Row.{bits_in}
 
--- the bits of a row, by their places
-abbrev pub Bits : Type 0
-Bits = Place → ℕ
-
-abbrev pub bits_in : BTreeMap Place ℕ → Bits
-bits_in row p = unwrap_or (get place_cmp row p) 0
-
-abbrev pub row_bits : Option (BTreeMap Place ℕ) → Bits
+-- the bits of a row, if there is one
+abbrev pub row_bits : Option Row → Bits
 row_bits None p = 0
 row_bits (Some row) p = bits_in row p
 
@@ -34,32 +30,8 @@ abbrev pub bits_at : Rows → Owner → Bits
 bits_at rows (Group name) p = row_bits (look names.ghosts.eq rows.groups name) p
 bits_at rows Everybody p = bits_among rows.everybody p
 
--- whether the row has the capability
-abbrev pub Has : Bits → Caps
-Has bits c = Marks (bits (place_of c)) c
-
 abbrev pub Holds : Rows → Owner → Caps
 Holds rows owner c = Has (bits_at rows owner) c
-
--- ---- one row
-
--- a row with the block
-pub record Joins (old : Bits) (block : Block) (new : Bits) : Type 0 where
-  pub holds : (c : Cap) → Has new c ↔ (Has old c ⊎ IsIn block c)
-
--- a row without it
-pub record Parts (old : Bits) (block : Block) (new : Bits) : Type 0 where
-  pub holds : (c : Cap) → Has new c ↔ (Has old c × ¬ IsIn block c)
-
-pub record IsSameBits (old new : Bits) : Type 0 where
-  pub holds : (c : Cap) → Has new c ↔ Has old c
-
--- the bits of the block that the row lacks
-pub record IsNew (old : Bits) (block : Block) (bits : ℕ) : Type 0 where
-  pub are : (c : Cap)
-      → IsIn (record { place = block.place; bits = bits }) c ↔ (IsIn block c × ¬ Has old c)
-
--- ---- all rows
 
 -- this owner, and what is in the block
 abbrev pub At : Owner → Block → Owner → Caps

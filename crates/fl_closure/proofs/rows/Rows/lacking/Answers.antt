@@ -1,6 +1,6 @@
 use Rattle.std.proofs.Common.{arith, sym, ap, subst, ◌<◌, ◌^◌, ◌-◌, bit_and}
 use Rattle.fl_closure.specs.parts.Rows.{bits_at}
-use Rattle.fl_closure.proofs.Rowing.{new_bits}
+use Rattle.fl_closure.proofs.OneRow.{new_bits}
 use Rattle.fl_closure.proofs.Listing.{AreLacking, lacking_none, lacking_more, lacking_same, lacking_all}
 use Rattle.fl_closure.proofs.rows.Rows.lacking.Goals.{then-bits-ne0+in_ok-push, else-bits-ne0}
 use Rattle.fl_closure.proofs.rows.Rows.lacking.Goals as goal

@@ -2,7 +2,7 @@ use Rattle.std.specs.Prelude.{◌⊎◌, ◌↔◌}
 use Rattle.fl_labels.specs.declared.cap.Cap.{Cap}
 use Rattle.fl_closure.specs.parts.Block.{AreIn}
 use Rattle.fl_closure.proofs.Listing.{AreInEntries}
-use Rattle.fl_closure.proofs.rows.push_blocks.Given as goal
+use Rattle.fl_closure.proofs.row.Row.push_to.Given as goal
 
 abbrev pub invariant-loop-place : goal.invariant-loop-place
 invariant-loop-place l =
