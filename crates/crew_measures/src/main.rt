@@ -1,9 +1,8 @@
-//! Measures crews beside a plain node, by a word: `questions`, `single`, `orders` or `held`. The
-//! module of that name says what is measured, and what the words behind it say. Without words all
-//! are measured, each as by its word alone.
+//! Measures crews beside a plain node, over keepers in memory, by a word: `questions`, `single` or
+//! `orders`. The module of that name says what is measured, and what the words behind it say.
+//! Without words all are measured, each as by its word alone.
 #![tactic(auto)]
 
-mod held;
 mod orders;
 mod people;
 mod questions;
@@ -12,6 +11,7 @@ mod single;
 mod subjects;
 
 use measuring::words::{count_at, is_timed};
+use std::alloc::Global;
 use std::env;
 use std::process::ExitCode;
 use std::sync::Wait;
@@ -24,34 +24,24 @@ const BAD_WORDS: u8 = 2;
 
 /// What the words may be.
 const USAGE: &str = "usage: crew_measures [questions [BATCHES [times]] | \
-single [BATCHES [times]] | orders [BATCHES [times [DIRECTORY]]] | \
-held [BATCHES [times [DIRECTORY]]]]";
+single [BATCHES [times]] | orders [BATCHES [times]]]";
 
 /// The words that name a measure.
-const MEASURES: [&str; 4] = ["questions", "single", "orders", "held"];
-
-// The directory that the words name.
-fn directory(words: &[String]) -> Option<&str> {
-    match words.get(2) {
-        Some(word) => Some(word.as_str()),
-        None => None,
-    }
-}
+const MEASURES: [&str; 3] = ["questions", "single", "orders"];
 
 // Measures what a word names, at the sizes that the words behind it say. Says whether it names
 // something.
 fn measure<R: Threads + Wait + Clock + Print + Sync + Send + Copy + Drop + 'static>(
     rt: R,
-    host: &HostRuntime,
+    alloc: Global,
     name: &str,
     words: &[String],
 ) -> Result<bool, Fail> {
-    let timed = is_timed(words);
+    let (count, timed) = (count_at(words, 0, 4), is_timed(words));
     match name {
-        "questions" => questions::measure(rt, host.alloc(), count_at(words, 0, 4), timed)?,
-        "single" => single::measure(rt, host.alloc(), count_at(words, 0, 4), timed)?,
-        "orders" => orders::measure(rt, host, count_at(words, 0, 4), timed, directory(words))?,
-        "held" => held::measure(rt, host, count_at(words, 0, 4), timed, directory(words))?,
+        "questions" => questions::measure(rt, alloc, count, timed)?,
+        "single" => single::measure(rt, alloc, count, timed)?,
+        "orders" => orders::measure(rt, alloc, count, timed)?,
         _ => return Ok(false),
     }
     Ok(true)
@@ -60,11 +50,11 @@ fn measure<R: Threads + Wait + Clock + Print + Sync + Send + Copy + Drop + 'stat
 // Measures what each of the words names, one after the other.
 fn measure_all<R: Threads + Wait + Clock + Print + Sync + Send + Copy + Drop + 'static>(
     rt: R,
-    host: &HostRuntime,
+    alloc: Global,
 ) -> Result<bool, Fail> {
     for name in &MEASURES {
         println!(rt; "{name}:")?;
-        measure(rt, host, name, &[])?;
+        measure(rt, alloc, name, &[])?;
     }
     Ok(true)
 }
@@ -72,8 +62,8 @@ fn measure_all<R: Threads + Wait + Clock + Print + Sync + Send + Copy + Drop + '
 fn main(rt: HostRuntime) -> Result<ExitCode, Fail> {
     let words: Vec<String> = env::args(&rt)?.collect(rt.alloc())?;
     let is_known = match words.as_slice() {
-        [_, name, rest @ ..] => measure(rt, &rt, name, rest)?,
-        _ => measure_all(rt, &rt)?,
+        [_, name, rest @ ..] => measure(rt, rt.alloc(), name, rest)?,
+        _ => measure_all(rt, rt.alloc())?,
     };
     if is_known {
         return Ok(ExitCode::SUCCESS);

@@ -47,8 +47,8 @@ impl People {
         }
     }
 
-    /// The process of this number.
-    pub fn person(self, number: u32) -> Pid
+    // The process of this number.
+    fn person(self, number: u32) -> Pid
         requires { 0 < number }
     {
         Pid {
@@ -58,8 +58,8 @@ impl People {
         }
     }
 
-    /// The tag of this number.
-    pub fn tag(self, number: u32) -> Name
+    // The tag of this number.
+    fn tag(self, number: u32) -> Name
         requires { 0 < number }
     {
         Name {
@@ -89,8 +89,8 @@ impl People {
         })
     }
 
-    /// The job of this turn.
-    pub fn job(self, alloc: Global, turn: u64, orders: Orders) -> Result<Job, SetError> {
+    // The job of this turn.
+    fn job(self, alloc: Global, turn: u64, orders: Orders) -> Result<Job, SetError> {
         if orders == Orders::OneInHundred && turn % ORDERS == ORDERS - 1 {
             return Ok(self.order(number_at(turn / ORDERS)));
         }

@@ -5,7 +5,6 @@
 use crate::people::Orders;
 use crate::serving::Batches;
 use crate::subjects::measure_each;
-use fl_makers::mem::MemMaker;
 use std::alloc::Global;
 use std::sync::Wait;
 use std::test::Fail;
@@ -24,5 +23,5 @@ pub fn measure<R: Threads + Wait + Clock + Print + Sync + Send + Copy + Drop + '
         jobs: 256,
         orders: Orders::Never,
     };
-    measure_each(rt, alloc, &mut MemMaker, batches, timed)
+    measure_each(rt, alloc, batches, timed)
 }

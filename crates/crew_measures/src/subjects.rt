@@ -3,7 +3,7 @@ ghost use Rattle.std.specs.Prelude.{◌≤◌};
 
 use crate::serving::{Batches, people_crew, people_node};
 use crew_measuring::subjects::{crew_over, keeper_of, name_of, node_over};
-use fl_makers::maker::MakesKeepers;
+use fl_makers::mem::MemMaker;
 use fl_store::keeper::Keeper;
 use fl_workers::crew::Crew;
 use fl_workers::gate::OpenGate;
@@ -15,14 +15,13 @@ use std::thread::Threads;
 use std::time::Clock;
 
 // Measures the batches at node 1.
-fn measure_node<R: Clock + Print, M: MakesKeepers>(
+fn measure_node<R: Clock + Print>(
     rt: &R,
     alloc: Global,
-    maker: &mut M,
     batches: Batches,
     runs: u32,
 ) -> Result<(), Fail> {
-    let keeper = keeper_of(alloc, maker, 1)?;
+    let keeper = keeper_of(alloc, &mut MemMaker, 1)?;
     let mut node = node_over(alloc, keeper, 1)?;
     let people = people_node(alloc, &mut node)?;
     measure_step(rt, "at a plain node", runs, || {
@@ -46,31 +45,35 @@ fn measure_served<
     measure_step(&rt, name, runs, || batches.at_crew(rt, alloc, crew, people))
 }
 
-// Measures the batches at a crew of so many workers, of the node whose number is one more.
-fn measure_crew<
-    R: Threads + Wait + Clock + Print + Sync + Send + Copy + Drop + 'static,
-    M: MakesKeepers,
->(rt: R, alloc: Global, maker: &mut M, workers: u8, batches: Batches, runs: u32) -> Result<(), Fail>
+// Measures the batches at a crew of so many workers, of node 1.
+fn measure_crew<R: Threads + Wait + Clock + Print + Sync + Send + Copy + Drop + 'static>(
+    rt: R,
+    alloc: Global,
+    workers: u8,
+    batches: Batches,
+    runs: u32,
+) -> Result<(), Fail>
     requires some { 1 ≤ workers }
     requires few { workers ≤ 4 }
 {
-    let number = workers as u32 + 1;
-    let keeper = keeper_of(alloc, maker, number)?;
-    let mut crew = crew_over(&rt, alloc, keeper, number, workers, OpenGate)?;
+    let keeper = keeper_of(alloc, &mut MemMaker, 1)?;
+    let mut crew = crew_over(&rt, alloc, keeper, 1, workers, OpenGate)?;
     let told = measure_served(rt, alloc, &mut crew, name_of(workers), batches, runs);
     drop(crew.close(&rt));
     told
 }
 
 /// Measures the batches at a plain node, and at each crew, each over a keeper of its own.
-pub fn measure_each<
-    R: Threads + Wait + Clock + Print + Sync + Send + Copy + Drop + 'static,
-    M: MakesKeepers,
->(rt: R, alloc: Global, maker: &mut M, batches: Batches, timed: bool) -> Result<(), Fail> {
+pub fn measure_each<R: Threads + Wait + Clock + Print + Sync + Send + Copy + Drop + 'static>(
+    rt: R,
+    alloc: Global,
+    batches: Batches,
+    timed: bool,
+) -> Result<(), Fail> {
     let runs = if timed { 5 } else { 1 };
-    measure_node(&rt, alloc, maker, batches, runs)?;
+    measure_node(&rt, alloc, batches, runs)?;
     for workers in 1..5 {
-        measure_crew(rt, alloc, maker, workers, batches, runs)?;
+        measure_crew(rt, alloc, workers, batches, runs)?;
     }
     Ok(())
 }

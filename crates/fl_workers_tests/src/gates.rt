@@ -14,8 +14,8 @@ use std::thread::Threads;
 // How many turns a worker waits at most.
 const TURNS: u64 = 1_000_000_000;
 
-// Waits until the number is at least this. False where it gave up.
-fn reaches(number: &AtomicU64, least: u64) -> bool {
+/// Waits until the number is at least this. False where it gave up.
+pub fn reaches(number: &AtomicU64, least: u64) -> bool {
     for _ in 0..TURNS {
         if number.load(Ordering::SeqCst) >= least {
             return true;

@@ -6,6 +6,8 @@ mod batches;
 #[cfg(test)]
 mod gates;
 #[cfg(test)]
+mod held;
+#[cfg(test)]
 mod messages;
 #[cfg(test)]
 mod orders;

@@ -1,4 +1,4 @@
-//! Crews over keepers in memory, what they are asked for, and what their entries say.
+//! Crews, what they are asked for, and what their entries say.
 ghost use Rattle.std.specs.Prelude.{◌≤◌};
 
 use fl_crew_model::record::Told;
@@ -9,6 +9,7 @@ use fl_labels::endpoint::Endpoint;
 use fl_labels::name::Name;
 use fl_labels::pid::Pid;
 use fl_ops::op::{Body, Op, Policy};
+use fl_store::keeper::Keeper;
 use fl_store::mem::MemKeeper;
 use fl_system::answer::Fault;
 use fl_wire::packet::Packet;
@@ -111,11 +112,12 @@ fn lines_of(alloc: Global, entries: &[Entry]) -> Option<Vec<Line>> {
 /// at another place.
 pub fn serves<
     R: Threads + Wait + Sync + Send + Copy + Drop + 'static,
+    K: Keeper,
     G: Gate + Send + Drop + 'static,
 >(
     rt: R,
     alloc: Global,
-    crew: &mut MemCrew<G>,
+    crew: &mut Crew<K, G>,
     jobs: Vec<Job>,
     packets: Vec<Packet>,
 ) -> Option<Vec<Line>> {
@@ -124,13 +126,13 @@ pub fn serves<
 }
 
 /// A crew of node 1 over a keeper, with so many workers and this gate.
-pub fn crew_over<R: Wait, G: Gate + Send + Drop + 'static>(
+pub fn crew_over<R: Wait, K: Keeper + Drop, G: Gate + Send + Drop + 'static>(
     rt: &R,
     alloc: Global,
-    keeper: MemKeeper,
+    keeper: K,
     workers: u8,
     gate: G,
-) -> Result<MemCrew<G>, Fail>
+) -> Result<Crew<K, G>, Fail>
     requires some { 1 ≤ workers }
     requires few { workers ≤ 16 }
 {
@@ -143,8 +145,9 @@ pub fn crew_over<R: Wait, G: Gate + Send + Drop + 'static>(
 /// Whether the crew is asked for two processes, and makes the first two.
 pub fn makes_two<
     R: Threads + Wait + Sync + Send + Copy + Drop + 'static,
+    K: Keeper,
     G: Gate + Send + Drop + 'static,
->(rt: R, alloc: Global, crew: &mut MemCrew<G>) -> Option<bool> {
+>(rt: R, alloc: Global, crew: &mut Crew<K, G>) -> Option<bool> {
     let jobs = Vec::from_array(alloc, [Job::Proc, Job::Proc]).ok()?;
     let lines = serves(rt, alloc, crew, jobs, Vec::new(alloc))?;
     let one = Line {
