@@ -233,8 +233,9 @@ impl CapSet {
 
     /// Adds each member of the other set, in place. Fails only where one of them is new and there
     /// is not enough memory, and then leaves the set. Where none is new it takes no memory. Two
-    /// binary searches for each member of the other; each that is new moves as many capabilities as
-    /// with `insert`, and so none where all come behind what is there, or all in front of it.
+    /// binary searches for each member of the other. Each that is new moves as many capabilities as
+    /// with `insert`, so none where all come behind what is there. Where all come in front of it,
+    /// room is made by one copy, and each moves those of the other alone that came before it.
     pub fn insert_all(&mut self, other: &CapSet) -> Result<(), AllocError>
         ensures ok { OnOk result (self.new ≡ set.union self.old other.now) }
         ensures err { OnErr result (self.new ≡ self.old) }

@@ -1,7 +1,7 @@
 -- The least name of several predicates, and what two registries have against each other.
 use Rattle.std.proofs.Common.{◌≡◌, ◌↔◌, ◌⊎◌, inl, inr, ℕ, Bool, true, false, ◌||◌, List, [], ◌∷◌, ◌++◌, Option, None, Some, refl, sym, ap, subst, ◌∙◌, arith, cond, Ordering, Less, Equal, Greater}
 use Rattle.std.specs.List.{Contains}
-use Rattle.std.specs.Ordering.{is_lt, ord_min, ordering_reverse}
+use Rattle.std.specs.Ordering.{is_lt, ordering_reverse}
 use Rattle.std.proofs.lemmas.Bool.{false≢true, or_cases}
 use Rattle.std.proofs.lemmas.List.Elements.{Contains-push, Contains-push_cases, Contains-append_left}
 use Rattle.fl_labels.specs.Name.{name_cmp}
