@@ -1,79 +1,69 @@
-//! What is measured: batches at a plain node, and at crews of one to four workers.
-ghost use Rattle.std.specs.Prelude.{◌≤◌};
+//! What is measured: a plain node, and crews.
+ghost use Rattle.std.specs.Prelude.{◌<◌, ◌≤◌};
 
-use crate::serving::{Batches, people_crew, people_node};
-use crew_measuring::subjects::{crew_over, keeper_of, name_of, node_over};
-use fl_makers::mem::MemMaker;
+use fl_labels::name::NodeNumber;
+use fl_makers::maker::MakesKeepers;
+use fl_node::node::Node;
 use fl_store::keeper::Keeper;
 use fl_workers::crew::Crew;
-use fl_workers::gate::OpenGate;
-use measuring::steps::measure_step;
+use fl_workers::gate::Gate;
 use std::alloc::Global;
 use std::sync::Wait;
 use std::test::Fail;
-use std::thread::Threads;
-use std::time::Clock;
 
-// Measures the batches at node 1.
-fn measure_node<R: Clock + Print>(
+/// A keeper for the node of this number.
+pub fn keeper_of<M: MakesKeepers>(
+    alloc: Global,
+    maker: &mut M,
+    number: NodeNumber,
+) -> Result<M::K, Fail>
+    requires { 0 < number }
+{
+    match maker.make(alloc, number) {
+        Ok(keeper) => Ok(keeper),
+        Err(_) => Err(Fail::from("no keeper was made")),
+    }
+}
+
+/// A node over a keeper, with one desk.
+pub fn node_over<K: Keeper + Drop>(
+    alloc: Global,
+    keeper: K,
+    number: NodeNumber,
+) -> Result<Node<K>, Fail>
+    requires { 0 < number }
+{
+    match Node::open(alloc, keeper, number, 1) {
+        Ok(node) => Ok(node),
+        Err(_) => Err(Fail::from("a node was not opened")),
+    }
+}
+
+/// A crew of so many workers over a keeper.
+pub fn crew_over<R: Wait, K: Keeper + Drop, G: Gate + Send + Drop + 'static>(
     rt: &R,
     alloc: Global,
-    batches: Batches,
-    runs: u32,
-) -> Result<(), Fail> {
-    let keeper = keeper_of(alloc, &mut MemMaker, 1)?;
-    let mut node = node_over(alloc, keeper, 1)?;
-    let people = people_node(alloc, &mut node)?;
-    measure_step(rt, "at a plain node", runs, || {
-        batches.at_node(alloc, &mut node, people)
-    })
-}
-
-// Measures the batches at a crew.
-fn measure_served<
-    R: Threads + Wait + Clock + Print + Sync + Send + Copy + Drop + 'static,
-    K: Keeper,
->(
-    rt: R,
-    alloc: Global,
-    crew: &mut Crew<K, OpenGate>,
-    name: &str,
-    batches: Batches,
-    runs: u32,
-) -> Result<(), Fail> {
-    let people = people_crew(rt, alloc, crew)?;
-    measure_step(&rt, name, runs, || batches.at_crew(rt, alloc, crew, people))
-}
-
-// Measures the batches at a crew of so many workers, of node 1.
-fn measure_crew<R: Threads + Wait + Clock + Print + Sync + Send + Copy + Drop + 'static>(
-    rt: R,
-    alloc: Global,
+    keeper: K,
+    number: NodeNumber,
     workers: u8,
-    batches: Batches,
-    runs: u32,
-) -> Result<(), Fail>
+    gate: G,
+) -> Result<Crew<K, G>, Fail>
+    requires number { 0 < number }
     requires some { 1 ≤ workers }
-    requires few { workers ≤ 4 }
+    requires few { workers ≤ 16 }
 {
-    let keeper = keeper_of(alloc, &mut MemMaker, 1)?;
-    let mut crew = crew_over(&rt, alloc, keeper, 1, workers, OpenGate)?;
-    let told = measure_served(rt, alloc, &mut crew, name_of(workers), batches, runs);
-    drop(crew.close(&rt));
-    told
+    match Crew::open(rt, alloc, keeper, number, workers, gate) {
+        Ok(crew) => Ok(crew),
+        Err(_) => Err(Fail::from("a crew was not opened")),
+    }
 }
 
-/// Measures the batches at a plain node, and at each crew, each over a keeper of its own.
-pub fn measure_each<R: Threads + Wait + Clock + Print + Sync + Send + Copy + Drop + 'static>(
-    rt: R,
-    alloc: Global,
-    batches: Batches,
-    timed: bool,
-) -> Result<(), Fail> {
-    let runs = if timed { 5 } else { 1 };
-    measure_node(&rt, alloc, batches, runs)?;
-    for workers in 1..5 {
-        measure_crew(rt, alloc, workers, batches, runs)?;
+/// In words, where a crew of so many workers is.
+pub fn name_of(workers: u8) -> &'static str {
+    match workers {
+        1 => "at a crew of one",
+        2 => "at a crew of two",
+        3 => "at a crew of three",
+        _ => "at a crew of four",
     }
-    Ok(())
 }

@@ -1,9 +1,9 @@
-//! What is measured: batches of one weight, at a plain node, and at crews of one to four workers.
+//! What is measured: batches of one work, at a plain node, and at crews of one to four workers.
 ghost use Rattle.std.specs.Prelude.{◌≤◌};
 
-use crate::people::{PEOPLE, People, Weight};
-use crew_measuring::serving::{serve_at_crew, serve_at_node};
-use crew_measuring::subjects::{crew_over, keeper_of, name_of, node_over};
+use crate::people::{PEOPLE, People, Work};
+use crate::serving::{serve_at_crew, serve_at_node};
+use crate::subjects::{crew_over, keeper_of, name_of, node_over};
 use fl_jobs::job::Job;
 use fl_makers::mem::MemMaker;
 use fl_store::keeper::Keeper;
@@ -15,10 +15,11 @@ use std::test::Fail;
 use std::thread::Threads;
 use std::time::{Clock, Instant};
 
-/// So many batches of jobs of one weight.
+/// So many batches of so many jobs of one work.
 #[derive(Clone, Copy)]
 pub struct Load {
-    pub weight: Weight,
+    pub work: Work,
+    pub jobs: u32,
     pub batches: u32,
     /// Whether times are printed.
     pub timed: bool,
@@ -86,7 +87,7 @@ fn measure_batches<R: Clock + Print, F: FnMut(Vec<Job>) -> Result<usize, Fail>>(
     }
     let mut served = Served::none();
     for batch in 0..load.batches {
-        let jobs = people.jobs(alloc, batch)?;
+        let jobs = people.jobs(alloc, batch, load.jobs)?;
         let start = Instant::now(rt)?;
         let admitted = serve(jobs)?;
         served = served.with(admitted, start.elapsed(rt)?.as_nanos());
@@ -98,7 +99,7 @@ fn measure_batches<R: Clock + Print, F: FnMut(Vec<Job>) -> Result<usize, Fail>>(
 fn measure_node<R: Clock + Print>(rt: &R, alloc: Global, load: Load) -> Result<(), Fail> {
     let keeper = keeper_of(alloc, &mut MemMaker, 1)?;
     let mut node = node_over(alloc, keeper, 1)?;
-    let people = People::new(node.number(), node.boot(), load.weight);
+    let people = People::new(node.number(), node.boot(), load.work);
     measure_batches(
         rt,
         alloc,
@@ -114,7 +115,7 @@ fn measure_served<
     R: Threads + Wait + Clock + Print + Sync + Send + Copy + Drop + 'static,
     K: Keeper,
 >(rt: R, alloc: Global, crew: &mut Crew<K, OpenGate>, name: &str, load: Load) -> Result<(), Fail> {
-    let people = People::new(crew.node().number(), crew.node().boot(), load.weight);
+    let people = People::new(crew.node().number(), crew.node().boot(), load.work);
     measure_batches(&rt, alloc, name, people, load, |jobs: Vec<Job>| {
         serve_at_crew(rt, alloc, crew, jobs)
     })
