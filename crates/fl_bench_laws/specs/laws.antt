@@ -8,3 +8,4 @@ pub mod OneMail
 pub mod OneResult
 pub mod Guarded
 pub mod Arrivals
+pub mod Alike

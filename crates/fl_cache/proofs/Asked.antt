@@ -1,6 +1,6 @@
 -- What a cache still knows.
 use Rattle.std.specs.Prelude.{◌≡◌, ◌&&◌, ◌⊎◌, Bool, true, false, List, Contains, Option, Some, None, OnOk, OnErr, Result, Ok, Err, is_some}
-use Rattle.std.proofs.Common.{refl, inl, inr, sym, ap, subst, ◌∙◌}
+use Rattle.std.proofs.Common.{refl, inl, inr, sym, subst, ◌∙◌}
 use Rattle.std.specs.Cmp.{Equal-is}
 use Rattle.std.specs.Map.{lookup}
 use Rattle.std.specs.Option.{option_map}

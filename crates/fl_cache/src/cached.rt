@@ -1,8 +1,9 @@
 //! An index with a cache of what it answered yes.
 ghost use Rattle.std.specs.Prelude.{◌≡◌, OnOk, OnErr, false};
+ghost use Rattle.std.specs.List.{Contains};
 ghost use Rattle.fl_labels.specs.Found.{Tells};
 ghost use Rattle.fl_labels.specs.SetBy as set;
-ghost use Rattle.fl_labels.specs.SetBy.{In, IsMissing};
+ghost use Rattle.fl_labels.specs.SetBy.{In};
 ghost use Rattle.fl_ops.specs.declared.op.Op.{Op};
 ghost use Rattle.fl_ops.specs.Registry.{From, Reach};
 
@@ -10,7 +11,6 @@ use crate::yes::YesCache;
 use fl_closure::index::Index;
 use fl_labels::cap::Cap;
 use fl_ops::op::Op;
-use fl_opset::set::OpSet;
 use std::alloc::{AllocError, Global};
 use std::marker::Model;
 
@@ -76,27 +76,12 @@ impl CachedIndex {
         &self.index
     }
 
-    /// The operations.
-    pub fn ops(&self) -> &OpSet
-        ensures { result.now ≡ self.now }
-    {
-        self.index.ops()
-    }
-
-    /// Adds an operation, as [`Index::absorb`] does. What the cache keeps stays.
-    pub fn absorb(&mut self, op: &Op) -> Result<(), AllocError>
-        ensures ok { OnOk result (self.new ≡ set.insert self.old op.now) }
-        ensures err { OnErr result (self.new ≡ self.old) }
-        ensures absent { OnErr result (set.contains self.old op.now ≡ false) }
-    {
-        self.index.absorb(op)
-    }
-
     /// Adds operations, all or none, as [`Index::absorb_all`] does. What the cache keeps stays.
-    pub fn absorb_all(&mut self, alloc: Global, ops: &OpSet) -> Result<(), AllocError>
-        ensures ok { OnOk result (self.new ≡ set.union self.old ops.now) }
+    pub fn absorb_all(&mut self, alloc: Global, ops: &[Op]) -> Result<(), AllocError>
+        ensures ok { OnOk result (self.new ≡ set.union self.old (set.of_list ops.now)) }
         ensures err { OnErr result (self.new ≡ self.old) }
-        ensures absent { OnErr result ((op : Op) × IsMissing ops.now self.old op) }
+        ensures absent { OnErr result
+            ((op : Op) × Contains ops.now op × (set.contains self.old op ≡ false)) }
     {
         self.index.absorb_all(alloc, ops)
     }

@@ -2,5 +2,4 @@
 #![tactic(auto)]
 
 pub mod cached;
-mod view;
 pub mod yes;

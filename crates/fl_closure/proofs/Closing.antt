@@ -33,10 +33,10 @@ abbrev cap_in : Cap → Option Entry → Cap
 cap_in c None = c
 cap_in c (Some e) = e.cap
 
-first_part : {h k : Owner} {x y : Cap} → Some (entry h x) ≡ Some (entry k y) → h ≡ k
+pub first_part : {h k : Owner} {x y : Cap} → Some (entry h x) ≡ Some (entry k y) → h ≡ k
 first_part e = ap owner_in e
 
-second_part : {h k : Owner} {x y : Cap} → Some (entry h x) ≡ Some (entry k y) → x ≡ y
+pub second_part : {h k : Owner} {x y : Cap} → Some (entry h x) ≡ Some (entry k y) → x ≡ y
 second_part {x} e = ap (cap_in x) e
 
 -- an operation that opens a group gives everybody the use of it

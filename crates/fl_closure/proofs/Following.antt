@@ -1,30 +1,30 @@
--- What follows from operations: what is reached, and which groups are opened.
+-- What follows from operations: what is reached, and what everybody is given.
 use Rattle.std.specs.Prelude.{◌⊎◌, ◌↔◌, List}
 use Rattle.std.proofs.Common.{inl, inr}
-use Rattle.fl_labels.specs.declared.name.Name.{Name}
 use Rattle.fl_labels.specs.declared.cap.Cap.{Cap}
 use Rattle.fl_ops.specs.declared.op.Op.{Op}
-use Rattle.fl_ops.specs.Registry.{Registry, open_op, IsOpened, Listed}
+use Rattle.fl_ops.specs.Registry.{Registry, Listed}
 use Rattle.fl_closure.specs.declared.closed.ClosedRows.{ClosedRows}
 use Rattle.fl_closure.specs.declared.rows.Owner.{Owner}
-use Rattle.fl_closure.specs.declared.opened.Opened.{Opened}
+use Rattle.fl_closure.specs.declared.rows.Owner.TheVariants.{Everybody}
+use Rattle.fl_closure.specs.declared.globals.Globals.{Globals}
 use Rattle.fl_closure.specs.declared.closure.Closure.{Closure}
 use Rattle.fl_closure.specs.declared.closure.News.{News}
 use Rattle.fl_closure.specs.parts.Rows.{Holds, IsSameRows}
-use Rattle.fl_closure.specs.parts.Closed.{AreMirrored, With, ClosesWith}
-use Rattle.fl_closure.specs.parts.Opened.{Has, OpensAll}
+use Rattle.fl_closure.specs.parts.Closed.{AreMirrored, Gives, IsGiven, With, ClosesWith}
+use Rattle.fl_closure.specs.parts.Globals.{Has, GivesAll}
 use Rattle.fl_closure.specs.parts.Closure.{IsClosure, FollowsWith, GainsAll, LosesAll}
 use Rattle.fl_closure.proofs.Growing.{same_gifts}
 use Rattle.fl_closure.proofs.Noting.{taken_back}
 use Rattle.fl_closure.proofs.Giving.{mirrored_same}
-use Rattle.fl_closure.proofs.Opening.{groups_back}
+use Rattle.fl_closure.proofs.GivingAll.{caps_back}
 
-pub nothing_follows : (rows : ClosedRows) (opened : Opened) → ((owner : Owner) (c : Cap) → ¬ Holds rows.reached owner c)
-    → AreMirrored rows → ((group : Name) → ¬ Has opened group) → IsClosure (λ (op : Op). ⊥) (record { rows = rows; opened = opened })
-nothing_follows rows opened nothing mirrored none = record {
+pub nothing_follows : (rows : ClosedRows) (globals : Globals) → ((owner : Owner) (c : Cap) → ¬ Holds rows.reached owner c)
+    → AreMirrored rows → ((c : Cap) → ¬ Has globals c) → IsClosure (λ (op : Op). ⊥) (record { rows = rows; globals = globals })
+nothing_follows rows globals nothing mirrored none = record {
   closed = record { way = λ owner c. (λ h. absurd (nothing owner c h), λ w. absurd w.1.1) };
   mirrored = mirrored;
-  opened = λ g. (λ h. absurd (none g h), λ o. absurd o.1);
+  globals = λ c. (λ h. absurd (none c h), λ g. absurd g.1);
 }
 
 -- the same operations
@@ -32,27 +32,27 @@ pub same_closure : {U V : Registry} {closure : Closure} → ((op : Op) → U op 
 same_closure same is = record {
   closed = same_gifts (λ op. (same op).0) (λ h x p. (p.0, (same p.0).1 p.1, p.2)) is.closed;
   mirrored = is.mirrored;
-  opened = λ g. (
-    λ h. let o = (is.opened g).0 h in (o.0, (same _).0 o.1),
-    λ o. (is.opened g).1 (o.0, (same _).1 o.1),
+  globals = λ c. (
+    λ h. let g = (is.globals c).0 h in (g.0, (same g.0).0 g.1, g.2),
+    λ g. (is.globals c).1 (g.0, (same g.0).1 g.1, g.2),
   );
 }
 
 pub follows : (old new : Closure) (ops : List Op) → ClosesWith old.rows.reached ops new.rows.reached → AreMirrored new.rows
-    → OpensAll old.opened ops new.opened → FollowsWith old ops new
-follows old new ops closes mirrored opens s is = record {
+    → GivesAll old.globals ops new.globals → FollowsWith old ops new
+follows old new ops closes mirrored gives s is = record {
   closed = closes s is.closed;
   mirrored = mirrored;
-  opened = λ g. (λ h. to g ((opens.has g).0 h), λ o. (opens.has g).1 (from g o.0 o.1));
+  globals = λ c. (λ h. to c ((gives.has c).0 h), λ g. (gives.has c).1 (from c g.0 g.1 g.2));
 }
   where
-    to : (g : Name) → Has old.opened g ⊎ IsOpened (Listed ops) g → IsOpened (With s ops) g
-    to g (inl m) = let o = (is.opened g).0 m in (o.0, inl o.1)
-    to g (inr o) = (o.0, inr o.1)
+    to : (c : Cap) → Has old.globals c ⊎ IsGiven (Listed ops) Everybody c → IsGiven (With s ops) Everybody c
+    to c (inl m) = let g = (is.globals c).0 m in (g.0, inl g.1, g.2)
+    to c (inr g) = (g.0, inr g.1, g.2)
 
-    from : (g name : Name) → With s ops (open_op name g) → Has old.opened g ⊎ IsOpened (Listed ops) g
-    from g name (inl m) = inl ((is.opened g).1 (name, m))
-    from g name (inr m) = inr (name, m)
+    from : (c : Cap) (op : Op) → With s ops op → Gives op Everybody c → Has old.globals c ⊎ IsGiven (Listed ops) Everybody c
+    from c op (inl m) p = inl ((is.globals c).1 (op, m, p))
+    from c op (inr m) p = inr (op, m, p)
 
 -- what was added, and then taken out as it was noted
 pub undone : (U : Registry) (old mid new : Closure) (news : News) → IsClosure U old → GainsAll old news mid → LosesAll mid news new
@@ -65,7 +65,7 @@ undone U old mid new news is gains loses = record {
     );
   };
   mirrored = mirrored_same old.rows new.rows is.mirrored rows users;
-  opened = λ g. (λ h. (is.opened g).0 ((groups g).0 h), λ o. (groups g).1 ((is.opened g).1 o));
+  globals = λ c. (λ h. (is.globals c).0 ((caps c).0 h), λ g. (caps c).1 ((is.globals c).1 g));
 }
   where
     rows : IsSameRows old.rows.reached new.rows.reached
@@ -74,5 +74,5 @@ undone U old mid new news is gains loses = record {
     users : IsSameRows old.rows.users new.rows.users
     users = taken_back old.rows.users mid.rows.users new.rows.users news.rows.users.items gains.rows.users loses.rows.users
 
-    groups : (group : Name) → Has new.opened group ↔ Has old.opened group
-    groups = groups_back old.opened mid.opened new.opened news.groups.items gains.opened loses.opened
+    caps : (c : Cap) → Has new.globals c ↔ Has old.globals c
+    caps = caps_back old.globals mid.globals new.globals news.caps.items gains.globals loses.globals

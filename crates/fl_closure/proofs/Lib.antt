@@ -9,7 +9,8 @@ mod Noting
 mod Growing
 mod Giving
 mod Closing
-mod Opening
+mod GivingAll
 mod Following
+mod Held
 mod Indexing
-mod Looks
+mod LoginsAmong

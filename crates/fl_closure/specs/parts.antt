@@ -5,5 +5,7 @@ pub mod Row
 pub mod Rows
 pub mod Closed
 pub mod Noted
-pub mod Opened
+pub mod Absorbed
+pub mod Globals
+pub mod Knowing
 pub mod Closure

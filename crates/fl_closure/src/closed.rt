@@ -56,8 +56,8 @@ pub struct ClosedRows {
     alloc: Global,
 }
 
-// What the operation gives, and to whom.
-fn gift(op: &Op) -> Option<Entry>
+/// What the operation gives, and to whom.
+pub(crate) fn gift(op: &Op) -> Option<Entry>
     ensures { (owner : Owner) (c : Cap) → Gives op.now owner c ↔ (result ≡ Some (entry owner c)) }
 {
     let (owner, cap) = match op.body {
@@ -68,6 +68,17 @@ fn gift(op: &Op) -> Option<Entry>
         Body::MakeTag(Policy::Read) | Body::MakeGroup | Body::MakeLogin(_, _) => return None,
     };
     Some(Entry { owner, cap })
+}
+
+/// What the operation gives to everybody.
+pub(crate) fn global_gift(op: &Op) -> Option<Cap>
+    ensures { (c : Cap) → Gives op.now Everybody c ↔ (result ≡ Some c) }
+{
+    let entry = gift(op)?;
+    match entry.owner {
+        Owner::Everybody => Some(entry.cap),
+        Owner::Group(_) => None,
+    }
 }
 
 impl ClosedRows {
@@ -116,6 +127,14 @@ impl ClosedRows {
             }
         }
         false
+    }
+
+    /// Whether the owner reaches the capability. A search by hash, and then for a group one by
+    /// order.
+    pub fn has(&self, owner: Owner, cap: Cap) -> bool
+        ensures { Tells result (Holds self.now.reached owner cap) }
+    {
+        self.reached.has(owner, cap)
     }
 
     // The capability, and what it leads to.

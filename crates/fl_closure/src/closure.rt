@@ -2,19 +2,22 @@
 ghost use Rattle.std.specs.Prelude.{◌≡◌, OnOk, []};
 ghost use Rattle.fl_ops.specs.declared.op.Op.{Op};
 ghost use Rattle.fl_closure.specs.parts.Closed.{AreTransitive, AreMirrored};
+ghost use Rattle.fl_labels.specs.Found.{Tells};
 ghost use Rattle.fl_closure.specs.parts.Closure.{IsClosure, FollowsWith, GainsAll, LosesAll};
+ghost use Rattle.fl_closure.specs.parts.Knowing.{IsHeld, Follows};
 
-use crate::closed::{ClosedRows, Notes};
-use crate::opened::Opened;
-use fl_labels::name::Name;
+use crate::closed::{ClosedRows, Notes, gift};
+use crate::globals::Globals;
+use crate::rows::Owner;
+use fl_labels::cap::Cap;
 use fl_ops::op::Op;
 use std::alloc::{AllocError, Global};
 
 /// What is new in a closure, noted so that it can be taken out again.
-#[derive(Debug, Drop)]
+#[derive(Drop)]
 pub struct News {
     pub rows: Notes,
-    pub groups: Vec<Name>,
+    pub caps: Vec<Cap>,
 }
 
 impl News {
@@ -22,20 +25,20 @@ impl News {
     pub fn new(alloc: Global) -> Self
         ensures reached { result.rows.reached.items ≡ [] }
         ensures users { result.rows.users.items ≡ [] }
-        ensures groups { result.groups.items ≡ [] }
+        ensures caps { result.caps.items ≡ [] }
     {
         News {
             rows: Notes::new(alloc),
-            groups: Vec::new(alloc),
+            caps: Vec::new(alloc),
         }
     }
 }
 
-/// What each group reaches and what everybody does, and which groups are opened.
-#[derive(Debug, Drop)]
+/// What each group reaches and what everybody does, and what everybody is given.
+#[derive(Drop)]
 pub struct Closure {
     pub rows: ClosedRows,
-    pub opened: Opened,
+    pub globals: Globals,
 }
 
 impl Closure {
@@ -45,7 +48,28 @@ impl Closure {
     {
         Closure {
             rows: ClosedRows::new(alloc),
-            opened: Opened::new(alloc),
+            globals: Globals::new(alloc),
+        }
+    }
+
+    // Whether the owner has the capability: everybody, as what is given.
+    fn has(&self, owner: Owner, cap: Cap) -> bool
+        ensures { Tells result (IsHeld self.now owner cap) }
+    {
+        match owner {
+            Owner::Everybody => self.globals.has(cap),
+            Owner::Group(_) => self.rows.has(owner, cap),
+        }
+    }
+
+    /// Whether all that the operation gives is there. A search by hash and one by order; takes no
+    /// memory.
+    pub fn follows(&self, op: &Op) -> bool
+        ensures { Tells result (Follows self.now op.now) }
+    {
+        match gift(op) {
+            None => true,
+            Some(entry) => self.has(entry.owner, entry.cap),
         }
     }
 
@@ -56,11 +80,11 @@ impl Closure {
         requires mirrored { AreMirrored self.old.rows }
         requires reached { news.old.rows.reached.items ≡ [] }
         requires users { news.old.rows.users.items ≡ [] }
-        requires groups { news.old.groups.items ≡ [] }
+        requires caps { news.old.caps.items ≡ [] }
         ensures ok { OnOk result (FollowsWith self.old ops.now self.new) }
         ensures news { GainsAll self.old news.new self.new }
     {
-        self.opened.open_all(ops, &mut news.groups)?;
+        self.globals.give_all(ops, &mut news.caps)?;
         self.rows.give_all(ops, &mut news.rows)
     }
 
@@ -68,7 +92,7 @@ impl Closure {
     pub fn take_all(&mut self, news: &News)
         ensures { LosesAll self.old news.now self.new }
     {
-        self.opened.take_all(&news.groups);
+        self.globals.take_all(&news.caps);
         self.rows.take_all(&news.rows);
     }
 }

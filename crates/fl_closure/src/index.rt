@@ -1,44 +1,49 @@
 //! The index of who reaches what.
 ghost use Rattle.std.specs.Prelude.{◌≡◌, OnOk, OnErr, false};
+ghost use Rattle.std.specs.List.{Contains};
 ghost use Rattle.fl_labels.specs.Found.{Tells, Within};
 ghost use Rattle.fl_labels.specs.SetBy as set;
-ghost use Rattle.fl_labels.specs.SetBy.{In, IsMissing};
+ghost use Rattle.fl_labels.specs.SetBy.{In};
 ghost use Rattle.fl_ops.specs.declared.op.Op.{Op};
 ghost use Rattle.fl_ops.specs.OpOrder.{op_cmp};
 ghost use Rattle.fl_ops.specs.Logins.{FindsLogin};
-ghost use Rattle.fl_ops.specs.Registry as spec;
 ghost use Rattle.fl_ops.specs.Registry.{Reach, From, IsGlobal, InEffect, Listed};
+ghost use Rattle.fl_closure.specs.parts.Knowing.{IsKnown};
 
+use crate::absorbed::Absorbed;
 use crate::closure::{Closure, News};
+use crate::logins::logins_of;
 use fl_labels::cap::Cap;
 use fl_labels::cap_set::CapSet;
 use fl_labels::name::Name;
 use fl_ops::digest::Digest;
-use fl_ops::op::{Body, Op, Policy};
+use fl_ops::op::{Body, Op};
 use fl_opset::set::OpSet;
 use std::alloc::{AllocError, Global};
 use std::marker::Model;
 
-/// A set of operations, with all that each group and everybody reaches through them, so that a
-/// question is a look into a row or two.
+/// A set of operations, by all that each group and everybody reaches through them, so that a
+/// question is a look into a row or two. The operations themselves are not kept, but for the logins
+/// among them. Contracts see the set.
 ///
 /// What a group reaches stands in blocks, of up to 32 capabilities of one kind and one node whose
 /// numbers, divided by 32, are the same. Each block takes some 20 bytes, and of uses of groups the
 /// groups that are used have blocks of their users, as much again: ten thousand groups in a chain
 /// would have fifty million pairs in three million blocks. What everybody reaches takes 30 to 40
-/// bytes a block, and each opened group some 20.
-#[derive(Debug)]
+/// bytes a block, and each capability that an operation gives to everybody some 20.
 pub struct Index {
-    ops: OpSet,
     closure: Closure,
+    logins: OpSet,
+    absorbed: Absorbed,
     alloc: Global,
 }
 
 impl Drop for Index {
     fn drop(self) {
         let Index {
-            ops: _,
             closure: _,
+            logins: _,
+            absorbed: _,
             alloc: _,
         } = self;
     }
@@ -46,37 +51,39 @@ impl Drop for Index {
 
 impl Model for Index {
     ghost use Rattle.fl_labels.specs.SetBy as set;
-    ghost use Rattle.fl_labels.specs.SetBy.{In};
     ghost use Rattle.fl_ops.specs.OpOrder.{op_cmp};
     ghost use Rattle.fl_ops.specs.OpLaws.{coded_op};
-    ghost use Rattle.fl_closure.specs.parts.Closure.{IsClosure};
+    ghost use Rattle.fl_closure.specs.parts.Knowing.{IsIndex};
 
     ghost Value = { set.SetBy op_cmp };
 
     ghost coded = { set.code coded_op };
 
-    ghost view = { λ a. a.ops };
+    ghost view = { λ a. set.of_list a.absorbed };
 
-    ghost invariant = { λ a. IsClosure (In a.ops) a.closure };
+    ghost invariant = { λ a. IsIndex a.absorbed a.closure a.logins };
 }
 
-// The operation that makes a tag.
-fn tag_op(name: Name, policy: Policy) -> Op
-    ensures { result ≡ spec.tag_op name policy }
+// Whether all that follows from the operation is there.
+fn knows(closure: &Closure, logins: &OpSet, op: &Op) -> bool
+    ensures { Tells result (IsKnown closure.now logins.now op.now) }
 {
-    Op {
-        name,
-        body: Body::MakeTag(policy),
+    if !closure.follows(op) {
+        return false;
+    }
+    match op.body {
+        Body::MakeLogin(_, _) => logins.contains(op),
+        _ => true,
     }
 }
 
-// Whether each of the operations is a member. A binary search for each, up to the first that is
-// none.
-fn has_all(ops: &OpSet, others: &[Op]) -> bool
-    ensures { Tells result (Within (Listed others.now) (In ops.now)) }
+// Whether all that follows from the operations is there. Looks for each, up to the first of which
+// it is not.
+fn knows_all(closure: &Closure, logins: &OpSet, ops: &[Op]) -> bool
+    ensures { Tells result (Within (Listed ops.now) (IsKnown closure.now logins.now)) }
 {
-    for op in others {
-        if !ops.contains(op) {
+    for op in ops {
+        if !knows(closure, logins, op) {
             return false;
         }
     }
@@ -89,17 +96,11 @@ impl Index {
         ensures { result ≡ set.empty }
     {
         Index {
-            ops: OpSet::new(alloc),
             closure: Closure::new(alloc),
+            logins: OpSet::new(alloc),
+            absorbed: Absorbed::new(),
             alloc,
         }
-    }
-
-    /// The operations.
-    pub fn ops(&self) -> &OpSet
-        ensures { result.now ≡ self.now }
-    {
-        &self.ops
     }
 
     /// The least login of this name, as its capability and the digest of its secret, or none. A
@@ -107,70 +108,54 @@ impl Index {
     pub fn login(&self, name: Name) -> Option<(Cap, Digest)>
         ensures { FindsLogin (In self.now) name result }
     {
-        self.ops.first_login(name)
+        self.logins.first_login(name)
     }
 
     /// Adds an operation; one that is there already changes nothing. Fails only of a new one for
-    /// which there is not enough memory, and then leaves the index.
-    ///
-    /// A search by order, and the operations above it move. A put of what its group lacks also
-    /// renews the rows of that group, of each group that reaches the use of it, and of everybody
-    /// where everybody does; but where a use is put, of none that reaches it already. That costs
-    /// each of these rows a search by hash and one by order for each block that the group gains,
-    /// and each group whose use it gains as much for each block of those groups. A put of what its
-    /// group reaches already looks into the one row. An operation that makes an export tag or an
-    /// integrity tag so renews everybody's row alone, and so does one that opens a group, which is
-    /// also looked for among the opened ones.
+    /// which there is not enough memory, and then leaves the index. Costs what `absorb_all` does.
     pub fn absorb(&mut self, op: &Op) -> Result<(), AllocError>
         ensures ok { OnOk result (self.new ≡ set.insert self.old op.now) }
         ensures err { OnErr result (self.new ≡ self.old) }
         ensures absent { OnErr result (set.contains self.old op.now ≡ false) }
     {
-        if self.ops.contains(op) {
-            return Ok(());
-        }
-        let mut news = News::new(self.alloc);
-        if let Err(error) = self.closure.give_all(&[*op], &mut news) {
-            self.closure.take_all(&news);
-            return Err(error);
-        }
-        if let Err(error) = self.ops.add(*op) {
-            self.closure.take_all(&news);
-            return Err(error);
-        }
-        Ok(())
+        let alloc = self.alloc;
+        self.absorb_all(alloc, &[*op])
     }
 
     /// Adds operations, all or none. Fails only where one of them is new and there is not enough
     /// memory, and then leaves the index.
     ///
-    /// A copy of the operations in one piece, and a binary search for each up to the first that is
-    /// new; then as `OpSet::merge` for the operations, and for each as `absorb` for the rows. Until
-    /// it ends, what is new in the rows is also in a list, so that it can be taken out again without
-    /// memory. Where there is no memory for the copy, as `OpSet::has_each`.
-    pub fn absorb_all(&mut self, alloc: Global, ops: &OpSet) -> Result<(), AllocError>
-        ensures ok { OnOk result (self.new ≡ set.union self.old ops.now) }
+    /// A look for each, up to the first of which not all is there that follows from it; where there
+    /// is none, no memory is taken. Else a put of what its group lacks renews the rows of that
+    /// group, of each group that reaches the use of it, and of everybody where everybody does; but
+    /// where a use is put, of none that reaches it already. That costs each of these rows a search
+    /// by hash and one by order for each block that the group gains, and each group whose use it
+    /// gains as much for each block of those groups. A put of what its group reaches already looks
+    /// into the one row. An operation that gives something to everybody so renews everybody's row
+    /// alone, and what it gives is also looked for among what others gave. A login is put among the
+    /// others. Until it ends, what is new is also in a list, so that it can be taken out again
+    /// without memory.
+    pub fn absorb_all(&mut self, alloc: Global, ops: &[Op]) -> Result<(), AllocError>
+        ensures ok { OnOk result (self.new ≡ set.union self.old (set.of_list ops.now)) }
         ensures err { OnErr result (self.new ≡ self.old) }
-        ensures absent { OnErr result ((op : Op) × IsMissing ops.now self.old op) }
+        ensures absent { OnErr result
+            ((op : Op) × Contains ops.now op × (set.contains self.old op ≡ false)) }
     {
-        let Ok(list) = ops.to_vec(alloc) else {
-            if self.ops.has_each(ops) {
-                return Ok(());
-            }
-            return Err(AllocError);
-        };
-        if has_all(&self.ops, &list) {
+        if knows_all(&self.closure, &self.logins, ops) {
+            self.absorbed.add_all(ops);
             return Ok(());
         }
+        let logins = logins_of(alloc, ops)?;
         let mut news = News::new(alloc);
-        if let Err(error) = self.closure.give_all(&list, &mut news) {
+        if let Err(error) = self.closure.give_all(ops, &mut news) {
             self.closure.take_all(&news);
             return Err(error);
         }
-        if let Err(error) = self.ops.merge(ops) {
+        if let Err(error) = self.logins.merge(&logins) {
             self.closure.take_all(&news);
             return Err(error);
         }
+        self.absorbed.add_all(ops);
         Ok(())
     }
 
@@ -189,12 +174,7 @@ impl Index {
     pub fn global(&self, cap: Cap) -> bool
         ensures { Tells result (IsGlobal (In self.now) cap) }
     {
-        match cap {
-            Cap::Plus(tag) => self.ops.contains(&tag_op(tag, Policy::Export)),
-            Cap::Minus(tag) => self.ops.contains(&tag_op(tag, Policy::Integrity)),
-            Cap::Use(group) => self.closure.opened.has(group),
-            Cap::Grow(_) => false,
-        }
+        self.closure.globals.has(cap)
     }
 
     /// Whether the owner of these capabilities has this one in effect: reaches it from what it

@@ -9,7 +9,6 @@ use fl_labels::cap::Cap;
 use fl_labels::cap_set::CapSet;
 use fl_labels::name::Name;
 use fl_ops::op::{Body, Op, Policy};
-use fl_ops::view::View;
 use std::alloc::{AllocError, Global};
 use std::test::Fail;
 
@@ -79,9 +78,9 @@ fn cache_of_one(rt: HostRuntime) -> Result<(), AllocError> {
 }
 
 // Whether a no becomes a yes by a put, and stays one as the cache is renewed.
-fn becomes_yes(index: &mut CachedIndex) -> Result<bool, AllocError> {
+fn becomes_yes(alloc: Global, index: &mut CachedIndex) -> Result<bool, AllocError> {
     let is_no = !index.reaches(USE, Cap::Plus(TAG));
-    index.absorb(&put(1, Cap::Plus(TAG)))?;
+    index.absorb_all(alloc, &[put(1, Cap::Plus(TAG))])?;
     let is_yes = index.reaches(USE, Cap::Plus(TAG));
     index.renew();
     let stays = index.reaches(USE, Cap::Plus(TAG));
@@ -91,25 +90,24 @@ fn becomes_yes(index: &mut CachedIndex) -> Result<bool, AllocError> {
 #[test]
 fn no_becomes_yes(rt: HostRuntime) -> Result<(), AllocError> {
     let mut index = CachedIndex::new(rt.alloc());
-    assert!(rt; becomes_yes(&mut index)?);
+    assert!(rt; becomes_yes(rt.alloc(), &mut index)?);
     Ok(())
 }
 
-// What the view answers, through the trait, where a tag is put into the group that is owned.
-fn tells(index: &mut CachedIndex, owned: &CapSet) -> Result<bool, AllocError> {
-    index.absorb(&put(1, Cap::Plus(TAG)))?;
+// What the index answers where a tag is put into the group that is owned.
+fn tells(alloc: Global, index: &mut CachedIndex, owned: &CapSet) -> Result<bool, AllocError> {
+    index.absorb_all(alloc, &[put(1, Cap::Plus(TAG))])?;
     Ok(
-        View::seen(index) == 1
-            && View::effective(index, owned, Cap::Plus(TAG))
-            && View::reaches(index, USE, Cap::Plus(TAG))
-            && View::login(index, TAG).is_none(),
+        index.index().effective(owned, Cap::Plus(TAG))
+            && index.reaches(USE, Cap::Plus(TAG))
+            && index.index().login(TAG).is_none(),
     )
 }
 
 #[test]
-fn view_asks_what_the_index_has(rt: HostRuntime) -> Result<(), Fail> {
+fn cached_index_tells_what_it_has(rt: HostRuntime) -> Result<(), Fail> {
     let owned = CapSet::from_text(rt.alloc(), "{*1.1}")?;
     let mut index = CachedIndex::new(rt.alloc());
-    assert!(rt; tells(&mut index, &owned)?);
+    assert!(rt; tells(rt.alloc(), &mut index, &owned)?);
     Ok(())
 }

@@ -6,8 +6,6 @@ use fl_labels::cap_set::CapSet;
 use fl_labels::name::Name;
 use fl_ops::digest::Digest;
 use fl_ops::op::{Body, Op, Policy};
-use fl_ops::view::View;
-use fl_opset::set::OpSet;
 use std::alloc::{AllocError, Global};
 use std::test::Fail;
 
@@ -169,19 +167,6 @@ fn the_least_login_is_told(rt: HostRuntime) -> Result<(), AllocError> {
     Ok(())
 }
 
-// Whether the index has the group 1.4 and these two operations alone, each once.
-fn counts_once(index: &Index, owned: &CapSet, first: Op, second: Op) -> bool {
-    let group = Op {
-        name: FOURTH,
-        body: Body::MakeGroup,
-    };
-    let ops = index.ops();
-    ops.len() == 3
-        && ops.of_node(1) == [group].as_slice()
-        && ops.of_node(2) == [first, second].as_slice()
-        && divides(index, Question::Effective(owned), "+1.1 *1.4", "-1.1")
-}
-
 #[test]
 fn an_operation_counts_once(rt: HostRuntime) -> Result<(), Fail> {
     let owned = CapSet::from_text(rt.alloc(), "{*1.4}")?;
@@ -192,7 +177,7 @@ fn an_operation_counts_once(rt: HostRuntime) -> Result<(), Fail> {
         body: Body::MakeGroup,
     };
     let index = index_of(rt.alloc(), &[first, second, first, group])?;
-    assert!(rt; counts_once(&index, &owned, first, second));
+    assert!(rt; divides(&index, Question::Effective(&owned), "+1.1 *1.4", "-1.1"));
     Ok(())
 }
 
@@ -241,31 +226,7 @@ fn row_is_renewed_upstream(rt: HostRuntime) -> Result<(), AllocError> {
     Ok(())
 }
 
-// What a view answers, through the trait.
-fn looks<V: View>(view: &mut V, owned: &CapSet) -> bool {
-    view.seen() == 4
-        && view.reaches(Cap::Use(FIRST), Cap::Use(FOURTH))
-        && view.effective(owned, Cap::Plus(NINTH))
-        && view.login(FIFTH).is_none()
-}
-
-#[test]
-fn an_index_is_a_view(rt: HostRuntime) -> Result<(), Fail> {
-    let owned = CapSet::from_text(rt.alloc(), "{*1.2}")?;
-    let mut index = row_of_four(rt.alloc())?;
-    assert!(rt; looks(&mut index, &owned));
-    Ok(())
-}
-
-fn set_of(alloc: Global, ops: &[Op]) -> Result<OpSet, AllocError> {
-    let mut set = OpSet::new(alloc);
-    for op in ops {
-        set.add(*op)?;
-    }
-    Ok(set)
-}
-
-fn absorb_twice(alloc: Global, index: &mut Index, batch: &OpSet) -> Result<(), AllocError> {
+fn absorb_twice(alloc: Global, index: &mut Index, batch: &[Op]) -> Result<(), AllocError> {
     index.absorb_all(alloc, batch)?;
     index.absorb_all(alloc, batch)
 }
@@ -275,11 +236,9 @@ fn absorb_twice(alloc: Global, index: &mut Index, batch: &OpSet) -> Result<(), A
 fn a_batch_is_added_whole(rt: HostRuntime) -> Result<(), AllocError> {
     let first = put(0, 0, Cap::Use(SECOND));
     let second = put(1, 1, Cap::Plus(NINTH));
-    let batch = set_of(rt.alloc(), &[first, second])?;
     let mut index = index_of(rt.alloc(), &[first])?;
-    absorb_twice(rt.alloc(), &mut index, &batch)?;
-    assert!(rt; index.ops().len() == 2);
-    assert!(rt; index.ops().of_node(2) == [first, second].as_slice());
+    absorb_twice(rt.alloc(), &mut index, &[first, second])?;
     assert!(rt; index.reaches(Cap::Use(FIRST), Cap::Plus(NINTH)));
+    assert!(rt; !index.reaches(Cap::Use(SECOND), Cap::Use(FIRST)));
     Ok(())
 }

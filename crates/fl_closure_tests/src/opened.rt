@@ -6,7 +6,6 @@ use fl_labels::cap::Cap;
 use fl_labels::cap_set::CapSet;
 use fl_labels::name::Name;
 use fl_ops::op::{Body, Op, Policy};
-use fl_opset::set::OpSet;
 use std::alloc::{AllocError, Global};
 use std::test::Fail;
 
@@ -120,12 +119,8 @@ fn index_alike(alloc: Global, index: &Index, registry: &Registry) -> Result<bool
 
 // The index of all these operations, added as one.
 fn batched(alloc: Global, ops: &[Op]) -> Result<Index, AllocError> {
-    let mut batch = OpSet::new(alloc);
-    for op in ops {
-        batch.add(*op)?;
-    }
     let mut index = Index::new(alloc);
-    index.absorb_all(alloc, &batch)?;
+    index.absorb_all(alloc, ops)?;
     Ok(index)
 }
 

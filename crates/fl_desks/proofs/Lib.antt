@@ -1,2 +1,3 @@
+pub mod DeskSees
 pub mod Views
 pub mod Making

@@ -1,6 +1,7 @@
 -- What desks see of a list.
 use Rattle.std.proofs.Common.{◌≡◌, ◌≤◌, ◌<◌, ◌+◌, ◌-◌, ◌++◌, ◌∙◌, refl, sym, ap, subst, arith, ℕ, zero, suc, List, [], ◌∷◌, length, take, drop, get_or, set, All, Result, Some, inl, inr}
 use Rattle.std.proofs.Common.{length-append, Bool, true, false, cond}
+use Rattle.std.proofs.Math.Seq.{take-length}
 use Rattle.std.proofs.lemmas.List.{take-append-le}
 use Rattle.std.proofs.lemmas.List.Elements.{All-weaker, All-set, All-get_or, All-nil, All-push}
 use Rattle.std.specs.Prelude.{max, min}
@@ -9,8 +10,9 @@ use Rattle.std.proofs.lemmas.Bool.Decides.{nat_tests}
 use Rattle.std.specs.declared.option.Option.{Option}
 use Rattle.std.specs.Prelude.{◌⊎◌}
 use Rattle.fl_labels.specs.declared.pid.Pid.{Pid}
+use Rattle.fl_labels.specs.Found.{Within}
 use Rattle.fl_labels.specs.SetBy as sets
-use Rattle.fl_labels.specs.SetBy.{SetBy, of_list}
+use Rattle.fl_labels.specs.SetBy.{of_list}
 use Rattle.fl_ops.specs.declared.op.Op.{Op}
 use Rattle.fl_ops.specs.OpOrder.{op_cmp}
 use Rattle.fl_system.specs.declared.state.Batch.TheVariants.{Ordered}
@@ -20,11 +22,13 @@ use Rattle.fl_jobs.specs.declared.answer.Refusal.{Refusal}
 use Rattle.fl_jobs.specs.declared.answer.Outcome.{Outcome}
 use Rattle.fl_ops.specs.Registry.{Listed}
 use Rattle.fl_bench.specs.Bench.{BenchState}
+use Rattle.fl_bench_laws.specs.laws.Alike.{does_same}
+use Rattle.fl_opset.specs.laws.Members.{listed_member, member_listed, listed_in}
 use Rattle.fl_bench.specs.Jobs.{Does}
 use Rattle.fl_system.specs.State.{first_ops}
 use Rattle.fl_system.specs.Jobs.{procs_after}
 use Rattle.fl_desks.specs.Benches.{BenchesState, bench_at, counted}
-use Rattle.fl_desks.specs.declared.listing.Desk.{Desk}
+use Rattle.fl_desks.specs.declared.desk.Desk.{Desk}
 use Rattle.fl_desks.specs.Listing.{ListingState, with_seen, extended}
 use Rattle.fl_desks.specs.parts.Fronts.{IsFront, IsListing, views_of}
 
@@ -108,7 +112,7 @@ set_same (x ∷ xs) (suc k) d is = ap (λ ys. x ∷ ys) (set_same xs k d is)
 pub front_of_more : (list more : List Op) (d : Desk) → IsFront list d → IsFront (list ++ more) d
 front_of_more list more d front = record {
   within = let longer = length-append list more in omega (arith, front.within, longer);
-  indexed = front.indexed ∙ ap (of_list {R = op_cmp}) (sym (take-append-le d.seen list more front.within));
+  front = front.front ∙ sym (take-append-le d.seen list more front.within);
 }
 
 pub fronts_of_more : (list more : List Op) (desks : List Desk) → All (IsFront list) desks → All (IsFront (list ++ more)) desks
@@ -220,6 +224,16 @@ pub record AreNew (all : List Op) (count : ℕ) (desks : List Desk) : Type 0 whe
 pub none_new : (all : List Op) (desks : List Desk) → desks ≡ [] → AreNew all 0 desks
 none_new all desks none = subst (AreNew all 0) (sym none) (record { views = refl; fronts = All-nil (IsFront all) })
 
+-- a desk that sees the whole list
+pub sees_whole : (all : List Op) (d : Desk) → d.seen ≡ length all → d.list ≡ all → (d.seen ≡ length all) × IsFront all d
+sees_whole all d seen list = (
+  seen,
+  record {
+    within = omega (arith, seen);
+    front = list ∙ sym (ap (λ n. take n all) seen ∙ take-length all);
+  },
+)
+
 pub one_new : (all : List Op) (count : ℕ) (desks desks' : List Desk) (d : Desk) → AreNew all count desks → desks' ≡ desks ++ d ∷ []
     → (d.seen ≡ length all) × IsFront all d → AreNew all (count + 1) desks'
 one_new all count desks desks' d h pushed is = subst (AreNew all (count + 1)) (sym pushed) (subst (λ n. AreNew all n (desks ++ d ∷ [])) next (record {
@@ -295,12 +309,21 @@ pub undone : (list list' : List Op) (desks desks' : List Desk) → IsListing lis
 undone list list' desks desks' h list_is desks_is =
     subst (λ l. IsListing l desks') (sym list_is) (subst (IsListing list) (sym desks_is) h)
 
+-- ---- what a desk has seen, as a set
+
+listed_all : (list : List Op) → Within (Listed list) (Listed (sets.members (of_list {R = op_cmp} list)))
+listed_all list op h = let all = of_list {R = op_cmp} list in member_listed all op ((listed_in list all refl op).0 h)
+
+all_listed : (list : List Op) → Within (Listed (sets.members (of_list {R = op_cmp} list))) (Listed list)
+all_listed list op h = let all = of_list {R = op_cmp} list in (listed_in list all refl op).1 (listed_member all op h)
+
 -- a job under what a desk sees
 pub does_at : (list : List Op) (desks : List Desk) (desk : ℕ) (d : Desk) (seen : ℕ) → 0 < desk → desk - 1 < length desks → d ≡ get_or desks (desk - 1) d
     → All (IsFront list) desks → item_at (views_of desks) desk ≡ Some seen
-    → (b : BenchState) (job : Job) (result : Result Outcome Refusal) (left : BenchState) → Does (Listed (sets.members d.index)) b job result left
+    → (b : BenchState) (job : Job) (result : Result Outcome Refusal) (left : BenchState) → Does (Listed d.list) b job result left
     → Does (first_ops seen list) b job result left
 does_at list desks desk d seen some less is all at b job result left does =
     let front = front_at list desks (desk - 1) d less is all in
     let was : d.seen ≡ seen = seen_at desks (desk - 1) d seen less is (subst (λ n. item_at (views_of desks) n ≡ Some seen) (place_of_desk desk some) at) in
-    subst (λ (index : SetBy op_cmp). Does (Listed (sets.members index)) b job result left) (front.indexed ∙ ap (λ n. of_list {R = op_cmp} (take n list)) was) does
+    subst (λ (l : List Op). Does (Listed (sets.members (of_list {R = op_cmp} l))) b job result left) (front.front ∙ ap (λ n. take n list) was)
+    (does_same (listed_all d.list) (all_listed d.list) does)

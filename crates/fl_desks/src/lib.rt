@@ -3,4 +3,5 @@
 #![tactic(auto)]
 
 pub mod benches;
+pub mod desk;
 pub mod listing;

@@ -1,6 +1,5 @@
 //! The published list of a node, and its desks.
-ghost use Rattle.std.specs.Prelude.{◌≡◌, ◌<◌, ◌≤◌, ◌++◌, ◌∷◌, [], All, length, take, min, max, not, IfOk, OnOk, OnErr};
-ghost use Rattle.fl_labels.specs.SetBy as set;
+ghost use Rattle.std.specs.Prelude.{◌≡◌, ◌<◌, ◌≤◌, ◌++◌, All, length, min, IfOk, OnOk, OnErr};
 ghost use Rattle.fl_bench.specs.Jobs.{Does};
 ghost use Rattle.fl_system.specs.declared.state.Batch.TheVariants.{Ordered};
 ghost use Rattle.fl_system.specs.State.{first_ops};
@@ -8,95 +7,27 @@ ghost use Rattle.fl_system.specs.Numbered.{items_to};
 ghost use Rattle.fl_desks.specs.Listing.{listing_of, IsDesk, HasSeen, seen_then, with_seen, extended};
 ghost use Rattle.fl_desks.specs.parts.Fronts.{IsFront, views_of};
 
-use fl_cache::cached::CachedIndex;
+use crate::desk::Desk;
 use fl_jobs::answer::{Outcome, Refusal};
 use fl_jobs::job::Job;
-use fl_labels::sorted::arrange;
 use fl_monitor::bench::Bench;
 use fl_ops::op::Op;
-use fl_opset::batch::OpBatch;
 use fl_opset::set::OpSet;
 use fl_system::state::Batch;
 use std::alloc::{AllocError, Global};
 use std::cmp::min;
 use std::marker::Model;
 
-// The operations of a list, as a set. Sorts a copy of the list, where it does not rise.
-fn collected(alloc: Global, ops: &[Op]) -> Result<OpSet, AllocError>
-    ensures { IfOk result (λ all. all ≡ set.of_list ops.now) }
-{
-    let mut rising = Vec::from_slice(alloc, ops)?;
-    arrange(&mut rising);
-    let mut all = OpSet::new(alloc);
-    all.merge_batch(&OpBatch::from_rising(rising))?;
-    Ok(all)
-}
-
-// Adds the operations of a list, all or none. One alone is put into no set before.
-fn absorb(alloc: Global, index: &mut CachedIndex, ops: &[Op]) -> Result<(), AllocError>
-    ensures ok { OnOk result (index.new ≡ set.union index.old (set.of_list ops.now)) }
-    ensures err { OnErr result (index.new ≡ index.old) }
-{
-    if let [op] = ops {
-        return index.absorb(op);
-    }
-    let all = collected(alloc, ops)?;
-    index.absorb_all(alloc, &all)
-}
-
-// What a desk has seen of the list, and the index of that.
-struct Desk {
-    index: CachedIndex,
-    seen: u64,
-}
-
-impl Drop for Desk {
-    fn drop(self) {
-        let Desk { index: _, seen: _ } = self;
-    }
-}
-
-impl Desk {
-    // A desk that sees all that is saved.
-    fn new(alloc: Global, saved: &OpSet) -> Result<Desk, AllocError>
-        ensures { IfOk result (λ desk. (desk.seen ≡ length (set.members saved.now))
-            × IsFront (set.members saved.now) desk) }
-    {
-        let mut index = CachedIndex::new(alloc);
-        index.absorb_all(alloc, saved)?;
-        let seen = saved.len() as u64;
-        Ok(Desk { index, seen })
-    }
-
-    // Sees as many operations of the list, if it has not. An error leaves the desk.
-    fn rise(&mut self, alloc: Global, list: &[Op], count: u64) -> Result<(), AllocError>
-        requires front { IsFront list.now self.old }
-        requires within { count ≤ length list.now }
-        ensures seen { OnOk result (self.new.seen ≡ max self.old.seen count) }
-        ensures front { OnOk result (IsFront list.now self.new) }
-        ensures err { OnErr result (self.new ≡ self.old) }
-        ensures wants { OnErr result (self.old.seen < count) }
-    {
-        if count <= self.seen {
-            return Ok(());
-        }
-        let more = &list[self.seen as usize..count as usize];
-        absorb(alloc, &mut self.index, more)?;
-        self.seen = count;
-        Ok(())
-    }
-}
-
-// So many desks, each of which sees all that is saved.
-fn desks_of(alloc: Global, saved: &OpSet, count: u8) -> Result<Vec<Desk>, AllocError>
-    ensures views { let all = set.members saved.now in IfOk result (λ desks.
-        views_of desks.items ≡ items_to count (λ desk. length all)) }
-    ensures fronts { IfOk result (λ desks. All (IsFront (set.members saved.now)) desks.items) }
+// So many desks, each of which sees the whole list.
+fn desks_of(alloc: Global, list: &[Op], count: u8) -> Result<Vec<Desk>, AllocError>
+    ensures views { IfOk result (λ desks.
+        views_of desks.items ≡ items_to count (λ desk. length list.now)) }
+    ensures fronts { IfOk result (λ desks. All (IsFront list.now) desks.items) }
     ensures count { IfOk result (λ desks. length desks.items ≡ count) }
 {
     let mut desks = Vec::new(alloc);
     for _ in 0..count {
-        desks.push(Desk::new(alloc, saved)?)?;
+        desks.push(Desk::new(alloc, list)?)?;
     }
     Ok(desks)
 }
@@ -104,7 +35,7 @@ fn desks_of(alloc: Global, saved: &OpSet, count: u8) -> Result<Vec<Desk>, AllocE
 /// The operations that a node has published, in the order of publishing, and its desks, each of
 /// which sees so many of them, from the first one on.
 ///
-/// An operation stands here once, and once more for each desk that sees it, with what it leads to.
+/// An operation stands here once. Of each desk that sees it, what it leads to stands here too.
 pub struct Listing {
     list: Vec<Op>,
     desks: Vec<Desk>,
@@ -137,7 +68,7 @@ impl Listing {
         ensures desks { IfOk result (λ made. length made.views ≡ desks) }
     {
         let list = saved.to_vec(alloc)?;
-        let desks = desks_of(alloc, saved, desks)?;
+        let desks = desks_of(alloc, &list, desks)?;
         Ok(Listing { list, desks })
     }
 
@@ -157,8 +88,7 @@ impl Listing {
 
     /// Has the desk look at the list up to a length: it then sees so many operations, or as many as
     /// it saw before. An error, for want of memory, comes only where it is to see more, and leaves
-    /// it. Absorbs what it had not seen; where that is one operation alone, it is put into no set
-    /// before.
+    /// it. Absorbs what it had not seen.
     pub fn look(&mut self, alloc: Global, desk: u8, upto: u64) -> Result<(), AllocError>
         requires { IsDesk self.old desk }
         ensures ok { OnOk result ((seen : _) → HasSeen self.old desk seen
@@ -188,7 +118,7 @@ impl Listing {
         ensures same { self.new ≡ self.old }
     {
         let it = &mut self.desks[desk as usize - 1];
-        bench.job(alloc, &mut it.index, job)
+        bench.job(alloc, it, job)
     }
 
     // Puts an order at the end, which its desk sees, if that is there. An error leaves the list.

@@ -256,7 +256,7 @@ impl<K: Keeper> Node<K> {
     /// begins its operation, as `begin` has it; where that is refused, the benches are as before. A
     /// stopped node answers `Stopped`, and `Memory` comes too where the desk is to see more and
     /// there is no room for that: the desk and the benches are then as before. Costs what the bench
-    /// does, and for each operation that the desk has not seen what `CachedIndex::absorb` does.
+    /// does, and for each operation that the desk has not seen what `Desk::rise` does.
     pub fn job(&mut self, alloc: Global, desk: u8, upto: u64, job: Job) -> Result<Answer, Fault>
         requires { IsDeskOf self.old.node desk }
         ensures desks { length self.new.node.views ≡ length self.old.node.views }

@@ -1,5 +1,5 @@
-//! Tests of what an index tells as a view.
-use fl_closure::index::Index;
+//! Tests of what a desk tells as a view.
+use fl_desks::desk::Desk;
 use fl_labels::cap::Cap;
 use fl_labels::cap_set::CapSet;
 use fl_labels::name::Name;
@@ -21,43 +21,55 @@ const OPENED: Name = Name { node: 1, seq: 5 };
 
 const DIGEST: Digest = Digest { bytes: [7; 32] };
 
-// A tag that everybody may remove, a group that holds the use of the tag, and a login.
-fn known(alloc: Global) -> Result<Index, AllocError> {
-    let mut index = Index::new(alloc);
-    for (name, body) in [
-        (TAG, Body::MakeTag(Policy::Integrity)),
-        (PUT, Body::Put(GROUP, Cap::Use(TAG))),
-        (LOGIN, Body::MakeLogin(Cap::Minus(TAG), DIGEST)),
-    ] {
-        index.absorb(&Op { name, body })?;
-    }
-    Ok(index)
+/// A tag that everybody may remove, a group that holds the use of the tag, a login, and an operation
+/// that opens the group.
+const LIST: [Op; 4] = [
+    Op {
+        name: TAG,
+        body: Body::MakeTag(Policy::Integrity),
+    },
+    Op {
+        name: PUT,
+        body: Body::Put(GROUP, Cap::Use(TAG)),
+    },
+    Op {
+        name: LOGIN,
+        body: Body::MakeLogin(Cap::Minus(TAG), DIGEST),
+    },
+    Op {
+        name: OPENED,
+        body: Body::Open(GROUP),
+    },
+];
+
+// A desk that sees all of the list but its end.
+fn desk_before(alloc: Global) -> Result<Desk, AllocError> {
+    Desk::new(alloc, &LIST[..3])
 }
 
 // Whether the owner of the group's use has the capability in effect, whether the use reaches it,
-// and whether who owns nothing has it, before the group is opened and after.
-fn tell(
-    index: &mut Index,
+// and whether who owns nothing has it, at the one desk and at the other.
+fn tell<V: View>(
+    before: &mut V,
+    after: &mut V,
     owned: &CapSet,
     nothing: &CapSet,
     cap: Cap,
-) -> Result<[bool; 4], AllocError> {
-    let effective = View::effective(index, owned, cap);
-    let reached = View::reaches(index, Cap::Use(GROUP), cap);
-    let before = View::effective(index, nothing, cap);
-    index.absorb(&Op {
-        name: OPENED,
-        body: Body::Open(GROUP),
-    })?;
-    let after = View::effective(index, nothing, cap);
-    Ok([effective, reached, before, after])
+) -> [bool; 4] {
+    [
+        before.effective(owned, cap),
+        before.reaches(Cap::Use(GROUP), cap),
+        before.effective(nothing, cap),
+        after.effective(nothing, cap),
+    ]
 }
 
 fn told(alloc: Global, cap: Cap) -> Result<[bool; 4], Fail> {
     let owned = CapSet::from_text(alloc, "{*1.2}")?;
     let nothing = CapSet::new(alloc);
-    let mut index = known(alloc)?;
-    Ok(tell(&mut index, &owned, &nothing, cap)?)
+    let mut before = desk_before(alloc)?;
+    let mut after = Desk::new(alloc, &LIST)?;
+    Ok(tell(&mut before, &mut after, &owned, &nothing, cap))
 }
 
 /// A capability, and what is told of it.
@@ -78,8 +90,9 @@ fn looks_at_operations(rt: HostRuntime) -> Result<(), Fail> {
 
 #[test]
 fn finds_logins(rt: HostRuntime) -> Result<(), AllocError> {
-    let mut index = known(rt.alloc())?;
-    assert!(rt; View::login(&mut index, LOGIN) == Some((Cap::Minus(TAG), DIGEST)));
-    assert!(rt; View::login(&mut index, TAG).is_none());
+    let mut desk = desk_before(rt.alloc())?;
+    assert!(rt; View::login(&mut desk, LOGIN) == Some((Cap::Minus(TAG), DIGEST)));
+    assert!(rt; View::login(&mut desk, TAG).is_none());
+    assert!(rt; View::seen(&desk) == 3);
     Ok(())
 }

@@ -37,7 +37,7 @@ use Rattle.fl_worker.specs.declared.task.Task.{Task}
 use Rattle.fl_worker.specs.declared.worker.Worker.{Worker}
 use Rattle.fl_worker.specs.parts.Settled.{IsEnded, IsSettled, IsTakenBack}
 use Rattle.fl_worker.specs.parts.Turns.{IsKept, IsRight, IsLast}
-use Rattle.fl_worker.proofs.Alike.{does_same}
+use Rattle.fl_bench_laws.specs.laws.Alike.{does_same}
 use Rattle.fl_worker.specs.laws.Longer.{starts_length, starts_whole, starts_trans, served_longer}
 use Rattle.fl_worker.proofs.Lists.{to_first, from_first}
 use Rattle.fl_worker.proofs.Lists.{served_more, are_more, rises_more, last_more}

@@ -61,13 +61,12 @@ pub fn has_just(set: &OpSet, ops: &[Op]) -> bool {
     set.len() == ops.len() && ops.iter().all(|op| set.contains(op))
 }
 
-// Whether the index has these operations, and whether by them who uses the group may add the tag,
-// and so everybody where the group is opened.
+// Whether the index tells what these operations say: whether by them who uses the group may add the
+// tag, and so everybody where the group is opened.
 fn knows(alloc: Global, index: &Index, ops: &[Op], is_reached: bool) -> bool {
     let is_opened = ops.contains(&OPENED);
     let nothing = CapSet::new(alloc);
-    has_just(index.ops(), ops)
-        && index.reaches(Cap::Use(GROUP), Cap::Plus(TAG)) == is_reached
+    index.reaches(Cap::Use(GROUP), Cap::Plus(TAG)) == is_reached
         && index.global(Cap::Use(GROUP)) == is_opened
         && index.effective(&nothing, Cap::Plus(TAG)) == (is_reached && is_opened)
 }
@@ -110,7 +109,7 @@ impl Trial for Merge {
     }
 }
 
-/// An index of four operations takes in a put. Its rows change before its set has to grow.
+/// An index of four operations takes in a put.
 pub struct Absorb;
 
 impl Trial for Absorb {
@@ -137,13 +136,13 @@ impl Trial for Absorb {
     }
 }
 
-/// An index takes in a set.
+/// An index takes in a list.
 pub struct AbsorbAll;
 
 /// Both.
 pub struct Taking {
     index: Index,
-    ops: OpSet,
+    ops: Vec<Op>,
 }
 
 impl Drop for Taking {
@@ -156,7 +155,7 @@ impl Trial for AbsorbAll {
     type State = Taking;
 
     fn begin(alloc: Global) -> Result<Taking, NotBegun> {
-        let ops = set_of(alloc, &[PUT, OPENED])?;
+        let ops = Vec::from_slice(alloc, &[PUT, OPENED])?;
         let mut index = Index::new(alloc);
         index.absorb(&MADE)?;
         Ok(Taking { index, ops })

@@ -1,15 +1,12 @@
 -- What a desk keeps of the list.
 use Rattle.std.specs.Prelude.{◌≡◌, ◌≤◌, ℕ, List, All, map, take, length}
-use Rattle.fl_labels.specs.SetBy as set
-use Rattle.fl_labels.specs.SetBy.{SetBy}
 use Rattle.fl_ops.specs.declared.op.Op.{Op}
-use Rattle.fl_ops.specs.OpOrder.{op_cmp}
-use Rattle.fl_desks.specs.declared.listing.Desk.{Desk}
+use Rattle.fl_desks.specs.declared.desk.Desk.{Desk}
 
--- the index of the first operations, as many as it has seen
+-- the first operations, as many as it has seen
 pub record IsFront (list : List Op) (desk : Desk) : Type 0 where
   pub within : desk.seen ≤ length list
-  pub indexed : desk.index ≡ set.of_list (take desk.seen list)
+  pub front : desk.list ≡ take desk.seen list
 
 -- how much each desk sees
 abbrev pub views_of : List Desk → List ℕ

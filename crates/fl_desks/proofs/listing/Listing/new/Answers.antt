@@ -1,4 +1,4 @@
-use Rattle.std.proofs.Common.{◌∙◌, sym, subst, All, arith}
+use Rattle.std.proofs.Common.{◌∙◌, subst, All, arith}
 use Rattle.fl_desks.specs.parts.Fronts.{IsFront}
 use Rattle.fl_desks.proofs.Views.{views_length}
 use Rattle.fl_desks.proofs.listing.Listing.new.Goals as goal
@@ -7,7 +7,7 @@ pub invariant_of-result : goal.invariant_of-result
 invariant_of-result c =
     record {
       few = omega (arith, c.in_ok-desks.ensures.count, c.ranges.desks.fits);
-      fronts = subst (λ l. All (IsFront l) c.in_ok-desks.desks.items) (sym c.in_ok-list.ensures) c.in_ok-desks.ensures.fronts;
+      fronts = subst (λ l. All (IsFront l) c.in_ok-desks.desks.items) c.deref.ensures.value c.in_ok-desks.ensures.fronts;
     }
 
 pub returns-clause-desks : goal.returns-clause-desks

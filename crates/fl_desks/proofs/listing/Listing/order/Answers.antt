@@ -24,7 +24,7 @@ pub invariant_of-self-in-Ok : goal.invariant_of-self-in-Ok
 invariant_of-self-in-Ok c =
     with_desk _ c.self.inside.desks.items _ c.rise.new.self
     (grown c.self.inside.list.items _ _ c.self.inside.desks.items c.self.invariant c.in_ok-push.ensures.items)
-    (subst (λ l. IsFront l c.rise.new.self) c.deref.ensures.value c.in-Ok.ensures.front)
+    (subst (λ l. IsFront l c.rise.new.self) c.deref.ensures.value (record { within = c.in-Ok.ensures.inside; front = c.in-Ok.ensures.front }))
 
 pub returns-in-Ok-clause-ok : goal.returns-in-Ok-clause-ok
 returns-in-Ok-clause-ok c maker =
