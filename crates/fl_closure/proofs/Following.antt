@@ -17,7 +17,6 @@ use Rattle.fl_closure.specs.parts.Closure.{IsClosure, FollowsWith, GainsAll, Los
 use Rattle.fl_closure.proofs.Growing.{same_gifts}
 use Rattle.fl_closure.proofs.Noting.{taken_back}
 use Rattle.fl_closure.proofs.Giving.{mirrored_same}
-use Rattle.fl_closure.proofs.GivingAll.{caps_back}
 
 pub nothing_follows : (rows : ClosedRows) (globals : Globals) → ((owner : Owner) (c : Cap) → ¬ Holds rows.reached owner c)
     → AreMirrored rows → ((c : Cap) → ¬ Has globals c) → IsClosure (λ (op : Op). ⊥) (record { rows = rows; globals = globals })
@@ -65,7 +64,10 @@ undone U old mid new news is gains loses = record {
     );
   };
   mirrored = mirrored_same old.rows new.rows is.mirrored rows users;
-  globals = λ c. (λ h. (is.globals c).0 ((caps c).0 h), λ g. (caps c).1 ((is.globals c).1 g));
+  globals = λ c. (
+    λ h. (is.globals c).0 ((given.holds Everybody c).0 h),
+    λ g. (given.holds Everybody c).1 ((is.globals c).1 g),
+  );
 }
   where
     rows : IsSameRows old.rows.reached new.rows.reached
@@ -74,5 +76,5 @@ undone U old mid new news is gains loses = record {
     users : IsSameRows old.rows.users new.rows.users
     users = taken_back old.rows.users mid.rows.users new.rows.users news.rows.users.items gains.rows.users loses.rows.users
 
-    caps : (c : Cap) → Has new.globals c ↔ Has old.globals c
-    caps = caps_back old.globals mid.globals new.globals news.caps.items gains.globals loses.globals
+    given : IsSameRows old.globals.given new.globals.given
+    given = taken_back old.globals.given mid.globals.given new.globals.given news.given.items gains.globals loses.globals

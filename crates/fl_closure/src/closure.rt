@@ -8,7 +8,7 @@ ghost use Rattle.fl_closure.specs.parts.Knowing.{IsHeld, Follows};
 
 use crate::closed::{ClosedRows, Notes, gift};
 use crate::globals::Globals;
-use crate::rows::Owner;
+use crate::rows::{Note, Owner};
 use fl_labels::cap::Cap;
 use fl_ops::op::Op;
 use std::alloc::{AllocError, Global};
@@ -17,7 +17,7 @@ use std::alloc::{AllocError, Global};
 #[derive(Drop)]
 pub struct News {
     pub rows: Notes,
-    pub caps: Vec<Cap>,
+    pub given: Vec<Note>,
 }
 
 impl News {
@@ -25,11 +25,11 @@ impl News {
     pub fn new(alloc: Global) -> Self
         ensures reached { result.rows.reached.items ≡ [] }
         ensures users { result.rows.users.items ≡ [] }
-        ensures caps { result.caps.items ≡ [] }
+        ensures given { result.given.items ≡ [] }
     {
         News {
             rows: Notes::new(alloc),
-            caps: Vec::new(alloc),
+            given: Vec::new(alloc),
         }
     }
 }
@@ -80,11 +80,11 @@ impl Closure {
         requires mirrored { AreMirrored self.old.rows }
         requires reached { news.old.rows.reached.items ≡ [] }
         requires users { news.old.rows.users.items ≡ [] }
-        requires caps { news.old.caps.items ≡ [] }
+        requires given { news.old.given.items ≡ [] }
         ensures ok { OnOk result (FollowsWith self.old ops.now self.new) }
         ensures news { GainsAll self.old news.new self.new }
     {
-        self.globals.give_all(ops, &mut news.caps)?;
+        self.globals.give_all(ops, &mut news.given)?;
         self.rows.give_all(ops, &mut news.rows)
     }
 
@@ -92,7 +92,7 @@ impl Closure {
     pub fn take_all(&mut self, news: &News)
         ensures { LosesAll self.old news.now self.new }
     {
-        self.globals.take_all(&news.caps);
+        self.globals.take_all(&news.given);
         self.rows.take_all(&news.rows);
     }
 }

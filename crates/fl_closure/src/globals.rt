@@ -2,19 +2,21 @@
 ghost use Rattle.std.specs.Prelude.{◌≡◌, OnOk, []};
 ghost use Rattle.fl_labels.specs.Found.{Tells};
 ghost use Rattle.fl_labels.specs.declared.cap.Cap.{Cap};
-ghost use Rattle.fl_closure.specs.parts.Globals.{Has, Gives, GivesAll, GainsCaps, LosesCaps, NotesCaps};
+ghost use Rattle.fl_closure.specs.parts.Globals.{Has, GivesAll};
+ghost use Rattle.fl_closure.specs.parts.Noted.{Gains, Loses};
 
+use crate::block::Block;
 use crate::closed::global_gift;
+use crate::rows::{Note, Owner, Rows};
 use fl_labels::cap::Cap;
 use fl_ops::op::Op;
 use std::alloc::{AllocError, Global};
-use std::collections::BTreeSet;
 
-/// The capabilities that some operation gives to everybody. What they lead to is in everybody's
-/// row.
+/// The capabilities that some operation gives to everybody, as everybody's row. What they lead to
+/// is in everybody's row of what is reached.
 #[derive(Drop)]
 pub struct Globals {
-    caps: BTreeSet<Cap>,
+    given: Rows,
 }
 
 impl Globals {
@@ -23,51 +25,37 @@ impl Globals {
         ensures { (c : Cap) → ¬ Has result c }
     {
         Globals {
-            caps: BTreeSet::new(alloc),
+            given: Rows::new(alloc),
         }
     }
 
-    /// Whether the capability is given to everybody. A search by order; takes no memory.
+    /// Whether the capability is given to everybody. A search by hash; takes no memory.
     pub fn has(&self, cap: Cap) -> bool
         ensures { Tells result (Has self.now cap) }
     {
-        self.caps.contains(&cap)
-    }
-
-    // Gives a capability to everybody, and notes it if it was not given.
-    fn give(&mut self, cap: Cap, news: &mut Vec<Cap>) -> Result<(), AllocError>
-        ensures ok { OnOk result (Gives self.old cap self.new) }
-        ensures news { NotesCaps news.old.items self.old news.new.items self.new }
-    {
-        news.try_reserve(1)?;
-        if self.caps.insert(cap)? {
-            news.push(cap)?;
-        }
-        Ok(())
+        self.given.has(Owner::Everybody, cap)
     }
 
     /// Gives what the operations give to everybody, and notes what was not given: after an error
-    /// too, so that it can be taken out again. A search by order for each, and one note. Fails only
+    /// too, so that it can be taken out again. A search by hash for each, and one note. Fails only
     /// where there is not enough memory.
-    pub fn give_all(&mut self, ops: &[Op], news: &mut Vec<Cap>) -> Result<(), AllocError>
-        requires { news.old.items ≡ [] }
+    pub fn give_all(&mut self, ops: &[Op], notes: &mut Vec<Note>) -> Result<(), AllocError>
+        requires { notes.old.items ≡ [] }
         ensures ok { OnOk result (GivesAll self.old ops.now self.new) }
-        ensures news { GainsCaps self.old news.new.items self.new }
+        ensures notes { Gains self.old.given notes.new.items self.new.given }
     {
         for op in ops {
             if let Some(cap) = global_gift(op) {
-                self.give(cap, news)?;
+                self.given.note(Owner::Everybody, Block::only(cap), notes)?;
             }
         }
         Ok(())
     }
 
-    /// Takes each of these out. A search by order for each; takes no memory.
-    pub fn take_all(&mut self, caps: &[Cap])
-        ensures { LosesCaps self.old caps.now self.new }
+    /// Takes out what was noted. Takes no memory.
+    pub fn take_all(&mut self, notes: &[Note])
+        ensures { Loses self.old.given notes.now self.new.given }
     {
-        for cap in caps {
-            self.caps.remove(cap);
-        }
+        self.given.take_all(notes)
     }
 }

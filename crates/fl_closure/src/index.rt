@@ -30,7 +30,7 @@ use std::marker::Model;
 /// numbers, divided by 32, are the same. Each block takes some 20 bytes, and of uses of groups the
 /// groups that are used have blocks of their users, as much again: ten thousand groups in a chain
 /// would have fifty million pairs in three million blocks. What everybody reaches takes 30 to 40
-/// bytes a block, and each capability that an operation gives to everybody some 20.
+/// bytes a block, and what operations give to everybody as much.
 pub struct Index {
     closure: Closure,
     logins: OpSet,
@@ -170,7 +170,7 @@ impl Index {
 
     /// Whether everybody has the capability: to add an export tag, to remove an integrity tag, or
     /// to use an opened group. What these lead to is in effect for everybody, but not told here. A
-    /// search by order; takes no memory.
+    /// search by hash; takes no memory.
     pub fn global(&self, cap: Cap) -> bool
         ensures { Tells result (IsGlobal (In self.now) cap) }
     {

@@ -166,8 +166,9 @@ impl Rows {
         Ok(lacking)
     }
 
-    // Adds a block to the owner's row, and notes what is new there.
-    fn note(&mut self, owner: Owner, block: Block, news: &mut Vec<Note>) -> Result<(), AllocError>
+    /// Adds a block to the owner's row, and notes what is new there: after an error too, so that it
+    /// can be taken out again. A search as `has` makes. Fails only where there is not enough memory.
+    pub fn note(&mut self, owner: Owner, block: Block, news: &mut Vec<Note>) -> Result<(), AllocError>
         ensures ok { OnOk result (Adds self.old (At owner block) self.new) }
         ensures news { Continues news.old.items self.old news.new.items self.new }
     {
@@ -183,9 +184,7 @@ impl Rows {
         Ok(())
     }
 
-    /// Adds blocks to the owner's row, and notes what is new there: after an error too, so that it
-    /// can be taken out again. For each block a search as `has` makes. Fails only where there is
-    /// not enough memory.
+    /// Adds blocks to the owner's row, each as `note` does.
     pub fn note_all(
         &mut self,
         owner: Owner,

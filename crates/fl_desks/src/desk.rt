@@ -50,7 +50,7 @@ impl Desk {
 
     /// Sees as many operations of the list, if it has not. Fails only where it is to see more and
     /// there is not enough memory, and then leaves the desk. Absorbs what it had not seen.
-    pub fn rise(&mut self, alloc: Global, list: &[Op], count: u64) -> Result<(), AllocError>
+    pub(crate) fn rise(&mut self, alloc: Global, list: &[Op], count: u64) -> Result<(), AllocError>
         requires seen { self.old.seen ≤ length list.now }
         requires front { self.old.list ≡ take self.old.seen list.now }
         requires within { count ≤ length list.now }

@@ -9,8 +9,8 @@ use Rattle.fl_closure.specs.declared.closure.Closure.{Closure}
 use Rattle.fl_closure.specs.declared.rows.Owner.TheVariants.{Everybody}
 use Rattle.fl_closure.specs.declared.closure.News.{News}
 use Rattle.fl_closure.specs.parts.Closed.{IsGiven, AreClosed, AreMirrored, With}
-use Rattle.fl_closure.specs.parts.Noted.{GainsBoth, LosesBoth}
-use Rattle.fl_closure.specs.parts.Globals.{Has, GainsCaps, LosesCaps}
+use Rattle.fl_closure.specs.parts.Noted.{Gains, Loses, GainsBoth, LosesBoth}
+use Rattle.fl_closure.specs.parts.Globals.{Has}
 
 -- all that follows from the registry, and nothing else
 pub record IsClosure (U : Registry) (closure : Closure) : Type 0 where
@@ -24,8 +24,8 @@ FollowsWith old ops new = (s : SetBy op_cmp) → IsClosure (In s) old → IsClos
 
 pub record GainsAll (old : Closure) (news : News) (new : Closure) : Type 0 where
   pub rows : GainsBoth old.rows news.rows new.rows
-  pub globals : GainsCaps old.globals news.caps.items new.globals
+  pub globals : Gains old.globals.given news.given.items new.globals.given
 
 pub record LosesAll (old : Closure) (news : News) (new : Closure) : Type 0 where
   pub rows : LosesBoth old.rows news.rows new.rows
-  pub globals : LosesCaps old.globals news.caps.items new.globals
+  pub globals : Loses old.globals.given news.given.items new.globals.given
