@@ -9,6 +9,10 @@ use Rattle.fl_replica.specs.declared.published.Entry.{Entry}
 use Rattle.fl_replica.specs.declared.published.Shown.{Shown}
 use Rattle.fl_replica.proofs.Beginnings.{ops_append}
 
+-- a row that is handed over to the last entry
+pub all_handed : (entries row before : List Entry) → entries ++ row ≡ before → row ≡ [] → entries ≡ before
+all_handed entries row before e none = sym (append-nil entries) ∙ (ap (λ r. entries ++ r) (sym none) ∙ e)
+
 -- the operations come behind the list
 pub fold_list : (s : Shown) (es : List Entry) → (fold with_entry s es).list ≡ s.list ++ entry_ops es
 fold_list s [] = sym (append-nil s.list)

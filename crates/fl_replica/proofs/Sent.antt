@@ -10,7 +10,6 @@ use Rattle.atomic_table.proofs.shared.Shared.TheSendSync.{the_send as shared_sen
 use Rattle.atomic_table.proofs.shared.Shared.TheSendSync.{the_sync as shared_sync}
 use Rattle.atomic_table.proofs.send_lease.SendLease.TheSendSync.{the_send as lease_send, the_sync as lease_sync}
 use Rattle.left_right.proofs.part.Part.TheSendSync.{the_send as part_send}
-use Rattle.left_right.proofs.part.Part.TheSendSync.{the_sync as part_sync}
 use Rattle.logbook.proofs.tokens.Seen.TheSendSync.{the_send as seen_send}
 use Rattle.logbook.proofs.tokens.Seen.TheSendSync.{the_sync as seen_sync}
 use Rattle.fl_cache.proofs.Sent.{cache_send}
@@ -35,4 +34,4 @@ published_sync : IsSync published.the_row
 published_sync = search (sendable, crosses, index_sync, seen_sync) depth 40 fits 100000
 
 pub desk_send : IsSend desk.the_row
-desk_send = view_send _ _ _ _ _ (declared_send desk_inside.the_type (search (sendable, crosses, seat_send, shared_send, shared_sync, lease_send, lease_sync, part_send, part_sync, published_sync) depth 40 fits 100000, (search (sendable, told_send) depth 12, (search (sendable, cache_send) depth 12, tt))))
+desk_send = view_send _ _ _ _ _ (declared_send desk_inside.the_type (search (sendable, crosses, seat_send, shared_send, shared_sync, lease_send, lease_sync, part_send, published_sync) depth 40 fits 100000, (search (sendable, told_send) depth 12, (search (sendable, cache_send) depth 12, tt))))
