@@ -168,7 +168,12 @@ impl Rows {
 
     /// Adds a block to the owner's row, and notes what is new there: after an error too, so that it
     /// can be taken out again. A search as `has` makes. Fails only where there is not enough memory.
-    pub fn note(&mut self, owner: Owner, block: Block, news: &mut Vec<Note>) -> Result<(), AllocError>
+    pub fn note(
+        &mut self,
+        owner: Owner,
+        block: Block,
+        news: &mut Vec<Note>,
+    ) -> Result<(), AllocError>
         ensures ok { OnOk result (Adds self.old (At owner block) self.new) }
         ensures news { Continues news.old.items self.old news.new.items self.new }
     {

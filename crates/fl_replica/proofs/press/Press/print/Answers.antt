@@ -11,9 +11,11 @@ turn_in-requires g c =
     let before = c.self.inside in
     let handed = c.hand_over.new in
     let entries = all_handed _ _ _ c.hand_over.ensures.staged (c.hand_over.ensures.done c.if-not-hand_over.false) in
-    let last : Shown = record { list = ops_of before.history.known.log; known = before.history.known } in
-    (last, subst (λ d. Awaits (shown_by d.shown.value) (drop handed.writer.behind handed.writer.log.items) last) (sym c.hand_over.ensures.desk)
-    (subst (λ (es : List Entry). Awaits (shown_by before.writer.desk.shown.value) es last) (sym entries) c.self.invariant.1))
+    let last : Shown = record { list = ops_of before.history.known.log; known = before.history.known } in (
+      last,
+      subst (λ d. Awaits (shown_by d.shown.value) (drop handed.writer.behind handed.writer.log.items) last) (sym c.hand_over.ensures.desk)
+          (subst (λ (es : List Entry). Awaits (shown_by before.writer.desk.shown.value) es last) (sym entries) c.self.invariant.1),
+    )
 
 pub returns-clause-list : goal.returns-clause-list
 returns-clause-list g c =
