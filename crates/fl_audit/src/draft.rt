@@ -1,14 +1,16 @@
 //! What is noted of a job, before it is done and once it is answered.
 ghost use Rattle.std.specs.Option.{option_copied};
-ghost use Rattle.std.specs.Prelude.{◌≡◌, ◌++◌, ℕ, true, false, is_some, IfOk, OnOk, OnErr};
+ghost use Rattle.std.specs.Prelude.{◌≡◌, ◌++◌, ℕ, true, false, is_some, Some, IfOk, OnOk, OnErr};
 ghost use Rattle.std.specs.Prelude.{List, [], ◌∷◌, length};
 ghost use Rattle.fl_labels.specs.declared.cap.Cap.{Cap};
 ghost use Rattle.fl_labels.specs.declared.cap.Cap.TheVariants as Cap;
 ghost use Rattle.fl_labels.specs.declared.name.Name.{Name};
 ghost use Rattle.fl_ops.specs.declared.digest.Digest.{Digest};
+ghost use Rattle.fl_mailbox.specs.Mailbox.{closed};
 ghost use Rattle.fl_jobs.specs.Given.{labels_of};
-ghost use Rattle.fl_bench.specs.Process.{owns, takes_nothing};
+ghost use Rattle.fl_bench.specs.Process.{owns, newborn, takes_nothing};
 ghost use Rattle.fl_bench.specs.Secrets.{digest_of};
+ghost use Rattle.fl_bench.specs.declared.process.Process.{Process};
 ghost use Rattle.fl_system.specs.Audit.{party, entries, if_yes};
 ghost use Rattle.fl_system.specs.Audit.{order_entries, endpoint_entries, mail_entries, act_entries};
 ghost use Rattle.fl_system.specs.State.{NodeState};
@@ -57,18 +59,28 @@ fn has_labels(labels: &GivenLabels) -> bool
     labels.secrecy.is_ok() && labels.integrity.is_ok()
 }
 
-// Whether what a process does with its endpoints and messages may be noted.
-fn notes_mail(process: &Process, mail: &Mail) -> bool
-    ensures { result ≡ mail_noted process.now.mailbox mail.now }
+// Whether what a new process does with its endpoints and messages may be noted. It has no endpoint
+// that it could tune.
+fn notes_mail_of_any(mail: &Mail) -> bool
+    ensures { result ≡ mail_noted closed mail.now }
 {
     match mail {
         Mail::Open(_, labels) => has_labels(labels),
-        Mail::Tune(endpoint, labels) => match process.mailbox.endpoints.get(*endpoint) {
-            None => false,
-            Some(_) => has_labels(labels),
-        },
         Mail::Send { .. } => true,
+        Mail::Tune(_, _) => false,
         Mail::Close(_) | Mail::Take => false,
+    }
+}
+
+// Whether the act may be noted of a new process: then it may be whichever process asks for it.
+fn notes_of_any(act: &Act) -> bool
+    ensures { result ≡ act_noted newborn act.now }
+{
+    match act {
+        Act::Order(order) => !Taken::by(*order).as_slice().is_empty(),
+        Act::Mail(mail) => notes_mail_of_any(mail),
+        Act::Relabel(_, Err(_)) | Act::Exit | Act::Drop(_) => false,
+        _ => true,
     }
 }
 
@@ -76,11 +88,25 @@ fn notes_mail(process: &Process, mail: &Mail) -> bool
 fn notes_act(process: &Process, act: &Act) -> bool
     ensures { result ≡ act_noted process.now act.now }
 {
-    match act {
-        Act::Order(order) => !Taken::by(*order).as_slice().is_empty(),
-        Act::Relabel(_, Err(_)) | Act::Exit | Act::Drop(_) => false,
-        Act::Mail(mail) => notes_mail(process, mail),
-        _ => true,
+    let Act::Mail(Mail::Tune(endpoint, labels)) = act else {
+        return notes_of_any(act);
+    };
+    match process.mailbox.endpoints.get(*endpoint) {
+        None => false,
+        Some(_) => has_labels(labels),
+    }
+}
+
+/// Whether the job may be noted where a new process asks for it: then it may be whichever process
+/// asks. Of an act that tunes an endpoint that hangs on the process. Takes no memory.
+pub fn names_any(job: &Job) -> bool
+    ensures noted { result ≡ asker_noted (Some newborn) job.now }
+    ensures may_be { result ≡ true → (number boot : ℕ) (p : Process) (n : NodeState) →
+        IsAskedAt number boot (Some p) job.now n → MayBeNoted n job.now }
+{
+    match job {
+        Job::By(_, act) => notes_of_any(act),
+        _ => false,
     }
 }
 

@@ -1,5 +1,5 @@
 -- A job at a node.
-use Rattle.std.proofs.Common.{◌≡◌, ◌≤◌, ◌<◌, ◌++◌, ◌∙◌, refl, sym, ap, subst, ℕ, zero, suc, List, [], ◌∷◌, length, Option, Some, None, Ok, Err, arith, inl}
+use Rattle.std.proofs.Common.{◌≡◌, ◌≤◌, ◌<◌, ◌++◌, ◌∙◌, refl, sym, ap, subst, ℕ, zero, suc, List, [], ◌∷◌, length, Option, Some, None, Result, Ok, Err, OnErr, arith, inl}
 use Rattle.std.specs.Prelude.{min, max, IsSome, take, false, ◌≢◌}
 use Rattle.std.specs.List.{Contains}
 use Rattle.std.proofs.Math.Seq.{take-append_seam}
@@ -38,11 +38,25 @@ use Rattle.fl_system.specs.Processes.{process_of, process_at}
 use Rattle.fl_system.specs.State.{NodeState}
 use Rattle.fl_system.specs.Waiting.{IsRunning, NotRunning}
 use Rattle.fl_system.specs.WorldJobs.{MayBeNoted, party_at, sent_message}
-use Rattle.fl_audit.specs.Drafts.{asker_of, IsDrafted}
+use Rattle.fl_audit.specs.Drafts.{asker_of, IsAskedAt, IsDrafted}
 use Rattle.fl_audit.specs.Senders.{sender_of}
 use Rattle.fl_audit.specs.declared.draft.Draft.{Draft}
 use Rattle.fl_node.specs.Desks.{IsDeskOf}
 use Rattle.fl_notes.specs.Working.{IsUnready, Shows, Works, Worked, is_sending}
+
+-- ---- what is shared
+
+-- the process that asks is there, so what any may have noted may be noted
+pub any_noted : {T E : Type 0} (r : Result T E) (n : NodeState) (job : Job) (pid : Pid) (act : Act) → job ≡ By pid act
+    → ((number boot : ℕ) (p : Process) (m : NodeState) → IsAskedAt number boot (Some p) job m → MayBeNoted m job)
+    → OnErr r (IsSome (process_of n pid)) → OnErr r (MayBeNoted n job)
+any_noted (Ok shared) n job pid act is may there = tt
+any_noted (Err fault) n job pid act is may there = by_process (process_of n pid) refl there
+  where
+    by_process : (o : Option Process) → process_of n pid ≡ o → IsSome o → MayBeNoted n job
+    by_process None e h = absurd (false≢true h)
+    by_process (Some p) e h =
+        may n.number n.boot p n (record { number_is = refl; boot_is = refl; asker_is = ap (asker_of n) is ∙ e })
 
 -- ---- drafts
 

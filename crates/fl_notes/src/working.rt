@@ -15,7 +15,7 @@ ghost use Rattle.fl_audit.specs.Senders.{sender_of};
 ghost use Rattle.fl_node.specs.Desks.{IsDeskOf};
 ghost use Rattle.fl_notes.specs.Working.{IsUnready, Shows, Worked, is_sending};
 
-use fl_audit::draft::{Draft, names_asker};
+use fl_audit::draft::{Draft, names_any, names_asker};
 use fl_audit::party::sender;
 use fl_bench::process::Process;
 use fl_bench::shared::SharedCaps;
@@ -60,7 +60,7 @@ fn share<K: Keeper>(
     ensures err { OnErr result (MayBeNoted node.old.node job.now) }
     ensures same { node.new ≡ node.old }
 {
-    if !names_asker(asker(node, job), job) {
+    if !names_any(job) && !names_asker(asker(node, job), job) {
         return Ok(None);
     }
     match job {
