@@ -1,21 +1,16 @@
 -- What may be noted whichever process asks for it.
-use Rattle.std.proofs.Common.{◌≡◌, ◌∙◌, refl, sym, ap, subst, Bool, true, false, Some, Ok, Err, ℕ}
+use Rattle.std.proofs.Common.{◌≡◌, ◌∙◌, sym, ap, true, false, Ok, Err}
 use Rattle.std.proofs.lemmas.Bool.{false≢true}
 use Rattle.std.specs.FinMap as map
-use Rattle.fl_labels.specs.Found.{Tells}
 use Rattle.fl_labels.specs.declared.endpoint.Endpoint.{Endpoint}
-use Rattle.fl_labels.specs.declared.pid.Pid.{Pid}
 use Rattle.fl_jobs.specs.declared.job.Act.{Act}
 use Rattle.fl_jobs.specs.declared.job.Act.TheVariants.{Order, Relabel, Ask, Spawn, Exit}
 use Rattle.fl_jobs.specs.declared.job.Act.TheVariants.{Drop, Enter, Emit, Mail}
 use Rattle.fl_jobs.specs.declared.job.GivenLabels.{GivenLabels}
-use Rattle.fl_jobs.specs.declared.job.Job.{Job}
-use Rattle.fl_jobs.specs.declared.job.Job.TheVariants.{By}
-use Rattle.fl_jobs.specs.declared.job.Mail as mails
 use Rattle.fl_jobs.specs.declared.job.Mail.TheVariants.{Open, Tune, Close, Send, Take}
 use Rattle.fl_bench.specs.Process.{newborn}
 use Rattle.fl_bench.specs.declared.process.Process.{Process}
-use Rattle.fl_audit.specs.Noted.{tuned_noted, act_noted, asker_noted}
+use Rattle.fl_audit.specs.Noted.{tuned_noted, act_noted}
 
 -- a new process has no endpoint to tune
 pub none_tuned : (endpoint : Endpoint) (given : GivenLabels) → act_noted newborn (Mail (Tune endpoint given)) ≡ false

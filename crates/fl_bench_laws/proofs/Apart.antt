@@ -1,5 +1,5 @@
 -- Benches of one stride that give different pids.
-use Rattle.std.proofs.Common.{◌≡◌, ◌≢◌, ◌<◌, ◌≤◌, ◌∙◌, ◌%◌, ◌⊎◌, inl, inr, sym, ap, subst, Some, ℕ, arith, mod-eq_of_lt, eq-or-lt_of_le}
+use Rattle.std.proofs.Common.{◌≡◌, ◌≢◌, ◌<◌, ◌≤◌, ◌∙◌, ◌%◌, ◌⊎◌, inl, inr, sym, ap, Some, ℕ, arith, mod-eq_of_lt, eq-or-lt_of_le}
 use native.Mathlib.Nat.{mod_self}
 use Rattle.std.specs.FinMap as map
 use Rattle.fl_labels.specs.declared.pid.Pid.{Pid}

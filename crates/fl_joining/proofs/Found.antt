@@ -1,5 +1,5 @@
 -- The least name among those that were found, node by node.
-use Rattle.std.proofs.Common.{◌≡◌, ◌∙◌, ◌⊎◌, inl, inr, refl, sym, ap, subst, ℕ, List, [], ◌∷◌, ◌++◌, Option, Some, None}
+use Rattle.std.proofs.Common.{◌≡◌, ◌∙◌, ◌⊎◌, inl, inr, sym, ap, subst, ℕ, List, [], ◌∷◌, ◌++◌, Option, None}
 use Rattle.std.proofs.lemmas.List.{append-nil, append_assoc}
 use Rattle.fl_labels.specs.SetBy.{SetBy, In}
 use Rattle.fl_labels.specs.declared.name.Name.{Name}

@@ -1,8 +1,6 @@
 -- What saving leaves.
-use Rattle.std.proofs.Common.{◌≡◌, ◌⊎◌, ◌∙◌, inl, refl, sym, ap, subst, ℕ, List, [], ◌∷◌, ◌++◌, Ok, Err, Some, Bool, true, false}
+use Rattle.std.proofs.Common.{◌≡◌, ◌⊎◌, ◌∙◌, inl, refl, sym, subst, ℕ, List, Ok, Err, Some, Bool, true, false}
 use Rattle.std.specs.Prelude.{IsTrue, not, ◌&&◌, ◌||◌}
-use Rattle.std.specs.List.{list_any}
-use Rattle.std.specs.Ordering.{eq_by_cmp}
 use Rattle.fl_labels.specs.SetBy.{SetBy, contains, of_list, same_set, contains-union, contains-of_list}
 use Rattle.fl_ops.specs.declared.op.Op.{Op}
 use Rattle.fl_ops.specs.OpOrder.{op_cmp}
@@ -24,7 +22,7 @@ use Rattle.fl_opset.specs.Without.{without}
 use Rattle.fl_opset.specs.laws.Withouts.{contains-without}
 use Rattle.fl_node.specs.parts.Keeping.{Keeps, unkept_of}
 use Rattle.fl_system.specs.Saves as steps
-use Rattle.fl_system.specs.Saves.{Saves, halted}
+use Rattle.fl_system.specs.Saves.{Saves}
 use Rattle.fl_system.specs.Waiting.{NoneUnsaved}
 
 back_again : (s a : Bool) → (a ≡ true → s ≡ true → ⊥) → ((s || a) && not a) ≡ s

@@ -1,6 +1,6 @@
 -- A message that comes to a guarded bench is safe from its sender to its receiver, whatever views
 -- both benches worked under.
-use Rattle.std.proofs.Common.{◌≡◌, inl, inr, refl, sym, ap, subst, Option, Some, None, Ok}
+use Rattle.std.proofs.Common.{◌≡◌, inl, inr, refl, sym, subst, Option, Some, None, Ok}
 use Rattle.std.specs.Prelude.{nat_le, length}
 use Rattle.std.proofs.lemmas.Bool.{false≢true}
 use Rattle.std.specs.FinMap as map

@@ -1,5 +1,5 @@
 -- The pids that a bench gives, one after another.
-use Rattle.std.proofs.Common.{◌≡◌, ◌≢◌, ◌∙◌, ◌+◌, ◌<◌, ◌≤◌, refl, sym, ap, subst, List, Some, Result, arith}
+use Rattle.std.proofs.Common.{◌≡◌, ◌≢◌, ◌∙◌, refl, sym, ap, subst, List, Some, Result, arith}
 use native.Mathlib.Nat.{add-mod_right}
 use Rattle.std.specs.FinMap as map
 use Rattle.fl_labels.specs.Pid.{pid_cmp}

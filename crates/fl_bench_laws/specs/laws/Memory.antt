@@ -1,6 +1,6 @@
 -- No check finds want of memory: a job is refused so only where it may take some.
-use Rattle.std.proofs.Common.{◌≡◌, ◌≢◌, ◌⊎◌, inl, inr, refl, Bool, true, false, Option, Some, None, Result, Ok, Err}
-use Rattle.std.specs.Prelude.{not, nat_lt, nat_le, length}
+use Rattle.std.proofs.Common.{◌≡◌, ◌≢◌, inl, inr, refl, Bool, true, false, Option, Some, None, Ok, Err}
+use Rattle.std.specs.Prelude.{not}
 use Rattle.std.specs.FinMap as map
 use Rattle.std.specs.declared.cmp.Ordering.{Ordering}
 use Rattle.fl_labels.specs.Cap.{cap_cmp}
@@ -26,7 +26,6 @@ use Rattle.fl_jobs.specs.declared.answer.Refusal.TheVariants.{LabelTooLong, NotO
 use Rattle.fl_jobs.specs.declared.answer.Refusal.TheVariants.{Secrecy, UnsafeEndpoint}
 use Rattle.fl_jobs.specs.declared.answer.Refusal.TheVariants.{EndpointsFull, NoEndpoint}
 use Rattle.fl_jobs.specs.declared.answer.Refusal.TheVariants.{NotWritable, InboxFull, Memory}
-use Rattle.fl_jobs.specs.declared.answer.Outcome.{Outcome}
 use Rattle.fl_rules.specs.declared.labels.Labels.{Labels}
 use Rattle.fl_rules.specs.declared.pair.PairFault.{PairFault}
 use Rattle.fl_rules.specs.declared.pair.PairFault.TheVariants as faults
@@ -38,10 +37,10 @@ use Rattle.fl_mailbox.specs.declared.endpoints.OpenEndpoint.{OpenEndpoint}
 use Rattle.fl_bench.specs.Checks.{Check, refuse_if, demand, with, with_found, ◌then◌}
 use Rattle.fl_bench.specs.Guards.{entry_refusal, pair_check, endpoints_check, unsafe_by}
 use Rattle.fl_bench.specs.Mailbox.{mail_checks, arrival_checks}
-use Rattle.fl_bench.specs.Process.{owns, is_busy, effective, with_side}
+use Rattle.fl_bench.specs.Process.{owns, effective, with_side}
 use Rattle.fl_bench.specs.Bench.{BenchState}
-use Rattle.fl_bench.specs.Jobs.{enter_check, checks_of, act_checks, bench_checks}
-use Rattle.fl_bench.specs.Jobs.{checks, Does, passed, failed, no_room, TakesMemory}
+use Rattle.fl_bench.specs.Jobs.{enter_check, checks_of, bench_checks}
+use Rattle.fl_bench.specs.Jobs.{checks, Does, failed, no_room, TakesMemory}
 use Rattle.fl_bench.specs.declared.process.Process.{Process}
 
 -- the check does not find it

@@ -1,15 +1,11 @@
 -- What a process does with its endpoints and messages has one verdict, and one end.
 use Rattle.fl_message.specs.laws.SameData.{same_data}
 use Rattle.std.proofs.Common.{◌≡◌, ◌∙◌, refl, sym, ap, Some, None}
-use mathlib.Core.HLevel.{Σ_prop_path}
-use Rattle.std.specs.Coded.{×_prop, le_prop}
-use Rattle.std.specs.Prelude.{◌≤◌, nat_le, length}
+use Rattle.std.specs.Prelude.{nat_le, length}
 use Rattle.std.proofs.lemmas.Bool.{false≢true}
 use Rattle.std.specs.FinMap as map
 use Rattle.fl_labels.specs.CapOrder.{cap_total, cap_exact}
-use Rattle.fl_labels.specs.Name.{name_cmp}
 use Rattle.fl_labels.specs.NameOrder.{name_total, name_exact}
-use Rattle.fl_labels.specs.SetBy.{SetBy, len}
 use Rattle.fl_labels.specs.declared.cap.Cap.{Cap}
 use Rattle.fl_labels.specs.declared.endpoint.Endpoint.{Endpoint}
 use Rattle.fl_labels.specs.declared.pid.Pid.{Pid}

@@ -1,5 +1,5 @@
 -- A world that nodes over keepers may be, where it is known of each keeper what it may hold.
-use Rattle.std.proofs.Common.{◌≡◌, ◌∙◌, refl, sym, ap, subst, ℕ, Bool, true, false, cond, List, [], ◌∷◌, map as list_map, Option, Some, None}
+use Rattle.std.proofs.Common.{refl, sym, subst, ℕ, Bool, true, false, cond, List, [], ◌∷◌, map as list_map, Some}
 use Rattle.std.specs.FinMap as map
 use Rattle.std.specs.FinMap.{find}
 use Rattle.std.specs.Ordering.{nat_cmp, eq_by_cmp}

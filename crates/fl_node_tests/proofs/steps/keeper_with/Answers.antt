@@ -1,5 +1,5 @@
 -- One operation has its name alone.
-use Rattle.std.proofs.Common.{◌≡◌, ◌∙◌, sym, inl, inr, List, [], ◌∷◌}
+use Rattle.std.proofs.Common.{◌≡◌, ◌∙◌, sym, inl, inr, [], ◌∷◌}
 use Rattle.std.specs.Cmp.{Equal-is}
 use Rattle.std.proofs.lemmas.Bool.{or_cases, false≢true}
 use Rattle.fl_labels.specs.SetBy.{In, of_list, empty, contains-insert, contains-empty}

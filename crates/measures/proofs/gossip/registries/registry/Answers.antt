@@ -1,8 +1,4 @@
-use Rattle.std.proofs.Common.{◌≡◌, refl}
 use Rattle.fl_labels.specs.SetBy as set
-use Rattle.fl_labels.specs.SetBy.{In}
-use Rattle.fl_ops.specs.OpOrder.{op_cmp}
-use Rattle.fl_opset.specs.Catching.{HaveNoClash}
 use Rattle.fl_opset.specs.laws.Once.{same_once, empty_once}
 use Rattle.measures.proofs.gossip.registries.registry.Goals as goal
 
