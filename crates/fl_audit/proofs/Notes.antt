@@ -148,14 +148,16 @@ module _ (order : orders.Order) (caps : List Cap) (listed : caps ≡ set.members
   taken_told none_taken is told e = ap (λ s. length s == 0) (sym listed) ∙ sym is ∙ e
 
   -- the set of these is what is taken
-  set_taken : (made : SetBy cap_cmp) → made ≡ set.of_list caps → made ≡ order_takes order
-  set_taken made is = is ∙ ap set.of_list listed ∙ set.of_list-members cap_total cap_exact (order_takes order)
-
-  pub grant_listed : (p : Party) (made : SetBy cap_cmp) → made ≡ set.of_list caps → takes_nothing order ≡ false
-      → Grant p made ∷ [] ≡ order_entries p order
-  grant_listed p made is some =
-      ap (λ s. Grant p s ∷ []) (set_taken made is)
+  pub grant_listed : (p : Party) → takes_nothing order ≡ false → Grant p (set.of_list caps) ∷ [] ≡ order_entries p order
+  grant_listed p some =
+      ap (λ s. Grant p s ∷ [])
+      (ap set.of_list listed ∙ set.of_list-members cap_total cap_exact (order_takes order))
       ∙ ap (λ b. if_taken b (Grant p (order_takes order))) (sym some)
+
+-- the set of the members of a set
+pub granted : (p : Party) (s : SetBy cap_cmp) (caps : List Cap) → caps ≡ set.members s
+    → Grant p (set.of_list caps) ∷ [] ≡ Grant p s ∷ []
+granted p s caps e = ap (λ t. Grant p t ∷ []) (ap set.of_list e ∙ set.of_list-members cap_total cap_exact s)
 
 pub nothing_listed : (order : orders.Order) (p : Party) → takes_nothing order ≡ true → [] ≡ order_entries p order
 nothing_listed order p e = ap (λ b. if_taken b (Grant p (order_takes order))) (sym e)

@@ -1,11 +1,9 @@
--- Which jobs are noted, where their answer is the right one, with what who asks for them owns.
+-- Which jobs are noted, where their answer is the right one, with how those who ask for them stand.
 use Rattle.std.specs.Prelude.{◌≡◌, Bool, true, false, not, is_some, IsSome}
 use Rattle.std.specs.FinMap as map
 use Rattle.std.specs.declared.option.Option.{Option}
 use Rattle.std.specs.declared.option.Option.TheVariants.{None, Some}
 use Rattle.std.specs.declared.result.Result.TheVariants.{Ok, Err}
-use Rattle.fl_labels.specs.Cap.{cap_cmp}
-use Rattle.fl_labels.specs.SetBy.{SetBy}
 use Rattle.fl_mailbox.specs.declared.endpoints.OpenEndpoint.{OpenEndpoint}
 use Rattle.fl_mailbox.specs.declared.mailbox.Mailbox.{Mailbox}
 use Rattle.fl_jobs.specs.Given.{labels_of}
@@ -17,8 +15,9 @@ use Rattle.fl_jobs.specs.declared.job.Job.{Job}
 use Rattle.fl_jobs.specs.declared.job.Job.TheVariants.{Proc, By, Member, Arrive}
 use Rattle.fl_jobs.specs.declared.job.Mail as mails
 use Rattle.fl_jobs.specs.declared.job.Mail.TheVariants.{Open, Tune, Close, Send, Take}
-use Rattle.fl_bench.specs.Process.{owned_by, takes_nothing}
+use Rattle.fl_bench.specs.Process.{standing_at, takes_nothing}
 use Rattle.fl_bench.specs.declared.process.Process.{Process}
+use Rattle.fl_bench.specs.declared.standing.Standing.{Standing}
 
 abbrev pub tuned_noted : Option OpenEndpoint → GivenLabels → Bool
 tuned_noted None given = false
@@ -52,8 +51,7 @@ asker_noted (Some p) (By pid act) = act_noted p act
 asker_noted (Some p) (Member root c) = false
 asker_noted (Some p) (Arrive d) = false
 
--- These capabilities, if any, may be handed over to note the job: they are given where they are noted, and are what
--- who asks owns.
-pub record IsNotedWith (asker : Option Process) (job : Job) (owned : Option (SetBy cap_cmp)) : Type 0 where
-  pub given : asker_noted asker job ≡ true → IsSome owned
-  pub right : (caps : SetBy cap_cmp) → owned ≡ Some caps → owned_by asker ≡ Some caps
+-- This, if anything, may be handed over to note the job: it is given where the job is noted, and is how who asks stands.
+pub record IsNotedWith (asker : Option Process) (job : Job) (standing : Option Standing) : Type 0 where
+  pub given : asker_noted asker job ≡ true → IsSome standing
+  pub right : (s : Standing) → standing ≡ Some s → standing_at asker ≡ Some s

@@ -2,13 +2,14 @@
 ghost use Rattle.std.specs.Option.{option_copied};
 ghost use Rattle.std.specs.Prelude.{◌≡◌, ◌++◌, ℕ, true, false, is_some, Some, IfOk, OnOk, OnErr};
 ghost use Rattle.std.specs.Prelude.{List, [], ◌∷◌, length};
+ghost use Rattle.fl_labels.specs.SetBy as set;
 ghost use Rattle.fl_labels.specs.declared.cap.Cap.{Cap};
 ghost use Rattle.fl_labels.specs.declared.cap.Cap.TheVariants as Cap;
 ghost use Rattle.fl_labels.specs.declared.name.Name.{Name};
 ghost use Rattle.fl_ops.specs.declared.digest.Digest.{Digest};
 ghost use Rattle.fl_mailbox.specs.Mailbox.{closed};
 ghost use Rattle.fl_jobs.specs.Given.{labels_of};
-ghost use Rattle.fl_bench.specs.Process.{owns, newborn, takes_nothing};
+ghost use Rattle.fl_bench.specs.Process.{newborn, takes_nothing};
 ghost use Rattle.fl_bench.specs.Secrets.{digest_of};
 ghost use Rattle.fl_bench.specs.declared.process.Process.{Process};
 ghost use Rattle.fl_system.specs.Audit.{party, entries, if_yes};
@@ -22,23 +23,23 @@ ghost use Rattle.fl_audit.specs.Drafts.{IsDrafted, IsAskedAt, is_yes, entered};
 ghost use Rattle.fl_audit.specs.Noted.{mail_noted, act_noted};
 ghost use Rattle.fl_audit.specs.Noted.{asker_noted, IsNotedWith};
 
-use crate::caps::{given, set_of};
-use crate::party::party;
+use crate::given::given;
 use fl_bench::orders::digest_of_secret;
 use fl_bench::process::Process;
-use fl_bench::shared::SharedCaps;
+use fl_bench::shared::Shared;
+use fl_bench::standing::Standing;
 use fl_bench::taken::Taken;
 use fl_jobs::answer::Reply;
 use fl_jobs::job::{Act, GivenLabels, Job, Mail, Order, Side};
 use fl_jobs::secret::Secret;
 use fl_labels::cap::Cap;
-use fl_labels::cap_set::CapSet;
 use fl_labels::label::Label;
 use fl_labels::name::{Name, NodeNumber};
-use fl_labels::pid::Pid;
+use fl_message::boxed::Boxed;
 use fl_rules::endpoint::Mode;
-use fl_system::admission::Admission;
+use fl_system::admission::{Admission, Party};
 use fl_system::answer::Answer;
+use fl_system::granted::Granted;
 use std::alloc::{AllocError, Global};
 
 /// What becomes of what is noted of a job before it is done, once the job is answered.
@@ -123,122 +124,77 @@ pub fn names_asker(asker: Option<&Process>, job: &Job) -> bool
     }
 }
 
-// Notes that the process hands these capabilities on.
-fn note_grant(
-    alloc: Global,
-    pid: Pid,
-    process: &Process,
-    owned: SharedCaps,
-    caps: CapSet,
-    audit: &mut Vec<Admission>,
-) -> Result<(), AllocError>
-    requires { owned ≡ owns process.now }
-    ensures ok { let entry = Admission.Grant (party pid process.now) caps in
-        OnOk result (audit.new.items ≡ audit.old.items ++ entry ∷ []) }
+// Notes this.
+#[inline(always)]
+fn note(audit: &mut Vec<Admission>, entry: Admission) -> Result<(), AllocError>
+    ensures ok { OnOk result (audit.new.items ≡ audit.old.items ++ entry ∷ []) }
     ensures err { OnErr result (audit.new.items ≡ audit.old.items) }
 {
     audit.reserve(1)?;
-    let party = party(alloc, pid, process, owned)?;
-    audit.push_reserved(Admission::Grant(party, caps));
+    audit.push_reserved(entry);
     Ok(())
+}
+
+// Notes that the process hands these capabilities on.
+fn note_grant(
+    alloc: Global,
+    asker: Party,
+    caps: &[Cap],
+    audit: &mut Vec<Admission>,
+) -> Result<(), AllocError>
+    ensures ok { let entry = Admission.Grant asker (set.of_list caps.now) in
+        OnOk result (audit.new.items ≡ audit.old.items ++ entry ∷ []) }
+    ensures err { OnErr result (audit.new.items ≡ audit.old.items) }
+{
+    let caps = Granted::new(alloc, caps)?;
+    note(audit, Admission::Grant(asker, caps))
 }
 
 // Notes that the label of this side of the process becomes this one.
 fn note_change(
     alloc: Global,
-    pid: Pid,
-    process: &Process,
-    owned: SharedCaps,
+    asker: Party,
     side: Side,
     label: &Label,
     audit: &mut Vec<Admission>,
 ) -> Result<(), AllocError>
-    requires { owned ≡ owns process.now }
-    ensures ok { let entry = Admission.Change (party pid process.now) side label.now in
+    ensures ok { let entry = Admission.Change asker side label.now in
         OnOk result (audit.new.items ≡ audit.old.items ++ entry ∷ []) }
     ensures err { OnErr result (audit.new.items ≡ audit.old.items) }
 {
-    audit.reserve(1)?;
     let label = label.copy(alloc)?;
-    let party = party(alloc, pid, process, owned)?;
-    audit.push_reserved(Admission::Change(party, side, label));
-    Ok(())
-}
-
-// Notes that bytes of the process go to the outside.
-fn note_emission(
-    alloc: Global,
-    pid: Pid,
-    process: &Process,
-    owned: SharedCaps,
-    audit: &mut Vec<Admission>,
-) -> Result<(), AllocError>
-    requires { owned ≡ owns process.now }
-    ensures ok { let entry = Admission.Emission (party pid process.now) in
-        OnOk result (audit.new.items ≡ audit.old.items ++ entry ∷ []) }
-    ensures err { OnErr result (audit.new.items ≡ audit.old.items) }
-{
-    audit.reserve(1)?;
-    let party = party(alloc, pid, process, owned)?;
-    audit.push_reserved(Admission::Emission(party));
-    Ok(())
-}
-
-// Notes that the process is told that it has the capability in effect.
-fn note_yes(
-    alloc: Global,
-    pid: Pid,
-    process: &Process,
-    owned: SharedCaps,
-    cap: Cap,
-    audit: &mut Vec<Admission>,
-) -> Result<(), AllocError>
-    requires { owned ≡ owns process.now }
-    ensures ok { let entry = Admission.Yes (party pid process.now) cap in
-        OnOk result (audit.new.items ≡ audit.old.items ++ entry ∷ []) }
-    ensures err { OnErr result (audit.new.items ≡ audit.old.items) }
-{
-    audit.reserve(1)?;
-    let party = party(alloc, pid, process, owned)?;
-    audit.push_reserved(Admission::Yes(party, cap));
-    Ok(())
+    note(audit, Admission::Change(asker, side, label))
 }
 
 // Notes that the process enters the login of this name by this secret. Until the answer says what
 // capability the login gives, its use stands for that.
 fn note_entry(
     alloc: Global,
-    pid: Pid,
-    process: &Process,
-    owned: SharedCaps,
+    asker: Party,
     login: Name,
     secret: Secret,
     audit: &mut Vec<Admission>,
 ) -> Result<(), AllocError>
-    requires { owned ≡ owns process.now }
     ensures ok { let digest = digest_of secret in
-        let entry = Admission.Entry (party pid process.now) login (Cap.Use login) digest in
+        let entry = Admission.Entry asker login (Cap.Use login) digest in
         OnOk result (audit.new.items ≡ audit.old.items ++ entry ∷ []) }
     ensures err { OnErr result (audit.new.items ≡ audit.old.items) }
 {
-    audit.reserve(1)?;
-    let party = party(alloc, pid, process, owned)?;
-    let digest = digest_of_secret(secret);
-    audit.push_reserved(Admission::Entry(party, login, Cap::Use(login), digest));
-    Ok(())
+    let digest = Boxed::new(alloc, digest_of_secret(secret))?;
+    note(
+        audit,
+        Admission::Entry(asker, login, Cap::Use(login), digest),
+    )
 }
 
 // Notes what an order hands on.
 fn note_order(
     alloc: Global,
-    pid: Pid,
-    process: &Process,
-    owned: SharedCaps,
+    asker: Party,
     order: Order,
     audit: &mut Vec<Admission>,
 ) -> Result<(), AllocError>
-    requires { owned ≡ owns process.now }
-    ensures ok { let entries = order_entries (party pid process.now) order in
+    ensures ok { let entries = order_entries asker order in
         OnOk result (audit.new.items ≡ audit.old.items ++ entries) }
     ensures same { OnErr result (audit.new.items ≡ audit.old.items) }
     ensures err { OnErr result (takes_nothing order ≡ false) }
@@ -247,23 +203,18 @@ fn note_order(
     if taken.as_slice().is_empty() {
         return Ok(());
     }
-    let caps = set_of(alloc, taken.as_slice())?;
-    note_grant(alloc, pid, process, owned, caps, audit)
+    note_grant(alloc, asker, taken.as_slice(), audit)
 }
 
 // Notes an endpoint of this mode that gets these labels.
 fn note_endpoint(
     alloc: Global,
-    pid: Pid,
-    process: &Process,
-    owned: SharedCaps,
+    asker: Party,
     mode: Mode,
     labels: &GivenLabels,
     audit: &mut Vec<Admission>,
 ) -> Result<(), AllocError>
-    requires { owned ≡ owns process.now }
-    ensures ok { let p = party pid process.now in
-        let entries = endpoint_entries p mode (labels_of labels.now) in
+    ensures ok { let entries = endpoint_entries asker mode (labels_of labels.now) in
         OnOk result (audit.new.items ≡ audit.old.items ++ entries) }
     ensures same { OnErr result (audit.new.items ≡ audit.old.items) }
     ensures err { OnErr result (is_some (labels_of labels.now) ≡ true) }
@@ -271,77 +222,62 @@ fn note_endpoint(
     let Some(labels) = given(alloc, labels)? else {
         return Ok(());
     };
-    audit.reserve(1)?;
-    let party = party(alloc, pid, process, owned)?;
-    audit.push_reserved(Admission::Endpoint(party, mode, labels));
-    Ok(())
+    let labels = Boxed::new(alloc, labels)?;
+    note(audit, Admission::Endpoint(asker, mode, labels))
 }
 
 // Notes what a process does with its endpoints and messages.
 fn note_mail(
     alloc: Global,
-    pid: Pid,
     process: &Process,
-    owned: SharedCaps,
+    asker: Party,
     mail: &Mail,
     audit: &mut Vec<Admission>,
 ) -> Result<(), AllocError>
-    requires { owned ≡ owns process.now }
-    ensures ok { let entries = mail_entries (party pid process.now) process.now.mailbox mail.now in
+    ensures ok { let entries = mail_entries asker process.now.mailbox mail.now in
         OnOk result (audit.new.items ≡ audit.old.items ++ entries) }
     ensures same { OnErr result (audit.new.items ≡ audit.old.items) }
     ensures err { OnErr result (mail_noted process.now.mailbox mail.now ≡ true) }
 {
     match mail {
-        Mail::Open(mode, labels) => {
-            note_endpoint(alloc, pid, process, owned, *mode, labels, audit)
-        }
+        Mail::Open(mode, labels) => note_endpoint(alloc, asker, *mode, labels, audit),
         Mail::Tune(endpoint, labels) => match process.mailbox.endpoints.get(*endpoint) {
             None => Ok(()),
-            Some(opened) => note_endpoint(alloc, pid, process, owned, opened.mode, labels, audit),
+            Some(opened) => note_endpoint(alloc, asker, opened.mode, labels, audit),
         },
-        Mail::Send { message, .. } => {
-            let caps = message.caps.copy(alloc)?;
-            note_grant(alloc, pid, process, owned, caps, audit)
-        }
+        Mail::Send { message, .. } => note_grant(alloc, asker, message.caps.as_slice(), audit),
         Mail::Close(_) | Mail::Take => Ok(()),
     }
 }
 
-// Notes an act of the process, which stands as this pid.
+// Notes an act of the process, which is this party.
 fn note_act(
     alloc: Global,
-    pid: Pid,
     process: &Process,
-    owned: SharedCaps,
+    asker: Party,
     act: &Act,
     audit: &mut Vec<Admission>,
 ) -> Result<Draft, AllocError>
-    requires { owned ≡ owns process.now }
+    requires { asker ≡ party asker.pid process.now }
     ensures ok { IfOk result (IsDrafted audit.old.items audit.new.items
-        (act_entries pid process.now act.now)) }
+        (act_entries asker.pid process.now act.now)) }
     ensures same { OnErr result (audit.new.items ≡ audit.old.items) }
     ensures err { OnErr result (act_noted process.now act.now ≡ true) }
 {
     match act {
-        Act::Order(order) => note_order(alloc, pid, process, owned, *order, audit)?,
-        Act::Relabel(side, Ok(label)) => {
-            note_change(alloc, pid, process, owned, *side, label, audit)?
-        }
+        Act::Order(order) => note_order(alloc, asker, *order, audit)?,
+        Act::Relabel(side, Ok(label)) => note_change(alloc, asker, *side, label, audit)?,
         Act::Ask(cap) => {
-            note_yes(alloc, pid, process, owned, *cap, audit)?;
+            note(audit, Admission::Yes(asker, *cap))?;
             return Ok(Draft::IfYes);
         }
-        Act::Spawn(caps) => {
-            let caps = caps.copy(alloc)?;
-            note_grant(alloc, pid, process, owned, caps, audit)?
-        }
+        Act::Spawn(caps) => note_grant(alloc, asker, caps.as_slice(), audit)?,
         Act::Enter(login, secret) => {
-            note_entry(alloc, pid, process, owned, *login, *secret, audit)?;
+            note_entry(alloc, asker, *login, *secret, audit)?;
             return Ok(Draft::IfEntered);
         }
-        Act::Emit(_) => note_emission(alloc, pid, process, owned, audit)?,
-        Act::Mail(mail) => note_mail(alloc, pid, process, owned, mail, audit)?,
+        Act::Emit(_) => note(audit, Admission::Emission(asker))?,
+        Act::Mail(mail) => note_mail(alloc, process, asker, mail, audit)?,
         Act::Relabel(_, Err(_)) | Act::Exit | Act::Drop(_) => {}
     }
     Ok(Draft::Always)
@@ -359,8 +295,7 @@ fn note_reached(
         IfOk result (IsDrafted audit.old.items audit.new.items (λ a. if_yes a entry)) }
     ensures same { OnErr result (audit.new.items ≡ audit.old.items) }
 {
-    audit.reserve(1)?;
-    audit.push_reserved(Admission::Reached(number, boot, root, cap));
+    note(audit, Admission::Reached(number, boot, root, cap))?;
     Ok(Draft::IfYes)
 }
 
@@ -398,20 +333,20 @@ fn put_cap(audit: &mut Vec<Admission>, cap: Cap)
 impl Draft {
     /// Notes the job, as it is noted if it is admitted at a node of this number and boot, and says
     /// what becomes of that once it is answered: the job is asked for by this process, or by none
-    /// that is there, which owns this, where that is noted. Nothing is copied where nothing would
-    /// be noted, and memory is wanted only where something may be: then at most the labels of the
-    /// process, the label or the capabilities that the job names, and room for one entry. Of a
-    /// secret it takes the digest.
+    /// that is there, which stands so, where that is noted. Nothing is copied where nothing would
+    /// be noted, and memory is wanted only where something may be: then at most for the labels or
+    /// the capabilities that the job names, and room for one entry. Of a secret it takes the
+    /// digest.
     pub fn note(
         alloc: Global,
         number: NodeNumber,
         boot: u32,
         asker: Option<&Process>,
-        owned: Option<SharedCaps>,
+        standing: Option<Shared<Standing>>,
         job: &Job,
         audit: &mut Vec<Admission>,
     ) -> Result<Draft, AllocError>
-        requires { IsNotedWith (option_copied asker) job.now owned }
+        requires { IsNotedWith (option_copied asker) job.now standing }
         ensures ok { IfOk result (λ draft. (n : NodeState) →
             IsAskedAt number boot (option_copied asker.entry) job.now n →
             IsDrafted audit.old.items audit.new.items (entries n job.now) draft) }
@@ -420,8 +355,14 @@ impl Draft {
             IsAskedAt number boot (option_copied asker.entry) job.now n → MayBeNoted n job.now) }
     {
         match job {
-            Job::By(pid, act) => match (asker, owned) {
-                (Some(process), Some(owned)) => note_act(alloc, *pid, process, owned, act, audit),
+            Job::By(pid, act) => match (asker, standing) {
+                (Some(process), Some(standing)) => {
+                    let asker = Party {
+                        pid: *pid,
+                        standing,
+                    };
+                    note_act(alloc, process, asker, act, audit)
+                }
                 _ => Ok(Draft::Always),
             },
             Job::Member(root, cap) => note_reached(number, boot, *root, *cap, audit),

@@ -1,8 +1,8 @@
 //! What is noted of jobs and messages, made before they are done.
 #![tactic(auto)]
 
-mod caps;
 pub mod draft;
+mod given;
 pub mod laws;
 pub mod message;
 pub mod party;

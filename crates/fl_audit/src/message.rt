@@ -1,39 +1,34 @@
 //! What is noted of a message that arrives.
-ghost use Rattle.std.specs.Option.{option_copied};
 ghost use Rattle.std.specs.Prelude.{◌≡◌, Some, IfOk, OnErr, IsSome};
-ghost use Rattle.fl_bench.specs.Process.{owned_by};
+ghost use Rattle.std.specs.declared.option.Option.{Option};
+ghost use Rattle.fl_bench.specs.Process.{standing_at};
+ghost use Rattle.fl_bench.specs.declared.process.Process.{Process};
 ghost use Rattle.fl_system.specs.Audit.{message_entries};
 ghost use Rattle.fl_audit.specs.Drafts.{listed};
 
-use crate::party::{copy_party, party};
-use fl_bench::process::Process;
-use fl_bench::shared::SharedCaps;
+use crate::party::copy_party;
+use fl_bench::shared::Shared;
+use fl_bench::standing::Standing;
 use fl_labels::pid::Pid;
 use fl_system::admission::{Admission, Party};
-use std::alloc::{AllocError, Global};
+use std::alloc::AllocError;
 
-/// What is noted where a message of this sender arrives at the process that stands as this pid, if
-/// there is one, which owns this. Fails only where there is not enough memory, and there is the
-/// process. Copies the labels of both.
+/// What is noted where a message of this sender arrives at the process that stands so as this pid,
+/// if there is one. Takes no memory. Fails only where there is the process, and how the sender
+/// stands has too many holders.
 pub fn arrival(
-    alloc: Global,
     sender: &Party,
     pid: Pid,
-    receiver: Option<&Process>,
-    owned: Option<SharedCaps>,
+    receiver: Option<Shared<Standing>>,
 ) -> Result<Option<Admission>, AllocError>
-    requires { owned ≡ owned_by (option_copied receiver) }
-    ensures ok { IfOk result (λ made.
-        listed made ≡ message_entries (Some sender.now) pid (option_copied receiver.entry)) }
-    ensures err { OnErr result (IsSome (option_copied receiver.entry)) }
+    ensures ok { (process : Option Process) → receiver ≡ standing_at process →
+        IfOk result (λ made. listed made ≡ message_entries (Some sender.now) pid process) }
+    ensures err { OnErr result (IsSome receiver) }
 {
-    let Some(receiver) = receiver else {
+    let Some(standing) = receiver else {
         return Ok(None);
     };
-    let Some(owned) = owned else {
-        unreachable!("a process owns something, if only nothing");
-    };
-    let sender = copy_party(alloc, sender)?;
-    let receiver = party(alloc, pid, receiver, owned)?;
+    let sender = copy_party(sender)?;
+    let receiver = Party { pid, standing };
     Ok(Some(Admission::Message(sender, receiver)))
 }

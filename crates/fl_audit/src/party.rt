@@ -1,83 +1,51 @@
 //! Processes as the rules judge them.
-ghost use Rattle.std.specs.Option.{option_copied};
 ghost use Rattle.std.specs.Prelude.{◌≡◌, IfOk, OnErr, IsSome};
-ghost use Rattle.fl_bench.specs.Process.{owns, owned_by};
-ghost use Rattle.fl_system.specs.Audit.{party};
-ghost use Rattle.fl_system.specs.WorldJobs.{party_at};
+ghost use Rattle.std.specs.declared.option.Option.{Option};
+ghost use Rattle.fl_bench.specs.declared.process.Process.{Process};
 ghost use Rattle.fl_audit.specs.Noted.{IsNotedWith};
-ghost use Rattle.fl_audit.specs.Senders.{sender_of};
+ghost use Rattle.fl_audit.specs.Senders.{party_of, sender_of};
 
-use fl_bench::process::Process;
-use fl_bench::shared::SharedCaps;
+use fl_bench::shared::Shared;
+use fl_bench::standing::Standing;
 use fl_jobs::job::{Act, Job, Mail};
 use fl_labels::pid::Pid;
 use fl_system::admission::Party;
-use std::alloc::{AllocError, Global};
+use std::alloc::AllocError;
 
-/// The process, which stands as this pid, with its labels and what it owns now. Fails only where
-/// there is not enough memory. Copies the labels.
-pub fn party(
-    alloc: Global,
-    pid: Pid,
-    process: &Process,
-    owned: SharedCaps,
-) -> Result<Party, AllocError>
-    requires { owned ≡ owns process.now }
-    ensures { IfOk result (λ made. made ≡ party pid process.now) }
+// The process that stands so as this pid, where there is one.
+fn party_of(pid: Pid, standing: &Option<Shared<Standing>>) -> Result<Option<Party>, AllocError>
+    ensures ok { IfOk result (λ made. made ≡ party_of pid standing.now) }
+    ensures err { OnErr result (IsSome standing.now) }
 {
-    Ok(Party {
-        pid,
-        labels: process.labels.copy(alloc)?,
-        owned,
-    })
-}
-
-// The same, where there is a process.
-fn party_at(
-    alloc: Global,
-    pid: Pid,
-    process: Option<&Process>,
-    owned: &Option<SharedCaps>,
-) -> Result<Option<Party>, AllocError>
-    requires { owned.now ≡ owned_by (option_copied process) }
-    ensures ok { IfOk result (λ made. made ≡ party_at pid (option_copied process.entry)) }
-    ensures err { OnErr result (IsSome (option_copied process.entry)) }
-{
-    let Some(process) = process else {
+    let Some(standing) = standing else {
         return Ok(None);
     };
-    let Some(owned) = owned else {
-        unreachable!("a process owns something, if only nothing");
-    };
-    Ok(Some(party(alloc, pid, process, owned.copy()?)?))
+    let standing = standing.copy()?;
+    Ok(Some(Party { pid, standing }))
 }
 
-/// The same party again. Fails only where there is not enough memory. Copies the labels.
-pub fn copy_party(alloc: Global, party: &Party) -> Result<Party, AllocError>
+/// The same party again, without a copy of its labels or of what it owns. Fails only where these
+/// have too many holders.
+pub(crate) fn copy_party(party: &Party) -> Result<Party, AllocError>
     ensures { IfOk result (λ made. made ≡ party.now) }
 {
     Ok(Party {
         pid: party.pid,
-        labels: party.labels.copy(alloc)?,
-        owned: party.owned.copy()?,
+        standing: party.standing.copy()?,
     })
 }
 
-/// Who sends a message by the job, if one is sent by it, as it is now: the job is asked for by this
-/// process, or by none that is there, which owns this, where that is noted. Wants memory only where
-/// a message is sent. Copies the labels.
-pub fn sender(
-    alloc: Global,
-    asker: Option<&Process>,
-    owned: &Option<SharedCaps>,
-    job: &Job,
-) -> Result<Option<Party>, AllocError>
-    requires { IsNotedWith (option_copied asker) job.now owned.now }
-    ensures ok { IfOk result (λ made. made ≡ sender_of (option_copied asker.entry) job.now) }
-    ensures err { OnErr result (IsSome (sender_of (option_copied asker.entry) job.now)) }
+/// Who sends a message by the job, if one is sent by it, as it is now: a process asks for the job,
+/// or none that is there does, which stands so where that is noted. Takes no memory. Fails only
+/// where a message is sent, and how its sender stands has too many holders.
+pub fn sender(standing: &Option<Shared<Standing>>, job: &Job) -> Result<Option<Party>, AllocError>
+    ensures ok { (asker : Option Process) → IsNotedWith asker job.now standing.now →
+        IfOk result (λ made. made ≡ sender_of asker job.now) }
+    ensures err { (asker : Option Process) → IsNotedWith asker job.now standing.now →
+        OnErr result (IsSome (sender_of asker job.now)) }
 {
     match job {
-        Job::By(pid, Act::Mail(Mail::Send { .. })) => party_at(alloc, *pid, asker, owned),
+        Job::By(pid, Act::Mail(Mail::Send { .. })) => party_of(*pid, standing),
         _ => Ok(None),
     }
 }

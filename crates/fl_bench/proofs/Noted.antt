@@ -1,18 +1,26 @@
 -- What is owned and what was noted of it.
 use Rattle.std.proofs.Common.{◌≡◌, ◌∙◌, arith, ap, sym, refl, Bool, true, false, List, length}
-use Rattle.std.specs.Prelude.{◌||◌, not, MatchBool, [], ◌∷◌}
+use Rattle.std.specs.Prelude.{◌||◌, ◌&&◌, not, MatchBool, [], ◌∷◌}
 use Rattle.std.specs.Ordering.{eq_by_cmp}
 use Rattle.std.specs.List.{AllWithin}
+use Rattle.std.specs.Cmp.{on_total}
+use Rattle.std.specs.Cmp.Lexicographic.{lists_total}
 use Rattle.std.proofs.lemmas.Bool.{false≢true}
 use Rattle.fl_labels.specs.Cap.{cap_cmp}
 use Rattle.fl_labels.specs.CapOrder.{cap_total, cap_exact}
 use Rattle.fl_labels.specs.Found.{Within}
+use Rattle.fl_labels.specs.Name.{name_cmp}
+use Rattle.fl_labels.specs.NameOrder.{name_total, name_exact}
 use Rattle.fl_labels.specs.SetBy as set
 use Rattle.fl_labels.specs.SetBy.{SetBy, In, contains, members, of_list, of_list-members, same_set}
 use Rattle.fl_labels.specs.SetBy.{contains-empty, contains-insert, contains-union}
+use Rattle.fl_labels.specs.SetEquality.{set_cmp}
+use Rattle.fl_labels.specs.laws.Orders.{equals, set_exact}
 use Rattle.fl_labels.specs.laws.Rising.{insert_member}
 use Rattle.fl_labels.specs.laws.SortedVec.{every_member}
 use Rattle.fl_labels.specs.declared.cap.Cap.{Cap}
+use Rattle.fl_rules.specs.contracts.labels.LabelsPartialEq.TheImpl as both
+use Rattle.fl_rules.specs.declared.labels.Labels.{Labels}
 
 -- a set is that of its members
 pub of_slice : (s : SetBy cap_cmp) (cs : List Cap) → cs ≡ members s → of_list {R = cap_cmp} cs ≡ s
@@ -66,3 +74,20 @@ insert_members s t =
     same_set cap_total cap_exact _ _ (λ q. contains_all s (members t) q
     ∙ ap (λ u. contains s q || contains u q) (of_slice t (members t) refl)
     ∙ sym (contains-union cap_total s t q))
+
+-- what `==` takes for the same labels is the same
+same_label : (s t : SetBy name_cmp) → eq_by_cmp (set_cmp name_cmp) s t ≡ true → s ≡ t
+same_label s t h =
+    (equals (on_total members (lists_total name_total)) (set_exact name_total name_exact) (eq_by_cmp (set_cmp name_cmp))
+    (λ s t. refl) s t).0 h
+
+both_true : (a b : Bool) → (a && b) ≡ true → (a ≡ true) × (b ≡ true)
+both_true true b h = (refl, h)
+both_true false b h = absurd (false≢true h)
+
+pub same_labels : (a b : Labels) → both.ghosts.eq a b ≡ true → a ≡ b
+same_labels a b h =
+    let sides = both_true _ _ h in
+    let secrecy = same_label a.secrecy b.secrecy sides.0 in
+    let integrity = same_label a.integrity b.integrity sides.1 in
+    λ i. record { secrecy = secrecy i; integrity = integrity i }

@@ -23,6 +23,7 @@ use Rattle.fl_bench.specs.Secrets.{digest_of}
 use Rattle.fl_bench.specs.declared.process.Holding.{Holding}
 use Rattle.fl_bench.specs.declared.process.Holding.TheVariants.{Idle, Ordering}
 use Rattle.fl_bench.specs.declared.process.Process.{Process}
+use Rattle.fl_bench.specs.declared.standing.Standing.{Standing}
 
 -- with nothing
 abbrev pub newborn : Process
@@ -37,10 +38,14 @@ held (Ordering caps) = caps
 abbrev pub owns : Process → set.SetBy cap_cmp
 owns p = held p.owned
 
--- what the process owns, if there is one
-abbrev pub owned_by : Option Process → Option (set.SetBy cap_cmp)
-owned_by None = None
-owned_by (Some p) = Some (owns p)
+-- its labels, and what it owns
+abbrev pub standing_of : Process → Standing
+standing_of p = record { labels = p.labels; owned = owns p }
+
+-- the same, where there is a process
+abbrev pub standing_at : Option Process → Option Standing
+standing_at None = None
+standing_at (Some p) = Some (standing_of p)
 
 abbrev pub is_under_way : Holding → Bool
 is_under_way (Idle caps) = false

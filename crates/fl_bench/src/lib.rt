@@ -8,4 +8,5 @@ pub mod owned;
 mod past;
 pub mod process;
 pub mod shared;
+pub mod standing;
 pub mod taken;

@@ -7,10 +7,12 @@ ghost use Rattle.fl_bench.specs.parts.Changes.{after, Follows};
 
 use crate::change::Change;
 use crate::past::Past;
-use crate::shared::SharedCaps;
+use crate::shared::Shared;
+use crate::standing::Standing;
 use fl_labels::cap::Cap;
 use fl_labels::cap_set::CapSet;
 use fl_labels::roomy::RoomyCapSet;
+use fl_rules::labels::Labels;
 use std::alloc::{AllocError, Global};
 use std::marker::Model;
 
@@ -69,29 +71,41 @@ impl Drop for RoomyOwned {
     }
 }
 
-// The set of these capabilities, by its past, which is begun where there is none.
+// The set of these capabilities with these labels, by its past, which is begun where there is none.
 #[inline]
-fn share(alloc: Global, past: &mut Option<Past>, caps: &[Cap]) -> Result<SharedCaps, AllocError>
+fn share(
+    alloc: Global,
+    past: &mut Option<Past>,
+    caps: &[Cap],
+    labels: &Labels,
+) -> Result<Shared<Standing>, AllocError>
     requires { IfSome past.old (λ past. past ≡ set.of_list caps.now) }
-    ensures shared { IfOk result (λ made. made ≡ set.of_list caps.now) }
+    ensures shared { IfOk result (λ made.
+        made ≡ record { labels = labels.now; owned = set.of_list caps.now }) }
     ensures kept { IfSome past.new (λ past. past ≡ set.of_list caps.now) }
 {
     if let Some(past) = past {
-        return past.share(alloc);
+        return past.share(alloc, labels);
     }
-    begin(alloc, past, caps)
+    begin(alloc, past, caps, labels)
 }
 
-// The set of these capabilities, whose past is begun.
+// The set of these capabilities with these labels, whose past is begun.
 #[cold]
 #[inline(never)]
-fn begin(alloc: Global, past: &mut Option<Past>, caps: &[Cap]) -> Result<SharedCaps, AllocError>
+fn begin(
+    alloc: Global,
+    past: &mut Option<Past>,
+    caps: &[Cap],
+    labels: &Labels,
+) -> Result<Shared<Standing>, AllocError>
     requires { IfSome past.old (λ past. past ≡ set.of_list caps.now) }
-    ensures shared { IfOk result (λ made. made ≡ set.of_list caps.now) }
+    ensures shared { IfOk result (λ made.
+        made ≡ record { labels = labels.now; owned = set.of_list caps.now }) }
     ensures kept { IfSome past.new (λ past. past ≡ set.of_list caps.now) }
 {
     let mut begun = Past::new(alloc, caps)?;
-    let made = begun.share(alloc)?;
+    let made = begun.share(alloc, labels)?;
     *past = Some(begun);
     Ok(made)
 }
@@ -145,16 +159,18 @@ impl Owned {
         &self.caps
     }
 
-    /// The capabilities, for one more holder. Fails only where there is not enough memory. Copies
-    /// nothing where nothing has changed since it was asked last. Copies them where it is asked
-    /// first, and where something has changed and they are 8 at most, or far more has changed than
-    /// there is. Else it copies what has changed, and three lists of what changed before: at most
-    /// 128 pointers, and one for each 4,096 times that it was asked after a change.
-    pub fn share(&mut self, alloc: Global) -> Result<SharedCaps, AllocError>
-        ensures shared { IfOk result (λ made. made ≡ self.old) }
+    /// The capabilities with these labels, for one more holder. Fails only where there is not
+    /// enough memory. Copies nothing where neither has changed since it was asked last, and else
+    /// the labels. Of the capabilities it copies none where they have not changed. It copies them
+    /// where it is asked first, and where something has changed and they are 8 at most, or far more
+    /// has changed than there is. Else it copies what has changed, and three lists of what changed
+    /// before: at most 128 pointers, and one for each 4,096 times that it was asked after a change.
+    pub fn share(&mut self, alloc: Global, labels: &Labels) -> Result<Shared<Standing>, AllocError>
+        ensures shared { IfOk result (λ made.
+            made ≡ record { labels = labels.now; owned = self.old }) }
         ensures same { self.new ≡ self.old }
     {
-        share(alloc, &mut self.past, self.caps.as_slice())
+        share(alloc, &mut self.past, self.caps.as_slice(), labels)
     }
 
     /// Adds a capability, as `CapSet::insert` does.
@@ -223,12 +239,13 @@ impl Owned {
 }
 
 impl RoomyOwned {
-    /// The capabilities, for one more holder, as `Owned::share` has it.
-    pub fn share(&mut self, alloc: Global) -> Result<SharedCaps, AllocError>
-        ensures shared { IfOk result (λ made. made ≡ self.old) }
+    /// The capabilities with these labels, for one more holder, as `Owned::share` has it.
+    pub fn share(&mut self, alloc: Global, labels: &Labels) -> Result<Shared<Standing>, AllocError>
+        ensures shared { IfOk result (λ made.
+            made ≡ record { labels = labels.now; owned = self.old }) }
         ensures same { self.new ≡ self.old }
     {
-        share(alloc, &mut self.past, self.caps.as_slice())
+        share(alloc, &mut self.past, self.caps.as_slice(), labels)
     }
 
     /// With both capabilities, as `RoomyCapSet::with_both` adds them. Takes no memory.

@@ -4,8 +4,10 @@ ghost use Rattle.fl_labels.specs.SetBy as set;
 ghost use Rattle.fl_bench.specs.parts.Changes.{after};
 
 use crate::change::{Change, gains};
-use crate::shared::SharedCaps;
+use crate::shared::{Shared, SharedCaps};
+use crate::standing::Standing;
 use fl_labels::cap::Cap;
+use fl_rules::labels::Labels;
 use std::alloc::{AllocError, Global};
 use std::marker::Model;
 
@@ -20,9 +22,12 @@ pub struct Past {
     fresh: Vec<Change>,
     // how many members and changes there were
     count: usize,
+    // how it was noted last, where nothing has changed since then
+    standing: Option<Shared<Standing>>,
 }
 
 impl Model for Past {
+    ghost use Rattle.std.specs.Prelude.{◌≡◌, IfSome};
     ghost use Rattle.fl_labels.specs.SetBy as set;
     ghost use Rattle.fl_labels.specs.Cap.{cap_cmp};
     ghost use Rattle.fl_labels.specs.CapOrder.{coded_cap};
@@ -34,6 +39,9 @@ impl Model for Past {
     ghost use Rattle.fl_bench.specs.parts.Changes.{after};
 
     ghost view = { λ a. after a.shared a.fresh.items };
+
+    ghost invariant = { λ a.
+        IfSome a.standing (λ noted. noted.owned ≡ after a.shared a.fresh.items) };
 }
 
 impl Drop for Past {
@@ -42,6 +50,7 @@ impl Drop for Past {
             shared: _,
             fresh: _,
             count: _,
+            standing: _,
         } = self;
     }
 }
@@ -56,6 +65,7 @@ impl Past {
             shared: SharedCaps::new(alloc, caps)?,
             fresh: Vec::new(alloc),
             count: caps.len(),
+            standing: None,
         })
     }
 
@@ -79,6 +89,7 @@ impl Past {
     {
         self.fresh.extend_from_slice(changes)?;
         self.count = self.count.saturating_add(changes.len());
+        self.standing = None;
         Ok(())
     }
 
@@ -92,10 +103,9 @@ impl Past {
         self.add(&gains)
     }
 
-    /// The set, for one more holder. Fails only where there is not enough memory. Copies nothing
-    /// where nothing has changed since it was asked last, and else what `SharedCaps::changed_by`
-    /// does.
-    pub fn share(&mut self, alloc: Global) -> Result<SharedCaps, AllocError>
+    // The set, for one more holder. Copies nothing where nothing has changed since it was asked
+    // last, and else what `SharedCaps::changed_by` does.
+    fn caps(&mut self, alloc: Global) -> Result<SharedCaps, AllocError>
         ensures shared { IfOk result (λ made. made ≡ self.old) }
         ensures same { self.new ≡ self.old }
     {
@@ -104,5 +114,36 @@ impl Past {
             self.fresh = Vec::new(alloc);
         }
         self.shared.copy()
+    }
+
+    // The set with these labels, made anew.
+    #[inline(never)]
+    fn stand(&mut self, alloc: Global, labels: &Labels) -> Result<Shared<Standing>, AllocError>
+        ensures shared { IfOk result (λ made.
+            made ≡ record { labels = labels.now; owned = self.old }) }
+        ensures same { self.new ≡ self.old }
+    {
+        let labels = labels.copy(alloc)?;
+        let owned = self.caps(alloc)?;
+        let standing = Shared::new(alloc, Standing { labels, owned })?;
+        self.standing = Some(standing.copy()?);
+        Ok(standing)
+    }
+
+    /// The set with these labels, for one more holder. Fails only where there is not enough memory.
+    /// Copies nothing where neither has changed since it was asked last. Else it copies the labels,
+    /// and of a changed set what `SharedCaps::changed_by` does.
+    #[inline]
+    pub fn share(&mut self, alloc: Global, labels: &Labels) -> Result<Shared<Standing>, AllocError>
+        ensures shared { IfOk result (λ made.
+            made ≡ record { labels = labels.now; owned = self.old }) }
+        ensures same { self.new ≡ self.old }
+    {
+        if let Some(standing) = &self.standing {
+            if standing.labels == *labels {
+                return standing.copy();
+            }
+        }
+        self.stand(alloc, labels)
     }
 }

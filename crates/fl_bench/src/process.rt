@@ -2,11 +2,12 @@
 ghost use Rattle.std.specs.Prelude.{◌≡◌, [], false, IfOk, OnOk, OnErr};
 ghost use Rattle.fl_labels.specs.SetBy as set;
 ghost use Rattle.fl_bench.specs.declared.process.Holding.TheVariants.{Ordering};
-ghost use Rattle.fl_bench.specs.Process.{newborn, held, owns, is_under_way};
+ghost use Rattle.fl_bench.specs.Process.{newborn, held, standing_of, is_under_way};
 ghost use Rattle.fl_bench.specs.Gifts.{given, settled};
 
 use crate::owned::{Owned, RoomyOwned};
-use crate::shared::SharedCaps;
+use crate::shared::Shared;
+use crate::standing::Standing;
 use fl_labels::cap::Cap;
 use fl_labels::cap_set::CapSet;
 use fl_mailbox::mailbox::Mailbox;
@@ -122,15 +123,15 @@ impl Process {
         }
     }
 
-    /// What the process owns, for whoever notes it. Fails only where there is not enough memory.
+    /// How the process stands, for whoever notes it. Fails only where there is not enough memory.
     /// Costs what `Owned::share` does.
-    pub fn share(&mut self, alloc: Global) -> Result<SharedCaps, AllocError>
-        ensures shared { IfOk result (λ made. made ≡ owns self.old) }
+    pub fn share(&mut self, alloc: Global) -> Result<Shared<Standing>, AllocError>
+        ensures shared { IfOk result (λ made. made ≡ standing_of self.old) }
         ensures same { self.new ≡ self.old }
     {
         match &mut self.owned {
-            Holding::Idle(owned) => owned.share(alloc),
-            Holding::Ordering(owned) => owned.share(alloc),
+            Holding::Idle(owned) => owned.share(alloc, &self.labels),
+            Holding::Ordering(owned) => owned.share(alloc, &self.labels),
         }
     }
 

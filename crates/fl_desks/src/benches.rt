@@ -2,7 +2,7 @@
 ghost use Rattle.std.specs.Prelude.{◌≡◌, ◌<◌, ◌≤◌, suc, length, IfOk, OnErr, IsSome};
 ghost use Rattle.std.specs.Option.{option_copied};
 ghost use Rattle.fl_bench.specs.Gifts.{finished, cancelled};
-ghost use Rattle.fl_bench.specs.Process.{owned_by};
+ghost use Rattle.fl_bench.specs.Process.{standing_at};
 ghost use Rattle.fl_system.specs.Jobs.{bench_of};
 ghost use Rattle.fl_system.specs.Numbered.{item_at};
 ghost use Rattle.fl_system.specs.Processes.{process_at};
@@ -13,7 +13,8 @@ ghost use Rattle.fl_desks.specs.Listing.{IsDesk, HasSeen};
 
 use crate::listing::Listing;
 use fl_bench::process::Process;
-use fl_bench::shared::SharedCaps;
+use fl_bench::shared::Shared;
+use fl_bench::standing::Standing;
 use fl_jobs::answer::{Outcome, Refusal};
 use fl_jobs::job::Job;
 use fl_labels::name::NodeNumber;
@@ -177,12 +178,12 @@ impl Benches {
         self.all[self.home(pid)].process(pid)
     }
 
-    /// What the process owns, for whoever notes it, as [`Bench::share`] has it.
+    /// How the process stands, for whoever notes it, as [`Bench::share`] has it.
     #[inline(always)]
-    pub fn share(&mut self, alloc: Global, pid: Pid) -> Result<Option<SharedCaps>, AllocError>
+    pub fn share(&mut self, alloc: Global, pid: Pid) -> Result<Option<Shared<Standing>>, AllocError>
         ensures ok { let bench = bench_of (length self.old.benches) pid.serial in
             IfOk result (λ made.
-            made ≡ owned_by (process_at (item_at self.old.benches bench) pid)) }
+            made ≡ standing_at (process_at (item_at self.old.benches bench) pid)) }
         ensures err { let bench = bench_of (length self.old.benches) pid.serial in
             OnErr result (IsSome (process_at (item_at self.old.benches bench) pid)) }
         ensures same { self.new ≡ self.old }

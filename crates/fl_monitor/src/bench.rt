@@ -6,7 +6,7 @@ ghost use Rattle.fl_ops.specs.Registry.{Listed};
 ghost use Rattle.fl_jobs.specs.declared.job.Job.TheVariants.{By};
 ghost use Rattle.fl_bench.specs.Bench.{new_bench};
 ghost use Rattle.fl_bench.specs.Jobs.{Does};
-ghost use Rattle.fl_bench.specs.Process.{owned_by};
+ghost use Rattle.fl_bench.specs.Process.{standing_at};
 ghost use Rattle.fl_bench.specs.Orderly.{IsOrderly};
 ghost use Rattle.fl_monitor.specs.parts.Acts.{Births};
 ghost use Rattle.fl_bench.specs.Gifts.{finished, cancelled};
@@ -15,7 +15,8 @@ use crate::act::reply_of;
 use crate::processes::Processes;
 use crate::sequel::Sequel;
 use fl_bench::process::Process;
-use fl_bench::shared::SharedCaps;
+use fl_bench::shared::Shared;
+use fl_bench::standing::Standing;
 use fl_jobs::answer::{Outcome, Refusal, Reply};
 use fl_jobs::job::{Act, Job};
 use fl_labels::name::NodeNumber;
@@ -91,11 +92,11 @@ impl Bench {
         self.processes.get(pid)
     }
 
-    /// What the process owns, for whoever notes it, or none where it does not stand here. Fails
+    /// How the process stands, for whoever notes it, or none where it does not stand here. Fails
     /// only where there is not enough memory. Costs a search for the process, and what
     /// `Owned::share` does.
-    pub fn share(&mut self, alloc: Global, pid: Pid) -> Result<Option<SharedCaps>, AllocError>
-        ensures ok { IfOk result (λ made. made ≡ owned_by (map.get self.old.processes pid)) }
+    pub fn share(&mut self, alloc: Global, pid: Pid) -> Result<Option<Shared<Standing>>, AllocError>
+        ensures ok { IfOk result (λ made. made ≡ standing_at (map.get self.old.processes pid)) }
         ensures err { OnErr result (IsSome (map.get self.old.processes pid)) }
         ensures same { self.new ≡ self.old }
     {

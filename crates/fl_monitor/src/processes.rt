@@ -5,14 +5,15 @@ ghost use Rattle.std.specs.FinMap as map;
 ghost use Rattle.fl_ops.specs.Registry.{Listed};
 ghost use Rattle.fl_monitor.specs.parts.Acts.{ActsAt, ArrivesAt};
 ghost use Rattle.fl_bench.specs.Gifts.{given, receives};
-ghost use Rattle.fl_bench.specs.Process.{owned_by};
+ghost use Rattle.fl_bench.specs.Process.{standing_at};
 
 use crate::act::act_alone;
 use crate::arrive::arrive;
 use crate::pid_map::PidMap;
 use crate::sequel::Sequel;
 use fl_bench::process::Process;
-use fl_bench::shared::SharedCaps;
+use fl_bench::shared::Shared;
+use fl_bench::standing::Standing;
 use fl_jobs::answer::{Outcome, Refusal};
 use fl_jobs::job::Act;
 use fl_labels::pid::Pid;
@@ -93,10 +94,10 @@ impl Processes {
         act_alone(process, alloc, view, pid, act)
     }
 
-    /// What the process owns, for whoever notes it, or none where it is not there. Fails only where
+    /// How the process stands, for whoever notes it, or none where it is not there. Fails only where
     /// there is not enough memory. Costs a search for the process, and what `Owned::share` does.
-    pub fn share(&mut self, alloc: Global, pid: Pid) -> Result<Option<SharedCaps>, AllocError>
-        ensures ok { IfOk result (λ made. made ≡ owned_by (map.get self.old pid)) }
+    pub fn share(&mut self, alloc: Global, pid: Pid) -> Result<Option<Shared<Standing>>, AllocError>
+        ensures ok { IfOk result (λ made. made ≡ standing_at (map.get self.old pid)) }
         ensures err { OnErr result (IsSome (map.get self.old pid)) }
         ensures same { self.new ≡ self.old }
     {

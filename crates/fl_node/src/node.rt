@@ -6,7 +6,7 @@ ghost use Rattle.fl_labels.specs.SetBy as set;
 ghost use Rattle.fl_store.specs.Breaking.{IsLeftBroken};
 ghost use Rattle.fl_store.specs.Kept.{HasNamesOnce, Kept};
 ghost use Rattle.fl_store.specs.Keeping.{Follows};
-ghost use Rattle.fl_bench.specs.Process.{owned_by};
+ghost use Rattle.fl_bench.specs.Process.{standing_at};
 ghost use Rattle.fl_system.specs.Processes.{process_of};
 ghost use Rattle.fl_system.specs.Waiting.{IsRunning};
 ghost use Rattle.fl_system.specs.Begins.{Begins};
@@ -27,7 +27,8 @@ use crate::publishing::{give, release};
 use crate::recovering::{Had, recover};
 use crate::state::{doubt, doubted, due, halt, idle, running, saved, unsaved};
 use fl_bench::process::Process;
-use fl_bench::shared::SharedCaps;
+use fl_bench::shared::Shared;
+use fl_bench::standing::Standing;
 use fl_desks::benches::Benches;
 use fl_desks::listing::Listing;
 use fl_jobs::answer::{Outcome, Refusal};
@@ -196,10 +197,10 @@ impl<K: Keeper> Node<K> {
         self.benches.process(pid)
     }
 
-    /// What the process owns, for whoever notes it, or none where it does not stand here. Fails
+    /// How the process stands, for whoever notes it, or none where it does not stand here. Fails
     /// only where there is not enough memory. Costs what `Owned::share` does.
-    pub fn share(&mut self, alloc: Global, pid: Pid) -> Result<Option<SharedCaps>, AllocError>
-        ensures ok { IfOk result (λ made. made ≡ owned_by (process_of self.old.node pid)) }
+    pub fn share(&mut self, alloc: Global, pid: Pid) -> Result<Option<Shared<Standing>>, AllocError>
+        ensures ok { IfOk result (λ made. made ≡ standing_at (process_of self.old.node pid)) }
         ensures err { OnErr result (IsSome (process_of self.old.node pid)) }
         ensures same { self.new ≡ self.old }
     {

@@ -46,8 +46,7 @@ fn entry<K: Keeper>(
     let Some(sender) = sender else {
         return Ok(None);
     };
-    let owned = node.share(alloc, receiver)?;
-    arrival(alloc, sender, receiver, node.process(receiver), owned)
+    arrival(sender, receiver, node.share(alloc, receiver)?)
 }
 
 // Copies the message, since it may come again, and makes what is noted where it arrives.
@@ -108,8 +107,8 @@ fn note(audit: &mut Vec<Admission>, entry: Option<Admission>)
 }
 
 /// Hands a message of this sender to its receiver at the node, and notes it where it arrives. What
-/// is noted is made and has its room before. Copies what the receiver owns only where that has
-/// changed since it was noted last.
+/// is noted is made and has its room before. Copies the labels of the receiver, and what it owns,
+/// only where one of them has changed since it was noted last.
 ///
 /// Refused as `Node::arrive` has it; `Stopped` where the node is stopped, and `Memory` where there
 /// is no room for the message or for what would be noted. Nothing is noted then.

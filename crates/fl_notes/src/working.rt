@@ -18,7 +18,8 @@ ghost use Rattle.fl_notes.specs.Working.{IsUnready, Shows, Worked, is_sending};
 use fl_audit::draft::{Draft, names_any, names_asker};
 use fl_audit::party::sender;
 use fl_bench::process::Process;
-use fl_bench::shared::SharedCaps;
+use fl_bench::shared::Shared;
+use fl_bench::standing::Standing;
 use fl_jobs::answer::Refusal;
 use fl_jobs::job::{Act, Job, Mail, let_go};
 use fl_labels::name::NodeNumber;
@@ -49,14 +50,14 @@ fn sends(job: &Job) -> bool
     matches!(job, Job::By(_, Act::Mail(Mail::Send { .. })))
 }
 
-// What the process that asks for the job owns, where that may be noted.
+// How the process that asks for the job stands, where that may be noted.
 fn share<K: Keeper>(
     alloc: Global,
     node: &mut Node<K>,
     job: &Job,
-) -> Result<Option<SharedCaps>, AllocError>
-    ensures noted { IfOk result (λ owned.
-        IsNotedWith (asker_of node.old.node job.now) job.now owned) }
+) -> Result<Option<Shared<Standing>>, AllocError>
+    ensures noted { IfOk result (λ standing.
+        IsNotedWith (asker_of node.old.node job.now) job.now standing) }
     ensures err { OnErr result (MayBeNoted node.old.node job.now) }
     ensures same { node.new ≡ node.old }
 {
@@ -82,14 +83,14 @@ fn note<K: Keeper>(
     ensures err { OnErr result (MayBeNoted node.old.node job.now) }
     ensures same { node.new ≡ node.old }
 {
-    let owned = share(alloc, node, job)?;
+    let standing = share(alloc, node, job)?;
     let process = asker(node, job);
     Draft::note(
         alloc,
         node.number(),
         node.boot(),
         process,
-        owned,
+        standing,
         job,
         audit,
     )
@@ -178,16 +179,15 @@ fn note_sending<K: Keeper>(
     ensures err { OnErr result (MayBeNoted node.old.node job.now) }
     ensures same { node.new ≡ node.old }
 {
-    let owned = share(alloc, node, job)?;
-    let process = asker(node, job);
-    let sender = sender(alloc, process, &owned, job)?;
+    let standing = share(alloc, node, job)?;
+    let sender = sender(&standing, job)?;
     take_room(&sender, sent)?;
     let draft = Draft::note(
         alloc,
         node.number(),
         node.boot(),
-        process,
-        owned,
+        asker(node, job),
+        standing,
         job,
         audit,
     )?;
@@ -293,8 +293,8 @@ fn send<K: Keeper>(
 
 /// Has the node of this number do the job at a desk, which looks first: gives the answer as it is
 /// shown, sends the message that it may be, and notes what is admitted. What would be noted and
-/// sent is made and has its room before. Copies what who asks owns only where that has changed
-/// since it was noted last.
+/// sent is made and has its room before. Copies the labels of who asks, and what it owns, only where
+/// one of them has changed since it was noted last.
 ///
 /// Refused as `Node::job` has it; `Stopped` where the node is stopped, and `Memory` where there is
 /// no room for what would be noted or sent. Nothing is sent or noted then.

@@ -81,7 +81,7 @@ module _ {U V : Op → Type 0} (more : Within U V) where
 -- the labels that a message bears were safe for its sender to write, by what is noted of the sender
 abbrev pub MessageGuarded : (Op → Type 0) → Sent → Type 0
 MessageGuarded U s = (d : Data) (p : Party) → s.packet ≡ packets.Data d → s.sender ≡ Some p
-    → SafeEndpoint (has U p) (sent_from d).mode p.labels (sent_from d).labels
+    → SafeEndpoint (has U p) (sent_from d).mode p.standing.labels (sent_from d).labels
 
 -- of a message it is noted who sent it
 abbrev pub HasSender : Sent → Type 0
@@ -281,8 +281,8 @@ module _ (w : World) (g : Guarded w) (number : ℕ) (s : KeptNode) (at : IsAt w 
   message_sent desk upto job d does e p is by =
       let found = its_party d.sender (process_of s.node d.sender) p by in
       let safe = sends_safe s.node its_guarded its_view desk upto job d does found.0 found.1 in
-      subst (λ (x : Data). SafeEndpoint (has (Union w) p) (sent_from x).mode p.labels (sent_from x).labels) (data_in is)
-      (subst (λ (y : Party). SafeEndpoint (has (Union w) y) (sent_from d).mode y.labels (sent_from d).labels)
+      subst (λ (x : Data). SafeEndpoint (has (Union w) p) (sent_from x).mode p.standing.labels (sent_from x).labels) (data_in is)
+      (subst (λ (y : Party). SafeEndpoint (has (Union w) y) (sent_from d).mode y.standing.labels (sent_from d).labels)
       (sym found.2) safe)
 
   sender_noted : (desk upto : ℕ) (job : Job) (d : Data) {n : NodeState}

@@ -29,7 +29,7 @@ use Rattle.fl_jobs.specs.declared.job.Job.{Job}
 use Rattle.fl_jobs.specs.declared.job.Job.TheVariants.{Proc, By, Member, Arrive}
 use Rattle.fl_jobs.specs.declared.secret.Secret.{Secret}
 use Rattle.fl_jobs.specs.declared.answer.Reply.TheVariants as replies
-use Rattle.fl_bench.specs.Process.{owns, side_of, order_takes, takes_nothing}
+use Rattle.fl_bench.specs.Process.{standing_of, side_of, order_takes, takes_nothing}
 use Rattle.fl_bench.specs.Secrets.{digest_of}
 use Rattle.fl_bench.specs.declared.process.Process.{Process}
 use Rattle.fl_system.specs.declared.admission.Party.{Party}
@@ -45,16 +45,16 @@ use Rattle.fl_system.specs.Processes.{process_of}
 
 -- what the party had in effect under the registry U
 abbrev pub has : Registry → Party → Caps
-has U p = InEffect U (In p.owned)
+has U p = InEffect U (In p.standing.owned)
 
 -- by the rules, under the registry U
 abbrev pub SafeUnder : Registry → Admission → Type 0
-SafeUnder U (Change p side label) = SafeChange (has U p) (side_of side p.labels) label
-SafeUnder U (Endpoint p mode labels) = SafeEndpoint (has U p) mode p.labels labels
-SafeUnder U (Emission p) = SafeEmission (has U p) p.labels.secrecy
+SafeUnder U (Change p side label) = SafeChange (has U p) (side_of side p.standing.labels) label
+SafeUnder U (Endpoint p mode labels) = SafeEndpoint (has U p) mode p.standing.labels labels
+SafeUnder U (Emission p) = SafeEmission (has U p) p.standing.labels.secrecy
 SafeUnder U (Grant p caps) = Within (In caps) (has U p)
 SafeUnder U (Entry p login c digest) = IsLogin U login c digest
-SafeUnder U (Message p q) = SafeMessage (has U p) p.labels (has U q) q.labels
+SafeUnder U (Message p q) = SafeMessage (has U p) p.standing.labels (has U q) q.standing.labels
 SafeUnder U (Yes p c) = has U p c
 SafeUnder U (Reached node boot root c) = Reach U (From root) c
 
@@ -62,7 +62,7 @@ SafeUnder U (Reached node boot root c) = Reach U (From root) c
 
 -- the process as it was before
 abbrev pub party : Pid → Process → Party
-party pid p = record { pid = pid; labels = p.labels; owned = owns p }
+party pid p = record { pid = pid; standing = standing_of p }
 
 -- where it was answered yes
 abbrev pub if_yes : Answer → Admission → List Admission

@@ -5,6 +5,7 @@
 pub mod admission;
 pub mod answer;
 pub mod event;
+pub mod granted;
 pub mod reply;
 pub mod sent;
 pub mod state;

@@ -51,9 +51,9 @@ fn note_all(
     let answer = Answer::Reply(Reply::Yes);
     let mut audit = Vec::new(alloc);
     for _ in 0..count {
-        let owned = process.share(alloc)?;
+        let standing = process.share(alloc)?;
         let from = audit.len();
-        let draft = Draft::note(alloc, 1, 1, Some(process), Some(owned), &job, &mut audit)?;
+        let draft = Draft::note(alloc, 1, 1, Some(process), Some(standing), &job, &mut audit)?;
         draft.settle(&mut audit, from, &answer);
     }
     Ok(audit)

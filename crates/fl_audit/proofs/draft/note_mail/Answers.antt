@@ -1,9 +1,18 @@
 -- A message that is sent is noted.
-use Rattle.std.proofs.Common.{ap}
-use Rattle.fl_audit.specs.Noted.{mail_noted}
-use Rattle.fl_audit.proofs.Notes.{on_err}
+use Rattle.std.proofs.Common.{◌∙◌, ◌++◌, sym, ap, [], ◌∷◌}
+use Rattle.std.proofs.lemmas.Result.{on_ok_weaker}
+use Rattle.fl_message.specs.declared.message.Message.{Message}
+use Rattle.fl_system.specs.Audit.{mail_entries}
+use Rattle.fl_system.specs.declared.admission.Admission.TheVariants.{Grant}
+use Rattle.fl_audit.proofs.Notes.{granted}
 use Rattle.fl_audit.proofs.draft.note_mail.Goals as goal
 
-pub returns-in_ok-caps-in-Send-clause-err : goal.returns-in_ok-caps-in-Send-clause-err
-returns-in_ok-caps-in-Send-clause-err c =
-    on_err c.note_grant.result (ap (mail_noted c.args.process.now.mailbox) c.in-Send.is)
+pub returns-in-Send-clause-ok : goal.returns-in-Send-clause-ok
+returns-in-Send-clause-ok c =
+    let p = c.args.asker in
+    on_ok_weaker c.note_grant.result
+    (λ h. h ∙ ap (λ l. c.args.audit.now.items ++ l)
+    (granted p _ _ c.as_slice.ensures
+    ∙ ap (λ (m : Message). Grant p m.caps ∷ []) c.deref-in-Send.ensures
+    ∙ ap (mail_entries p c.args.process.now.mailbox) (sym c.in-Send.is)))
+    c.note_grant.ensures.ok

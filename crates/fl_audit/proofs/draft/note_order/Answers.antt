@@ -1,25 +1,19 @@
 -- What an order takes is noted.
 use Rattle.std.proofs.Common.{◌∙◌, ◌++◌, ap}
 use Rattle.std.proofs.lemmas.Result.{on_ok_weaker}
-use Rattle.fl_system.specs.Audit.{party}
 use Rattle.fl_audit.proofs.Notes.{on_err, taken_told, grant_listed, nothing_listed, unchanged}
 use Rattle.fl_audit.proofs.draft.note_order.Goals as goal
 
 pub returns-then-is_empty-clause-ok : goal.returns-then-is_empty-clause-ok
 returns-then-is_empty-clause-ok c =
-    unchanged _ _ (nothing_listed c.args.order (party c.args.pid c.args.process.now)
+    unchanged _ _ (nothing_listed c.args.order c.args.asker
     (taken_told c.args.order _ (c.as_slice.ensures ∙ c.by-taken.ensures) _ c.is_empty.ensures _ c.if-is_empty.true))
-
-pub returns-in_err-caps-clause-err : goal.returns-in_err-caps-clause-err
-returns-in_err-caps-clause-err c =
-    on_err c.from_residual.result
-    (taken_told c.args.order _ (c.as_slice.ensures ∙ c.by-taken.ensures) _ c.is_empty.ensures _ c.if-is_empty.false)
 
 pub returns-clause-ok : goal.returns-clause-ok
 returns-clause-ok c =
     on_ok_weaker c.note_grant.result
     (λ h. h ∙ ap (λ l. c.args.audit.now.items ++ l)
-    (grant_listed c.args.order _ (c.as_slice-2.ensures ∙ c.by-taken.ensures) (party c.args.pid c.args.process.now) _ c.in_ok-caps.ensures
+    (grant_listed c.args.order _ (c.as_slice-2.ensures ∙ c.by-taken.ensures) c.args.asker
     (taken_told c.args.order _ (c.as_slice.ensures ∙ c.by-taken.ensures) _ c.is_empty.ensures _ c.if-is_empty.false)))
     c.note_grant.ensures.ok
 

@@ -16,5 +16,5 @@ invariant_of-self c =
 
 pub returns-clause-shared : goal.returns-clause-shared
 returns-clause-shared c =
-    subst (λ (s : SetBy cap_cmp). IfOk c.share.result (λ made. made ≡ s))
+    subst (λ (s : SetBy cap_cmp). IfOk c.share.result (λ made. made ≡ record { labels = c.args.labels.now; owned = s }))
     (of_slice _ _ c.as_slice.ensures ∙ c.self.view_is) c.share.ensures.shared

@@ -1,11 +1,11 @@
 use Rattle.std.proofs.Common.{◌∙◌, refl, sym, ap, subst, Some, IsSome}
-use Rattle.fl_bench.specs.Process.{owned_by}
+use Rattle.fl_bench.specs.Process.{standing_at}
 use Rattle.fl_monitor.proofs.Given.{on_err, there, nobody, same_put}
 use Rattle.fl_monitor.proofs.processes.Processes.share.Goals as goal
 
 pub returns-in_default-clause-ok : goal.returns-in_default-clause-ok
 returns-in_default-clause-ok c =
-    ap owned_by (sym (nobody c.self.inside.all c.args.self.now c.args.pid c.self.view_is
+    ap standing_at (sym (nobody c.self.inside.all c.args.self.now c.args.pid c.self.view_is
     c.in_default.ensures.value))
 
 pub returns-in_err-share-clause-err : goal.returns-in_err-share-clause-err
@@ -23,7 +23,7 @@ pub returns-clause-ok : goal.returns-clause-ok
 returns-clause-ok c =
     let is_there = there c.self.inside.all c.args.self.now c.args.pid c.self.view_is
     c.in-Some.process.now c.in-Some.ensures.value in
-    ap Some c.in_ok-share.ensures.shared ∙ ap owned_by (sym is_there)
+    ap Some c.in_ok-share.ensures.shared ∙ ap standing_at (sym is_there)
 
 pub returns-clause-same : goal.returns-clause-same
 returns-clause-same c =

@@ -1,20 +1,10 @@
 //! Copies of what jobs name.
 ghost use Rattle.std.specs.Prelude.{◌≡◌, true, is_some, IfOk, OnErr};
-ghost use Rattle.fl_labels.specs.SetBy as set;
 ghost use Rattle.fl_jobs.specs.Given.{labels_of};
 
 use fl_jobs::job::GivenLabels;
-use fl_labels::cap::Cap;
-use fl_labels::cap_set::CapSet;
 use fl_rules::labels::Labels;
 use std::alloc::{AllocError, Global};
-
-/// The set of these capabilities. Fails only where there is not enough memory.
-pub(crate) fn set_of(alloc: Global, caps: &[Cap]) -> Result<CapSet, AllocError>
-    ensures { IfOk result (λ made. made ≡ set.of_list caps.now) }
-{
-    CapSet::from_vec(Vec::from_slice(alloc, caps)?)
-}
 
 /// Both labels again, where neither is too long. Wants memory only where that is so.
 pub(crate) fn given(alloc: Global, labels: &GivenLabels) -> Result<Option<Labels>, AllocError>
