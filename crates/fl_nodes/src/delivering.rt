@@ -57,8 +57,8 @@ impl<K: Keeper> Nodes<K> {
     ///
     /// Refused with `Memory` too where there is no room for a copy of the message, for what would
     /// be noted, or for the packets; then nothing changes. Never with `KeeperFailed`. Beside the
-    /// node's own costs, a message is copied, with the labels of both its processes, and what its
-    /// receiver owns where that has changed since it was noted last.
+    /// node's own costs, a message is copied; and so are the labels of its receiver, and what that
+    /// owns, where one of them has changed since it was noted last.
     pub fn deliver(&mut self, alloc: Global, packet: u64, number: NodeNumber) -> Reply
         ensures goes { Goes K.custody self.old self.new
             (λ w w'. Step w (event.Deliver packet number) result w') }

@@ -215,8 +215,8 @@ impl<K: Keeper> Nodes<K> {
     /// arrival is not handed in so, and answers `NoSuch`, as does a desk that is not there.
     ///
     /// Refused with `Memory` too where there is no room for what would be noted or sent, and never
-    /// with `KeeperFailed`. For a job of which something is noted the labels of the process are
-    /// copied, and what it owns where that has changed since it was noted last.
+    /// with `KeeperFailed`. For a job of which something is noted the labels of the process, and
+    /// what it owns, are copied where one of them has changed since it was noted last.
     pub fn job(&mut self, alloc: Global, number: NodeNumber, look: Look, job: Job) -> Reply
         ensures goes { Goes K.custody self.old self.new
             (λ w w'. Step w (event.Job number look.desk look.upto job) result w') }
