@@ -23,6 +23,9 @@ use Rattle.fl_bench.specs.contracts.history.History as history
 use Rattle.fl_bench.specs.contracts.history.History.TheInside as history_inside
 use Rattle.fl_bench.specs.contracts.shared.SharedCaps as shared
 use Rattle.fl_bench.specs.contracts.shared.SharedCaps.TheInside as shared_inside
+use Rattle.fl_bench.specs.contracts.shared.Shared as held
+use Rattle.fl_bench.specs.contracts.shared.Shared.TheInside as held_inside
+use Rattle.fl_bench.specs.contracts.standing.Standing as standing
 use Rattle.fl_bench.specs.contracts.past.Past as past
 use Rattle.fl_bench.specs.contracts.past.Past.TheInside as past_inside
 use Rattle.fl_bench.specs.contracts.owned.Owned as owned
@@ -53,6 +56,9 @@ ruleset table = (badge_send, seat_send, table_send, table_sync, lease_send, leas
 label_send : IsSend label.the_row
 label_send = view_send _ _ _ _ _ (declared_send label_inside.the_type (search apart depth 40 fits 100000))
 
+label_sync : IsSync label.the_row
+label_sync = view_sync _ _ _ _ _ (declared_sync label_inside.the_type (search apart depth 40 fits 100000))
+
 cap_set_send : IsSend cap_set.the_row
 cap_set_send = view_send _ _ _ _ _ (declared_send cap_set_inside.the_type (search apart depth 40 fits 100000))
 
@@ -72,9 +78,23 @@ shared_send : IsSend shared.the_row
 shared_send = view_send _ _ _ _ _ (declared_send shared_inside.the_type (
     search (apart, history_send, history_sync) depth 40 fits 100000))
 
+shared_sync : IsSync shared.the_row
+shared_sync = view_sync _ _ _ _ _ (declared_sync shared_inside.the_type (
+    search (apart, history_send, history_sync) depth 40 fits 100000))
+
+standing_send : IsSend standing.the_row
+standing_send = declared_send standing.the_type (search (apart, label_send, shared_send) depth 40 fits 100000)
+
+standing_sync : IsSync standing.the_row
+standing_sync = declared_sync standing.the_type (search (apart, label_sync, shared_sync) depth 40 fits 100000)
+
+held_send : IsSend (held.the_row standing.the_row)
+held_send = view_send _ _ _ _ _ (declared_send (held_inside.the_type standing.the_row) (
+    search (apart, standing_send, standing_sync) depth 40 fits 100000))
+
 past_send : IsSend past.the_row
 past_send = view_send _ _ _ _ _ (declared_send past_inside.the_type (
-    search (apart, shared_send) depth 40 fits 100000))
+    search (apart, shared_send, held_send) depth 40 fits 100000))
 
 owned_send : IsSend owned.the_row
 owned_send = view_send _ _ _ _ _ (declared_send owned_inside.the_type (
