@@ -77,7 +77,7 @@ impl Sink {
     /// They wait where less than 64 KiB do; else what waits is written first. Where there is no
     /// memory to wait in, all is written now, so that want of memory is no fault. At a fault a
     /// front of what waited and the bytes was written, and the sink may not be used again.
-    #[tactic(auto, using(crate::proofs::SinkLemmas::passes))]
+    #[inline(always)]
     pub fn put<W: Writer>(&mut self, output: &mut W, bytes: &[u8]) -> Result<(), WriteFault>
         ensures puts { let text = bytes.now in
             Puts (W.contents output.old) (W.contents output.new) self.old text self.new result }
@@ -86,11 +86,7 @@ impl Sink {
         if self.hold(bytes) {
             return Ok(());
         }
-        self.finish(output)?;
-        if self.hold(bytes) {
-            return Ok(());
-        }
-        write_out(output, bytes)
+        self.put_past(output, bytes)
     }
 
     /// Takes the pieces, one after another, as [`Sink::put`] does.
@@ -105,7 +101,23 @@ impl Sink {
         Ok(())
     }
 
+    // Writes what waits, and takes the bytes then. Out of line, as it is seldom done.
+    #[inline(never)]
+    #[tactic(auto, using(crate::proofs::SinkLemmas::passes))]
+    fn put_past<W: Writer>(&mut self, output: &mut W, bytes: &[u8]) -> Result<(), WriteFault>
+        ensures puts { let text = bytes.now in
+            Puts (W.contents output.old) (W.contents output.new) self.old text self.new result }
+        ensures cause { OnErr result (W.has_failed output.new) }
+    {
+        self.finish(output)?;
+        if self.hold(bytes) {
+            return Ok(());
+        }
+        write_out(output, bytes)
+    }
+
     // Keeps the bytes after what waits, where that is little and there is memory.
+    #[inline(always)]
     fn hold(&mut self, bytes: &[u8]) -> bool
         ensures held { OnTrue result (self.new ≡ self.old ++ bytes.now) }
         ensures refused { OnFalse result (self.new ≡ self.old) }
