@@ -32,6 +32,14 @@ impl<T: Drop> Boxed<T> {
 }
 
 impl<T> Boxed<T> {
+    /// The box itself. Takes no memory.
+    pub fn into_box(self) -> Box<T>
+        ensures { result.value ≡ self }
+    {
+        let Boxed { inner } = self;
+        inner
+    }
+
     /// The value itself, out of its box. Takes no memory.
     pub fn into_inner(self) -> T
         ensures { result ≡ self }

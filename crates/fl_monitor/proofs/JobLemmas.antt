@@ -1,5 +1,5 @@
 -- What the jobs of a bench owe.
-use Rattle.std.proofs.Common.{arith, ℕ, ◌+◌, ◌<◌, ◌≤◌, ◌≡◌, true, false, refl, sym, ap, subst, Option, Some, None, Result, Ok, Err}
+use Rattle.std.proofs.Common.{arith, ℕ, ◌+◌, ◌<◌, ◌≤◌, ◌≡◌, true, false, refl, sym, ap, subst, Option, Some, None, Result, Ok, Err, IfOk}
 use Rattle.std.specs.Result.{IsErr, IsErrAnd}
 use Rattle.std.specs.declared.alloc.AllocError.{AllocError}
 use Rattle.std.specs.FinMap as map
@@ -64,13 +64,16 @@ module _ (V : Registry) (a b : BenchState) (is : a ≡ b) (pid : Pid) (act : Act
   pub end_does : r ≡ Ok End → (n : map.FinMap pid_cmp Process) → n ≡ map.remove m pid → Does V b (By pid act) (Ok (Outcome.Reply Done)) (record a { processes = n })
   end_does e n removed = settled_does End e (Ok (Outcome.Reply Done)) (record a { processes = n }) (refl, ap (λ m. record a { processes = m }) removed)
 
-pub births_does : (V : Registry) (b : BenchState) (p : Process) → p ≡ newborn → {r : Result Outcome Refusal} {b' : BenchState} → Births b (Ok p) r b' → Does V b Proc r b'
-births_does V b p is {r} {b'} h = alone (subst (λ p. Births b (Ok p) r b') is h)
-  where
-    alone : {r : Result Outcome Refusal} {b' : BenchState} → Births b (Ok newborn) r b' → Does V b Proc r b'
-    alone (Births.made {pid} c next) = Does.passed c (pid, next, refl, refl)
-    alone (Births.spent c) = Does.failed c
-    alone (Births.full left) = Does.no_room (left, tt)
+-- with no memory for it, a new process is refused as where there is no room for it
+pub newborn_births : (b : BenchState) (child : Result Process AllocError) → IfOk child (λ p. p ≡ newborn) → {r : Result Outcome Refusal} {b' : BenchState} → Births b child r b' → Births b (Ok newborn) r b'
+newborn_births b (Ok p) is {r} {b'} h = subst (λ p. Births b (Ok p) r b') is h
+newborn_births b (Err e) is (Births.spent c) = Births.spent c
+newborn_births b (Err e) is (Births.full left) = Births.full left
+
+pub births_does : (V : Registry) (b : BenchState) {r : Result Outcome Refusal} {b' : BenchState} → Births b (Ok newborn) r b' → Does V b Proc r b'
+births_does V b (Births.made {pid} c next) = Does.passed c (pid, next, refl, refl)
+births_does V b (Births.spent c) = Does.failed c
+births_does V b (Births.full left) = Does.no_room (left, tt)
 
 -- a message that comes to the processes of a bench is a job
 module _ (V : Registry) (b : BenchState) (d : Data) where

@@ -1,12 +1,12 @@
 //! Benches: processes that work under one view.
 ghost use Rattle.std.specs.Option.{option_copied};
-ghost use Rattle.std.specs.Prelude.{◌≡◌, ◌≤◌, ◌<◌, IfOk, OnErr, IsSome};
+ghost use Rattle.std.specs.Prelude.{◌≡◌, ◌≤◌, ◌<◌, Ok, IfOk, OnErr, IsSome};
 ghost use Rattle.std.specs.FinMap as map;
 ghost use Rattle.fl_ops.specs.Registry.{Listed};
 ghost use Rattle.fl_jobs.specs.declared.job.Job.TheVariants.{By};
 ghost use Rattle.fl_bench.specs.Bench.{new_bench};
 ghost use Rattle.fl_bench.specs.Jobs.{Does};
-ghost use Rattle.fl_bench.specs.Process.{standing_at};
+ghost use Rattle.fl_bench.specs.Process.{newborn, standing_at};
 ghost use Rattle.fl_bench.specs.Orderly.{IsOrderly};
 ghost use Rattle.fl_monitor.specs.parts.Acts.{Births};
 ghost use Rattle.fl_bench.specs.Gifts.{finished, cancelled};
@@ -21,6 +21,7 @@ use fl_jobs::answer::{Outcome, Refusal, Reply};
 use fl_jobs::job::{Act, Job};
 use fl_labels::name::NodeNumber;
 use fl_labels::pid::Pid;
+use fl_message::boxed::Boxed;
 use fl_ops::op::Op;
 use fl_ops::view::View;
 use std::alloc::{AllocError, Global};
@@ -103,8 +104,10 @@ impl Bench {
         self.processes.share(alloc, pid)
     }
 
-    // A new process, under the next serial, where there was memory for it.
-    fn bear(&mut self, process: Result<Process, AllocError>) -> Result<Outcome, Refusal>
+    // A new process, under the next serial, where there was memory for it. Out of line, as `proc`
+    // is, so that the way of most jobs has no room for a process.
+    #[inline(never)]
+    fn bear(&mut self, process: Result<Boxed<Process>, AllocError>) -> Result<Outcome, Refusal>
         ensures { Births self.old process result self.new }
     {
         let Ok(serial) = u32::try_from(self.next) else {
@@ -125,6 +128,14 @@ impl Bench {
         Ok(Outcome::Reply(Reply::Made(pid)))
     }
 
+    // A new process, with nothing.
+    #[inline(never)]
+    fn proc(&mut self, alloc: Global) -> Result<Outcome, Refusal>
+        ensures { Births self.old (Ok newborn) result self.new }
+    {
+        self.bear(Boxed::new(alloc, Process::new(alloc)))
+    }
+
     // Does what one process asks for, and what follows.
     fn act<V: View>(
         &mut self,
@@ -138,8 +149,7 @@ impl Bench {
     {
         match self.processes.act(alloc, view, pid, act)? {
             Sequel::Answer(outcome) => Ok(outcome),
-            Sequel::Birth(Ok(child)) => self.bear(Ok(child.into_inner())),
-            Sequel::Birth(Err(error)) => self.bear(Err(error)),
+            Sequel::Birth(child) => self.bear(child),
             Sequel::End => {
                 self.processes.remove(pid);
                 Ok(Outcome::Reply(Reply::Done))
@@ -192,10 +202,10 @@ impl Bench {
         ensures same { view.new ≡ view.old }
     {
         match job {
-            Job::Proc => self.bear(Ok(Process::new(alloc))),
+            Job::Proc => self.proc(alloc),
             Job::By(pid, act) => self.act(alloc, view, pid, act),
             Job::Member(root, cap) => Ok(Outcome::Reply(reply_of(view.reaches(root, cap)))),
-            Job::Arrive(data) => self.processes.arrive(data.into_inner()),
+            Job::Arrive(data) => self.processes.arrive(data),
         }
     }
 

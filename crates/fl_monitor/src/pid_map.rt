@@ -6,6 +6,7 @@ ghost use Rattle.std.specs.FinMap as map;
 ghost use Rattle.fl_monitor.specs.parts.Slots.{held, with_held, IsRising, IsAt, IsGapFor, Keeps};
 
 use fl_labels::pid::Pid;
+use fl_message::boxed::Boxed;
 use std::alloc::{AllocError, Global};
 use std::marker::Model;
 
@@ -113,7 +114,6 @@ fn pack<T: Drop>(slots: &mut Vec<Slot<T>>)
 /// it is right, and else a binary search.
 #[derive(Drop)]
 pub struct PidMap<T> {
-    alloc: Global,
     stride: u32,
     // So many values may be removed before the slots are packed.
     spare: usize,
@@ -144,7 +144,6 @@ impl<T> PidMap<T> {
         ensures { result ≡ map.empty }
     {
         PidMap {
-            alloc,
             stride,
             spare: FEW,
             slots: Vec::new(alloc),
@@ -176,13 +175,13 @@ impl<T> PidMap<T> {
 
     /// Puts a value, in the place of one of that pid. An error leaves them. Costs a search, and
     /// moves the slots of greater pids.
-    pub fn insert(&mut self, pid: Pid, value: T) -> Result<(), AllocError>
+    pub fn insert(&mut self, pid: Pid, value: Boxed<T>) -> Result<(), AllocError>
     where
         T: Drop,
         ensures ok { OnOk result (self.new ≡ map.insert self.old pid value) }
         ensures err { OnErr result (self.new ≡ self.old) }
     {
-        let value = Some(Box::new(self.alloc, value)?);
+        let value = Some(value.into_box());
         match place_of(&self.slots, self.stride, pid) {
             Ok(place) => self.slots[place].value = value,
             Err(place) => self.slots.insert(place, Slot { pid, value })?,

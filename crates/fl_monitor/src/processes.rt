@@ -17,6 +17,7 @@ use fl_bench::standing::Standing;
 use fl_jobs::answer::{Outcome, Refusal};
 use fl_jobs::job::Act;
 use fl_labels::pid::Pid;
+use fl_message::boxed::Boxed;
 use fl_message::message::Data;
 use fl_ops::op::Op;
 use fl_ops::view::View;
@@ -63,7 +64,7 @@ impl Processes {
     }
 
     /// Puts a process, in the place of one of that name. An error leaves them.
-    pub fn insert(&mut self, pid: Pid, process: Process) -> Result<(), AllocError>
+    pub fn insert(&mut self, pid: Pid, process: Boxed<Process>) -> Result<(), AllocError>
         ensures ok { OnOk result (self.new ≡ map.insert self.old pid process) }
         ensures err { OnErr result (self.new ≡ self.old) }
     {
@@ -108,9 +109,11 @@ impl Processes {
     }
 
     /// Brings a message to its receiver.
-    pub fn arrive(&mut self, data: Data) -> Result<Outcome, Refusal>
+    #[inline(never)]
+    pub fn arrive(&mut self, data: Boxed<Data>) -> Result<Outcome, Refusal>
         ensures { ArrivesAt self.old «data» result self.new }
     {
+        let data = data.into_inner();
         let Some(process) = self.all.get_mut(data.receiver) else {
             return Err(Refusal::NoProcess(data.receiver));
         };

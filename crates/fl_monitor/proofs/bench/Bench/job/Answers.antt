@@ -4,7 +4,7 @@ use Rattle.fl_monitor.proofs.Kept.{arrives_kept}
 use Rattle.fl_monitor.proofs.bench.Bench.job.Goals as goal
 
 pub returns-in-Proc-clause-does : goal.returns-in-Proc-clause-does
-returns-in-Proc-clause-does g c = rw c.in-Proc.is (births_does _ c.args.self.now _ c.new.ensures c.bear.ensures)
+returns-in-Proc-clause-does g c = rw c.in-Proc.is (births_does _ c.args.self.now c.proc.ensures)
 
 pub returns-in-By-clause-does : goal.returns-in-By-clause-does
 returns-in-By-clause-does g c = rw c.in-By.is c.act.ensures.does
@@ -13,7 +13,7 @@ pub returns-in-Member-clause-does : goal.returns-in-Member-clause-does
 returns-in-Member-clause-does g c = rw c.in-Member.is (reaches_does _ c.args.self.now c.in-Member.root c.in-Member.cap _ (answers_of c.reaches.result _ c.reply_of.ensures c.reaches.ensures.answer))
 
 pub returns-in-Arrive-clause-does : goal.returns-in-Arrive-clause-does
-returns-in-Arrive-clause-does g c = rw (c.in-Arrive.is, ← c.into_inner.ensures) (arrives_does _ _ c.args.self.now c.self.view_is c.into_inner.result c.arrive.ensures)
+returns-in-Arrive-clause-does g c = rw c.in-Arrive.is (arrives_does _ _ c.args.self.now c.self.view_is _ c.arrive.ensures)
 
 pub invariant_of-self : goal.invariant_of-self
 invariant_of-self g c = let i = c.self.invariant in (i.0, (i.1.0, arrives_kept i.1.1 c.arrive.ensures))

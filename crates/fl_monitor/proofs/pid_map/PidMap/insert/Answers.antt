@@ -20,8 +20,8 @@ invariant_of-self-in-Ok-2 g c =
     let same = is_of slots c.args.pid i c.index_mut.result.now at c.index_mut.ensures.value in
     rising_set slots _ c.self.invariant c.self.view_is c.args.pid i _ at same
 
-pub invariant_of-self-in_ok-insert-in-Err : goal.invariant_of-self-in_ok-insert-in-Err
-invariant_of-self-in_ok-insert-in-Err g c =
+pub invariant_of-self-in-Continue-1 : goal.invariant_of-self-in-Continue-1
+invariant_of-self-in-Continue-1 g c =
     let slots = c.self.inside.slots.items in
     let i = c.in-Err.place in
     let gap = subst (λ l. IsGapFor l c.args.pid i) c.deref.ensures.value c.in-Err.ensures.err in
@@ -36,8 +36,8 @@ returns-in-Ok-clause-ok g c =
     let at = subst (λ l. IsAt l c.args.pid i) c.deref.ensures.value c.in-Ok.ensures.ok in
     let same = is_of slots c.args.pid i s at c.index_mut.ensures.value in
     let put = put_over slots _ c.self.invariant c.self.view_is c.args.pid i
-    (record { pid = s.pid; value = Some c.in_ok-new.field-0 }) c.args.value at same
-    (ap Some c.in_ok-new.ensures.ok) in
+    (record { pid = s.pid; value = Some c.into_box.result }) c.args.value at same
+    (ap Some c.into_box.ensures) in
     grind (arith, put)
 
 pub returns-in_ok-insert-in-Err-clause-ok : goal.returns-in_ok-insert-in-Err-clause-ok
@@ -47,4 +47,4 @@ returns-in_ok-insert-in-Err-clause-ok g c =
     let gap = subst (λ l. IsGapFor l c.args.pid i) c.deref.ensures.value c.in-Err.ensures.err in
     ap (λ l. map.from_entries (entries_of l)) c.in_ok-insert-in-Err.ensures.items
     ∙ put_new slots _ c.self.invariant c.self.view_is c.args.pid i _ c.args.value gap refl
-    (ap Some c.in_ok-new.ensures.ok)
+    (ap Some c.into_box.ensures)
