@@ -33,9 +33,10 @@ use Rattle.fl_jobs.specs.declared.job.Mail.TheVariants.{Open, Tune, Close, Send,
 use Rattle.fl_jobs.specs.declared.job.Order as orders
 use Rattle.fl_jobs.specs.declared.answer.Reply.TheVariants as replies
 use Rattle.fl_jobs.specs.declared.secret.Secret.{Secret}
-use Rattle.fl_bench.specs.Process.{order_takes, takes_nothing}
+use Rattle.fl_bench.specs.Process.{order_takes, takes_nothing, standing_of, standing_at}
 use Rattle.fl_bench.specs.Secrets.{digest_of}
 use Rattle.fl_bench.specs.declared.process.Process.{Process}
+use Rattle.fl_bench.specs.declared.standing.Standing.{Standing}
 use Rattle.fl_system.specs.Audit.{party, order_entries, endpoint_entries, tuned_entries}
 use Rattle.fl_system.specs.Audit.{mail_entries, act_entries, entries_by, entries, if_yes, if_entered}
 use Rattle.fl_system.specs.Processes.{process_of}
@@ -46,10 +47,10 @@ use Rattle.fl_system.specs.declared.admission.Admission.TheVariants.{Grant, Entr
 use Rattle.fl_system.specs.declared.admission.Party.{Party}
 use Rattle.fl_system.specs.declared.answer.Answer.{Answer}
 use Rattle.fl_system.specs.declared.answer.Answer.TheVariants as answers
-use Rattle.fl_audit.specs.Drafts.{IsDrafted, IsAskedAt, is_yes, entered}
+use Rattle.fl_audit.specs.Drafts.{IsDrafted, IsAskedAt, IsNotedAt, is_yes, entered}
 use Rattle.fl_audit.specs.declared.draft.Draft.{Draft}
 use Rattle.fl_audit.specs.declared.draft.Draft.TheVariants.{IfYes, IfEntered}
-use Rattle.fl_audit.specs.Noted.{tuned_noted, mail_noted, act_noted}
+use Rattle.fl_audit.specs.Noted.{tuned_noted, mail_noted, act_noted, act_tunes, job_tunes}
 
 pub on_err : {T E P : Type 0} (r : Result T E) → P → OnErr r P
 on_err (Ok x) h = tt
@@ -128,16 +129,41 @@ module _ (number boot : ℕ) (asker : Option Process) (job : Job) (pid : Pid) (p
       let asks : IsAskedAt number boot asker (By pid act) n = subst (λ j. IsAskedAt number boot asker j n) is asked in
       subst (MayBeNoted n) (sym is) (may_be n pid p act (asks.asker_is ∙ there) noted)
 
-  pub drafted_asked : (before after : List Admission) (d : Draft) → IsDrafted before after (act_entries pid p act) d
-      → (n : NodeState) → IsAskedAt number boot asker job n → IsDrafted before after (entries n job) d
-  drafted_asked before after d h n asked =
-      let asks : IsAskedAt number boot asker (By pid act) n = subst (λ j. IsAskedAt number boot asker j n) is asked in
-      let P : Option Process → Type 0 = λ o. IsDrafted before after (entries_by o pid act) d in
-      subst (λ j. IsDrafted before after (entries n j) d) (sym is) (subst P (sym (asks.asker_is ∙ there)) h)
+-- a process that stands so asks for the act, which tunes an endpoint of this mode
+record IsAskedBy (n : NodeState) (pid : Pid) (act : Act) (tuned : Option Mode) (s : Standing) : Type 0 where
+  process : Process
+  stands : process_of n pid ≡ Some process
+  tunes : act_tunes process act ≡ tuned
+  is_party : record { pid = pid; standing = s } ≡ party pid process
 
-  pub may_be_asked : {T E : Type 0} (r : Result T E) → OnErr r (act_noted p act ≡ true)
-      → OnErr r ((n : NodeState) → IsAskedAt number boot asker job n → MayBeNoted n job)
-  may_be_asked r h = on_err_weaker r noted_may h
+-- the same where who asks for the job stands so
+module _ (number boot : ℕ) (tuned : Option Mode) (standing : Option Standing) (job : Job) (pid : Pid) (act : Act) (s : Standing)
+    (is : job ≡ By pid act) (there : standing ≡ Some s) where
+  asked_by : (n : NodeState) → IsNotedAt number boot tuned standing job n → IsAskedBy n pid act tuned s
+  asked_by n noted = by_process (process_of n pid) refl (rw is at noted.tuned_is) (rw is at (noted.stands.right s there))
+    where
+      by_process : (o : Option Process) → process_of n pid ≡ o → job_tunes o (By pid act) ≡ tuned → standing_at o ≡ Some s
+          → IsAskedBy n pid act tuned s
+      by_process None e tunes stood = absurd (cc)
+      by_process (Some p) e tunes stood =
+          let same : standing_of p ≡ s = cc in
+          record { process = p; stands = e; tunes = tunes; is_party = ap (λ s. record { pid = pid; standing = s }) (sym same) }
+
+  pub drafted_noted : (before after : List Admission) (d : Draft)
+      → ((p : Process) → record { pid = pid; standing = s } ≡ party pid p → act_tunes p act ≡ tuned → IsDrafted before after (act_entries pid p act) d)
+      → (n : NodeState) → IsNotedAt number boot tuned standing job n → IsDrafted before after (entries n job) d
+  drafted_noted before after d h n noted =
+      let asked = asked_by n noted in
+      let P : Option Process → Type 0 = λ o. IsDrafted before after (entries_by o pid act) d in
+      subst (λ j. IsDrafted before after (entries n j) d) (sym is)
+      (subst P (sym asked.stands) (h asked.process asked.is_party asked.tunes))
+
+  pub may_be_noted : {T E : Type 0} (r : Result T E) → OnErr r ((p : Process) → act_tunes p act ≡ tuned → act_noted p act ≡ true)
+      → OnErr r ((n : NodeState) → IsNotedAt number boot tuned standing job n → MayBeNoted n job)
+  may_be_noted r h =
+      on_err_weaker r (λ all n noted.
+      let asked = asked_by n noted in
+      subst (MayBeNoted n) (sym is) (may_be n pid asked.process act asked.stands (all asked.process asked.tunes))) h
 
 -- ---- what is noted of an order
 
@@ -174,18 +200,18 @@ pub act_drafted : (pid : Pid) (p : Process) {act : Act} (known : Act) (before : 
 act_drafted pid p known before {after} d is h = subst (λ a. IsDrafted before after (act_entries pid p a) d) (sym is) h
 
 -- the same, of a question of what a capability reaches
-module _ (number boot : ℕ) (asker : Option Process) (job : Job) (root c : Cap) (is : job ≡ Member root c) where
+module _ (number boot : ℕ) (tuned : Option Mode) (standing : Option Standing) (job : Job) (root c : Cap) (is : job ≡ Member root c) where
   pub member_drafted : (before after : List Admission) (d : Draft)
       → IsDrafted before after (λ a. if_yes a (Reached number boot root c)) d → (n : NodeState)
-      → IsAskedAt number boot asker job n → IsDrafted before after (entries n job) d
-  member_drafted before after d h n asked =
+      → IsNotedAt number boot tuned standing job n → IsDrafted before after (entries n job) d
+  member_drafted before after d h n noted =
       let P : ℕ → ℕ → Type 0 = λ number boot. IsDrafted before after (λ a. if_yes a (Reached number boot root c)) d in
       let h' : P n.number n.boot =
-      subst (λ k. P k n.boot) (sym asked.number_is) (subst (λ k. P number k) (sym asked.boot_is) h) in
+      subst (λ k. P k n.boot) (sym noted.number_is) (subst (λ k. P number k) (sym noted.boot_is) h) in
       subst (λ j. IsDrafted before after (entries n j) d) (sym is) h'
 
-  pub member_may : (n : NodeState) → IsAskedAt number boot asker job n → MayBeNoted n job
-  member_may n asked =
+  pub member_may : (n : NodeState) → IsNotedAt number boot tuned standing job n → MayBeNoted n job
+  member_may n noted =
       subst (MayBeNoted n) (sym is) (record { answer = answers.Reply replies.Yes; entry = _; noted = first _ })
 
 -- ---- once it is answered

@@ -4,12 +4,14 @@ use Rattle.std.specs.declared.option.Option.{Option}
 use Rattle.std.specs.declared.option.Option.TheVariants.{None, Some}
 use Rattle.fl_labels.specs.declared.cap.Cap.{Cap}
 use Rattle.fl_labels.specs.declared.name.Name.{Name}
+use Rattle.fl_rules.specs.declared.endpoint.Mode.{Mode}
 use Rattle.fl_jobs.specs.declared.secret.Secret.{Secret}
 use Rattle.fl_jobs.specs.declared.answer.Reply.TheVariants as replies
 use Rattle.fl_jobs.specs.declared.job.Job.{Job}
 use Rattle.fl_jobs.specs.declared.job.Job.TheVariants.{Proc, By, Member, Arrive}
 use Rattle.fl_bench.specs.Secrets.{digest_of}
 use Rattle.fl_bench.specs.declared.process.Process.{Process}
+use Rattle.fl_bench.specs.declared.standing.Standing.{Standing}
 use Rattle.fl_system.specs.Audit.{if_yes, if_entered}
 use Rattle.fl_system.specs.Processes.{process_of}
 use Rattle.fl_system.specs.State.{NodeState}
@@ -18,6 +20,7 @@ use Rattle.fl_system.specs.declared.admission.Admission.TheVariants.{Entry}
 use Rattle.fl_system.specs.declared.admission.Party.{Party}
 use Rattle.fl_system.specs.declared.answer.Answer.{Answer}
 use Rattle.fl_system.specs.declared.answer.Answer.TheVariants as answers
+use Rattle.fl_audit.specs.Noted.{IsNotedWith, job_tunes}
 use Rattle.fl_audit.specs.declared.draft.Draft.{Draft}
 use Rattle.fl_audit.specs.declared.draft.Draft.TheVariants.{Always, IfYes, IfEntered}
 
@@ -62,3 +65,12 @@ pub record IsAskedAt (number boot : ℕ) (asker : Option Process) (job : Job) (n
   pub number_is : n.number ≡ number
   pub boot_is : n.boot ≡ boot
   pub asker_is : asker_of n job ≡ asker
+
+-- The node has this number and boot, and there this is the mode of the endpoint that the job tunes, if one, and how who
+-- asks for it stands.
+pub record IsNotedAt (number boot : ℕ) (tuned : Option Mode) (standing : Option Standing) (job : Job) (n : NodeState)
+    : Type 0 where
+  pub number_is : n.number ≡ number
+  pub boot_is : n.boot ≡ boot
+  pub tuned_is : job_tunes (asker_of n job) job ≡ tuned
+  pub stands : IsNotedWith (asker_of n job) job standing

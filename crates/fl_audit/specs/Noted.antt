@@ -4,6 +4,7 @@ use Rattle.std.specs.FinMap as map
 use Rattle.std.specs.declared.option.Option.{Option}
 use Rattle.std.specs.declared.option.Option.TheVariants.{None, Some}
 use Rattle.std.specs.declared.result.Result.TheVariants.{Ok, Err}
+use Rattle.fl_rules.specs.declared.endpoint.Mode.{Mode}
 use Rattle.fl_mailbox.specs.declared.endpoints.OpenEndpoint.{OpenEndpoint}
 use Rattle.fl_mailbox.specs.declared.mailbox.Mailbox.{Mailbox}
 use Rattle.fl_jobs.specs.Given.{labels_of}
@@ -50,6 +51,26 @@ asker_noted (Some p) Proc = false
 asker_noted (Some p) (By pid act) = act_noted p act
 asker_noted (Some p) (Member root c) = false
 asker_noted (Some p) (Arrive d) = false
+
+-- the mode of the endpoint, where it is open
+abbrev pub mode_at : Option OpenEndpoint → Option Mode
+mode_at None = None
+mode_at (Some opened) = Some opened.mode
+
+-- the mode of the endpoint that is tuned, if one is and it is open
+abbrev pub mail_tunes : Mailbox → mails.Mail → Option Mode
+mail_tunes ch (Tune e given) = mode_at (map.get ch.endpoints e)
+mail_tunes ch other = None
+
+-- by an act of this process
+abbrev pub act_tunes : Process → Act → Option Mode
+act_tunes p (Mail c) = mail_tunes p.mailbox c
+act_tunes p other = None
+
+-- by the job that this process asks for, if one does
+abbrev pub job_tunes : Option Process → Job → Option Mode
+job_tunes (Some p) (By pid act) = act_tunes p act
+job_tunes asker job = None
 
 -- This, if anything, may be handed over to note the job: it is given where the job is noted, and is how who asks stands.
 pub record IsNotedWith (asker : Option Process) (job : Job) (standing : Option Standing) : Type 0 where

@@ -8,6 +8,7 @@ ghost use Rattle.fl_labels.specs.declared.cap.Cap.TheVariants as Cap;
 ghost use Rattle.fl_labels.specs.declared.name.Name.{Name};
 ghost use Rattle.fl_ops.specs.declared.digest.Digest.{Digest};
 ghost use Rattle.fl_mailbox.specs.Mailbox.{closed};
+ghost use Rattle.fl_mailbox.specs.declared.mailbox.Mailbox.{Mailbox};
 ghost use Rattle.fl_jobs.specs.Given.{labels_of};
 ghost use Rattle.fl_bench.specs.Process.{newborn, takes_nothing};
 ghost use Rattle.fl_bench.specs.Secrets.{digest_of};
@@ -19,9 +20,9 @@ ghost use Rattle.fl_system.specs.WorldJobs.{MayBeNoted};
 ghost use Rattle.fl_system.specs.declared.admission.Admission.{Admission};
 ghost use Rattle.fl_system.specs.declared.admission.Party.{Party};
 ghost use Rattle.fl_system.specs.declared.answer.Answer.{Answer};
-ghost use Rattle.fl_audit.specs.Drafts.{IsDrafted, IsAskedAt, is_yes, entered};
-ghost use Rattle.fl_audit.specs.Noted.{mail_noted, act_noted};
-ghost use Rattle.fl_audit.specs.Noted.{asker_noted, IsNotedWith};
+ghost use Rattle.fl_audit.specs.Drafts.{IsDrafted, IsAskedAt, IsNotedAt, is_yes, entered};
+ghost use Rattle.fl_audit.specs.Noted.{mail_noted, act_noted, asker_noted};
+ghost use Rattle.fl_audit.specs.Noted.{mail_tunes, act_tunes};
 
 use crate::given::given;
 use fl_bench::orders::digest_of_secret;
@@ -226,43 +227,47 @@ fn note_endpoint(
     note(audit, Admission::Endpoint(asker, mode, labels))
 }
 
-// Notes what a process does with its endpoints and messages.
+// Notes what a process does with its endpoints and messages, where this is the mode of the endpoint
+// that it tunes, if it tunes one that is open.
 fn note_mail(
     alloc: Global,
-    process: &Process,
     asker: Party,
+    tuned: Option<Mode>,
     mail: &Mail,
     audit: &mut Vec<Admission>,
 ) -> Result<(), AllocError>
-    ensures ok { let entries = mail_entries asker process.now.mailbox mail.now in
-        OnOk result (audit.new.items ≡ audit.old.items ++ entries) }
+    ensures ok { OnOk result ((ch : Mailbox) → mail_tunes ch mail.now ≡ tuned
+        → audit.new.items ≡ audit.old.items ++ mail_entries asker ch mail.now) }
     ensures same { OnErr result (audit.new.items ≡ audit.old.items) }
-    ensures err { OnErr result (mail_noted process.now.mailbox mail.now ≡ true) }
+    ensures err { OnErr result ((ch : Mailbox) → mail_tunes ch mail.now ≡ tuned
+        → mail_noted ch mail.now ≡ true) }
 {
     match mail {
         Mail::Open(mode, labels) => note_endpoint(alloc, asker, *mode, labels, audit),
-        Mail::Tune(endpoint, labels) => match process.mailbox.endpoints.get(*endpoint) {
+        Mail::Tune(_, labels) => match tuned {
             None => Ok(()),
-            Some(opened) => note_endpoint(alloc, asker, opened.mode, labels, audit),
+            Some(mode) => note_endpoint(alloc, asker, mode, labels, audit),
         },
         Mail::Send { message, .. } => note_grant(alloc, asker, message.caps.as_slice(), audit),
         Mail::Close(_) | Mail::Take => Ok(()),
     }
 }
 
-// Notes an act of the process, which is this party.
+// Notes an act of this party, where this is the mode of the endpoint that it tunes, if it tunes one
+// that is open.
 fn note_act(
     alloc: Global,
-    process: &Process,
     asker: Party,
+    tuned: Option<Mode>,
     act: &Act,
     audit: &mut Vec<Admission>,
 ) -> Result<Draft, AllocError>
-    requires { asker ≡ party asker.pid process.now }
-    ensures ok { IfOk result (IsDrafted audit.old.items audit.new.items
-        (act_entries asker.pid process.now act.now)) }
+    ensures ok { IfOk result (λ draft. (p : Process) → asker ≡ party asker.pid p
+        → act_tunes p act.now ≡ tuned
+        → IsDrafted audit.old.items audit.new.items (act_entries asker.pid p act.now) draft) }
     ensures same { OnErr result (audit.new.items ≡ audit.old.items) }
-    ensures err { OnErr result (act_noted process.now act.now ≡ true) }
+    ensures err { OnErr result ((p : Process) → act_tunes p act.now ≡ tuned
+        → act_noted p act.now ≡ true) }
 {
     match act {
         Act::Order(order) => note_order(alloc, asker, *order, audit)?,
@@ -277,7 +282,7 @@ fn note_act(
             return Ok(Draft::IfEntered);
         }
         Act::Emit(_) => note(audit, Admission::Emission(asker))?,
-        Act::Mail(mail) => note_mail(alloc, process, asker, mail, audit)?,
+        Act::Mail(mail) => note_mail(alloc, asker, tuned, mail, audit)?,
         Act::Relabel(_, Err(_)) | Act::Exit | Act::Drop(_) => {}
     }
     Ok(Draft::Always)
@@ -332,38 +337,37 @@ fn put_cap(audit: &mut Vec<Admission>, cap: Cap)
 
 impl Draft {
     /// Notes the job, as it is noted if it is admitted at a node of this number and boot, and says
-    /// what becomes of that once it is answered: the job is asked for by this process, or by none
-    /// that is there, which stands so, where that is noted. Nothing is copied where nothing would
-    /// be noted, and memory is wanted only where something may be: then at most for the labels or
-    /// the capabilities that the job names, and room for one entry. Of a secret it takes the
-    /// digest.
+    /// what becomes of that once it is answered. The mode is that of the endpoint which the job
+    /// tunes, if it tunes one that is open, and who asks for the job stands so, where that is noted.
+    /// Nothing is copied where nothing would be noted, and memory is wanted only where something may
+    /// be: then at most for the labels or the capabilities that the job names, and room for one
+    /// entry. Of a secret it takes the digest.
     pub fn note(
         alloc: Global,
         number: NodeNumber,
         boot: u32,
-        asker: Option<&Process>,
+        tuned: Option<Mode>,
         standing: Option<Shared<Standing>>,
         job: &Job,
         audit: &mut Vec<Admission>,
     ) -> Result<Draft, AllocError>
-        requires { IsNotedWith (option_copied asker) job.now standing }
         ensures ok { IfOk result (λ draft. (n : NodeState) →
-            IsAskedAt number boot (option_copied asker.entry) job.now n →
+            IsNotedAt number boot tuned standing job.now n →
             IsDrafted audit.old.items audit.new.items (entries n job.now) draft) }
         ensures same { OnErr result (audit.new.items ≡ audit.old.items) }
         ensures err { OnErr result ((n : NodeState) →
-            IsAskedAt number boot (option_copied asker.entry) job.now n → MayBeNoted n job.now) }
+            IsNotedAt number boot tuned standing job.now n → MayBeNoted n job.now) }
     {
         match job {
-            Job::By(pid, act) => match (asker, standing) {
-                (Some(process), Some(standing)) => {
+            Job::By(pid, act) => match standing {
+                Some(standing) => {
                     let asker = Party {
                         pid: *pid,
                         standing,
                     };
-                    note_act(alloc, process, asker, act, audit)
+                    note_act(alloc, asker, tuned, act, audit)
                 }
-                _ => Ok(Draft::Always),
+                None => Ok(Draft::Always),
             },
             Job::Member(root, cap) => note_reached(number, boot, *root, *cap, audit),
             Job::Proc | Job::Arrive(_) => Ok(Draft::Always),

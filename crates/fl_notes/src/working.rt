@@ -10,7 +10,7 @@ ghost use Rattle.fl_system.specs.declared.sent.Sent.{Sent};
 ghost use Rattle.fl_system.specs.Audit.{entries};
 ghost use Rattle.fl_system.specs.WorldJobs.{MayBeNoted};
 ghost use Rattle.fl_audit.specs.Drafts.{asker_of, IsDrafted};
-ghost use Rattle.fl_audit.specs.Noted.{IsNotedWith};
+ghost use Rattle.fl_audit.specs.Noted.{IsNotedWith, job_tunes};
 ghost use Rattle.fl_audit.specs.Senders.{sender_of};
 ghost use Rattle.fl_node.specs.Desks.{IsDeskOf};
 ghost use Rattle.fl_notes.specs.Working.{IsUnready, Shows, Worked, is_sending};
@@ -24,6 +24,7 @@ use fl_jobs::answer::Refusal;
 use fl_jobs::job::{Act, Job, Mail, let_go};
 use fl_labels::name::NodeNumber;
 use fl_node::node::Node;
+use fl_rules::endpoint::Mode;
 use fl_store::keeper::Keeper;
 use fl_system::admission::{Admission, Party};
 use fl_system::answer::{Answer, Fault};
@@ -40,6 +41,21 @@ fn asker<'a, K: Keeper>(node: &'a Node<K>, job: &Job) -> Option<&'a Process>
     match job {
         Job::By(pid, _) => node.process(*pid),
         Job::Proc | Job::Member(_, _) | Job::Arrive(_) => None,
+    }
+}
+
+// The mode of the endpoint that the job tunes, if it tunes one that is open. The process is looked
+// for then alone.
+fn tuned<K: Keeper>(node: &Node<K>, job: &Job) -> Option<Mode>
+    ensures { result ≡ job_tunes (asker_of node.now.node job.now) job.now }
+{
+    match job {
+        Job::By(pid, Act::Mail(Mail::Tune(endpoint, _))) => {
+            let process = node.process(*pid)?;
+            let opened = process.mailbox.endpoints.get(*endpoint)?;
+            Some(opened.mode)
+        }
+        _ => None,
     }
 }
 
@@ -84,12 +100,11 @@ fn note<K: Keeper>(
     ensures same { node.new ≡ node.old }
 {
     let standing = share(alloc, node, job)?;
-    let process = asker(node, job);
     Draft::note(
         alloc,
         node.number(),
         node.boot(),
-        process,
+        tuned(node, job),
         standing,
         job,
         audit,
@@ -186,7 +201,7 @@ fn note_sending<K: Keeper>(
         alloc,
         node.number(),
         node.boot(),
-        asker(node, job),
+        tuned(node, job),
         standing,
         job,
         audit,

@@ -53,7 +53,7 @@ fn note_all(
     for _ in 0..count {
         let standing = process.share(alloc)?;
         let from = audit.len();
-        let draft = Draft::note(alloc, 1, 1, Some(process), Some(standing), &job, &mut audit)?;
+        let draft = Draft::note(alloc, 1, 1, None, Some(standing), &job, &mut audit)?;
         draft.settle(&mut audit, from, &answer);
     }
     Ok(audit)

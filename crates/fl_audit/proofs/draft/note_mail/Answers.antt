@@ -11,8 +11,8 @@ pub returns-in-Send-clause-ok : goal.returns-in-Send-clause-ok
 returns-in-Send-clause-ok c =
     let p = c.args.asker in
     on_ok_weaker c.note_grant.result
-    (λ h. h ∙ ap (λ l. c.args.audit.now.items ++ l)
+    (λ h ch tunes. h ∙ ap (λ l. c.args.audit.now.items ++ l)
     (granted p _ _ c.as_slice.ensures
     ∙ ap (λ (m : Message). Grant p m.caps ∷ []) c.deref-in-Send.ensures
-    ∙ ap (mail_entries p c.args.process.now.mailbox) (sym c.in-Send.is)))
+    ∙ ap (mail_entries p ch) (sym c.in-Send.is)))
     c.note_grant.ensures.ok

@@ -2,6 +2,7 @@ use Rattle.std.proofs.Common.{◌∙◌, ap, sym, subst}
 use Rattle.std.specs.Prelude.{IsSome}
 use Rattle.fl_sink.specs.laws.Passing.{on_err_always}
 use Rattle.fl_audit.specs.Drafts.{asker_of}
+use Rattle.fl_audit.specs.Noted.{job_tunes}
 use Rattle.fl_notes.proofs.WorkLemmas.{sender_noted}
 use Rattle.fl_notes.proofs.working.note_sending.Goals as goal
 
@@ -21,7 +22,8 @@ returns-clause-drafts g c =
     c.in_ok-draft.ensures.ok c.args.node.now.node (record {
       number_is = sym (c.number.ensures.number ∙ ap (λ o. o.node.number) same);
       boot_is = sym (c.boot.ensures.boot ∙ ap (λ o. o.node.boot) same);
-      asker_is = sym (c.asker.ensures ∙ ap (λ o. asker_of o.node c.args.job.now) same);
+      tuned_is = sym (c.tuned.ensures ∙ ap (λ o. job_tunes (asker_of o.node c.args.job.now) c.args.job.now) same);
+      stands = c.in_ok-standing.ensures.noted;
     })
 
 pub returns-clause-sender : goal.returns-clause-sender
