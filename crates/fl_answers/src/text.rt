@@ -1,6 +1,6 @@
 //! Replies and refusals, a line each. Writing takes no memory but the sink's, and does without. At
 //! a fault a front of what waited and of the line was written, and the sink may not be used again.
-ghost use Rattle.std.specs.Prelude.{◌≡◌, ◌++◌, ◌∷◌, [], codes, OnErr};
+ghost use Rattle.std.specs.Prelude.{◌≤◌, ◌++◌, ◌∷◌, codes, length, OnErr};
 ghost use Rattle.std.specs.Fmt.{decimal};
 ghost use Rattle.std.specs.List.{flat_map};
 ghost use Rattle.hex.specs.Hex.{encode_lower};
@@ -20,6 +20,9 @@ use fl_sink::writer::Writer;
 use hex::encode_to_slice;
 use itoa::Buffer;
 
+// The digits of so many bytes are put at once.
+const FEW: usize = 32;
+
 /// Puts the line of a reply into the sink: `p1.1.1`, `ok`, `yes`, `not-yet`, `ok -1.1`, `out 6869`,
 /// `ok e1`, `message p1.1.1 {*1.4} 6869`, `empty`, `arrived p1.1.1`. Looks at each byte of a
 /// payload once.
@@ -32,7 +35,19 @@ pub fn write_reply<W: Writer>(
         Puts (W.contents output.old) (W.contents output.new) sink.old text sink.new result }
     ensures cause { OnErr result (W.has_failed output.new) }
 {
-    put_reply(reply, sink, output)?;
+    match reply {
+        Reply::Made(pid) => put_pid(b"", *pid, sink, output)?,
+        // What is one word is put with its line feed.
+        Reply::Done => return sink.put_all(output, &[b"ok\n"]),
+        Reply::Yes => return sink.put_all(output, &[b"yes\n"]),
+        Reply::NotYet => return sink.put_all(output, &[b"not-yet\n"]),
+        Reply::Empty => return sink.put_all(output, &[b"empty\n"]),
+        Reply::Entered(cap) => put_cap(b"ok ", *cap, sink, output)?,
+        Reply::Emitted(payload) => put_bytes(b"out ", payload.as_slice(), sink, output)?,
+        Reply::Opened(endpoint) => put_endpoint(b"ok ", *endpoint, sink, output)?,
+        Reply::Taken(letter) => put_letter(letter, sink, output)?,
+        Reply::Arrived(pid) => put_pid(b"arrived ", *pid, sink, output)?,
+    }
     sink.put_all(output, &[b"\n"])
 }
 
@@ -101,26 +116,6 @@ pub fn write_name<W: Writer>(
 {
     put_name(front, name, sink, output)?;
     sink.put_all(output, &[b"\n"])
-}
-
-// What a reply says.
-fn put_reply<W: Writer>(reply: &Reply, sink: &mut Sink, output: &mut W) -> Result<(), WriteFault>
-    ensures puts { let text = reply_text reply.now in
-        Puts (W.contents output.old) (W.contents output.new) sink.old text sink.new result }
-    ensures cause { OnErr result (W.has_failed output.new) }
-{
-    match reply {
-        Reply::Made(pid) => put_pid(b"", *pid, sink, output),
-        Reply::Done => sink.put_all(output, &[b"ok"]),
-        Reply::Yes => sink.put_all(output, &[b"yes"]),
-        Reply::NotYet => sink.put_all(output, &[b"not-yet"]),
-        Reply::Entered(cap) => put_cap(b"ok ", *cap, sink, output),
-        Reply::Emitted(payload) => put_bytes(b"out ", payload.as_slice(), sink, output),
-        Reply::Opened(endpoint) => put_endpoint(b"ok ", *endpoint, sink, output),
-        Reply::Taken(letter) => put_letter(letter, sink, output),
-        Reply::Empty => sink.put_all(output, &[b"empty"]),
-        Reply::Arrived(pid) => put_pid(b"arrived ", *pid, sink, output),
-    }
 }
 
 // A refusal's number, and what it is about.
@@ -270,33 +265,31 @@ fn put_pid<W: Writer>(
     )
 }
 
-// The two digits of a byte.
-fn digits_of(byte: u8) -> [u8; 2]
-    ensures { result ≡ encode_lower (byte ∷ []) }
-{
-    let mut digits = [0; 2];
-    encode_to_slice([byte], &mut digits).unwrap();
-    digits
-}
-
-fn put_byte<W: Writer>(byte: u8, sink: &mut Sink, output: &mut W) -> Result<(), WriteFault>
-    ensures puts { let text = encode_lower (byte ∷ []) in
+// Two digits for each of a few bytes.
+fn put_few<W: Writer>(bytes: &[u8], sink: &mut Sink, output: &mut W) -> Result<(), WriteFault>
+    requires { length bytes.now ≤ 32 }
+    ensures puts { let text = encode_lower bytes.now in
         Puts (W.contents output.old) (W.contents output.new) sink.old text sink.new result }
     ensures cause { OnErr result (W.has_failed output.new) }
 {
-    sink.put_all(output, &[digits_of(byte).as_slice()])
+    let mut room = [0; 2 * FEW];
+    let digits = &mut room[..2 * bytes.len()];
+    encode_to_slice(bytes, digits).unwrap();
+    sink.put(output, digits)
 }
 
 // Two digits for each byte.
 fn put_digits<W: Writer>(bytes: &[u8], sink: &mut Sink, output: &mut W) -> Result<(), WriteFault>
-    ensures puts { let text = flat_map (λ b. encode_lower (b ∷ [])) bytes.now in
+    ensures puts { let text = encode_lower bytes.now in
         Puts (W.contents output.old) (W.contents output.new) sink.old text sink.new result }
     ensures cause { OnErr result (W.has_failed output.new) }
 {
-    for byte in bytes {
-        put_byte(*byte, sink, output)?;
+    let mut rest = bytes;
+    while let Some((few, more)) = rest.split_at_checked(FEW) {
+        put_few(few, sink, output)?;
+        rest = more;
     }
-    Ok(())
+    put_few(rest, sink, output)
 }
 
 // The word of some bytes.
