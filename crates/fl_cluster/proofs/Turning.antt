@@ -1,8 +1,10 @@
 -- What a call of the cluster does, said of the lines of a script.
-use Rattle.std.proofs.Common.{◌≡◌, ◌∙◌, refl, sym, ap, subst, ℕ, true, List, Option, None, Some, inl, inr}
+use Rattle.std.proofs.Common.{◌≡◌, ◌∙◌, refl, sym, ap, subst, ℕ, true, List, [], Option, None, Some, inl, inr}
+use Rattle.std.proofs.lemmas.List.{append-nil}
 use Rattle.fl_aliases.specs.Table.{Table}
 use Rattle.fl_aliases.specs.declared.target.Target.{Target}
 use Rattle.fl_sink.specs.Sink.{Passes, Cuts}
+use Rattle.fl_sink.specs.laws.Passing.{passes_none}
 use Rattle.fl_store.specs.Custody.{Custody}
 use Rattle.fl_stream.specs.Turns.{AnswerPasses, AnswerCuts}
 use Rattle.fl_makers.specs.Making.{Making}
@@ -32,6 +34,10 @@ use Rattle.fl_cluster.specs.parts.Answering.{RespondsTo, Names, NamesOrStarves}
 use Rattle.fl_cluster.specs.declared.response.Response.{Response}
 use Rattle.fl_cluster.specs.declared.response.Response.TheVariants as response
 use Rattle.fl_cluster.proofs.Saying.{same_status, same_made}
+
+-- no bytes pass
+pub passes_nothing : (output : Option (List ℕ)) (pending : List ℕ) → Passes output output pending [] pending
+passes_nothing output pending = subst (Passes output output pending []) (append-nil pending) (passes_none output pending [])
 
 -- what a line that makes something is answered is no list of aliases
 none_listed : {openings : Openings} {old : Session} {l : Line} {table : Table} {w : World} → makes l ≡ true

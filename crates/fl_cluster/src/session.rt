@@ -1,11 +1,12 @@
 //! What the lines of a script made, and the aliases of it.
-ghost use Rattle.std.specs.Prelude.{◌≡◌, ◌<◌, ℕ, All, IsSome, List, None, Some, length, true};
+ghost use Rattle.std.specs.Prelude.{◌≡◌, ◌<◌, ℕ, All, IfOk, IsSome, List, None, OnErr, Some, length, true};
 ghost use Rattle.fl_aliases.specs.Table.{Table, target_of};
 ghost use Rattle.fl_script.specs.Grammar.{nodes_of};
 ghost use Rattle.fl_script.specs.Reading.{IsReading, makes};
 ghost use Rattle.fl_turns.specs.Naming.{IsPlaced, renamed};
 ghost use Rattle.fl_turns.specs.Failing.{FailsRead, FailsSaid};
-ghost use Rattle.fl_turns.specs.Over.{TurnOver, begun_over};
+ghost use Rattle.fl_stream.specs.Turns.{AnswerCuts, AnswerPasses};
+ghost use Rattle.fl_turns.specs.Over.{TurnOver, TurnsOver, begun_over};
 ghost use Rattle.fl_cluster.specs.Shown.{shown, status_said};
 ghost use Rattle.fl_cluster.specs.parts.Answering.{IsRead, Names, NamesOrStarves};
 
@@ -119,9 +120,35 @@ impl<M: MakesKeepers> Session<M> {
         self.cluster.ask(alloc, job_at(node, job))
     }
 
-    // What is answered to a line of which this was read. Where memory was wanted to read it,
-    // nothing changes. Out of line, so that the way of a job has no room for it.
+    // Answers the line of this number, of which this was read. Out of line, so that the way of a job
+    // has no room for it.
     #[inline(never)]
+    fn answer_seldom<W: Writer>(
+        &mut self,
+        alloc: Global,
+        number: u64,
+        read: Result<Reading, AllocError>,
+        sink: &mut Sink,
+        output: &mut W,
+    ) -> Result<u8, WriteFault>
+        requires { (bytes : List ℕ) × IsRead self.old.aliases bytes read }
+        ensures ok { (bytes : List ℕ) → IsRead self.old.aliases bytes read
+            → IfOk result (λ status. AnswerPasses (TurnsOver M.K.custody M.making)
+            number self.old bytes status self.new
+            (W.contents output.old) (W.contents output.new) sink.old sink.new) }
+        ensures err { (bytes : List ℕ) → IsRead self.old.aliases bytes read
+            → OnErr result (AnswerCuts (TurnsOver M.K.custody M.making)
+            number self.old bytes self.new
+            (W.contents output.old) (W.contents output.new) sink.old) }
+        ensures cause { OnErr result (W.has_failed output.new) }
+    {
+        let response = self.respond(alloc, read);
+        write_response(self, number, &response, sink, output)?;
+        Ok(response.status())
+    }
+
+    // What is answered to a line of which this was read. Where memory was wanted to read it,
+    // nothing changes.
     fn respond(&mut self, alloc: Global, read: Result<Reading, AllocError>) -> Response
         requires { (bytes : List ℕ) × IsRead self.old.aliases bytes read }
         ensures turns { (bytes : List ℕ) → IsRead self.old.aliases bytes read
@@ -203,10 +230,7 @@ impl<M: MakesKeepers> Machine for Session<M> {
         output: &mut W,
     ) -> Result<u8, WriteFault> {
         match read_line(alloc, &self.aliases, line) {
-            Ok(Reading::Quiet) => {
-                write_response(self, number, &Response::Silence, sink, output)?;
-                Ok(0)
-            }
+            Ok(Reading::Quiet) => Ok(0),
             Ok(
                 Reading::Means {
                     line: Line::Node {
@@ -220,11 +244,7 @@ impl<M: MakesKeepers> Machine for Session<M> {
                 write_world_reply(&reply, sink, output)?;
                 Ok(reply_status(&reply))
             }
-            read => {
-                let response = self.respond(alloc, read);
-                write_response(self, number, &response, sink, output)?;
-                Ok(response.status())
-            }
+            read => self.answer_seldom(alloc, number, read, sink, output),
         }
     }
 }

@@ -7,22 +7,15 @@ use Rattle.fl_script.specs.declared.request.Request.TheVariants as requests
 use Rattle.fl_calls.specs.declared.response.Response.TheVariants as calls
 use Rattle.fl_cluster.specs.declared.response.Response.TheVariants as response
 use Rattle.fl_cluster.proofs.Failures.{no_three, says_failed, says_reply}
-use Rattle.fl_cluster.proofs.Turning.{turns_named, turns_quiet, passes_answer, cuts_answer}
+use Rattle.fl_cluster.proofs.Turning.{turns_named, turns_quiet, passes_answer, passes_nothing, cuts_answer}
 use Rattle.fl_cluster.proofs.session.SessionMachine.answer.Goals as goal
 
-pub returns-in_ok-write_response-in-Ok-Quiet-clause-ok : goal.returns-in_ok-write_response-in-Ok-Quiet-clause-ok
-returns-in_ok-write_response-in-Ok-Quiet-clause-ok g c =
+pub returns-in-Ok-Quiet-clause-ok : goal.returns-in-Ok-Quiet-clause-ok
+returns-in-Ok-Quiet-clause-ok g c =
     let says : IsReading c.args.self.now.aliases c.args.line.now reading.Quiet = search rules in
     passes_answer g.M.K.Keeper.custody g.M.MakesKeepers.making _ _ _ _ response.Silence _ refl
     (turns_quiet g.M.K.Keeper.custody g.M.MakesKeepers.making _ c.args.line.now says)
-    (λ three. absurd (no_three three)) c.in_ok-write_response-in-Ok-Quiet.ensures.puts.is
-
-pub returns-in_err-write_response-in-Ok-Quiet-clause-err : goal.returns-in_err-write_response-in-Ok-Quiet-clause-err
-returns-in_err-write_response-in-Ok-Quiet-clause-err g c =
-    let says : IsReading c.args.self.now.aliases c.args.line.now reading.Quiet = search rules in
-    on_err_always _ (cuts_answer g.M.K.Keeper.custody g.M.MakesKeepers.making _ _ _ _ response.Silence
-    (turns_quiet g.M.K.Keeper.custody g.M.MakesKeepers.making _ c.args.line.now says)
-    (λ three. absurd (no_three three)) c.in_err-write_response-in-Ok-Quiet.ensures.puts.is)
+    (λ three. absurd (no_three three)) (passes_nothing _ c.args.sink.now)
 
 pub returns-in_ok-write_world_reply-in-Ok-Means-Node-default-Job-None-clause-ok :
     goal.returns-in_ok-write_world_reply-in-Ok-Means-Node-default-Job-None-clause-ok
@@ -60,14 +53,8 @@ returns-in_err-write_world_reply-in-Ok-Means-Node-default-Job-None-clause-err g 
     })
     c.in_err-write_world_reply-in-Ok-Means-Node-default-Job-None.ensures.puts.is)
 
-pub returns-in_ok-write_response-in_default-clause-ok : goal.returns-in_ok-write_response-in_default-clause-ok
-returns-in_ok-write_response-in_default-clause-ok g c =
-    passes_answer g.M.K.Keeper.custody g.M.MakesKeepers.making
-    _ _ _ _ _ _ c.status.ensures (c.respond-response.ensures.turns c.args.line.now (search rules))
-    (c.respond-response.ensures.cause c.args.line.now (search rules)) c.in_ok-write_response-in_default.ensures.puts.is
+pub returns-in_default-clause-ok : goal.returns-in_default-clause-ok
+returns-in_default-clause-ok g c = c.answer_seldom.ensures.ok c.args.line.now (search rules)
 
-pub returns-in_err-write_response-in_default-clause-err : goal.returns-in_err-write_response-in_default-clause-err
-returns-in_err-write_response-in_default-clause-err g c =
-    on_err_always _ (cuts_answer g.M.K.Keeper.custody g.M.MakesKeepers.making
-    _ _ _ _ c.respond-response.result (c.respond-response.ensures.turns c.args.line.now (search rules))
-    (c.respond-response.ensures.cause c.args.line.now (search rules)) c.in_err-write_response-in_default.ensures.puts.is)
+pub returns-in_default-clause-err : goal.returns-in_default-clause-err
+returns-in_default-clause-err g c = c.answer_seldom.ensures.err c.args.line.now (search rules)
