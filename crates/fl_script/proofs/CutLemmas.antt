@@ -1,13 +1,13 @@
 -- Lines that are cut at their spaces.
 use Rattle.std.proofs.Common.{◌≡◌, ◌<◌, ◌≤◌, ◌+◌, ◌-◌, ◌++◌, ◌==◌, ◌≢◌, ℕ, Bool, true, false, not, List, [], ◌∷◌, length, take, drop, get_or, arith, ap, sym, subst, ◌∙◌, refl, length-append, length-drop, append_assoc, append-nil}
 use Rattle.std.specs.Bool.{MatchBool}
-use Rattle.std.specs.List.{slice_range, slice_split}
-use Rattle.std.specs.Str.{IsUtf8, IsCharBoundary}
-use Rattle.std.proofs.lemmas.List.{drop_more, drop_all, take_more, take-append-drop, get_or-drop}
-use Rattle.std.proofs.lemmas.List.Elements.{filter-append, All-nil, All-cons, All-append}
+use Rattle.std.specs.List.{All, slice_range, slice_split}
+use Rattle.std.specs.Str.{IsAscii}
+use Rattle.std.proofs.lemmas.List.{drop_more, drop_all, take_all, take_more, take-append-drop, get_or-drop, drop-take}
+use Rattle.std.proofs.lemmas.List.Elements.{filter-append, All-nil, All-cons, All-append, All-drop, All-more}
 use Rattle.std.proofs.lemmas.List.Folds.{drop_split}
 use Rattle.std.proofs.lemmas.List.Splits.{slice_split_none, slice_split_at}
-use Rattle.std.proofs.lemmas.Str.{IsCharBoundary-after_ascii}
+use Rattle.std.proofs.lemmas.Str.Ascii.{IsAscii-from_all}
 use Rattle.fl_aliases.specs.Expansion.{NoDollar}
 use Rattle.fl_aliases.specs.Words.{full_pieces, words_of}
 use Rattle.fl_script.specs.parts.Cut.{NoSpace}
@@ -61,12 +61,6 @@ last_piece line start end low past none =
     (sym (drop_split line start end low ∙ ap (λ l. piece ++ l) (drop_all end line past)
     ∙ append-nil piece))
     none
-
--- a text may be cut behind a space
-pub behind_space : (line : List ℕ) (at : ℕ) → IsUtf8 line → at < length line
-    → get_or line at 0 ≡ 32 → IsCharBoundary line (at + 1)
-behind_space line at utf8 inside is =
-    IsCharBoundary-after_ascii line at utf8 inside (omega (arith, is))
 
 -- a `$` that stands there is in the line
 pub dollar_there : (line : List ℕ) (at : ℕ) → at < length line → get_or line at 0 ≡ 36
@@ -135,3 +129,26 @@ module _ (line rest : List ℕ) (words : List (List ℕ)) (so_far : words_of lin
   too_many_last none many =
       let all = ap length (last _ none refl) in
       omega (arith, many, all, length-append words (full_pieces (rest ∷ [])))
+
+-- ---- ASCII
+
+-- so is a piece of bytes that are so far
+pub ascii_piece : (line : List ℕ) (start at : ℕ) → start ≤ at → All (λ b. b < 128) (take at line) → IsAscii (slice_range line start at)
+ascii_piece line start at low so_far =
+    let end : start + (at - start) ≡ at = omega arith in
+    let piece : drop start (take at line) ≡ slice_range line start at =
+    ap (λ n. drop start (take n line)) (sym end) ∙ drop-take start (at - start) line in
+    IsAscii-from_all (slice_range line start at)
+    (subst (All (λ b. b < 128)) piece (All-drop (λ b. b < 128) start (take at line) so_far))
+
+-- and with one more byte that is
+pub ascii_more : (line : List ℕ) (at : ℕ) → at < length line → get_or line at 0 < 128 → All (λ b. b < 128) (take at line)
+    → All (λ b. b < 128) (take (at + 1) line)
+ascii_more line at inside is so_far = All-more (λ b. b < 128) line at 0 inside so_far is
+
+-- at the end all are
+pub ascii_known : (line : List ℕ) (end : ℕ) → length line ≤ end → All (λ b. b < 128) (take end line) → IsAscii line
+ascii_known line end past so_far = IsAscii-from_all line (subst (All (λ b. b < 128)) (take_all end line past) so_far)
+
+pub not_ascii : (line : List ℕ) (at : ℕ) → 128 ≤ get_or line at 0 → ¬ IsAscii line
+not_ascii line at beyond is = absurd (omega (arith, beyond, is at))

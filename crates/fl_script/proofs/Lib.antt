@@ -11,3 +11,4 @@ pub mod SpawnWords
 pub mod SendWords
 pub mod Found
 pub mod OfProcess
+pub mod AsciiWords

@@ -1,6 +1,7 @@
 //! Lines are cut into words at spaces.
-ghost use Rattle.std.specs.Prelude.{◌≡◌, ◌<◌, ◌+◌, ◌∷◌, ◌++◌, [], length, map, IfSome, MatchOption};
+ghost use Rattle.std.specs.Prelude.{◌≡◌, ◌<◌, ◌+◌, ◌⊎◌, ◌∷◌, ◌++◌, [], length, map, IfSome, OnSome, MatchOption};
 ghost use Rattle.std.specs.Bool.{MatchBool, OnTrue, OnFalse};
+ghost use Rattle.std.specs.Str.{IsAscii};
 ghost use Rattle.fl_aliases.specs.Expansion.{NoDollar};
 ghost use Rattle.fl_aliases.specs.Words.{full_pieces, words_of};
 
@@ -10,7 +11,8 @@ use arrayvec::ArrayVec;
 pub const MOST_LINE_WORDS: usize = 8;
 
 // Adds a piece that is not empty, and answers whether there was room for it.
-fn push_piece<'a>(words: &mut ArrayVec<&'a str, MOST_LINE_WORDS>, piece: &'a str) -> bool
+fn push_piece<'a>(words: &mut ArrayVec<&'a str, MOST_LINE_WORDS>, piece: &'a [u8]) -> bool
+    requires { IsAscii piece.now }
     ensures pushed { OnTrue result (map (λ w. w.now) words.new.items
         ≡ map (λ w. w.now) words.old.items ++ full_pieces (piece.now ∷ [])) }
     ensures full { OnFalse result
@@ -22,29 +24,34 @@ fn push_piece<'a>(words: &mut ArrayVec<&'a str, MOST_LINE_WORDS>, piece: &'a str
     if words.is_full() {
         return false;
     }
-    words.push(piece);
+    words.push(unsafe { str::from_utf8_unchecked(piece) });
     true
 }
 
-/// Adds the words of a line, and answers whether a `$` stands in it, or none where it has more than
-/// [`MOST_LINE_WORDS`]. Looks at each byte once, and takes no memory.
+/// Adds the words of a line, and answers whether a `$` stands in it. None where it has more words
+/// than [`MOST_LINE_WORDS`], or a byte beyond ASCII, which no word of the script has. Looks at each
+/// byte once, and takes no memory.
 pub(crate) fn cut_line<'a>(
-    line: &'a str,
+    line: &'a [u8],
     words: &mut ArrayVec<&'a str, MOST_LINE_WORDS>,
 ) -> Option<bool>
     requires { words.old.items ≡ [] }
     ensures words { let cut = words_of line.now in
-        MatchOption result (8 < length cut) (λ _. map (λ w. w.now) words.new.items ≡ cut) }
+        MatchOption result ((8 < length cut) ⊎ (¬ IsAscii line.now))
+        (λ _. map (λ w. w.now) words.new.items ≡ cut) }
+    ensures ascii { OnSome result (IsAscii line.now) }
     ensures dollar { IfSome result (λ has_dollar.
         MatchBool has_dollar (¬ NoDollar line.now) (NoDollar line.now)) }
 {
-    let bytes = line.as_bytes();
     let mut has_dollar = false;
     let mut start = 0;
-    for (at, byte) in bytes.iter().enumerate() {
-        // Most bytes come behind a space and a `$`, and are compared once.
-        if *byte > b'$' {
+    for (at, byte) in line.iter().enumerate() {
+        // Most bytes come behind a space and a `$`, and are looked at no further.
+        if matches!(byte, b'%'..=0x7f) {
             continue;
+        }
+        if !byte.is_ascii() {
+            return None;
         }
         if *byte == b'$' {
             has_dollar = true;

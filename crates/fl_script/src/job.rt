@@ -5,7 +5,7 @@ ghost use Rattle.fl_labels.specs.Text.{endpoint_text, pid_text};
 ghost use Rattle.fl_labels.specs.declared.pid.Pid.{Pid};
 ghost use Rattle.fl_jobs.specs.declared.job.Act.TheVariants.{Order as Orders};
 ghost use Rattle.fl_script.specs.Grammar.{IsListVerb, SpellsJob};
-ghost use Rattle.fl_script.specs.parts.Acts.{NoPidFirst, SpellsAct};
+ghost use Rattle.fl_script.specs.parts.Acts.{NoPidFirst, SpellsAct, SpellsOrders};
 ghost use Rattle.fl_script.specs.parts.Reads.{Reads, StarvesIf};
 
 use crate::unread::Unread;
@@ -81,6 +81,7 @@ pub fn order_from_words(verb: &str, rest: &[&str]) -> Option<Order>
     }
 }
 
+#[inline(never)]
 fn label_act(alloc: Global, rest: &[&str]) -> Result<Act, Unread>
     ensures { (p : Pid) → Reads result (λ a.
         SpellsAct p a (codes "label") (map (λ w. w.now) rest.now)) }
@@ -93,15 +94,18 @@ fn label_act(alloc: Global, rest: &[&str]) -> Result<Act, Unread>
     Ok(Act::Relabel(side, label))
 }
 
-fn ask_act(rest: &[&str]) -> Option<Act>
-    ensures { (p : Pid) → Finds result (λ a.
+#[inline(never)]
+fn ask_act(rest: &[&str]) -> Result<Act, Unread>
+    ensures ok { (p : Pid) → Reads result (λ a.
         SpellsAct p a (codes "ask") (map (λ w. w.now) rest.now)) }
+    ensures memory { StarvesIf result ⊥ }
 {
-    let [cap] = rest else { return None };
-    let cap = read_cap(cap)?;
-    Some(Act::Ask(cap))
+    let [cap] = rest else { return Err(Unread::Bad) };
+    let cap = read_cap(cap).ok_or(Unread::Bad)?;
+    Ok(Act::Ask(cap))
 }
 
+#[inline(never)]
 fn spawn_act(alloc: Global, rest: &[&str]) -> Result<Act, Unread>
     ensures { (p : Pid) → Reads result (λ a.
         SpellsAct p a (codes "spawn") (map (λ w. w.now) rest.now)) }
@@ -113,33 +117,42 @@ fn spawn_act(alloc: Global, rest: &[&str]) -> Result<Act, Unread>
     Ok(Act::Spawn(caps))
 }
 
-fn exit_act(rest: &[&str]) -> Option<Act>
-    ensures { (p : Pid) → Finds result (λ a.
+#[inline(never)]
+fn exit_act(rest: &[&str]) -> Result<Act, Unread>
+    ensures ok { (p : Pid) → Reads result (λ a.
         SpellsAct p a (codes "exit") (map (λ w. w.now) rest.now)) }
+    ensures memory { StarvesIf result ⊥ }
 {
-    let [] = rest else { return None };
-    Some(Act::Exit)
+    let [] = rest else { return Err(Unread::Bad) };
+    Ok(Act::Exit)
 }
 
-fn drop_act(rest: &[&str]) -> Option<Act>
-    ensures { (p : Pid) → Finds result (λ a.
+#[inline(never)]
+fn drop_act(rest: &[&str]) -> Result<Act, Unread>
+    ensures ok { (p : Pid) → Reads result (λ a.
         SpellsAct p a (codes "drop") (map (λ w. w.now) rest.now)) }
+    ensures memory { StarvesIf result ⊥ }
 {
-    let [cap] = rest else { return None };
-    let cap = read_cap(cap)?;
-    Some(Act::Drop(cap))
+    let [cap] = rest else { return Err(Unread::Bad) };
+    let cap = read_cap(cap).ok_or(Unread::Bad)?;
+    Ok(Act::Drop(cap))
 }
 
-fn enter_act(rest: &[&str]) -> Option<Act>
-    ensures { (p : Pid) → Finds result (λ a.
+#[inline(never)]
+fn enter_act(rest: &[&str]) -> Result<Act, Unread>
+    ensures ok { (p : Pid) → Reads result (λ a.
         SpellsAct p a (codes "enter") (map (λ w. w.now) rest.now)) }
+    ensures memory { StarvesIf result ⊥ }
 {
-    let [login, secret] = rest else { return None };
-    let login = read_name(login)?;
-    let secret = secret_from_word(secret)?;
-    Some(Act::Enter(login, secret))
+    let [login, secret] = rest else {
+        return Err(Unread::Bad)
+    };
+    let login = read_name(login).ok_or(Unread::Bad)?;
+    let secret = secret_from_word(secret).ok_or(Unread::Bad)?;
+    Ok(Act::Enter(login, secret))
 }
 
+#[inline(never)]
 fn emit_act(alloc: Global, rest: &[&str]) -> Result<Act, Unread>
     ensures { (p : Pid) → Reads result (λ a.
         SpellsAct p a (codes "emit") (map (λ w. w.now) rest.now)) }
@@ -151,6 +164,7 @@ fn emit_act(alloc: Global, rest: &[&str]) -> Result<Act, Unread>
     Ok(Act::Emit(bytes))
 }
 
+#[inline(never)]
 fn open_act(alloc: Global, rest: &[&str]) -> Result<Act, Unread>
     ensures { (p : Pid) → Reads result (λ a.
         SpellsAct p a (codes "open") (map (λ w. w.now) rest.now)) }
@@ -163,6 +177,7 @@ fn open_act(alloc: Global, rest: &[&str]) -> Result<Act, Unread>
     Ok(Act::Mail(Mail::Open(mode, Boxed::new(alloc, given)?)))
 }
 
+#[inline(never)]
 fn tune_act(alloc: Global, rest: &[&str]) -> Result<Act, Unread>
     ensures { (p : Pid) → Reads result (λ a.
         SpellsAct p a (codes "tune") (map (λ w. w.now) rest.now)) }
@@ -175,13 +190,17 @@ fn tune_act(alloc: Global, rest: &[&str]) -> Result<Act, Unread>
     Ok(Act::Mail(Mail::Tune(endpoint, Boxed::new(alloc, given)?)))
 }
 
-fn close_act(rest: &[&str]) -> Option<Act>
-    ensures { (p : Pid) → Finds result (λ a.
+#[inline(never)]
+fn close_act(rest: &[&str]) -> Result<Act, Unread>
+    ensures ok { (p : Pid) → Reads result (λ a.
         SpellsAct p a (codes "close") (map (λ w. w.now) rest.now)) }
+    ensures memory { StarvesIf result ⊥ }
 {
-    let [endpoint] = rest else { return None };
-    let endpoint = read_endpoint(endpoint)?;
-    Some(Act::Mail(Mail::Close(endpoint)))
+    let [endpoint] = rest else {
+        return Err(Unread::Bad)
+    };
+    let endpoint = read_endpoint(endpoint).ok_or(Unread::Bad)?;
+    Ok(Act::Mail(Mail::Close(endpoint)))
 }
 
 // The endpoint from which a message goes, the process that it goes to, and the endpoint of that
@@ -204,6 +223,7 @@ fn ends_from_words(from: &str, receiver: &str, to: &str) -> Option<Ends>
     Some(Ends { from, receiver, to })
 }
 
+#[inline(never)]
 fn send_act(alloc: Global, rest: &[&str]) -> Result<Act, Unread>
     ensures { (p : Pid) → Reads result (λ a.
         SpellsAct p a (codes "send") (map (λ w. w.now) rest.now)) }
@@ -223,39 +243,52 @@ fn send_act(alloc: Global, rest: &[&str]) -> Result<Act, Unread>
     }))
 }
 
-fn take_act(rest: &[&str]) -> Option<Act>
-    ensures { (p : Pid) → Finds result (λ a.
+#[inline(never)]
+fn take_act(rest: &[&str]) -> Result<Act, Unread>
+    ensures ok { (p : Pid) → Reads result (λ a.
         SpellsAct p a (codes "take") (map (λ w. w.now) rest.now)) }
+    ensures memory { StarvesIf result ⊥ }
 {
-    let [] = rest else { return None };
-    Some(Act::Mail(Mail::Take))
+    let [] = rest else { return Err(Unread::Bad) };
+    Ok(Act::Mail(Mail::Take))
+}
+
+#[inline(never)]
+fn order_act(verb: &str, rest: &[&str]) -> Result<Act, Unread>
+    requires { SpellsOrders verb.now (map (λ w. w.now) rest.now) }
+    ensures ok { (p : Pid) → Reads result (λ a.
+        SpellsAct p a verb.now (map (λ w. w.now) rest.now)) }
+    ensures memory { StarvesIf result ⊥ }
+{
+    match order_from_words(verb, rest) {
+        Some(order) => Ok(Act::Order(order)),
+        None => Err(Unread::Bad),
+    }
 }
 
 /// What a verb and the words after the process say that it does. `Bad` where they say nothing that
-/// a process does. Takes memory for a list alone: for its tags, capabilities or bytes, and for the
+/// a process does. Each act is read out of line, so that there is room for one of them alone. Takes memory for a list alone: for its tags, capabilities or bytes, and for the
 /// box that the labels of an endpoint and a message stand in.
+#[inline(always)]
 pub fn act_from_words(alloc: Global, verb: &str, rest: &[&str]) -> Result<Act, Unread>
     ensures ok { (p : Pid) → Reads result (λ a.
         SpellsAct p a verb.now (map (λ w. w.now) rest.now)) }
     ensures memory { StarvesIf result (IsListVerb verb.now) }
 {
     match verb {
-        "ask" => ask_act(rest).ok_or(Unread::Bad),
+        "ask" => ask_act(rest),
         "label" => label_act(alloc, rest),
         "send" => send_act(alloc, rest),
-        "take" => take_act(rest).ok_or(Unread::Bad),
+        "take" => take_act(rest),
         "emit" => emit_act(alloc, rest),
         "spawn" => spawn_act(alloc, rest),
-        "exit" => exit_act(rest).ok_or(Unread::Bad),
-        "drop" => drop_act(rest).ok_or(Unread::Bad),
+        "exit" => exit_act(rest),
+        "drop" => drop_act(rest),
         "open" => open_act(alloc, rest),
         "tune" => tune_act(alloc, rest),
-        "close" => close_act(rest).ok_or(Unread::Bad),
-        "enter" => enter_act(rest).ok_or(Unread::Bad),
-        _ => match order_from_words(verb, rest) {
-            Some(order) => Ok(Act::Order(order)),
-            None => Err(Unread::Bad),
-        },
+        "close" => close_act(rest),
+        "enter" => enter_act(rest),
+        _ => order_act(verb, rest),
     }
 }
 

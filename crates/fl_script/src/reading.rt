@@ -42,17 +42,6 @@ fn is_quiet(bytes: &[u8]) -> bool
     }
 }
 
-// The text of the bytes, where they are one and no more than a line may have.
-fn text_of(bytes: &[u8]) -> Option<&str>
-    ensures { MatchOption result (¬ IsText bytes.now)
-        (λ text. IsText bytes.now × (text.now ≡ bytes.now)) }
-{
-    if bytes.len() > MOST_LINE_BYTES {
-        return None;
-    }
-    str::from_utf8(bytes).ok()
-}
-
 /// What the bytes of a line, which have no line feed, say where these aliases are set.
 ///
 /// `Quiet` comes first, whatever else the bytes are. `Bad` is a line of more than
@@ -70,11 +59,11 @@ pub fn read_line(alloc: Global, aliases: &Aliases, bytes: &[u8]) -> Result<Readi
     if is_quiet(bytes) {
         return Ok(Reading::Quiet);
     }
-    let Some(text) = text_of(bytes) else {
+    if bytes.len() > MOST_LINE_BYTES {
         return Ok(Reading::Bad);
-    };
+    }
     let mut cut = ArrayVec::new();
-    let Some(has_dollar) = cut_line(text, &mut cut) else {
+    let Some(has_dollar) = cut_line(bytes, &mut cut) else {
         return Ok(Reading::Bad);
     };
     let words = cut.as_slice();
