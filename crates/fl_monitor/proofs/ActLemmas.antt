@@ -39,10 +39,8 @@ use Rattle.fl_bench.specs.declared.process.Holding.{Holding}
 use Rattle.fl_bench.specs.declared.process.Holding.TheVariants.{Idle, Ordering}
 use Rattle.fl_bench.specs.declared.process.Process.{Process}
 use Rattle.fl_mailbox.specs.laws.Tables.{put_same}
-use Rattle.fl_monitor.specs.parts.Acts.{Acts, Births, Spawns, born_with, Relabels, Drops, Enters, Mails, answered}
+use Rattle.fl_monitor.specs.parts.Acts.{Acts, Births, Sequel, bearing, Spawns, born_with, Relabels, Drops, Enters, Mails, answered}
 use Rattle.fl_monitor.specs.parts.Checked.{Checked}
-use Rattle.fl_monitor.specs.declared.sequel.Sequel.{Sequel}
-use Rattle.fl_monitor.specs.declared.sequel.Sequel.TheVariants.{Answer, Birth, End}
 use Rattle.fl_monitor.proofs.CheckLemmas.{has_failed, has_passed}
 
 -- ---- questions
@@ -62,11 +60,11 @@ passed_on (Err g) f h = ap Err h.1
 -- ---- births
 
 module _ (E : Caps) (l : Labels) (caps : SetBy cap_cmp) {r : Result (Unit {0}) Refusal} (checked : Checked (grant_check E caps) r) where
-  pub spawns_not : (f : Refusal) → r ≡ Err f → (q : Result Sequel Refusal) → IsErr q × IsErrAnd q (λ g. g ≡ f) → Spawns E l caps q
-  spawns_not f e q s = subst (Spawns E l caps) (sym (passed_on q f s)) (Spawns.failed (has_failed checked f e))
+  pub spawns_not : (f : Refusal) → r ≡ Err f → (q : Result (Result Process AllocError) Refusal) → IsErr q × IsErrAnd q (λ g. g ≡ f) → Spawns E l caps (bearing q)
+  spawns_not f e q s = subst (λ q. Spawns E l caps (bearing q)) (sym (passed_on q f s)) (Spawns.failed (has_failed checked f e))
 
-  pub spawns_one : (u : Unit {0}) → r ≡ Ok u → (child : Result Process AllocError) → IfOk child (λ p. p ≡ born_with l caps) → Spawns E l caps (Ok (Birth child))
-  spawns_one u e (Ok p) is = subst (λ p. Spawns E l caps (Ok (Birth (Ok p)))) (sym is) (Spawns.passed (has_passed checked u e))
+  pub spawns_one : (u : Unit {0}) → r ≡ Ok u → (child : Result Process AllocError) → IfOk child (λ p. p ≡ born_with l caps) → Spawns E l caps (Ok (Sequel.birth child))
+  spawns_one u e (Ok p) is = subst (λ p. Spawns E l caps (Ok (Sequel.birth (Ok p)))) (sym is) (Spawns.passed (has_passed checked u e))
   spawns_one u e (Err none) is = Spawns.no_room (has_passed checked u e)
 
 -- ---- acts
@@ -94,7 +92,7 @@ module _ (V : Registry) (pid : Pid) (p : Process) (act : Act) where
 
   -- nothing follows but the answer
   is_answered : (o : Outcome) (p' : Process) → act_checks V p act None → ((b : BenchState) → bench_checks b act None)
-      → ((b : BenchState) → map.get b.processes pid ≡ Some p → Performs V b pid p act o (has_at b pid p')) → Acts V pid p act (Ok (Answer o)) p'
+      → ((b : BenchState) → map.get b.processes pid ≡ Some p → Performs V b pid p act o (has_at b pid p')) → Acts V pid p act (Ok (Sequel.answer o)) p'
   is_answered o p' passes none does = Acts.passed (λ b e r b' s.
       subst (λ r. Does V b (By pid act) r b') (sym s.0)
       (subst (λ x. Does V b (By pid act) (Ok o) x) (sym s.1) (Does.passed (asks b e None (passes, none b)) (p, e, does b e))))
@@ -117,20 +115,20 @@ module _ (V : Registry) (pid : Pid) (l : Labels) (owned : SetBy cap_cmp) (ch : M
   unmet : (act : Act) (f : Refusal) → checks_of V idle act (Some f) → Acts V pid idle act (Err f) idle
   unmet act f h = is_refused V pid idle act (inr (refl, h))
 
-  order_done : (order : orders.Order) (u : Unit {0}) {r : Result (Unit {0}) Refusal} → r ≡ Ok u → Checked (order_checks (InEffect V (In owned)) order) r → Acts V pid idle (Order order) (Ok (Answer (Outcome.Order (body_of order) pid))) (ordering idle)
+  order_done : (order : orders.Order) (u : Unit {0}) {r : Result (Unit {0}) Refusal} → r ≡ Ok u → Checked (order_checks (InEffect V (In owned)) order) r → Acts V pid idle (Order order) (Ok (Sequel.answer (Outcome.Order (body_of order) pid))) (ordering idle)
   order_done order u e h = is_answered V pid idle (Order order) (Outcome.Order (body_of order) pid) (ordering idle) (refl, has_passed h u e) (λ b. refl) (λ b there. (refl, refl))
 
-  emitted : (bytes : List ℕ) (u : Unit {0}) {r : Result (Unit {0}) Refusal} → r ≡ Ok u → Checked (emission_check (InEffect V (In owned)) l.secrecy) r → Acts V pid idle (Emit bytes) (Ok (Answer (Outcome.Reply (Emitted bytes)))) idle
+  emitted : (bytes : List ℕ) (u : Unit {0}) {r : Result (Unit {0}) Refusal} → r ≡ Ok u → Checked (emission_check (InEffect V (In owned)) l.secrecy) r → Acts V pid idle (Emit bytes) (Ok (Sequel.answer (Outcome.Reply (Emitted bytes)))) idle
   emitted bytes u e h = is_answered V pid idle (Emit bytes) (Outcome.Reply (Emitted bytes)) idle (refl, has_passed h u e) (λ b. refl) (λ b there. (refl, stays b pid idle there))
 
   relabelled : (side : Side) (given : Result (SetBy name_cmp) TooLong) {r : Result Outcome Refusal} {l' : Labels} → Relabels V owned ch.endpoints l side given r l' → Acts V pid idle (Relabel side given) (answered r) (record idle { labels = l' })
   relabelled side given (Relabels.safe {label} e h) =
-      subst (λ g. Acts V pid idle (Relabel side g) (Ok (Answer (Outcome.Reply Done))) (record idle { labels = with_side side label l })) (sym e)
+      subst (λ g. Acts V pid idle (Relabel side g) (Ok (Sequel.answer (Outcome.Reply Done))) (record idle { labels = with_side side label l })) (sym e)
       (is_answered V pid idle (Relabel side (Ok label)) (Outcome.Reply Done) (record idle { labels = with_side side label l }) (refl, h) (λ b. refl) (λ b there. (refl, refl)))
   relabelled side given (Relabels.unsafe {label} {f} e h) = subst (λ g. Acts V pid idle (Relabel side g) (Err f) idle) (sym e) (is_refused V pid idle (Relabel side (Ok label)) (inr (refl, h)))
   relabelled side given (Relabels.too_long {e = long} e) = subst (λ g. Acts V pid idle (Relabel side g) (Err LabelTooLong) idle) (sym e) (is_refused V pid idle (Relabel side (Err long)) (inr (refl, refl)))
 
-  asked : (c : Cap) (outcome : Outcome) → Answers outcome (InEffect V (In owned) c) → Acts V pid idle (Ask c) (Ok (Answer outcome)) idle
+  asked : (c : Cap) (outcome : Outcome) → Answers outcome (InEffect V (In owned) c) → Acts V pid idle (Ask c) (Ok (Sequel.answer outcome)) idle
   asked c outcome h = is_answered V pid idle (Ask c) outcome idle (refl, refl) (λ b. refl) (λ b there. (h, stays b pid idle there))
 
   -- a child is born, or may not be
@@ -155,7 +153,7 @@ module _ (V : Registry) (pid : Pid) (l : Labels) (owned : SetBy cap_cmp) (ch : M
   spawned caps (Spawns.failed h) = unmet (Spawn caps) _ h
   spawned caps (Spawns.no_room {e} h) = Acts.passed (λ b there r b' births. bears_none caps h b there (subst (λ x. Births x (Err e) r b') (stays b pid idle there) births))
 
-  leaves : Acts V pid idle Exit (Ok End) idle
+  leaves : Acts V pid idle Exit (Ok Sequel.ending) idle
   leaves = Acts.passed (λ b there r b' s.
       subst (λ r. Does V b (By pid Exit) r b') (sym s.0)
       (Does.passed (asks V pid idle Exit b there None ((refl, refl), refl)) (idle, there, (refl, s.1 ∙ ap (λ (x : BenchState). gone x pid) (stays b pid idle there)))))
@@ -188,22 +186,18 @@ module _ (V : Registry) (pid : Pid) (p : Process) (act : Act) (owned : SetBy cap
   act_is : (a : Act) → act ≡ a → {q : Result Sequel Refusal} {p' : Process} → Acts V pid as_idle a q p' → Acts V pid p act q p'
   act_is a e {q} {p'} h = of_idle (subst (λ a. Acts V pid as_idle a q p') (sym e) h)
 
-  -- and is answered alone
-  act_answers : (a : Act) → act ≡ a → (r : Result Outcome Refusal) {p' : Process} → Acts V pid as_idle a (answered r) p' → (q : Result Sequel Refusal) → q ≡ answered r → Acts V pid p act q p'
-  act_answers a e r {p'} h q is = subst (λ q. Acts V pid p act q p') (sym is) (act_is a e h)
-
   -- a check of the act itself is not met
-  act_unmet : (a : Act) → act ≡ a → (f : Refusal) → checks_of V as_idle a (Some f) → {q : Result Sequel Refusal} → IsErr q × IsErrAnd q (λ g. g ≡ f) → Acts V pid p act q as_idle
-  act_unmet a is_act f h {q} s = subst (λ q. Acts V pid p act q as_idle) (sym (passed_on q f s)) (act_is a is_act (unmet V pid p.labels owned p.mailbox a f h))
+  act_unmet : (a : Act) → act ≡ a → (f : Refusal) → checks_of V as_idle a (Some f) → (q : Result Outcome Refusal) → IsErr q × IsErrAnd q (λ g. g ≡ f) → Acts V pid p act (answered q) as_idle
+  act_unmet a is_act f h q s = subst (λ q. Acts V pid p act (answered q) as_idle) (sym (passed_on q f s)) (act_is a is_act (unmet V pid p.labels owned p.mailbox a f h))
 
   module _ (order : orders.Order) (ordered : act ≡ Order order) {r : Result (Unit {0}) Refusal} (checked : Checked (order_checks (InEffect V (In owned)) order) r) where
-    pub act_unchecked : (f : Refusal) → r ≡ Err f → {q : Result Sequel Refusal} → IsErr q × IsErrAnd q (λ g. g ≡ f) → Acts V pid p act q as_idle
+    pub act_unchecked : (f : Refusal) → r ≡ Err f → (q : Result Outcome Refusal) → IsErr q × IsErrAnd q (λ g. g ≡ f) → Acts V pid p act (answered q) as_idle
     act_unchecked f e = act_unmet (Order order) ordered f (has_failed checked f e)
 
-    pub act_order : (u : Unit {0}) → r ≡ Ok u → (body : Body) → body ≡ body_of order → (h : Holding) → h ≡ Ordering owned → Acts V pid p act (Ok (Answer (Outcome.Order body pid))) (record p { owned = h })
+    pub act_order : (u : Unit {0}) → r ≡ Ok u → (body : Body) → body ≡ body_of order → (h : Holding) → h ≡ Ordering owned → Acts V pid p act (Ok (Sequel.answer (Outcome.Order body pid))) (record p { owned = h })
     act_order u e body is_body h is_h =
-        subst (λ b. Acts V pid p act (Ok (Answer (Outcome.Order b pid))) (record p { owned = h })) (sym is_body)
-        (subst (λ o. Acts V pid p act (Ok (Answer (Outcome.Order (body_of order) pid))) (record p { owned = o })) (sym is_h)
+        subst (λ b. Acts V pid p act (Ok (Sequel.answer (Outcome.Order b pid))) (record p { owned = h })) (sym is_body)
+        (subst (λ o. Acts V pid p act (Ok (Sequel.answer (Outcome.Order (body_of order) pid))) (record p { owned = o })) (sym is_h)
         (act_is (Order order) ordered (order_done V pid p.labels owned p.mailbox order u e checked)))
 
     pub act_full : (u : Unit {0}) → r ≡ Ok u → (h : Holding) → h ≡ Idle owned → Acts V pid p act (Err Memory) (record p { owned = h })
@@ -212,29 +206,29 @@ module _ (V : Registry) (pid : Pid) (p : Process) (act : Act) (owned : SetBy cap
         (act_is (Order order) ordered (starves V pid as_idle (Order order) (refl, has_passed checked u e) (λ b. refl) tt))
 
   module _ (bytes : List ℕ) (emits : act ≡ Emit bytes) {r : Result (Unit {0}) Refusal} (checked : Checked (emission_check (InEffect V (In owned)) p.labels.secrecy) r) where
-    pub act_kept_in : (f : Refusal) → r ≡ Err f → {q : Result Sequel Refusal} → IsErr q × IsErrAnd q (λ g. g ≡ f) → Acts V pid p act q as_idle
+    pub act_kept_in : (f : Refusal) → r ≡ Err f → (q : Result Outcome Refusal) → IsErr q × IsErrAnd q (λ g. g ≡ f) → Acts V pid p act (answered q) as_idle
     act_kept_in f e = act_unmet (Emit bytes) emits f (has_failed checked f e)
 
-    pub act_emit : (u : Unit {0}) → r ≡ Ok u → Acts V pid p act (Ok (Answer (Outcome.Reply (Emitted bytes)))) as_idle
+    pub act_emit : (u : Unit {0}) → r ≡ Ok u → Acts V pid p act (Ok (Sequel.answer (Outcome.Reply (Emitted bytes)))) as_idle
     act_emit u e = act_is (Emit bytes) emits (emitted V pid p.labels owned p.mailbox bytes u e checked)
 
-  pub act_relabel : (side : Side) (given : Result (SetBy name_cmp) TooLong) → act ≡ Relabel side given → {r : Result Outcome Refusal} {l' : Labels} → Relabels V owned p.mailbox.endpoints p.labels side given r l' → (q : Result Sequel Refusal) → q ≡ answered r → Acts V pid p act q (record as_idle { labels = l' })
-  act_relabel side given e {r} h q is = act_answers (Relabel side given) e r (relabelled V pid p.labels owned p.mailbox side given h) q is
+  pub act_relabel : (side : Side) (given : Result (SetBy name_cmp) TooLong) → act ≡ Relabel side given → {r : Result Outcome Refusal} {l' : Labels} → Relabels V owned p.mailbox.endpoints p.labels side given r l' → Acts V pid p act (answered r) (record as_idle { labels = l' })
+  act_relabel side given e h = act_is (Relabel side given) e (relabelled V pid p.labels owned p.mailbox side given h)
 
-  pub act_ask : (c : Cap) → act ≡ Ask c → (outcome : Outcome) → Answers outcome (InEffect V (In owned) c) → Acts V pid p act (Ok (Answer outcome)) as_idle
+  pub act_ask : (c : Cap) → act ≡ Ask c → (outcome : Outcome) → Answers outcome (InEffect V (In owned) c) → Acts V pid p act (Ok (Sequel.answer outcome)) as_idle
   act_ask c e outcome h = act_is (Ask c) e (asked V pid p.labels owned p.mailbox c outcome h)
 
   pub act_spawn : (caps : SetBy cap_cmp) → act ≡ Spawn caps → {q : Result Sequel Refusal} → Spawns (InEffect V (In owned)) p.labels caps q → Acts V pid p act q as_idle
   act_spawn caps e h = act_is (Spawn caps) e (spawned V pid p.labels owned p.mailbox caps h)
 
-  pub act_exit : act ≡ Exit → Acts V pid p act (Ok End) as_idle
+  pub act_exit : act ≡ Exit → Acts V pid p act (Ok Sequel.ending) as_idle
   act_exit e = act_is Exit e (leaves V pid p.labels owned p.mailbox)
 
-  pub act_drop : (c : Cap) → act ≡ Drop c → {r : Result Outcome Refusal} {s : SetBy cap_cmp} (l : Labels) → l ≡ p.labels → Drops V l p.mailbox.endpoints owned c r s → (q : Result Sequel Refusal) → q ≡ answered r → Acts V pid p act q (record p { owned = Idle s })
-  act_drop c e {r} {s} l same h q is = act_answers (Drop c) e r (dropped V pid p.labels owned p.mailbox c (subst (λ l. Drops V l p.mailbox.endpoints owned c r s) same h)) q is
+  pub act_drop : (c : Cap) → act ≡ Drop c → {r : Result Outcome Refusal} {s : SetBy cap_cmp} (l : Labels) → l ≡ p.labels → Drops V l p.mailbox.endpoints owned c r s → Acts V pid p act (answered r) (record p { owned = Idle s })
+  act_drop c e {r} {s} l same h = act_is (Drop c) e (dropped V pid p.labels owned p.mailbox c (subst (λ l. Drops V l p.mailbox.endpoints owned c r s) same h))
 
-  pub act_enter : (login : Name) (secret : Secret) → act ≡ Enter login secret → {r : Result Outcome Refusal} {s : SetBy cap_cmp} → Enters V owned login secret r s → (q : Result Sequel Refusal) → q ≡ answered r → Acts V pid p act q (record p { owned = Idle s })
-  act_enter login secret e {r} h q is = act_answers (Enter login secret) e r (entered V pid p.labels owned p.mailbox login secret h) q is
+  pub act_enter : (login : Name) (secret : Secret) → act ≡ Enter login secret → {r : Result Outcome Refusal} {s : SetBy cap_cmp} → Enters V owned login secret r s → Acts V pid p act (answered r) (record p { owned = Idle s })
+  act_enter login secret e h = act_is (Enter login secret) e (entered V pid p.labels owned p.mailbox login secret h)
 
-  pub act_mail : (mail : mailbox.Mail) → act ≡ Mail mail → {r : Result Outcome Refusal} {ch' : Mailbox} (l : Labels) → l ≡ p.labels → Mails V owned pid l p.mailbox mail r ch' → (q : Result Sequel Refusal) → q ≡ answered r → Acts V pid p act q (record as_idle { mailbox = ch' })
-  act_mail mail e {r} {ch'} l same h q is = act_answers (Mail mail) e r (mailed V pid p.labels owned p.mailbox mail (subst (λ l. Mails V owned pid l p.mailbox mail r ch') same h)) q is
+  pub act_mail : (mail : mailbox.Mail) → act ≡ Mail mail → {r : Result Outcome Refusal} {ch' : Mailbox} (l : Labels) → l ≡ p.labels → Mails V owned pid l p.mailbox mail r ch' → Acts V pid p act (answered r) (record as_idle { mailbox = ch' })
+  act_mail mail e {r} {ch'} l same h = act_is (Mail mail) e (mailed V pid p.labels owned p.mailbox mail (subst (λ l. Mails V owned pid l p.mailbox mail r ch') same h))

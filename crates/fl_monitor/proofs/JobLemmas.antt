@@ -1,5 +1,5 @@
 -- What the jobs of a bench owe.
-use Rattle.std.proofs.Common.{arith, ℕ, ◌+◌, ◌<◌, ◌≤◌, ◌≡◌, true, false, refl, sym, ap, subst, Option, Some, None, Result, Ok, Err, IfOk}
+use Rattle.std.proofs.Common.{arith, ℕ, ◌+◌, ◌<◌, ◌≤◌, ◌≡◌, true, false, refl, sym, ap, subst, ◌∙◌, Option, Some, None, Result, Ok, Err, IfOk}
 use Rattle.std.specs.Result.{IsErr, IsErrAnd}
 use Rattle.std.specs.declared.alloc.AllocError.{AllocError}
 use Rattle.std.specs.FinMap as map
@@ -9,6 +9,7 @@ use Rattle.fl_labels.specs.declared.cap.Cap.{Cap}
 use Rattle.fl_labels.specs.declared.pid.Pid.{Pid}
 use Rattle.fl_ops.specs.Registry.{Registry, Reach, From}
 use Rattle.fl_jobs.specs.declared.job.Act.{Act}
+use Rattle.fl_jobs.specs.declared.job.Act.TheVariants.{Exit}
 use Rattle.fl_jobs.specs.declared.job.Job.TheVariants.{Proc, By, Member, Arrive}
 use Rattle.fl_jobs.specs.declared.answer.Refusal.{Refusal}
 use Rattle.fl_jobs.specs.declared.answer.Refusal.TheVariants.{NoProcess, Busy, NamesSpent, Memory}
@@ -18,16 +19,15 @@ use Rattle.fl_message.specs.declared.message.Data.{Data}
 use Rattle.fl_bench.specs.Mailbox.{arrival_checks}
 use Rattle.fl_bench.specs.Checks.{with, refuse_if, ◌then◌}
 use Rattle.fl_bench.specs.Process.{newborn, is_busy}
-use Rattle.fl_bench.specs.Bench.{BenchState, IsNext, has_at}
+use Rattle.fl_bench.specs.Bench.{BenchState, IsNext, gone, has_at}
 use Rattle.fl_bench.specs.Jobs.{act_checks, bench_checks, checks, Answers, Does, serials_left}
+use Rattle.fl_bench.specs.declared.process.Holding.TheVariants.{Idle}
 use Rattle.fl_bench.specs.declared.process.Process.{Process}
-use Rattle.fl_monitor.specs.parts.Acts.{Acts, ActsAt, Births, Settles, Arrives, ArrivesAt}
-use Rattle.fl_monitor.specs.declared.sequel.Sequel.{Sequel}
-use Rattle.fl_monitor.specs.declared.sequel.Sequel.TheVariants.{End}
-use Rattle.fl_monitor.proofs.ActLemmas.{passed_on, stays}
+use Rattle.fl_monitor.specs.parts.Acts.{Acts, ActsAt, Births, Ends, Sequel, answered, bearing, Settles, Arrives, ArrivesAt}
+use Rattle.fl_monitor.proofs.ActLemmas.{act_busy, act_exit, passed_on, stays}
 
-same_refusal : {f g : Refusal} → ◌≡◌ {A = Result Sequel Refusal} (Err f) (Err g) → f ≡ g
-same_refusal e = ap (λ (r : Result Sequel Refusal). elim r [ Ok s ↦ Memory | Err f ↦ f ]) e
+same_refusal : {T : Type 0} {f g : Refusal} → ◌≡◌ {A = Result T Refusal} (Err f) (Err g) → f ≡ g
+same_refusal {T} e = ap (λ (r : Result T Refusal). elim r [ Ok s ↦ Memory | Err f ↦ f ]) e
 
 same_sequel : {s t : Sequel} → ◌≡◌ {A = Result Sequel Refusal} (Ok s) (Ok t) → s ≡ t
 same_sequel {s} e = ap (λ (r : Result Sequel Refusal). elim r [ Ok t ↦ t | Err f ↦ s ]) e
@@ -61,8 +61,32 @@ module _ (V : Registry) (a b : BenchState) (is : a ≡ b) (pid : Pid) (act : Act
   pub settled_does : (s : Sequel) → r ≡ Ok s → (q : Result Outcome Refusal) (after : BenchState) → Settles (record a { processes = m }) pid s q after → Does V b (By pid act) q after
   settled_does s e q after t = subst (λ x. Does V x (By pid act) q after) is (settled V a pid act acts s e q after t)
 
-  pub end_does : r ≡ Ok End → (n : map.FinMap pid_cmp Process) → n ≡ map.remove m pid → Does V b (By pid act) (Ok (Outcome.Reply Done)) (record a { processes = n })
-  end_does e n removed = settled_does End e (Ok (Outcome.Reply Done)) (record a { processes = n }) (refl, ap (λ m. record a { processes = m }) removed)
+-- an act that is answered alone
+pub answered_does : (V : Registry) (a b : BenchState) → a ≡ b → (pid : Pid) (act : Act) (r : Result Outcome Refusal) (m : map.FinMap pid_cmp Process)
+    → ActsAt V a.processes pid act (answered r) m → Does V b (By pid act) r (record a { processes = m })
+answered_does V a b is pid act (Ok outcome) m acts =
+    settled_does V a b is pid act acts (Sequel.answer outcome) refl (Ok outcome) (record a { processes = m }) (refl, refl)
+answered_does V a b is pid act (Err f) m acts =
+    subst (λ x. Does V x (By pid act) (Err f) (record a { processes = m })) is (refused V a pid act acts f refl)
+
+-- a process that does not end, and one that does
+module _ (V : Registry) (a b : BenchState) (is : a ≡ b) (pid : Pid) where
+  pub end_refused : {r : Result (Unit {0}) Refusal} {m : map.FinMap pid_cmp Process} → Ends a.processes pid r m → (f : Refusal) → r ≡ Err f
+      → (q : Result Outcome Refusal) → IsErr q × IsErrAnd q (λ g. g ≡ f) → Does V b (By pid Exit) q (record a { processes = m })
+  end_refused (Ends.nobody e) f same q s = refused_does V a b is pid Exit (ActsAt.nobody e) f (ap Err (same_refusal same)) q s
+  end_refused (Ends.busy {p} e n) f same q s =
+      subst (Does V b (By pid Exit) q) (stays a pid p e)
+      (refused_does V a b is pid Exit (ActsAt.did e (act_busy V pid p Exit n)) f (ap Err (same_refusal same)) q s)
+  end_refused (Ends.ended e idle) f same q s = absurd (cc)
+
+  pub end_done : {r : Result (Unit {0}) Refusal} {m : map.FinMap pid_cmp Process} → Ends a.processes pid r m → (u : Unit {0}) → r ≡ Ok u
+      → Does V b (By pid Exit) (Ok (Outcome.Reply Done)) (record a { processes = m })
+  end_done (Ends.nobody e) u same = absurd (cc)
+  end_done (Ends.busy e n) u same = absurd (cc)
+  end_done (Ends.ended {p} {owned} e idle) u same =
+      let there : map.get a.processes pid ≡ Some (record p { owned = Idle owned }) = e ∙ (λ i. Some (record p { owned = idle i })) in
+      settled_does V a b is pid Exit (ActsAt.did e (act_exit V pid p Exit owned idle refl)) Sequel.ending refl _ _
+      (refl, ap (λ (x : BenchState). gone x pid) (sym (stays a pid (record p { owned = Idle owned }) there)))
 
 -- with no memory for it, a new process is refused as where there is no room for it
 pub newborn_births : (b : BenchState) (child : Result Process AllocError) → IfOk child (λ p. p ≡ newborn) → {r : Result Outcome Refusal} {b' : BenchState} → Births b child r b' → Births b (Ok newborn) r b'

@@ -14,8 +14,7 @@ use Rattle.fl_bench.specs.Gifts.{receives}
 use Rattle.fl_bench.specs.Orderly.{IsOrderly}
 use Rattle.fl_bench.specs.declared.process.Process.{Process}
 use Rattle.fl_bench.specs.laws.Orderly.{opened_orderly, put_orderly, gone_orderly, born_orderly, settles_orderly}
-use Rattle.fl_monitor.specs.parts.Acts.{ActsAt, ArrivesAt}
-use Rattle.fl_monitor.specs.declared.sequel.Sequel.{Sequel}
+use Rattle.fl_monitor.specs.parts.Acts.{ActsAt, ArrivesAt, Ends, Sequel}
 
 -- a bench that opens
 pub opened_kept : (node boot index stride next : ℕ) (m : map.FinMap pid_cmp Process) → next ≡ index → m ≡ map.empty
@@ -30,6 +29,12 @@ module _ {b : BenchState} (h : IsOrderly b) where
       → ActsAt V b.processes pid act r m → IsOrderly (record b { processes = m })
   acts_kept (ActsAt.nobody e) = h
   acts_kept {pid} (ActsAt.did {p} {p'} e k) = put_orderly h pid p p' e
+
+  pub ends_kept : {pid : Pid} {r : Result (Unit {0}) Refusal} {m : map.FinMap pid_cmp Process}
+      → Ends b.processes pid r m → IsOrderly (record b { processes = m })
+  ends_kept (Ends.nobody e) = h
+  ends_kept (Ends.busy e n) = h
+  ends_kept {pid} (Ends.ended e idle) = gone_orderly h pid
 
   pub arrives_kept : {d : Data} {r : Result Outcome Refusal} {m : map.FinMap pid_cmp Process}
       → ArrivesAt b.processes d r m → IsOrderly (record b { processes = m })

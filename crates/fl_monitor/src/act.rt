@@ -2,15 +2,13 @@
 ghost use Rattle.std.specs.Prelude.{◌≡◌, cond};
 ghost use Rattle.fl_ops.specs.Registry.{Listed};
 ghost use Rattle.fl_jobs.specs.declared.answer.Reply.TheVariants.{Yes, NotYet};
-ghost use Rattle.fl_monitor.specs.parts.Acts.{Acts};
+ghost use Rattle.fl_monitor.specs.parts.Acts.{Acts, IsAnswered, answered};
 
 use crate::demand::{Demand, check};
 use crate::drop::drop_cap;
 use crate::enter::enter;
 use crate::mail::do_mail;
 use crate::relabel::relabel;
-use crate::sequel::{Sequel, answer_alone};
-use crate::spawn::spawn;
 use fl_bench::orders::body_of_order;
 use fl_bench::process::{Holding, Process};
 use fl_jobs::answer::{Outcome, Refusal, Reply};
@@ -26,16 +24,18 @@ pub(crate) fn reply_of(yes: bool) -> Reply
     if yes { Reply::Yes } else { Reply::NotYet }
 }
 
-/// Does what the process asks for by itself, unless an operation of it is under way, and answers
-/// what follows.
+/// Does what the process asks for by itself, unless an operation of it is under way. A birth and an
+/// end change the bench, and are done there.
 pub(crate) fn act_alone<V: View>(
     process: &mut Process,
     alloc: Global,
     view: &mut V,
     pid: Pid,
     act: Act,
-) -> Result<Sequel, Refusal>
-    ensures acts { Acts (Listed (V.list view.old)) pid process.old act result process.new }
+) -> Result<Outcome, Refusal>
+    requires { IsAnswered act }
+    ensures acts { let registry = Listed (V.list view.old) in
+        Acts registry pid process.old act (answered result) process.new }
     ensures same { view.new ≡ view.old }
 {
     let Holding::Idle(owned) = &mut process.owned else {
@@ -47,37 +47,36 @@ pub(crate) fn act_alone<V: View>(
             let Ok(()) = process.owned.begin(alloc) else {
                 return Err(Refusal::Memory);
             };
-            Ok(Sequel::Answer(Outcome::Order(body_of_order(order), pid)))
+            Ok(Outcome::Order(body_of_order(order), pid))
         }
         Act::Relabel(side, label) => {
             let endpoints = &process.mailbox.endpoints;
             let labels = &mut process.labels;
-            answer_alone(relabel(view, owned.caps(), endpoints, labels, side, label))
+            relabel(view, owned.caps(), endpoints, labels, side, label)
         }
         Act::Ask(cap) => {
             let reply = reply_of(view.effective(owned.caps(), cap));
-            Ok(Sequel::Answer(Outcome::Reply(reply)))
+            Ok(Outcome::Reply(reply))
         }
-        Act::Spawn(caps) => spawn(alloc, view, owned.caps(), &process.labels, caps),
-        Act::Exit => Ok(Sequel::End),
+        Act::Spawn(_) | Act::Exit => unreachable!("the bench does it"),
         Act::Drop(cap) => {
             let endpoints = &process.mailbox.endpoints;
             let labels = process.labels.lend();
-            answer_alone(drop_cap(view, labels, endpoints, owned, cap))
+            drop_cap(view, labels, endpoints, owned, cap)
         }
-        Act::Enter(login, secret) => answer_alone(enter(view, owned, login, secret)),
+        Act::Enter(login, secret) => enter(view, owned, login, secret),
         Act::Emit(bytes) => {
             check(
                 view,
                 owned.caps(),
                 Demand::Emission(&process.labels.secrecy),
             )?;
-            Ok(Sequel::Answer(Outcome::Reply(Reply::Emitted(bytes))))
+            Ok(Outcome::Reply(Reply::Emitted(bytes)))
         }
         Act::Mail(mail) => {
             let mailbox = &mut process.mailbox;
             let labels = process.labels.lend();
-            answer_alone(do_mail(alloc, view, pid, owned.caps(), labels, mailbox, mail))
+            do_mail(alloc, view, pid, owned.caps(), labels, mailbox, mail)
         }
     }
 }

@@ -13,7 +13,6 @@ ghost use Rattle.fl_bench.specs.Gifts.{finished, cancelled};
 
 use crate::act::reply_of;
 use crate::processes::Processes;
-use crate::sequel::Sequel;
 use fl_bench::process::Process;
 use fl_bench::shared::Shared;
 use fl_bench::standing::Standing;
@@ -147,13 +146,16 @@ impl Bench {
         ensures does { Does (Listed (V.list view.old)) self.old (By pid act) result self.new }
         ensures same { view.new ≡ view.old }
     {
-        match self.processes.act(alloc, view, pid, act)? {
-            Sequel::Answer(outcome) => Ok(outcome),
-            Sequel::Birth(child) => self.bear(child),
-            Sequel::End => {
-                self.processes.remove(pid);
+        match act {
+            Act::Spawn(caps) => {
+                let child = self.processes.spawn(alloc, view, pid, caps)?;
+                self.bear(child)
+            }
+            Act::Exit => {
+                self.processes.end(pid)?;
                 Ok(Outcome::Reply(Reply::Done))
             }
+            alone => self.processes.act(alloc, view, pid, alone),
         }
     }
 

@@ -13,5 +13,4 @@ mod mail;
 mod pid_map;
 mod processes;
 mod relabel;
-mod sequel;
 mod spawn;

@@ -3,19 +3,21 @@ ghost use Rattle.std.specs.Option.{option_copied};
 ghost use Rattle.std.specs.Prelude.{◌≡◌, [], IfOk, OnOk, OnErr, IsSome};
 ghost use Rattle.std.specs.FinMap as map;
 ghost use Rattle.fl_ops.specs.Registry.{Listed};
-ghost use Rattle.fl_monitor.specs.parts.Acts.{ActsAt, ArrivesAt};
+ghost use Rattle.fl_jobs.specs.declared.job.Act.TheVariants.{Spawn};
+ghost use Rattle.fl_monitor.specs.parts.Acts.{ActsAt, ArrivesAt, Ends, IsAnswered, answered, bearing};
 ghost use Rattle.fl_bench.specs.Gifts.{given, receives};
 ghost use Rattle.fl_bench.specs.Process.{standing_at};
 
 use crate::act::act_alone;
 use crate::arrive::arrive;
 use crate::pid_map::PidMap;
-use crate::sequel::Sequel;
-use fl_bench::process::Process;
+use crate::spawn::spawn;
+use fl_bench::process::{Holding, Process};
 use fl_bench::shared::Shared;
 use fl_bench::standing::Standing;
 use fl_jobs::answer::{Outcome, Refusal};
 use fl_jobs::job::Act;
+use fl_labels::cap_set::CapSet;
 use fl_labels::pid::Pid;
 use fl_message::boxed::Boxed;
 use fl_message::message::Data;
@@ -71,22 +73,52 @@ impl Processes {
         self.all.insert(pid, process)
     }
 
-    /// Removes a process, if there is that process. Takes no memory.
-    pub fn remove(&mut self, pid: Pid)
-        ensures { self.new ≡ map.remove self.old pid }
+    /// Removes a process, unless an operation of it is under way. Takes no memory.
+    pub fn end(&mut self, pid: Pid) -> Result<(), Refusal>
+        ensures { Ends self.old pid result self.new }
     {
+        let Some(process) = self.all.get(pid) else {
+            return Err(Refusal::NoProcess(pid));
+        };
+        let Holding::Idle(_) = process.owned else {
+            return Err(Refusal::Busy);
+        };
         self.all.remove(pid);
+        Ok(())
     }
 
-    /// Does what one process asks for by itself, and answers what follows.
+    /// A child of the process that is to own these, or why there is none.
+    pub fn spawn<V: View>(
+        &self,
+        alloc: Global,
+        view: &mut V,
+        pid: Pid,
+        caps: CapSet,
+    ) -> Result<Result<Boxed<Process>, AllocError>, Refusal>
+        ensures acts { let registry = Listed (V.list view.old) in
+            ActsAt registry self.now pid (Spawn caps) (bearing result) self.now }
+        ensures same { view.new ≡ view.old }
+    {
+        let Some(process) = self.all.get(pid) else {
+            return Err(Refusal::NoProcess(pid));
+        };
+        let Holding::Idle(owned) = &process.owned else {
+            return Err(Refusal::Busy);
+        };
+        spawn(alloc, view, owned.caps(), &process.labels, caps)
+    }
+
+    /// Does what one process asks for by itself.
     pub fn act<V: View>(
         &mut self,
         alloc: Global,
         view: &mut V,
         pid: Pid,
         act: Act,
-    ) -> Result<Sequel, Refusal>
-        ensures acts { ActsAt (Listed (V.list view.old)) self.old pid act result self.new }
+    ) -> Result<Outcome, Refusal>
+        requires { IsAnswered act }
+        ensures acts { let registry = Listed (V.list view.old) in
+            ActsAt registry self.old pid act (answered result) self.new }
         ensures same { view.new ≡ view.old }
     {
         let Some(process) = self.all.get_mut(pid) else {

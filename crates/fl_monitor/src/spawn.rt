@@ -2,10 +2,9 @@
 ghost use Rattle.std.specs.Prelude.{◌≡◌, IfOk};
 ghost use Rattle.fl_labels.specs.SetBy.{In};
 ghost use Rattle.fl_ops.specs.Registry.{InEffect, Listed};
-ghost use Rattle.fl_monitor.specs.parts.Acts.{born_with, Spawns};
+ghost use Rattle.fl_monitor.specs.parts.Acts.{bearing, born_with, Spawns};
 
 use crate::demand::{Demand, check};
-use crate::sequel::Sequel;
 use fl_bench::owned::Owned;
 use fl_bench::process::{Holding, Process};
 use fl_jobs::answer::Refusal;
@@ -37,10 +36,10 @@ pub(crate) fn spawn<V: View>(
     owned: &CapSet,
     labels: &Labels,
     caps: CapSet,
-) -> Result<Sequel, Refusal>
-    ensures spawns { Spawns (InEffect (Listed (V.list view.old)) (In owned.now)) labels.now caps result }
+) -> Result<Result<Boxed<Process>, AllocError>, Refusal>
+    ensures spawns { Spawns (InEffect (Listed (V.list view.old)) (In owned.now)) labels.now caps (bearing result) }
     ensures same { view.new ≡ view.old }
 {
     check(view, owned, Demand::Grant(&caps))?;
-    Ok(Sequel::Birth(child_with(alloc, labels, caps)))
+    Ok(child_with(alloc, labels, caps))
 }

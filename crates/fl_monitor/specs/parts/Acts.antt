@@ -19,6 +19,7 @@ use Rattle.fl_ops.specs.declared.digest.Digest.{Digest}
 use Rattle.fl_ops.specs.Registry.{Registry, InEffect}
 use Rattle.fl_ops.specs.Logins.{IsFirstLogin, HasNoLogin}
 use Rattle.fl_jobs.specs.declared.job.Act.{Act}
+use Rattle.fl_jobs.specs.declared.job.Act.TheVariants.{Spawn, Exit}
 use Rattle.fl_jobs.specs.declared.job.Job.TheVariants.{By}
 use Rattle.fl_jobs.specs.declared.job.Mail.{Mail}
 use Rattle.fl_jobs.specs.declared.secret.Secret.{Secret}
@@ -43,8 +44,31 @@ use Rattle.fl_bench.specs.Jobs.{change_check, serials_left, Does}
 use Rattle.fl_bench.specs.Bench.{BenchState, IsNext, born, has_at, gone}
 use Rattle.fl_bench.specs.declared.process.Holding.TheVariants.{Idle}
 use Rattle.fl_bench.specs.declared.process.Process.{Process}
-use Rattle.fl_monitor.specs.declared.sequel.Sequel.{Sequel}
-use Rattle.fl_monitor.specs.declared.sequel.Sequel.TheVariants.{Answer, Birth, End}
+
+-- ---- what follows
+
+-- What follows at a bench from an act of one of its processes: nothing but its answer; this process is to be the next,
+-- or there was not enough memory for it; or the process that acted is to go.
+pub data Sequel : Type 0 where
+  answer : Outcome → Sequel
+  birth : Result Process AllocError → Sequel
+  ending : Sequel
+
+-- an answer that nothing follows
+abbrev pub answered : Result Outcome Refusal → Result Sequel Refusal
+answered (Ok outcome) = Ok (Sequel.answer outcome)
+answered (Err f) = Err f
+
+-- a birth that follows, if there is none but one
+abbrev pub bearing : Result (Result Process AllocError) Refusal → Result Sequel Refusal
+bearing (Ok child) = Ok (Sequel.birth child)
+bearing (Err f) = Err f
+
+-- the act is answered alone: it is no birth, and no end
+abbrev pub IsAnswered : Act → Type 0
+IsAnswered (Spawn caps) = ⊥
+IsAnswered Exit = ⊥
+IsAnswered act = Unit {0}
 
 -- ---- single acts
 
@@ -54,9 +78,9 @@ born_with labels caps = record { labels = labels; owned = Idle caps; mailbox = n
 
 -- a process of these labels that owns these is to be born, where who has E in effect may hand them on
 pub data Spawns (E : Caps) (labels : Labels) (caps : SetBy cap_cmp) : Result Sequel Refusal → Type 0 where
-  passed : grant_check E caps None → Spawns E labels caps (Ok (Birth (Ok (born_with labels caps))))
+  passed : grant_check E caps None → Spawns E labels caps (Ok (Sequel.birth (Ok (born_with labels caps))))
   failed : {f : Refusal} → grant_check E caps (Some f) → Spawns E labels caps (Err f)
-  no_room : {e : AllocError} → grant_check E caps None → Spawns E labels caps (Ok (Birth (Err e)))
+  no_room : {e : AllocError} → grant_check E caps None → Spawns E labels caps (Ok (Sequel.birth (Err e)))
 
 -- the label of a side is set by who owns these and has these endpoints, or the labels stay
 pub data Relabels (V : Registry) (owned : SetBy cap_cmp) (table : Table) (old : Labels) (side : Side)
@@ -117,11 +141,6 @@ pub data Arrives (p : Process) (d : Data) : Result Outcome Refusal → Process �
       → Arrives p d (Err f) p
   no_room : (refuse_if (is_busy p) Busy then arrival_checks p.mailbox d) None → Arrives p d (Err Memory) p
 
--- an answer that nothing follows
-abbrev pub answered : Result Outcome Refusal → Result Sequel Refusal
-answered (Ok outcome) = Ok (Answer outcome)
-answered (Err f) = Err f
-
 -- ---- what follows at a bench
 
 -- a process is put as the next, where a serial is left, and there was memory for it and is room
@@ -134,9 +153,9 @@ pub data Births (b : BenchState) : Result Process AllocError → Result Outcome 
 
 -- the bench b does what follows from an act of pid
 abbrev pub Settles : BenchState → Pid → Sequel → Result Outcome Refusal → BenchState → Type 0
-Settles b pid (Answer outcome) r b' = (r ≡ Ok outcome) × (b' ≡ b)
-Settles b pid (Birth child) r b' = Births b child r b'
-Settles b pid End r b' = (r ≡ Ok (Outcome.Reply Done)) × (b' ≡ gone b pid)
+Settles b pid (Sequel.answer outcome) r b' = (r ≡ Ok outcome) × (b' ≡ b)
+Settles b pid (Sequel.birth child) r b' = Births b child r b'
+Settles b pid Sequel.ending r b' = (r ≡ Ok (Outcome.Reply Done)) × (b' ≡ gone b pid)
 
 -- The act of the process p, which it leaves as p', is a job at any bench where p stands as pid: what follows is
 -- settled there, or it is refused.
@@ -155,6 +174,15 @@ pub data ActsAt (V : Registry) (m : map.FinMap pid_cmp Process) (pid : Pid) (act
   nobody : map.get m pid ≡ None → ActsAt V m pid act (Err (NoProcess pid)) m
   did : {p p' : Process} {result : Result Sequel Refusal} → map.get m pid ≡ Some p → Acts V pid p act result p'
       → ActsAt V m pid act result (map.insert m pid p')
+
+-- one process of many ends, unless an operation of it is under way
+pub data Ends (m : map.FinMap pid_cmp Process) (pid : Pid) : Result (Unit {0}) Refusal
+    → map.FinMap pid_cmp Process → Type 0 where
+  nobody : map.get m pid ≡ None → Ends m pid (Err (NoProcess pid)) m
+  busy : {p : Process} → map.get m pid ≡ Some p → ((owned : SetBy cap_cmp) → p.owned ≡ Idle owned → ⊥)
+      → Ends m pid (Err Busy) m
+  ended : {p : Process} {owned : SetBy cap_cmp} → map.get m pid ≡ Some p → p.owned ≡ Idle owned
+      → Ends m pid (Ok tt) (map.remove m pid)
 
 -- a message comes to one process of many
 pub data ArrivesAt (m : map.FinMap pid_cmp Process) (d : Data) : Result Outcome Refusal

@@ -1,6 +1,6 @@
 use Rattle.std.proofs.Common.{◌∙◌, ap, sym}
 use Rattle.fl_bench.specs.declared.process.Holding.TheVariants.{Idle, Ordering}
-use Rattle.fl_monitor.proofs.ActLemmas.{answers_of, act_busy, act_unchecked, act_full, act_order, act_relabel, act_ask, act_spawn, act_exit, act_drop, act_enter, act_kept_in, act_emit, act_mail, over}
+use Rattle.fl_monitor.proofs.ActLemmas.{answers_of, act_busy, act_unchecked, act_full, act_order, act_relabel, act_ask, act_drop, act_enter, act_kept_in, act_emit, act_mail, over}
 use Rattle.fl_monitor.proofs.act.act_alone.Goals as goal
 
 pub returns-in_default-clause-acts : goal.returns-in_default-clause-acts
@@ -9,7 +9,7 @@ returns-in_default-clause-acts g c = act_busy _ c.args.pid c.args.process.now c.
 pub returns-in_err-check-in-Order-clause-acts : goal.returns-in_err-check-in-Order-clause-acts
 returns-in_err-check-in-Order-clause-acts g c =
     over _ c.args.pid c.args.process.now c.args.act (λ s. record c.args.process.now { owned = Idle s }) c.caps.ensures
-    (act_unchecked _ c.args.pid c.args.process.now c.args.act _ (c.in-Idle.is ∙ ap Idle (sym c.caps.ensures)) _ c.in-Order.is c.check.ensures.checked _ c.in_err-check-in-Order.was c.from_residual.ensures)
+    (act_unchecked _ c.args.pid c.args.process.now c.args.act _ (c.in-Idle.is ∙ ap Idle (sym c.caps.ensures)) _ c.in-Order.is c.check.ensures.checked _ c.in_err-check-in-Order.was _ c.from_residual.ensures)
 
 pub returns-in_default-begin-clause-acts : goal.returns-in_default-begin-clause-acts
 returns-in_default-begin-clause-acts g c =
@@ -22,31 +22,23 @@ returns-in-Ok-clause-acts g c =
 pub returns-in-Relabel-clause-acts : goal.returns-in-Relabel-clause-acts
 returns-in-Relabel-clause-acts g c =
     over _ c.args.pid c.args.process.now c.args.act (λ s. record c.args.process.now { labels = c.relabel.new.labels; owned = Idle s }) c.caps-in-Relabel.ensures
-    (act_relabel _ c.args.pid c.args.process.now c.args.act _ (c.in-Idle.is ∙ ap Idle (sym c.caps-in-Relabel.ensures)) _ _ c.in-Relabel.is c.relabel.ensures.relabels _ c.answer_alone.ensures)
+    (act_relabel _ c.args.pid c.args.process.now c.args.act _ (c.in-Idle.is ∙ ap Idle (sym c.caps-in-Relabel.ensures)) _ _ c.in-Relabel.is c.relabel.ensures.relabels)
 
 pub returns-in-Ask-clause-acts : goal.returns-in-Ask-clause-acts
 returns-in-Ask-clause-acts g c =
     over _ c.args.pid c.args.process.now c.args.act (λ s. record c.args.process.now { owned = Idle s }) c.caps-in-Ask.ensures
     (act_ask _ c.args.pid c.args.process.now c.args.act _ (c.in-Idle.is ∙ ap Idle (sym c.caps-in-Ask.ensures)) _ c.in-Ask.is _ (answers_of c.effective.result _ c.reply_of-reply.ensures c.effective.ensures.answer))
 
-pub returns-in-Spawn-clause-acts : goal.returns-in-Spawn-clause-acts
-returns-in-Spawn-clause-acts g c =
-    over _ c.args.pid c.args.process.now c.args.act (λ s. record c.args.process.now { owned = Idle s }) c.caps-in-Spawn.ensures
-    (act_spawn _ c.args.pid c.args.process.now c.args.act _ (c.in-Idle.is ∙ ap Idle (sym c.caps-in-Spawn.ensures)) _ c.in-Spawn.is c.spawn.ensures.spawns)
-
-pub returns-in-Exit-clause-acts : goal.returns-in-Exit-clause-acts
-returns-in-Exit-clause-acts g c = act_exit _ c.args.pid c.args.process.now c.args.act _ c.in-Idle.is c.in-Exit.is
-
 pub returns-in-Drop-clause-acts : goal.returns-in-Drop-clause-acts
-returns-in-Drop-clause-acts g c = act_drop _ c.args.pid c.args.process.now c.args.act _ c.in-Idle.is _ c.in-Drop.is _ c.lend-labels.ensures c.drop_cap.ensures.drops _ c.answer_alone-in-Drop.ensures
+returns-in-Drop-clause-acts g c = act_drop _ c.args.pid c.args.process.now c.args.act _ c.in-Idle.is _ c.in-Drop.is _ c.lend-labels.ensures c.drop_cap.ensures.drops
 
 pub returns-in-Enter-clause-acts : goal.returns-in-Enter-clause-acts
-returns-in-Enter-clause-acts g c = act_enter _ c.args.pid c.args.process.now c.args.act _ c.in-Idle.is _ _ c.in-Enter.is c.enter.ensures.enters _ c.answer_alone-in-Enter.ensures
+returns-in-Enter-clause-acts g c = act_enter _ c.args.pid c.args.process.now c.args.act _ c.in-Idle.is _ _ c.in-Enter.is c.enter.ensures.enters
 
 pub returns-in_err-check-in-Emit-clause-acts : goal.returns-in_err-check-in-Emit-clause-acts
 returns-in_err-check-in-Emit-clause-acts g c =
     over _ c.args.pid c.args.process.now c.args.act (λ s. record c.args.process.now { owned = Idle s }) c.caps-in-Emit.ensures
-    (act_kept_in _ c.args.pid c.args.process.now c.args.act _ (c.in-Idle.is ∙ ap Idle (sym c.caps-in-Emit.ensures)) _ c.in-Emit.is c.check-in-Emit.ensures.checked _ c.in_err-check-in-Emit.was c.from_residual-in_err-check-in-Emit.ensures)
+    (act_kept_in _ c.args.pid c.args.process.now c.args.act _ (c.in-Idle.is ∙ ap Idle (sym c.caps-in-Emit.ensures)) _ c.in-Emit.is c.check-in-Emit.ensures.checked _ c.in_err-check-in-Emit.was _ c.from_residual-in_err-check-in-Emit.ensures)
 
 pub returns-in_ok-check-in-Emit-clause-acts : goal.returns-in_ok-check-in-Emit-clause-acts
 returns-in_ok-check-in-Emit-clause-acts g c =
@@ -56,4 +48,4 @@ returns-in_ok-check-in-Emit-clause-acts g c =
 pub returns-in-Mail-clause-acts : goal.returns-in-Mail-clause-acts
 returns-in-Mail-clause-acts g c =
     over _ c.args.pid c.args.process.now c.args.act (λ s. record c.args.process.now { mailbox = c.do_mail.new.mailbox; owned = Idle s }) c.caps-in-Mail.ensures
-    (act_mail _ c.args.pid c.args.process.now c.args.act _ (c.in-Idle.is ∙ ap Idle (sym c.caps-in-Mail.ensures)) _ c.in-Mail.is _ c.lend-labels-in-Mail.ensures c.do_mail.ensures.mails _ c.answer_alone-in-Mail.ensures)
+    (act_mail _ c.args.pid c.args.process.now c.args.act _ (c.in-Idle.is ∙ ap Idle (sym c.caps-in-Mail.ensures)) _ c.in-Mail.is _ c.lend-labels-in-Mail.ensures c.do_mail.ensures.mails)

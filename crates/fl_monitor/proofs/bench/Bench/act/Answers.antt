@@ -1,28 +1,44 @@
-use Rattle.std.proofs.Common.{◌∙◌, refl, ap, Ok}
-use Rattle.fl_monitor.proofs.JobLemmas.{refused_does, settled_does, end_does}
-use Rattle.fl_monitor.proofs.Kept.{acts_kept, gone_kept}
+use Rattle.std.proofs.Common.{ap, subst, sym}
+use Rattle.fl_jobs.specs.declared.job.Act.TheVariants.{Spawn}
+use Rattle.fl_jobs.specs.declared.job.Job.TheVariants.{By}
+use Rattle.fl_bench.specs.Jobs.{Does}
+use Rattle.fl_monitor.specs.parts.Acts.{Births, Sequel, bearing}
+use Rattle.fl_monitor.proofs.JobLemmas.{refused_does, settled_does, answered_does, end_refused, end_done}
+use Rattle.fl_monitor.proofs.Kept.{acts_kept, ends_kept}
 use Rattle.fl_monitor.proofs.bench.Bench.act.Goals as goal
 
-pub returns-in_err-outcome-clause-does : goal.returns-in_err-outcome-clause-does
-returns-in_err-outcome-clause-does g c = refused_does _ _ c.args.self.now c.self.view_is c.args.pid c.args.act c.act.ensures.acts _ c.in_err-outcome.was c.from_residual.result c.from_residual.ensures
+pub returns-in_err-child-in-Spawn-clause-does : goal.returns-in_err-child-in-Spawn-clause-does
+returns-in_err-child-in-Spawn-clause-does g c =
+    rw c.in-Spawn.is
+    (subst (Does _ c.args.self.now (By c.args.pid (Spawn c.in-Spawn.caps)) c.from_residual.result) c.self.view_is
+    (refused_does _ _ c.args.self.now c.self.view_is c.args.pid _ c.spawn.ensures.acts _ (ap bearing c.in_err-child-in-Spawn.was) c.from_residual.result c.from_residual.ensures))
 
-pub returns-in-Answer-clause-does : goal.returns-in-Answer-clause-does
-returns-in-Answer-clause-does g c = settled_does _ _ c.args.self.now c.self.view_is c.args.pid c.args.act c.act.ensures.acts _ (c.in_ok-outcome.was ∙ ap Ok c.in-Answer.is) _ _ (refl, refl)
+pub returns-in_ok-child-in-Spawn-clause-does : goal.returns-in_ok-child-in-Spawn-clause-does
+returns-in_ok-child-in-Spawn-clause-does g c =
+    rw c.in-Spawn.is
+    (settled_does _ _ c.args.self.now c.self.view_is c.args.pid _ c.spawn.ensures.acts (Sequel.birth c.in_ok-child-in-Spawn.child) (ap bearing c.in_ok-child-in-Spawn.was) _ _
+    (subst (λ b. Births b c.in_ok-child-in-Spawn.child c.bear.result c.bear.new.self) (sym c.self.view_is) c.bear.ensures))
 
-pub returns-in-Birth-clause-does : goal.returns-in-Birth-clause-does
-returns-in-Birth-clause-does g c = settled_does _ _ c.args.self.now c.self.view_is c.args.pid c.args.act c.act.ensures.acts _ (c.in_ok-outcome.was ∙ ap Ok c.in-Birth.is) _ _ c.bear.ensures
+pub returns-in_err-end-in-Exit-clause-does : goal.returns-in_err-end-in-Exit-clause-does
+returns-in_err-end-in-Exit-clause-does g c =
+    rw c.in-Exit.is
+    (end_refused _ _ c.args.self.now c.self-in-Exit.view_is c.args.pid c.end.ensures _ c.in_err-end-in-Exit.was _ c.from_residual-in_err-end-in-Exit.ensures)
 
-pub returns-in-End-clause-does : goal.returns-in-End-clause-does
-returns-in-End-clause-does g c = end_does _ _ c.args.self.now c.self.view_is c.args.pid c.args.act c.act.ensures.acts (c.in_ok-outcome.was ∙ ap Ok c.in-End.is) _ c.remove.ensures
+pub returns-in_ok-end-in-Exit-clause-does : goal.returns-in_ok-end-in-Exit-clause-does
+returns-in_ok-end-in-Exit-clause-does g c =
+    rw c.in-Exit.is (end_done _ _ c.args.self.now c.self-in-Exit.view_is c.args.pid c.end.ensures _ c.in_ok-end-in-Exit.was)
+
+pub returns-in_default : goal.returns-in_default
+returns-in_default g c = record {
+  does = answered_does _ _ c.args.self.now c.self-in_default.view_is c.args.pid _ c.act.result _ c.act.ensures.acts;
+  same = c.act.ensures.same;
+}
 
 pub invariant_of-self : goal.invariant_of-self
-invariant_of-self g c = let i = c.self.invariant in (i.0, (i.1.0, acts_kept i.1.1 c.act.ensures.acts))
+invariant_of-self g c = let i = c.self-in-Exit.invariant in (i.0, (i.1.0, ends_kept i.1.1 c.end.ensures))
 
-pub invariant_of-self-in-Answer : goal.invariant_of-self-in-Answer
-invariant_of-self-in-Answer g c = let i = c.self.invariant in (i.0, (i.1.0, acts_kept i.1.1 c.act.ensures.acts))
+pub invariant_of-self-in-Exit : goal.invariant_of-self-in-Exit
+invariant_of-self-in-Exit g c = let i = c.self-in-Exit.invariant in (i.0, (i.1.0, ends_kept i.1.1 c.end.ensures))
 
-pub invariant_of-self-in-Birth : goal.invariant_of-self-in-Birth
-invariant_of-self-in-Birth g c = let i = c.self.invariant in (i.0, (i.1.0, acts_kept i.1.1 c.act.ensures.acts))
-
-pub invariant_of-self-in-End : goal.invariant_of-self-in-End
-invariant_of-self-in-End g c = let i = c.self.invariant in (i.0, (i.1.0, gone_kept (acts_kept i.1.1 c.act.ensures.acts) _ c.args.pid c.remove.ensures))
+pub invariant_of-self-in_default : goal.invariant_of-self-in_default
+invariant_of-self-in_default g c = let i = c.self-in_default.invariant in (i.0, (i.1.0, acts_kept i.1.1 c.act.ensures.acts))
