@@ -7,9 +7,11 @@ ghost use Rattle.fl_labels.specs.Name.{name_cmp};
 ghost use Rattle.fl_labels.specs.SetBy as set;
 
 use crate::error::SetError;
-use crate::list::read_items;
+use crate::list::{inner_of, read_parts};
 use crate::name::Name;
 use crate::sorted::{arrange, first_outside};
+use crate::tags::Tags;
+use crate::text::read_name;
 use std::alloc::{AllocError, Global};
 use std::fmt;
 use std::marker::Model;
@@ -18,25 +20,26 @@ use std::slice::Iter;
 /// How many tags a label holds at most.
 pub const MOST_TAGS: usize = 256;
 
-/// A set of at most 256 tags, kept as a rising vector.
+/// A set of at most 256 tags, kept in place where it has one at most.
 #[derive(Debug, Drop)]
 pub struct Label {
-    tags: Vec<Name>,
+    alloc: Global,
+    tags: Tags,
 }
 
 impl Model for Label {
     ghost use Rattle.fl_labels.specs.SetBy as set;
     ghost use Rattle.fl_labels.specs.Name.{name_cmp};
     ghost use Rattle.fl_labels.specs.NameOrder.{coded_name};
-    ghost use Rattle.fl_labels.specs.parts.Label.{IsLabel};
+    ghost use Rattle.fl_labels.specs.parts.Label.{items, IsLabel};
 
     ghost Value = { set.SetBy name_cmp };
 
     ghost coded = { set.code coded_name };
 
-    ghost view = { λ a. set.of_list a.tags.items };
+    ghost view = { λ a. set.of_list (items a.tags) };
 
-    ghost invariant = { λ a. IsLabel a.tags.items };
+    ghost invariant = { λ a. IsLabel (items a.tags) };
 }
 
 impl PartialEq for Label {
@@ -69,7 +72,7 @@ impl fmt::Display for Label {
     ghost output = { λ s. Some (label_text s) };
 
     fn fmt<W: fmt::Write>(&self, f: &mut fmt::Formatter<W>) -> fmt::Result {
-        match self.tags.split_first() {
+        match self.tags.as_slice().split_first() {
             None => f.write_str("{}"),
             Some((first, rest)) => {
                 write!(f, "{{{first}")?;
@@ -88,7 +91,8 @@ impl Label {
         ensures { result ≡ set.empty }
     {
         Label {
-            tags: Vec::new(alloc),
+            alloc,
+            tags: Tags::None,
         }
     }
 
@@ -105,13 +109,17 @@ impl Label {
         if tags.len() > MOST_TAGS {
             return Err(SetError::TooLong);
         }
-        Ok(Label { tags })
+        Ok(Label {
+            alloc: *tags.allocator(),
+            tags: Tags::Many(tags),
+        })
     }
 
     /// Reads a text such as `{1.1,1.4}`: tags in any order, a repeated one once.
     ///
     /// `BadText` of a text that lists no names in braces, `TooLong` where it lists more than 256,
-    /// `Memory`. Linear in a text that lists rising tags, and else with a sort.
+    /// `Memory`. Takes no memory for one tag at most. Linear in a text that lists rising tags, and
+    /// else with a sort.
     pub fn from_text(alloc: Global, text: &str) -> Result<Self, SetError>
         ensures ok { IfOk result (λ label. IsListing name_text label text.now) }
         ensures short { IfOk result (λ label. set.len label ≤ 256) }
@@ -120,21 +128,31 @@ impl Label {
         ensures bad_text { IsErrOf result SetError.BadText
             → (s : set.SetBy name_cmp) → ¬ IsListing name_text s text.now }
     {
-        Label::from_vec(read_items(alloc, text)?)
+        let inner = inner_of(text).ok_or(SetError::BadText)?;
+        if inner.is_empty() {
+            return Ok(Label::new(alloc));
+        }
+        if let Some(tag) = read_name(inner) {
+            return Ok(Label {
+                alloc,
+                tags: Tags::One(tag),
+            });
+        }
+        Label::from_vec(read_parts(alloc, inner)?)
     }
 
     /// Whether the tag is in the label. A binary search.
     pub fn contains(&self, tag: Name) -> bool
         ensures { result ≡ set.contains self.now tag }
     {
-        self.tags.binary_search(&tag).is_ok()
+        self.tags.as_slice().binary_search(&tag).is_ok()
     }
 
     /// The tags, rising.
     pub fn as_slice(&self) -> &[Name]
         ensures { result.now ≡ set.members self.now }
     {
-        &self.tags
+        self.tags.as_slice()
     }
 
     /// Adds a tag, and answers whether it is new. `TooLong` of a new tag where there are 256,
@@ -151,13 +169,13 @@ impl Label {
         ensures never_bad { IsErrOf result SetError.BadText → ⊥ }
         ensures err { OnErr result (self.new ≡ self.old) }
     {
-        match self.tags.binary_search(&tag) {
+        match self.tags.as_slice().binary_search(&tag) {
             Ok(_) => Ok(false),
             Err(place) => {
-                if self.tags.len() == MOST_TAGS {
+                if self.tags.as_slice().len() == MOST_TAGS {
                     return Err(SetError::TooLong);
                 }
-                self.tags.insert(place, tag)?;
+                self.tags.insert(self.alloc, place, tag)?;
                 Ok(true)
             }
         }
@@ -168,7 +186,7 @@ impl Label {
         ensures after { self.new ≡ set.remove self.old tag }
         ensures was { result ≡ set.contains self.old tag }
     {
-        match self.tags.binary_search(&tag) {
+        match self.tags.as_slice().binary_search(&tag) {
             Ok(place) => {
                 self.tags.remove(place);
                 true
@@ -182,7 +200,7 @@ impl Label {
     pub fn first_missing(&self, other: &Label) -> Option<Name>
         ensures { Found name_cmp (set.In self.now) (set.In other.now) result }
     {
-        first_outside(&self.tags, &other.tags)
+        first_outside(self.tags.as_slice(), other.tags.as_slice())
     }
 
     /// How many tags there are, at most 256.
@@ -190,28 +208,28 @@ impl Label {
         ensures count { result ≡ set.len self.now }
         ensures short { result ≤ 256 }
     {
-        self.tags.len()
+        self.tags.as_slice().len()
     }
 
     /// Whether there is no tag.
     pub fn is_empty(&self) -> bool
         ensures { IsTrue result ↔ (set.len self.now ≡ 0) }
     {
-        self.tags.is_empty()
+        self.tags.as_slice().is_empty()
     }
 
     /// The tags, rising.
     pub fn iter(&self) -> Iter<'_, Name>
         ensures { result.rest.now ≡ set.members self.now }
     {
-        self.tags.iter()
+        self.tags.as_slice().iter()
     }
 
     /// The same label again. Fails only where there is not enough memory.
     pub fn copy(&self, alloc: Global) -> Result<Self, AllocError>
         ensures { IfOk result (λ made. made ≡ self.now) }
     {
-        let tags = Vec::from_slice(alloc, &self.tags)?;
-        Ok(Label { tags })
+        let tags = self.tags.copy(alloc)?;
+        Ok(Label { alloc, tags })
     }
 }

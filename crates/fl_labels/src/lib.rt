@@ -13,5 +13,6 @@ pub mod name;
 pub mod pid;
 pub mod roomy;
 pub mod sorted;
+mod tags;
 pub mod text;
 mod uses;

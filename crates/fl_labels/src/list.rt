@@ -46,8 +46,8 @@ impl Item for Cap {
     }
 }
 
-// What stands between braces round the whole text.
-fn inner_of(text: &str) -> Option<&str>
+/// What stands between braces round the whole text.
+pub(crate) fn inner_of(text: &str) -> Option<&str>
     ensures some { IfSome result (λ inner. text.now ≡ 123 ∷ (inner.now ++ 125 ∷ [])) }
     ensures none { IfNone result ((inner : List ℕ) → text.now ≢ 123 ∷ (inner ++ 125 ∷ [])) }
 {
@@ -57,8 +57,8 @@ fn inner_of(text: &str) -> Option<&str>
     }
 }
 
-// The items that a text spells, with commas between them.
-fn read_parts<T: Item>(alloc: Global, inner: &str) -> Result<Vec<T>, SetError>
+/// The items that a text spells, with commas between them.
+pub(crate) fn read_parts<T: Item>(alloc: Global, inner: &str) -> Result<Vec<T>, SetError>
     ensures ok { IfOk result (λ items. inner.now ≡ join_with_byte 44 (map T.text items.items)) }
     ensures bad_text { IsErrOf result SetError.BadText
         → (items : List T) → inner.now ≢ join_with_byte 44 (map T.text items) }

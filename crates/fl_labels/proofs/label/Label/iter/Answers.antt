@@ -4,4 +4,4 @@ use Rattle.fl_labels.specs.SetBy.{members, members-of_list}
 use Rattle.fl_labels.proofs.label.Label.iter.Goals as goal
 
 pub returns : goal.returns
-returns c = c.iter.ensures.rest ∙ c.deref.ensures.value ∙ sym (members-of_list name_total name_exact _ c.self.invariant.rises) ∙ ap members c.self.view_is
+returns c = c.iter.ensures.rest ∙ c.as_slice.ensures ∙ sym (members-of_list name_total name_exact _ c.self.invariant.rises) ∙ ap members c.self.view_is
