@@ -122,6 +122,13 @@ impl Sink {
         ensures held { OnTrue result (self.new ≡ self.old ++ bytes.now) }
         ensures refused { OnFalse result (self.new ≡ self.old) }
     {
-        self.pending.len() < ENOUGH && self.pending.extend_from_slice(bytes).is_ok()
+        if self.pending.len() >= ENOUGH {
+            return false;
+        }
+        // Many pieces are one byte, as a dot, a digit or a line feed.
+        if let [byte] = bytes {
+            return self.pending.push(*byte).is_ok();
+        }
+        self.pending.extend_from_slice(bytes).is_ok()
     }
 }
