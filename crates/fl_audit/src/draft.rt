@@ -159,12 +159,12 @@ fn note_change(
     label: &Label,
     audit: &mut Vec<Admission>,
 ) -> Result<(), AllocError>
-    ensures ok { let entry = Admission.Change asker side label.now in
+    ensures ok { let entry = Admission.Change side asker label.now in
         OnOk result (audit.new.items ≡ audit.old.items ++ entry ∷ []) }
     ensures err { OnErr result (audit.new.items ≡ audit.old.items) }
 {
     let label = label.copy(alloc)?;
-    note(audit, Admission::Change(asker, side, label))
+    note(audit, Admission::Change(side, asker, label))
 }
 
 // Notes that the process enters the login of this name by this secret. Until the answer says what

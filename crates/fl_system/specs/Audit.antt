@@ -49,7 +49,7 @@ has U p = InEffect U (In p.standing.owned)
 
 -- by the rules, under the registry U
 abbrev pub SafeUnder : Registry → Admission → Type 0
-SafeUnder U (Change p side label) = SafeChange (has U p) (side_of side p.standing.labels) label
+SafeUnder U (Change side p label) = SafeChange (has U p) (side_of side p.standing.labels) label
 SafeUnder U (Endpoint p mode labels) = SafeEndpoint (has U p) mode p.standing.labels labels
 SafeUnder U (Emission p) = SafeEmission (has U p) p.standing.labels.secrecy
 SafeUnder U (Grant p caps) = Within (In caps) (has U p)
@@ -98,7 +98,7 @@ mail_entries p ch Take = []
 -- of an act of the process p, which stood as pid
 abbrev pub act_entries : Pid → Process → Act → Answer → List Admission
 act_entries pid p (Order order) a = order_entries (party pid p) order
-act_entries pid p (Relabel side (Ok label)) a = Change (party pid p) side label ∷ []
+act_entries pid p (Relabel side (Ok label)) a = Change side (party pid p) label ∷ []
 act_entries pid p (Relabel side (Err e)) a = []
 act_entries pid p (Ask c) a = if_yes a (Yes (party pid p) c)
 act_entries pid p (Spawn caps) a = Grant (party pid p) caps ∷ []

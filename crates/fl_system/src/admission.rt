@@ -32,7 +32,7 @@ impl Drop for Party {
 /// or is shared, so that it takes 64 bytes at most beside that.
 pub enum Admission {
     /// The label of this side became this one.
-    Change(Party, Side, Label),
+    Change(Side, Party, Label),
     /// An endpoint of this mode was opened with these labels, or tuned to them.
     Endpoint(Party, Mode, Boxed<Labels>),
     /// Bytes went to the outside.

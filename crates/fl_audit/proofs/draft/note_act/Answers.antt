@@ -51,8 +51,8 @@ returns-in_ok-note_change-in-Relabel-default-Ok-clause-ok c = λ p is tunes.
     let q = party c.args.asker.pid p in
     let act_is : c.args.act.now ≡ Relabel side (Ok c.in-Relabel-default-Ok.label) = search rules in
     act_drafted c.args.asker.pid p (Relabel side (Ok c.in-Relabel-default-Ok.label)) before _ act_is
-    (IsDrafted.always (Change q side c.in-Relabel-default-Ok.label ∷ [])
-    (of before _ (λ q. Change q side c.in-Relabel-default-Ok.label ∷ []) is (search rules)) (λ a. refl))
+    (IsDrafted.always (Change side q c.in-Relabel-default-Ok.label ∷ [])
+    (of before _ (λ q. Change side q c.in-Relabel-default-Ok.label ∷ []) is (search rules)) (λ a. refl))
 
 pub returns-in_ok-note_grant-in-Spawn-clause-ok : goal.returns-in_ok-note_grant-in-Spawn-clause-ok
 returns-in_ok-note_grant-in-Spawn-clause-ok c = λ p is tunes.
