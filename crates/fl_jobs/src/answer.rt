@@ -60,7 +60,7 @@ pub enum Reply {
     /// The capability that the login gave.
     Entered(Cap),
     /// These bytes went to the outside.
-    Emitted(Payload),
+    Emitted(Boxed<Payload>),
     /// The endpoint that was opened.
     Opened(Endpoint),
     /// The message that was taken.
@@ -93,7 +93,7 @@ impl Drop for Reply {
 pub enum Outcome {
     Reply(Reply),
     /// An operation of this body is to be saved and published for its maker.
-    Order(Body, Pid),
+    Order(Boxed<Body>, Pid),
     /// The packet is to be sent.
     Out(Boxed<Data>),
 }

@@ -90,7 +90,7 @@ pub enum Act {
     /// Whether the capability is in effect.
     Ask(Cap),
     /// A new process with the labels of this one, which owns these.
-    Spawn(CapSet),
+    Spawn(Boxed<CapSet>),
     /// The process ends.
     Exit,
     /// The process owns the capability no more.
@@ -98,7 +98,7 @@ pub enum Act {
     /// The capability of the login of this name, by its secret.
     Enter(Name, Secret),
     /// These bytes go to the outside.
-    Emit(Payload),
+    Emit(Boxed<Payload>),
     Mail(Mail),
 }
 

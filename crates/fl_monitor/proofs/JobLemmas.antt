@@ -4,12 +4,14 @@ use Rattle.std.specs.Result.{IsErr, IsErrAnd}
 use Rattle.std.specs.declared.alloc.AllocError.{AllocError}
 use Rattle.std.specs.FinMap as map
 use Rattle.std.specs.Prelude.{nat_lt}
+use Rattle.fl_labels.specs.Cap.{cap_cmp}
 use Rattle.fl_labels.specs.Pid.{pid_cmp}
+use Rattle.fl_labels.specs.SetBy.{SetBy}
 use Rattle.fl_labels.specs.declared.cap.Cap.{Cap}
 use Rattle.fl_labels.specs.declared.pid.Pid.{Pid}
 use Rattle.fl_ops.specs.Registry.{Registry, Reach, From}
 use Rattle.fl_jobs.specs.declared.job.Act.{Act}
-use Rattle.fl_jobs.specs.declared.job.Act.TheVariants.{Exit}
+use Rattle.fl_jobs.specs.declared.job.Act.TheVariants.{Exit, Spawn}
 use Rattle.fl_jobs.specs.declared.job.Job.TheVariants.{Proc, By, Member, Arrive}
 use Rattle.fl_jobs.specs.declared.answer.Refusal.{Refusal}
 use Rattle.fl_jobs.specs.declared.answer.Refusal.TheVariants.{NoProcess, Busy, NamesSpent, Memory}
@@ -36,6 +38,10 @@ no_sequel : {f : Refusal} {s : Sequel} → ◌≡◌ {A = Result Sequel Refusal}
 no_sequel e = cc
 
 -- ---- an act at the processes of a bench, and what follows, is a job
+
+-- a birth with the capabilities that stood in a box
+pub of_birth : {V : Registry} {b b' : BenchState} {pid : Pid} {boxed caps : SetBy cap_cmp} {r : Result Outcome Refusal} → caps ≡ boxed → Does V b (By pid (Spawn caps)) r b' → Does V b (By pid (Spawn boxed)) r b'
+of_birth {V} {b} {b'} {pid} {boxed} {caps} {r} e d = subst (λ s. Does V b (By pid (Spawn s)) r b') e d
 
 module _ (V : Registry) (b : BenchState) (pid : Pid) (act : Act) where
   nobody_asks : map.get b.processes pid ≡ None → Does V b (By pid act) (Err (NoProcess pid)) b

@@ -14,6 +14,7 @@ use fl_bench::process::{Holding, Process};
 use fl_jobs::answer::{Outcome, Refusal, Reply};
 use fl_jobs::job::Act;
 use fl_labels::pid::Pid;
+use fl_message::boxed::Boxed;
 use fl_ops::view::View;
 use std::alloc::Global;
 
@@ -44,10 +45,13 @@ pub(crate) fn act_alone<V: View>(
     match act {
         Act::Order(order) => {
             check(view, owned.caps(), Demand::Order(order))?;
+            let Ok(body) = Boxed::new(alloc, body_of_order(order)) else {
+                return Err(Refusal::Memory);
+            };
             let Ok(()) = process.owned.begin(alloc) else {
                 return Err(Refusal::Memory);
             };
-            Ok(Outcome::Order(body_of_order(order), pid))
+            Ok(Outcome::Order(body, pid))
         }
         Act::Relabel(side, label) => {
             let endpoints = &process.mailbox.endpoints;

@@ -148,7 +148,7 @@ impl Bench {
     {
         match act {
             Act::Spawn(caps) => {
-                let child = self.processes.spawn(alloc, view, pid, caps)?;
+                let child = self.processes.spawn(alloc, view, pid, caps.into_inner())?;
                 self.bear(child)
             }
             Act::Exit => {

@@ -246,7 +246,7 @@ impl<K: Keeper> Node<K> {
         match self.benches.job(alloc, &mut self.listing, desk, job) {
             Ok(Outcome::Reply(reply)) => Ok(Answer::Reply(reply)),
             Ok(Outcome::Out(packet)) => Ok(Answer::Out(packet)),
-            Ok(Outcome::Order(body, pid)) => self.order(body, pid, desk),
+            Ok(Outcome::Order(body, pid)) => self.order(body.into_inner(), pid, desk),
             Err(refusal) => Err(Fault::Refused(refusal)),
         }
     }

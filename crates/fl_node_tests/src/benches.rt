@@ -7,6 +7,7 @@ use fl_labels::cap_set::CapSet;
 use fl_labels::error::SetError;
 use fl_labels::name::Name;
 use fl_labels::pid::Pid;
+use fl_message::boxed::Boxed;
 use fl_monitor::bench::Bench;
 use fl_ops::op::{Body, Op, Policy};
 use std::alloc::{AllocError, Global};
@@ -52,7 +53,7 @@ fn bears_none(
     refusal: Refusal,
 ) -> Result<bool, SetError> {
     let caps = CapSet::from_text(alloc, caps)?;
-    let spawn = Job::By(SECOND, Act::Spawn(caps));
+    let spawn = Job::By(SECOND, Act::Spawn(Boxed::new(alloc, caps)?));
     Ok(says(alloc, bench, desk, spawn, Err(refusal)))
 }
 
@@ -94,7 +95,13 @@ const BODY: Body = Body::MakeTag(Policy::Export);
 // Whether the second process orders the tag, which is made then.
 fn orders(alloc: Global, bench: &mut Bench, desk: &mut Desk) -> Result<bool, AllocError> {
     let order = Job::By(SECOND, Act::Order(Order::Tag(Policy::Export)));
-    let is_begun = says(alloc, bench, desk, order, Ok(Outcome::Order(BODY, SECOND)));
+    let is_begun = says(
+        alloc,
+        bench,
+        desk,
+        order,
+        Ok(Outcome::Order(Boxed::new(alloc, BODY)?, SECOND)),
+    );
     let op = Op {
         name: TAG,
         body: BODY,

@@ -114,7 +114,7 @@ fn spawn_act(alloc: Global, rest: &[&str]) -> Result<Act, Unread>
         return Err(Unread::Bad);
     };
     let caps = caps_from_word(alloc, caps)?;
-    Ok(Act::Spawn(caps))
+    Ok(Act::Spawn(Boxed::new(alloc, caps)?))
 }
 
 #[inline(never)]
@@ -161,7 +161,7 @@ fn emit_act(alloc: Global, rest: &[&str]) -> Result<Act, Unread>
         return Err(Unread::Bad);
     };
     let bytes = bytes_from_word(alloc, bytes)?;
-    Ok(Act::Emit(bytes))
+    Ok(Act::Emit(Boxed::new(alloc, bytes)?))
 }
 
 #[inline(never)]

@@ -96,6 +96,7 @@ pub(crate) fn settle<R: Wait>(
         Ok(Outcome::Reply(reply)) => Ok(alone(Told::Reply(reply))),
         Ok(Outcome::Out(packet)) => Ok(alone(Told::Out(packet.into_inner()))),
         Ok(Outcome::Order(body, pid)) => {
+            let body = body.into_inner();
             let ordered = Ordered { place, body, pid };
             order(rt, bench, ends, worker, ordered)
         }

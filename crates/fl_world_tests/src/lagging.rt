@@ -6,12 +6,13 @@ use fl_labels::cap::Cap;
 use fl_labels::cap_set::CapSet;
 use fl_labels::name::{Name, NodeNumber};
 use fl_labels::pid::Pid;
+use fl_message::boxed::Boxed;
 use fl_ops::op::Policy;
 use fl_store::mem::MemKeeper;
 use fl_system::event::Event;
 use fl_system::reply::Reply;
 use fl_world::world::World;
-use std::alloc::Global;
+use std::alloc::{AllocError, Global};
 
 const GROUP: Name = Name { node: 1, seq: 1 };
 
@@ -98,13 +99,15 @@ fn makes(world: &mut World<MemKeeper>, alloc: Global, by: Job, serial: u32) -> b
 }
 
 #[test]
-fn benches_make_processes_in_turn(rt: HostRuntime) {
+fn benches_make_processes_in_turn(rt: HostRuntime) -> Result<(), AllocError> {
     let alloc = rt.alloc();
     let mut world = World::new(alloc, 2);
     assert!(rt; joins(&mut world, alloc, 1, MemKeeper::new(alloc, 1)));
     for serial in 1..5 {
         assert!(rt; makes(&mut world, alloc, Job::Proc, serial));
     }
-    let child = Job::By(process(2), Act::Spawn(CapSet::new(alloc)));
+    let caps = Boxed::new(alloc, CapSet::new(alloc))?;
+    let child = Job::By(process(2), Act::Spawn(caps));
     assert!(rt; makes(&mut world, alloc, child, 6));
+    Ok(())
 }

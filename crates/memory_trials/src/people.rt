@@ -142,7 +142,7 @@ pub struct Spawn;
 fn spawn_act(alloc: Global) -> Result<Act, AllocError> {
     let mut caps = CapSet::new(alloc);
     caps.insert(Cap::Plus(TAG))?;
-    Ok(Act::Spawn(caps))
+    Ok(Act::Spawn(Boxed::new(alloc, caps)?))
 }
 
 impl Trial for Spawn {

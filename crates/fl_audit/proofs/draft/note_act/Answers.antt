@@ -62,7 +62,8 @@ returns-in_ok-note_grant-in-Spawn-clause-ok c = λ p is tunes.
     (IsDrafted.always (Grant q c.in-Spawn.caps ∷ [])
     (of before _ (λ q. Grant q c.in-Spawn.caps ∷ []) is
     (c.in_ok-note_grant-in-Spawn.ensures.ok
-    ∙ ap (λ l. before ++ l) (granted c.args.asker _ _ c.as_slice.ensures)))
+    ∙ ap (λ l. before ++ l) (granted c.args.asker _ _ c.as_slice.ensures
+    ∙ ap (λ s. Grant c.args.asker s ∷ []) c.deref.ensures)))
     (λ a. refl))
 
 pub returns-in_ok-note-in-Emit-clause-ok : goal.returns-in_ok-note-in-Emit-clause-ok

@@ -1,4 +1,4 @@
-use Rattle.std.proofs.Common.{◌∙◌, ap, sym}
+use Rattle.std.proofs.Common.{◌∙◌, ap, refl, sym}
 use Rattle.fl_bench.specs.declared.process.Holding.TheVariants.{Idle, Ordering}
 use Rattle.fl_monitor.proofs.ActLemmas.{answers_of, act_busy, act_unchecked, act_full, act_order, act_relabel, act_ask, act_drop, act_enter, act_kept_in, act_emit, act_mail, over}
 use Rattle.fl_monitor.proofs.act.act_alone.Goals as goal
@@ -15,9 +15,14 @@ pub returns-in_default-begin-clause-acts : goal.returns-in_default-begin-clause-
 returns-in_default-begin-clause-acts g c =
     act_full _ c.args.pid c.args.process.now c.args.act _ (c.in-Idle.is ∙ ap Idle (sym c.caps.ensures)) _ c.in-Order.is c.check.ensures.checked _ c.in_ok-check-in-Order.was _ (c.in_default-begin.ensures.err ∙ ap Idle (sym c.caps.ensures))
 
-pub returns-in-Ok-clause-acts : goal.returns-in-Ok-clause-acts
-returns-in-Ok-clause-acts g c =
-    act_order _ c.args.pid c.args.process.now c.args.act _ (c.in-Idle.is ∙ ap Idle (sym c.caps.ensures)) _ c.in-Order.is c.check.ensures.checked _ c.in_ok-check-in-Order.was _ c.body_of_order.ensures _ (c.in-Ok.ensures.ok ∙ ap Ordering (sym c.caps.ensures))
+pub returns-in_default-new-clause-acts : goal.returns-in_default-new-clause-acts
+returns-in_default-new-clause-acts g c =
+    over _ c.args.pid c.args.process.now c.args.act (λ s. record c.args.process.now { owned = Idle s }) c.caps.ensures
+    (act_full _ c.args.pid c.args.process.now c.args.act _ (c.in-Idle.is ∙ ap Idle (sym c.caps.ensures)) _ c.in-Order.is c.check.ensures.checked _ c.in_ok-check-in-Order.was _ refl)
+
+pub returns-in-Ok-begin-clause-acts : goal.returns-in-Ok-begin-clause-acts
+returns-in-Ok-begin-clause-acts g c =
+    act_order _ c.args.pid c.args.process.now c.args.act _ (c.in-Idle.is ∙ ap Idle (sym c.caps.ensures)) _ c.in-Order.is c.check.ensures.checked _ c.in_ok-check-in-Order.was _ (c.in-Ok.ensures ∙ c.body_of_order.ensures) _ (c.in-Ok-begin.ensures.ok ∙ ap Ordering (sym c.caps.ensures))
 
 pub returns-in-Relabel-clause-acts : goal.returns-in-Relabel-clause-acts
 returns-in-Relabel-clause-acts g c =

@@ -32,6 +32,6 @@ returns-in-Err-clause-works g c =
 pub returns-in-Ok-Order-clause-works : goal.returns-in-Ok-Order-clause-works
 returns-in-Ok-Order-clause-works g c =
     let does = rw c.in-Ok-Order.field-0-is at c.in-Ok-Order.ensures.does in
-    let orders = rw c.job.ensures.same at c.order.ensures.orders in
+    let orders = rw (c.into_inner.ensures, c.job.ensures.same) at c.order.ensures.orders in
     rw (← c.self.view_is) (λ seen at. orders_at _ c.args.desk seen c.args.job c.in-Ok-Order.body c.in-Ok-Order.pid _ c.order.result c.order.new.self.node at
     (decided _ c.args.desk seen c.args.job _ c.job.new.self at (does seen at)) orders)
