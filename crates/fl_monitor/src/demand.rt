@@ -2,6 +2,8 @@
 ghost use Rattle.std.specs.Prelude.{◌≡◌};
 ghost use Rattle.fl_labels.specs.SetBy.{In};
 ghost use Rattle.fl_ops.specs.Registry.{InEffect, Listed};
+ghost use Rattle.fl_rules.specs.Labels.{sets_of};
+ghost use Rattle.fl_bench.specs.Guards.{endpoints_check};
 ghost use Rattle.fl_monitor.specs.parts.Demand.{demanded};
 ghost use Rattle.fl_monitor.specs.parts.Checked.{CheckedBy};
 
@@ -71,6 +73,7 @@ fn first_refusal<V: View>(view: &mut V, owned: &CapSet, demand: Demand<'_, '_>) 
 }
 
 /// Whether the owner of these capabilities meets the demand, or else why not. Takes no memory.
+#[inline(always)]
 pub(crate) fn check<V: View>(
     view: &mut V,
     owned: &CapSet,
@@ -83,4 +86,23 @@ pub(crate) fn check<V: View>(
         None => Ok(()),
         Some(refusal) => Err(refusal),
     }
+}
+
+/// The same of all of these endpoints, beside a process of these labels. Most processes have none,
+/// and nothing is looked at for them.
+#[inline(always)]
+pub(crate) fn check_endpoints<V: View>(
+    view: &mut V,
+    owned: &CapSet,
+    labels: LabelsRef<'_>,
+    endpoints: &Endpoints,
+) -> Result<(), Refusal>
+    ensures checked { CheckedBy (V.list view.old) owned.now
+        (λ E. endpoints_check E (sets_of labels.entry) endpoints.now) result }
+    ensures same { view.new ≡ view.old }
+{
+    if endpoints.is_empty() {
+        return Ok(());
+    }
+    check(view, owned, Demand::Endpoints(labels, endpoints))
 }

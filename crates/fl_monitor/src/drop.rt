@@ -7,7 +7,7 @@ ghost use Rattle.fl_bench.specs.Guards.{endpoints_check};
 ghost use Rattle.fl_monitor.specs.parts.Acts.{Drops};
 ghost use Rattle.fl_monitor.specs.parts.Checked.{CheckedBy};
 
-use crate::demand::{Demand, check};
+use crate::demand::check_endpoints;
 use fl_bench::owned::Owned;
 use fl_jobs::answer::{Outcome, Refusal, Reply};
 use fl_labels::cap::Cap;
@@ -42,10 +42,7 @@ impl<'a, V: View> Judge<'a, V> {
                     (λ E. endpoints_check E (sets_of judge.old.labels) judge.old.endpoints.now) result }
                 ensures same { judge.new.view.now ≡ judge.old.view.now }
                 ensures view { judge.new.view.ghost_name ≡ judge.old.view.ghost_name }
-            {
-                let demand = Demand::Endpoints(judge.labels, judge.endpoints);
-                check(judge.view, rest, demand)
-            },
+            { check_endpoints(judge.view, rest, judge.labels, judge.endpoints) },
         )
     }
 }

@@ -5,7 +5,7 @@ ghost use Rattle.fl_rules.specs.Labels.{sets_of};
 ghost use Rattle.fl_bench.specs.Process.{side_of, with_side};
 ghost use Rattle.fl_monitor.specs.parts.Acts.{Relabels};
 
-use crate::demand::{Demand, check};
+use crate::demand::{Demand, check, check_endpoints};
 use fl_jobs::answer::{Outcome, Refusal, Reply};
 use fl_jobs::job::{Side, TooLong};
 use fl_labels::cap_set::CapSet;
@@ -69,7 +69,7 @@ pub(crate) fn relabel<V: View>(
     let old = label_of(labels, side);
     check(view, owned, Demand::Change(old, &label))?;
     let as_changed = with_label(labels, side, &label);
-    check(view, owned, Demand::Endpoints(as_changed, endpoints))?;
+    check_endpoints(view, owned, as_changed, endpoints)?;
     set_label(labels, side, label);
     Ok(Outcome::Reply(Reply::Done))
 }
