@@ -3,6 +3,7 @@ ghost use Rattle.std.specs.Prelude.{◌≡◌, ◌<◌, ℕ, All, IfOk, IsSome, 
 ghost use Rattle.fl_aliases.specs.Table.{Table, target_of};
 ghost use Rattle.fl_script.specs.Grammar.{nodes_of};
 ghost use Rattle.fl_script.specs.Reading.{IsReading, makes};
+ghost use Rattle.fl_script.specs.declared.reading.Reading.TheVariants as reading;
 ghost use Rattle.fl_turns.specs.Naming.{IsPlaced, renamed};
 ghost use Rattle.fl_turns.specs.Failing.{FailsRead, FailsSaid};
 ghost use Rattle.fl_stream.specs.Turns.{AnswerCuts, AnswerPasses};
@@ -147,6 +148,43 @@ impl<M: MakesKeepers> Session<M> {
         Ok(response.status())
     }
 
+    // Answers the line, which has no alias. A job is done here, and any other line out of line.
+    #[inline(always)]
+    fn answer_plain<W: Writer>(
+        &mut self,
+        alloc: Global,
+        number: u64,
+        line: Line,
+        sink: &mut Sink,
+        output: &mut W,
+    ) -> Result<u8, WriteFault>
+        requires { (bytes : List ℕ) × IsReading self.old.aliases bytes (reading.Means line None) }
+        ensures ok { (bytes : List ℕ) → IsReading self.old.aliases bytes (reading.Means line None)
+            → IfOk result (λ status. AnswerPasses (TurnsOver M.K.custody M.making)
+            number self.old bytes status self.new
+            (W.contents output.old) (W.contents output.new) sink.old sink.new) }
+        ensures err { (bytes : List ℕ) → IsReading self.old.aliases bytes (reading.Means line None)
+            → OnErr result (AnswerCuts (TurnsOver M.K.custody M.making)
+            number self.old bytes self.new
+            (W.contents output.old) (W.contents output.new) sink.old) }
+        ensures cause { OnErr result (W.has_failed output.new) }
+    {
+        match line {
+            Line::Node {
+                node,
+                request: Request::Job(job),
+            } => {
+                let reply = self.work(alloc, node, job);
+                write_world_reply(&reply, sink, output)?;
+                Ok(reply_status(&reply))
+            }
+            line => {
+                let read = Ok(Reading::Means { line, alias: None });
+                self.answer_seldom(alloc, number, read, sink, output)
+            }
+        }
+    }
+
     // What is answered to a line of which this was read. Where memory was wanted to read it,
     // nothing changes.
     fn respond(&mut self, alloc: Global, read: Result<Reading, AllocError>) -> Response
@@ -179,7 +217,7 @@ impl<M: MakesKeepers> Session<M> {
             Reading::Bad => Response::bad_line(),
             Reading::Means { line, alias } => match alias {
                 None => self.answer(alloc, line),
-                Some(alias) => self.answer_named(alloc, line, alias),
+                Some(alias) => self.answer_named(alloc, line, *alias),
             },
         }
     }
@@ -231,19 +269,16 @@ impl<M: MakesKeepers> Machine for Session<M> {
     ) -> Result<u8, WriteFault> {
         match read_line(alloc, &self.aliases, line) {
             Ok(Reading::Quiet) => Ok(0),
-            Ok(
-                Reading::Means {
-                    line: Line::Node {
-                        node,
-                        request: Request::Job(job),
-                    },
-                    alias: None,
-                },
-            ) => {
-                let reply = self.work(alloc, node, job);
-                write_world_reply(&reply, sink, output)?;
-                Ok(reply_status(&reply))
-            }
+            Ok(Reading::Means { line, alias }) => match alias {
+                None => self.answer_plain(alloc, number, line, sink, output),
+                Some(alias) => {
+                    let read = Ok(Reading::Means {
+                        line,
+                        alias: Some(alias),
+                    });
+                    self.answer_seldom(alloc, number, read, sink, output)
+                }
+            },
             read => self.answer_seldom(alloc, number, read, sink, output),
         }
     }

@@ -62,7 +62,11 @@ fn understood(alloc: Global, aliases: &Aliases, line: &[u8]) -> Asked {
             Line::Node {
                 node,
                 request: Request::Job(job),
-            } => Asked::Task(Task { node, job, alias }),
+            } => Asked::Task(Task {
+                node,
+                job,
+                alias: alias.map(|alias| *alias),
+            }),
             Line::Aliases => Asked::Aliases,
             other => Asked::Other(other),
         },

@@ -15,13 +15,14 @@ use arrayvec::ArrayVec;
 use fl_aliases::alias::Alias;
 use fl_aliases::table::Aliases;
 use fl_jobs::job::{Act, Job, Mail};
+use fl_message::boxed::Boxed;
 use std::alloc::Global;
 
 // A line, and the alias that is to stand for what it makes, if one is.
 #[derive(Drop)]
 pub(crate) struct Meaning {
     pub line: Line,
-    pub alias: Option<Alias>,
+    pub alias: Option<Boxed<Alias>>,
 }
 
 // Words that end in `as $x`: those before, and the alias.
@@ -130,8 +131,9 @@ pub(crate) fn meaning_of(
         return Ok(Meaning { line, alias: None });
     };
     let line = named_line(alloc, aliases, named.front)?;
+    let alias = Boxed::new(alloc, named.alias)?;
     Ok(Meaning {
         line,
-        alias: Some(named.alias),
+        alias: Some(alias),
     })
 }

@@ -9,6 +9,7 @@ use crate::unread::Unread;
 use arrayvec::ArrayVec;
 use fl_aliases::alias::Alias;
 use fl_aliases::table::Aliases;
+use fl_message::boxed::Boxed;
 use std::alloc::{AllocError, Global};
 
 /// The most bytes of a line that asks for an answer.
@@ -22,7 +23,10 @@ pub enum Reading {
     /// No line of the script.
     Bad,
     /// A line of the script, and the alias that is to stand for what it makes, if one is.
-    Means { line: Line, alias: Option<Alias> },
+    Means {
+        line: Line,
+        alias: Option<Boxed<Alias>>,
+    },
 }
 
 // The first byte that is no space.

@@ -10,3 +10,6 @@ returns-in_err-line-2-clause-memory c = may_starve _ (alias_wants (map (λ w. w.
 pub returns-in_err-line-2-clause-ok : goal.returns-in_err-line-2-clause-ok
 returns-in_err-line-2-clause-ok c = passed _ c.from_residual-in_err-line-2.ensures.1 c.in_err-line-2.ensures (λ none meaning.
     named_none c.args.aliases.now (map (λ w. w.now) c.args.words.now) (map (λ w. w.now) c.in-Some.named.front.now) c.in-Some.named.alias c.in-Some.ensures none meaning.line meaning.alias)
+
+pub returns-in_err-new-clause-memory : goal.returns-in_err-new-clause-memory
+returns-in_err-new-clause-memory c = may_starve _ (alias_wants (map (λ w. w.now) c.args.words.now) (map (λ w. w.now) c.in-Some.named.front.now) c.in-Some.named.alias c.in-Some.ensures)
