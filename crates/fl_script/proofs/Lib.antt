@@ -12,3 +12,4 @@ pub mod SendWords
 pub mod Found
 pub mod OfProcess
 pub mod AsciiWords
+pub mod PartWords

@@ -3,3 +3,4 @@ pub mod Meaning
 pub mod Reads
 pub mod Acts
 pub mod Cut
+pub mod Parts

@@ -1,14 +1,15 @@
 //! What the words of a line say.
-ghost use Rattle.std.specs.Prelude.{◌≡◌, ◌≤◌, List, MatchOption, ℕ, length, map};
+ghost use Rattle.std.specs.Prelude.{◌≡◌, ◌≤◌, ◌+◌, ◌++◌, List, MatchOption, ℕ, length, map};
 ghost use Rattle.fl_script.specs.parts.Reads.{Reads, StarvesIf};
 ghost use Rattle.fl_aliases.specs.Words.{Word};
-ghost use Rattle.fl_script.specs.parts.Meaning.{EndsInAlias, CanBeNamed, WantsMemory, replaced_bytes};
-ghost use Rattle.fl_script.specs.Grammar.{HoldsList, Spells};
+ghost use Rattle.fl_script.specs.parts.Meaning.{EndsInAlias, CanBeNamed, WantsMemory};
+ghost use Rattle.fl_script.specs.parts.Parts.{CanPart, parts_of};
+ghost use Rattle.fl_script.specs.Grammar.{Spells};
 ghost use Rattle.fl_script.specs.Reading.{act_makes, makes, SpellsReplaced, WordsSay};
 
 use crate::cut::MOST_LINE_WORDS;
 use crate::line::{Line, line_from_words};
-use crate::replaced::{Replaced, replace_words};
+use crate::replaced::{build, place_kept, place_parts};
 use crate::request::Request;
 use crate::unread::Unread;
 use arrayvec::ArrayVec;
@@ -76,16 +77,23 @@ fn split_alias<'a, 'b>(words: &'a [&'b str]) -> Option<Named<'a, 'b>>
     Some(Named { front, alias })
 }
 
-// The line that words in which aliases are replaced spell.
-fn line_from_replaced(alloc: Global, replaced: &[Replaced<'_>]) -> Result<Line, Unread>
-    requires { length replaced.now ≤ 8 }
-    ensures ok { Reads result (λ line. Spells line (map replaced_bytes replaced.now)) }
-    ensures memory { StarvesIf result (HoldsList (map replaced_bytes replaced.now)) }
+// The line that the kept words spell with the parts of the text behind them that are so long.
+fn parted_line<'a>(
+    alloc: Global,
+    kept: &[&'a str],
+    text: &'a str,
+    lengths: &[usize],
+) -> Result<Line, Unread>
+    requires parts { CanPart lengths.now text.now }
+    requires room { length kept.now + length lengths.now ≤ 8 }
+    ensures { Reads result (λ line.
+        Spells line (map (λ w. w.now) kept.now ++ parts_of lengths.now text.now)) }
 {
-    let mut words = ArrayVec::<&str, MOST_LINE_WORDS>::new();
-    for word in replaced {
-        words.push(word.as_str());
+    let mut words = ArrayVec::new();
+    for word in kept {
+        words.push(*word);
     }
+    place_parts(text, lengths, &mut words);
     line_from_words(alloc, words.as_slice())
 }
 
@@ -96,9 +104,16 @@ fn replaced_line<'a>(alloc: Global, aliases: &'a Aliases, words: &[&'a str]) -> 
         SpellsReplaced aliases.now line (map (λ w. w.now) words.now)) }
     ensures memory { StarvesIf result (WantsMemory (map (λ w. w.now) words.now)) }
 {
-    let mut replaced = ArrayVec::new();
-    replace_words(alloc, aliases, words, &mut replaced)?;
-    line_from_replaced(alloc, replaced.as_slice())
+    if words.len() > MOST_LINE_WORDS {
+        return Err(Unread::Bad);
+    }
+    let mut placed = ArrayVec::new();
+    if place_kept(aliases, words, &mut placed) {
+        return line_from_words(alloc, placed.as_slice());
+    }
+    let mut lengths = ArrayVec::new();
+    let text = build(alloc, aliases, &words[placed.len()..], &mut lengths)?;
+    parted_line(alloc, placed.as_slice(), text.as_str(), lengths.as_slice())
 }
 
 // The line that the words before `as $x` spell. `Bad` where they spell no line that makes
@@ -131,9 +146,8 @@ pub(crate) fn meaning_of(
         return Ok(Meaning { line, alias: None });
     };
     let line = named_line(alloc, aliases, named.front)?;
-    let alias = Boxed::new(alloc, named.alias)?;
     Ok(Meaning {
         line,
-        alias: Some(alias),
+        alias: Some(Boxed::new(alloc, named.alias)?),
     })
 }

@@ -1,97 +1,108 @@
 //! Words in which aliases are replaced.
-ghost use Rattle.std.specs.Prelude.{◌≡◌, ℕ, List, [], IfOk, IfErr, OnOk, map};
+ghost use Rattle.std.specs.Prelude.{◌≡◌, ◌↔◌, ◌<◌, ◌≤◌, ◌+◌, ◌++◌, List, [], IfOk, IfErr, IfSome, IfNone, IsTrue, length, map, take};
+ghost use Rattle.std.specs.Bool.{MatchBool, OnFalse};
 ghost use Rattle.std.specs.List.{All, AllZip};
+ghost use Rattle.std.specs.String.{string_bytes};
 ghost use Rattle.fl_aliases.specs.Expansion.{Expands, NoDollar};
-ghost use Rattle.fl_script.specs.Reading.{SpellsReplaced};
-ghost use Rattle.fl_script.specs.declared.line.Line.{Line};
+ghost use Rattle.fl_aliases.specs.Words.{Word};
 ghost use Rattle.fl_script.specs.declared.unread.Unread.TheVariants.{Bad};
-ghost use Rattle.fl_script.specs.parts.Meaning.{replaced_bytes};
-ghost use Rattle.fl_script.specs.parts.Reads.{StarvesIf};
+ghost use Rattle.fl_script.specs.parts.Parts.{BuiltOf, CanPart, parts_of};
 
 use crate::cut::MOST_LINE_WORDS;
 use crate::unread::Unread;
 use arrayvec::ArrayVec;
-use fl_aliases::expand::{expand, has_dollar, kept_expansion};
+use fl_aliases::expand::{expand, kept_expansion};
 use fl_aliases::table::Aliases;
 use std::alloc::Global;
 
-// Room for what one alias stands for, beside the word that has it. Most words have one at most.
+// Room for what aliases stand for, beside the words that have them. Most lines have one such word.
 const ROOM: usize = 32;
 
-/// A word in which aliases are replaced.
-#[derive(Drop)]
-pub(crate) enum Replaced<'a> {
-    /// What is kept elsewhere: a word with no alias, or what the one that a word is stands for.
-    Kept(&'a str),
-    /// What another word becomes.
-    Text(String),
-}
-
-impl Replaced<'_> {
-    /// The bytes.
-    pub(crate) fn as_str(&self) -> &str
-        ensures { result.now ≡ replaced_bytes self.now }
-    {
-        match self {
-            Replaced::Kept(text) => text,
-            Replaced::Text(text) => text.as_str(),
-        }
-    }
-}
-
-impl<'a> Default for Replaced<'a> {
-    fn default() -> Replaced<'a> {
-        Replaced::Kept("")
-    }
-}
-
-// The word with each alias in it replaced. `Bad` where this cannot be done. Takes memory for a word
-// that has an alias and is not one.
-fn replaced_word<'a>(
-    alloc: Global,
-    aliases: &'a Aliases,
-    word: &'a str,
-) -> Result<Replaced<'a>, Unread>
-    ensures ok { IfOk result (λ text. Expands aliases.now word.now (replaced_bytes text)) }
-    ensures bad { IfErr result (λ e.
-        e ≡ Bad → (out : List ℕ) → Expands aliases.now word.now out → ⊥) }
-    ensures memory { StarvesIf result (¬ NoDollar word.now) }
+// Whether no `$` stands in the word. A search that is made for long texts costs more.
+fn is_plain(word: &str) -> bool
+    ensures { IsTrue result ↔ NoDollar word.now }
 {
-    // Most words with an alias are one.
-    if let Some(text) = kept_expansion(aliases, word) {
-        return Ok(Replaced::Kept(text));
-    }
-    if !has_dollar(word) {
-        return Ok(Replaced::Kept(word));
-    }
-    let mut text = String::with_capacity(alloc, word.len().saturating_add(ROOM))?;
-    if !expand(aliases, word, &mut text)? {
-        return Err(Unread::Bad);
-    }
-    Ok(Replaced::Text(text))
+    word.as_bytes().iter().all(|byte| *byte != b'$')
 }
 
-/// Adds the words with each alias in them replaced. `Bad` where this cannot be done, and where
-/// there are more than [`MOST_LINE_WORDS`]. Takes memory for each word that has an alias and is not
-/// one.
-pub(crate) fn replace_words<'a>(
-    alloc: Global,
+// What the word becomes, where this is kept elsewhere. `None` only of a word that has an alias.
+fn kept_word<'a>(aliases: &'a Aliases, word: &'a str) -> Option<&'a str>
+    ensures some { IfSome result (λ text. Expands aliases.now word.now text.now) }
+    ensures none { IfNone result (¬ NoDollar word.now) }
+{
+    if is_plain(word) {
+        return Some(word);
+    }
+    kept_expansion(aliases, word)
+}
+
+/// Adds what each word becomes, up to the first word of which this is not kept elsewhere, and
+/// answers whether there is no such word. Takes no memory.
+pub(crate) fn place_kept<'a>(
     aliases: &'a Aliases,
     words: &[&'a str],
-    replaced: &mut ArrayVec<Replaced<'a>, MOST_LINE_WORDS>,
-) -> Result<(), Unread>
-    requires { replaced.old.items ≡ [] }
-    ensures ok { let said = map (λ w. w.now) words.now in
-        OnOk result (AllZip (Expands aliases.now) said (map replaced_bytes replaced.new.items)) }
-    ensures bad { let said = map (λ w. w.now) words.now in
-        IfErr result (λ e. e ≡ Bad → (line : Line) → SpellsReplaced aliases.now line said → ⊥) }
-    ensures memory { StarvesIf result (¬ All NoDollar (map (λ w. w.now) words.now)) }
+    placed: &mut ArrayVec<&'a str, MOST_LINE_WORDS>,
+) -> bool
+    requires few { length words.now ≤ 8 }
+    requires empty { placed.old.items ≡ [] }
+    ensures kept { AllZip (Expands aliases.now)
+        (take (length placed.new.items) (map (λ w. w.now) words.now))
+        (map (λ w. w.now) placed.new.items) }
+    ensures count { MatchBool result (length placed.new.items ≡ length words.now)
+        (length placed.new.items < length words.now) }
+    ensures dollar { OnFalse result (¬ All NoDollar (map (λ w. w.now) words.now)) }
 {
     for word in words {
-        if replaced.is_full() {
+        let Some(text) = kept_word(aliases, word) else {
+            return false;
+        };
+        placed.push(text);
+    }
+    true
+}
+
+/// What the words become, one behind the other. Adds how long each is. `Bad` where a word becomes
+/// nothing. Takes memory for the text.
+pub(crate) fn build(
+    alloc: Global,
+    aliases: &Aliases,
+    words: &[&str],
+    lengths: &mut ArrayVec<usize, MOST_LINE_WORDS>,
+) -> Result<String, Unread>
+    requires few { length words.now ≤ 8 }
+    requires empty { lengths.old.items ≡ [] }
+    ensures ok { IfOk result (λ text. BuiltOf aliases.now (map (λ w. w.now) words.now)
+        lengths.new.items (string_bytes text)) }
+    ensures bad { let said = map (λ w. w.now) words.now in
+        IfErr result (λ e. e ≡ Bad → (texts : List Word) →
+        AllZip (Expands aliases.now) said texts → ⊥) }
+{
+    let mut text = String::with_capacity(alloc, ROOM)?;
+    for word in words {
+        let start = text.len();
+        if !expand(aliases, word, &mut text)? {
             return Err(Unread::Bad);
         }
-        replaced.push(replaced_word(alloc, aliases, word)?);
+        lengths.push(text.len() - start);
     }
-    Ok(())
+    Ok(text)
+}
+
+/// Adds the parts of the text that are so long.
+pub(crate) fn place_parts<'a>(
+    text: &'a str,
+    lengths: &[usize],
+    placed: &mut ArrayVec<&'a str, MOST_LINE_WORDS>,
+)
+    requires parts { CanPart lengths.now text.now }
+    requires room { length placed.old.items + length lengths.now ≤ 8 }
+    ensures { map (λ w. w.now) placed.new.items
+        ≡ map (λ w. w.now) placed.old.items ++ parts_of lengths.now text.now }
+{
+    let mut rest = text;
+    for length in lengths {
+        let (part, behind) = rest.split_at(*length);
+        placed.push(part);
+        rest = behind;
+    }
 }

@@ -1,8 +1,8 @@
 -- Words in which aliases are replaced one by one.
 use Rattle.std.proofs.Common.{◌≡◌, ◌<◌, ◌≤◌, ◌+◌, ℕ, List, map, Bor, [], ◌∷◌, ◌++◌, length, take, get_or, sym, ap, subst, refl, ◌∙◌, append-nil, take-append-drop, arith}
 use Rattle.std.specs.List.{All, AllZip}
-use Rattle.std.proofs.lemmas.List.{take_more, drop_all, length-map, length-take, get_or-map}
-use Rattle.std.proofs.lemmas.List.Elements.{All-head, All-tail, AllZip-get_or, length_all_zip}
+use Rattle.std.proofs.lemmas.List.{take_more, drop_all, length-map, get_or-map}
+use Rattle.std.proofs.lemmas.List.Elements.{All-head, All-tail, AllZip-get_or}
 use Rattle.fl_aliases.specs.Expansion.{Expands, NoDollar}
 use Rattle.fl_aliases.specs.Table.{Table}
 use Rattle.fl_aliases.specs.laws.Expanding.{plain_itself, plain_alone, one_expansion}
@@ -35,12 +35,6 @@ module _ (table : Table) where
       subst (λ ws. AllZip (Expands table) ws (texts ++ text ∷ [])) (sym (take_more said i [] within))
       (zip_more (Expands table) (take i said) texts (get_or said i []) text so_far
       (subst (λ w. Expands table w text) (sym (get_or-map (λ w. w.now) words i d [] inside)) more))
-
-  -- where so many are replaced and a word is left, there are more words
-  pub more_than : (words : List (Bor Word)) (i : ℕ) (texts : List Word) → i < length words → AllZip (Expands table) (take i (map (λ w. w.now) words)) texts → length texts < length (map (λ (w : Bor Word). w.now) words)
-  more_than words i texts inside so_far =
-      let said = map (λ (w : Bor Word). w.now) words in
-      omega (arith, inside, length-map {A = Bor Word} {B = Word} words (λ w. w.now), length-take i said, length_all_zip (Expands table) (take i said) texts so_far)
 
   -- all words are
   pub all_replaced : (words : List (Bor Word)) (n : ℕ) (texts : List Word) → length words ≤ n → AllZip (Expands table) (take n (map (λ w. w.now) words)) texts → AllZip (Expands table) (map (λ w. w.now) words) texts

@@ -1,7 +1,6 @@
 -- What the words of a line say, where aliases in them are replaced.
 use Rattle.std.specs.Prelude.{◌≡◌, ◌<◌, ◌⊎◌, ℕ, true, List, [], ◌∷◌, ◌++◌, length, codes}
 use Rattle.std.specs.List.{All}
-use Rattle.std.specs.String.{string_bytes}
 use Rattle.fl_aliases.specs.Alias.{IsAlias, alias_text}
 use Rattle.fl_aliases.specs.Expansion.{NoDollar}
 use Rattle.fl_aliases.specs.Table.{Table}
@@ -9,13 +8,6 @@ use Rattle.fl_aliases.specs.Words.{Word}
 use Rattle.fl_script.specs.Grammar.{HoldsList}
 use Rattle.fl_script.specs.Reading.{makes, SpellsReplaced}
 use Rattle.fl_script.specs.declared.line.Line.{Line}
-use Rattle.fl_script.specs.declared.replaced.Replaced.{Replaced}
-use Rattle.fl_script.specs.declared.replaced.Replaced.TheVariants.{Kept, Text}
-
--- the bytes of a word in which aliases are replaced
-abbrev pub replaced_bytes : Replaced → List ℕ
-replaced_bytes (Kept text) = text.now
-replaced_bytes (Text text) = string_bytes text
 
 -- the words are these, and then `as $x`
 pub record EndsInAlias (front : List Word) (alias : List ℕ) (words : List Word) : Type 0 where

@@ -1,7 +1,6 @@
-use Rattle.std.proofs.Common.{◌≡◌, ◌<◌, ◌≤◌, ◌∙◌, ℕ, List, Err, arith, refl, ap, inl, inr, length, map, rules, subst, sym}
+use Rattle.std.proofs.Common.{◌≡◌, ◌≤◌, ◌∙◌, ℕ, List, Err, arith, ap, inl, inr, length, map, rules, subst, sym}
 use Rattle.std.specs.Str.{IsAscii}
 use Rattle.std.proofs.lemmas.Str.{IsUtf8-from_ascii}
-use Rattle.fl_aliases.specs.Expansion.{NoDollar}
 use Rattle.fl_aliases.specs.Words.{words_of}
 use Rattle.fl_script.specs.Grammar.{HoldsList, Spells}
 use Rattle.fl_script.specs.Reading.{IsAsking, IsQuiet, WordsSay}
