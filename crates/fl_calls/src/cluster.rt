@@ -155,6 +155,7 @@ impl<M: MakesKeepers> Cluster<M> {
     }
 
     // Opens the node of this number where it is not there. An error leaves the world.
+    #[inline(always)]
     fn enter(&mut self, alloc: Global, number: NodeNumber) -> Result<(), Fault>
         requires { 0 < number }
         ensures goes { GoesOn M.K.custody M.making self.old self.new
