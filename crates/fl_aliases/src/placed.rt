@@ -52,7 +52,7 @@ fn endpoint_of(endpoint: Endpoint) -> ArrayString<MOST_TARGET_BYTES>
 {
     let mut text = ArrayString::new();
     text.push_str("e");
-    push_number(&mut text, u32::from(endpoint.number));
+    push_number(&mut text, endpoint.number);
     text
 }
 

@@ -122,10 +122,8 @@ pub fn read_endpoint(text: &str) -> Option<Endpoint>
     ensures { Finds result (λ endpoint. text.now ≡ endpoint_text endpoint) }
 {
     let number = number_of(behind(b'e', text.as_bytes())?)?;
-    if number > u32::from(LAST_ENDPOINT) {
+    if number > LAST_ENDPOINT {
         return None;
     }
-    Some(Endpoint {
-        number: number as u8,
-    })
+    Some(Endpoint { number })
 }

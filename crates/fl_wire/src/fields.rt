@@ -125,5 +125,8 @@ pub(crate) fn end_at(format: Format, bytes: &[u8], at: usize) -> Result<(Pid, En
 {
     let pid = pid_at(format, bytes, at)?;
     let number = byte_at(bytes, at + format.node_size() + 8, 1, 64)?;
-    Ok((pid, Endpoint { number }))
+    let endpoint = Endpoint {
+        number: u32::from(number),
+    };
+    Ok((pid, endpoint))
 }

@@ -27,7 +27,7 @@ fn push_end(out: &mut Vec<u8>, pid: Pid, endpoint: Endpoint) -> Result<(), Alloc
     out.extend_from_slice(&pid.node.to_be_bytes())?;
     out.extend_from_slice(&pid.boot.to_be_bytes())?;
     out.extend_from_slice(&pid.serial.to_be_bytes())?;
-    out.push(endpoint.number)?;
+    out.push(endpoint.number as u8)?;
     Ok(())
 }
 
