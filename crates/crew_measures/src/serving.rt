@@ -19,11 +19,11 @@ fn is_order(answer: Result<Answer, Fault>) -> Option<bool> {
 
 /// Does a job at the first desk of a node. An order is saved and published at once. Says whether it
 /// was admitted.
-pub fn is_done<K: Keeper>(alloc: Global, node: &mut Node<K>, job: Job) -> bool {
+pub fn is_done<K: Keeper>(alloc: Global, node: &mut Node<K>, mut job: Job) -> bool {
     if node.desks() == 0 {
         return false;
     }
-    match is_order(node.job(alloc, 1, u64::MAX, job)) {
+    match is_order(node.job(alloc, 1, u64::MAX, &mut job)) {
         Some(true) => node.save().is_ok() && node.publish(alloc).is_ok(),
         Some(false) => true,
         None => false,

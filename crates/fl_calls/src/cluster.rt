@@ -6,6 +6,7 @@ ghost use Rattle.fl_opset.specs.RegistryText.{registry_text};
 ghost use Rattle.fl_sink.specs.Sink.{Puts};
 ghost use Rattle.fl_system.specs.Numbered.{item_at};
 ghost use Rattle.fl_system.specs.World.{World as AnyWorld};
+ghost use Rattle.fl_system.specs.declared.event.Event.TheVariants as event;
 ghost use Rattle.fl_system.specs.WorldSteps.{node_of};
 ghost use Rattle.fl_node.specs.Over.{NodeOver};
 ghost use Rattle.fl_nodes.specs.Failing.{FailsIn, IsBrokenAt};
@@ -20,10 +21,12 @@ ghost use Rattle.fl_calls.specs.Calls.{brings_ops};
 ghost use Rattle.fl_calls.specs.parts.Coming.{coming, is_message, sent_at};
 
 use crate::asking::{check, tell, unite};
-use crate::completing::{arrival, come, complete, number_of};
+use crate::completing::{arrival, come, complete, complete_job, number_of};
 use crate::response::Response;
+use fl_jobs::job::Job;
 use fl_labels::name::NodeNumber;
 use fl_makers::maker::MakesKeepers;
+use fl_notes::working::Look;
 use fl_sink::sink::{Sink, WriteFault};
 use fl_sink::writer::Writer;
 use fl_system::answer::Fault;
@@ -188,6 +191,25 @@ impl<M: MakesKeepers> Cluster<M> {
         match self.enter(alloc, number_of(&event)) {
             Ok(()) => complete(alloc, &mut self.world, event),
             Err(fault) => turned_away(fault, event),
+        }
+    }
+
+    /// Has the node, which is opened where it is not there, do a job at a desk that looks at the
+    /// list up to a length, and save and publish what it begins, as `ask` has it. What is left of
+    /// the job says nothing.
+    #[inline(always)]
+    pub fn job(&mut self, alloc: Global, number: NodeNumber, look: Look, job: &mut Job) -> Reply
+        requires { 0 < number }
+        ensures goes { GoesOn M.K.custody M.making self.old self.new (λ openings w w'. Asks openings
+            w (event.Job number look.desk look.upto job.old) (replied result) w') }
+        ensures cause { result ≡ Reply.Refused Fault.KeeperFailed
+            → FailsOnceOpen M.K.custody M.making self.old self.new number
+            (λ between. FailsCompleting M.K.custody between.world self.new.world
+            (event.Job number look.desk look.upto job.old)) }
+    {
+        match self.enter(alloc, number) {
+            Ok(()) => complete_job(alloc, &mut self.world, number, look, job),
+            Err(fault) => Reply::Refused(fault),
         }
     }
 

@@ -8,7 +8,9 @@ ghost use Rattle.fl_calls.specs.Failing.{FailsCompleting};
 ghost use Rattle.fl_calls.specs.parts.Coming.{IsSentAs};
 
 use fl_jobs::answer::Refusal;
+use fl_jobs::job::Job;
 use fl_labels::name::NodeNumber;
+use fl_notes::working::Look;
 use fl_store::keeper::Keeper;
 use fl_system::answer::Fault;
 use fl_system::event::Event;
@@ -76,6 +78,28 @@ pub fn complete<K: Keeper>(alloc: Global, world: &mut World<K>, event: Event) ->
 {
     let number = number_of(&event);
     let reply = world.step(alloc, event);
+    if begins(&reply) {
+        return finish(alloc, world, number);
+    }
+    reply
+}
+
+/// Has the node do a job at a desk, and saves and publishes what it begins. Gives what the last of
+/// it is answered. What is left of the job says nothing.
+#[inline(always)]
+pub fn complete_job<K: Keeper>(
+    alloc: Global,
+    world: &mut World<K>,
+    number: NodeNumber,
+    look: Look,
+    job: &mut Job,
+) -> Reply
+    ensures goes { Goes K.custody world.old world.new
+        (λ w w'. Completes w (Event.Job number look.desk look.upto job.old) result w') }
+    ensures cause { result ≡ Reply.Refused Fault.KeeperFailed → FailsCompleting
+        K.custody world.old world.new (Event.Job number look.desk look.upto job.old) }
+{
+    let reply = world.job(alloc, number, look, job);
     if begins(&reply) {
         return finish(alloc, world, number);
     }

@@ -17,13 +17,17 @@ use fl_calls::response::Response as Said;
 use fl_jobs::job::{Act, Job};
 use fl_labels::name::NodeNumber;
 use fl_makers::maker::MakesKeepers;
+use fl_notes::working::Look;
 use fl_script::line::Line;
 use fl_script::request::Request;
 use fl_system::event::Event;
 use std::alloc::Global;
 
-/// The only desk of a node.
-const DESK: u8 = 1;
+/// What lines look at: all that is published, at the only desk of a node.
+pub const LOOK: Look = Look {
+    desk: 1,
+    upto: u64::MAX,
+};
 
 /// The job at the node's only desk, which looks at all that is published.
 pub fn job_at(node: NodeNumber, job: Job) -> Event
@@ -31,8 +35,8 @@ pub fn job_at(node: NodeNumber, job: Job) -> Event
 {
     Event::Job {
         node,
-        desk: DESK,
-        upto: u64::MAX,
+        desk: LOOK.desk,
+        upto: LOOK.upto,
         job,
     }
 }

@@ -12,7 +12,7 @@ ghost use Rattle.fl_cluster.specs.Shown.{shown, status_said};
 ghost use Rattle.fl_cluster.specs.parts.Answering.{IsRead, Names, NamesOrStarves};
 
 use crate::answers::write_response;
-use crate::asking::{job_at, respond_to};
+use crate::asking::{LOOK, respond_to};
 use crate::response::{Response, reply_status};
 use fl_aliases::alias::Alias;
 use fl_aliases::table::Aliases;
@@ -108,17 +108,17 @@ impl<M: MakesKeepers> Session<M> {
         &self.aliases
     }
 
-    // Does the job at the only desk of the node, as `Cluster::ask` has it.
+    // Does the job at the only desk of the node, as `Cluster::job` has it.
     #[inline(always)]
-    fn work(&mut self, alloc: Global, node: NodeNumber, job: Job) -> Reply
+    fn work(&mut self, alloc: Global, node: NodeNumber, job: &mut Job) -> Reply
         requires { 0 < node }
-        ensures names { Names M.K.custody M.making self.old
-            (Line.Node node (Request.Job job)) None (Response.Said (Said.Reply result)) self.new }
-        ensures cause { result ≡ Reply.Refused Fault.KeeperFailed
-            → FailsSaid M.K.custody M.making self.old.cluster self.new.cluster
-            (Line.Node node (Request.Job job)) }
+        ensures names { let line = Line.Node node (Request.Job job.old) in
+            Names M.K.custody M.making self.old line None (Response.Said (Said.Reply result)) self.new }
+        ensures cause { let line = Line.Node node (Request.Job job.old) in
+            result ≡ Reply.Refused Fault.KeeperFailed
+            → FailsSaid M.K.custody M.making self.old.cluster self.new.cluster line }
     {
-        self.cluster.ask(alloc, job_at(node, job))
+        self.cluster.job(alloc, node, LOOK, job)
     }
 
     // Answers the line of this number, of which this was read. Out of line, so that the way of a job
@@ -172,9 +172,9 @@ impl<M: MakesKeepers> Session<M> {
         match line {
             Line::Node {
                 node,
-                request: Request::Job(job),
+                request: Request::Job(mut job),
             } => {
-                let reply = self.work(alloc, node, job);
+                let reply = self.work(alloc, node, &mut job);
                 write_world_reply(&reply, sink, output)?;
                 Ok(reply_status(&reply))
             }

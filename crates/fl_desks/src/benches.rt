@@ -114,24 +114,24 @@ impl Benches {
 
     /// Does a job at its bench under what the desk sees, as [`Bench::job`] has it: who asks for it
     /// or receives has its bench, a new process is made on each in turn, and a question of groups
-    /// is asked at the first one.
+    /// is asked at the first one. The job is taken, and what is left of it says nothing.
     #[inline(always)]
     pub fn job(
         &mut self,
         alloc: Global,
         listing: &mut Listing,
         desk: u8,
-        job: Job,
+        job: &mut Job,
     ) -> Result<Outcome, Refusal>
         requires benches { 0 < length self.old.benches }
         requires desk { IsDesk listing.old desk }
         ensures does { (seen : _) → HasSeen listing.old desk seen
-            → DoesAt (first_ops seen listing.old.published) self.old job result self.new }
+            → DoesAt (first_ops seen listing.old.published) self.old job.old result self.new }
         ensures count { length self.new.benches ≡ length self.old.benches }
         ensures same { listing.new ≡ listing.old }
     {
-        let place = self.place(&job);
-        self.count(&job);
+        let place = self.place(job);
+        self.count(job);
         let bench = &mut self.all[place];
         listing.work(alloc, desk, bench, job)
     }

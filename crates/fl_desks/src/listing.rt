@@ -110,11 +110,11 @@ impl Listing {
         alloc: Global,
         desk: u8,
         bench: &mut Bench,
-        job: Job,
+        job: &mut Job,
     ) -> Result<Outcome, Refusal>
         requires { IsDesk self.old desk }
         ensures does { (seen : _) → HasSeen self.old desk seen
-            → Does (first_ops seen self.old.published) bench.old job result bench.new }
+            → Does (first_ops seen self.old.published) bench.old job.old result bench.new }
         ensures same { self.new ≡ self.old }
     {
         let it = &mut self.desks[desk as usize - 1];

@@ -6,6 +6,9 @@ use Rattle.fl_labels.specs.PidOrder.{pid_total, pid_exact}
 use Rattle.fl_labels.specs.declared.cap.Cap.{Cap}
 use Rattle.fl_labels.specs.declared.pid.Pid.{Pid}
 use Rattle.fl_bench.specs.declared.process.Process.{Process}
+use Rattle.fl_jobs.specs.declared.job.Job.{Job}
+use Rattle.fl_jobs.specs.declared.job.Job.TheVariants.{Arrive}
+use Rattle.fl_message.specs.declared.message.Data.{Data}
 use Rattle.fl_bench.specs.Gifts.{receives, settled}
 use Rattle.fl_mailbox.specs.laws.Tables.{put_same}
 
@@ -38,3 +41,12 @@ module _ (old m : map.FinMap pid_cmp Process) (pid : Pid) (held : old ≡ m) whe
       → map.insert old pid q ≡ receives m pid caps (map.get m pid)
   receives_there caps p q e settles =
       put q ∙ ap (map.insert m pid) settles ∙ sym (ap (receives m pid caps) (there p e))
+
+brought : Data → Job → Data
+brought other (Arrive d) = d
+brought other job = other
+
+-- one message comes by an arrival
+pub one_message : (job : Job) (d e : Data) → job ≡ Arrive d → job ≡ Arrive e → d ≡ e
+unfolding brought
+one_message job d e first second = ap (brought d) (sym first ∙ second)

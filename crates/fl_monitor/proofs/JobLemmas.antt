@@ -25,7 +25,7 @@ use Rattle.fl_bench.specs.Bench.{BenchState, IsNext, gone, has_at}
 use Rattle.fl_bench.specs.Jobs.{act_checks, bench_checks, checks, Answers, Does, serials_left}
 use Rattle.fl_bench.specs.declared.process.Holding.TheVariants.{Idle}
 use Rattle.fl_bench.specs.declared.process.Process.{Process}
-use Rattle.fl_monitor.specs.parts.Acts.{Acts, ActsAt, Births, Ends, Sequel, answered, bearing, Settles, Arrives, ArrivesAt}
+use Rattle.fl_monitor.specs.parts.Acts.{Acts, ActsAt, Births, Ends, Sequel, answered, Settles, Arrives, ArrivesAt}
 use Rattle.fl_monitor.proofs.ActLemmas.{act_busy, act_exit, passed_on, stays}
 
 same_refusal : {T : Type 0} {f g : Refusal} → ◌≡◌ {A = Result T Refusal} (Err f) (Err g) → f ≡ g

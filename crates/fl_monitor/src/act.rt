@@ -12,11 +12,12 @@ use crate::relabel::relabel;
 use fl_bench::orders::body_of_order;
 use fl_bench::process::{Holding, Process};
 use fl_jobs::answer::{Outcome, Refusal, Reply};
-use fl_jobs::job::Act;
+use fl_jobs::job::{Act, Mail};
 use fl_labels::pid::Pid;
 use fl_message::boxed::Boxed;
 use fl_ops::view::View;
 use std::alloc::Global;
+use std::mem::replace;
 
 /// What is answered to a question.
 pub(crate) fn reply_of(yes: bool) -> Reply
@@ -32,11 +33,11 @@ pub(crate) fn act_alone<V: View>(
     alloc: Global,
     view: &mut V,
     pid: Pid,
-    act: Act,
+    act: &mut Act,
 ) -> Result<Outcome, Refusal>
-    requires { IsAnswered act }
+    requires { IsAnswered act.old }
     ensures acts { let registry = Listed (V.list view.old) in
-        Acts registry pid process.old act (answered result) process.new }
+        Acts registry pid process.old act.old (answered result) process.new }
     ensures same { view.new ≡ view.old }
 {
     let Holding::Idle(owned) = &mut process.owned else {
@@ -44,8 +45,8 @@ pub(crate) fn act_alone<V: View>(
     };
     match act {
         Act::Order(order) => {
-            check(view, owned.caps(), Demand::Order(order))?;
-            let Ok(body) = Boxed::new(alloc, body_of_order(order)) else {
+            check(view, owned.caps(), Demand::Order(*order))?;
+            let Ok(body) = Boxed::new(alloc, body_of_order(*order)) else {
                 return Err(Refusal::Memory);
             };
             let Ok(()) = process.owned.begin(alloc) else {
@@ -56,31 +57,42 @@ pub(crate) fn act_alone<V: View>(
         Act::Relabel(side, label) => {
             let endpoints = &process.mailbox.endpoints;
             let labels = &mut process.labels;
-            relabel(view, owned.caps(), endpoints, labels, side, label)
+            relabel(view, owned.caps(), endpoints, labels, *side, label)
         }
         Act::Ask(cap) => {
-            let reply = reply_of(view.effective(owned.caps(), cap));
+            let reply = reply_of(view.effective(owned.caps(), *cap));
             Ok(Outcome::Reply(reply))
         }
         Act::Spawn(_) | Act::Exit => unreachable!("the bench does it"),
         Act::Drop(cap) => {
             let endpoints = &process.mailbox.endpoints;
             let labels = process.labels.lend();
-            drop_cap(view, labels, endpoints, owned, cap)
+            drop_cap(view, labels, endpoints, owned, *cap)
         }
-        Act::Enter(login, secret) => enter(view, owned, login, secret),
-        Act::Emit(bytes) => {
+        Act::Enter(login, secret) => enter(view, owned, *login, *secret),
+        Act::Emit(_) => {
             check(
                 view,
                 owned.caps(),
                 Demand::Emission(&process.labels.secrecy),
             )?;
+            let Act::Emit(bytes) = replace(act, Act::Exit) else {
+                unreachable!("it is an emission")
+            };
             Ok(Outcome::Reply(Reply::Emitted(bytes)))
         }
         Act::Mail(mail) => {
             let mailbox = &mut process.mailbox;
             let labels = process.labels.lend();
-            do_mail(alloc, view, pid, owned.caps(), labels, mailbox, mail)
+            do_mail(
+                alloc,
+                view,
+                pid,
+                owned.caps(),
+                labels,
+                mailbox,
+                replace(mail, Mail::Take),
+            )
         }
     }
 }

@@ -8,7 +8,7 @@ ghost use Rattle.fl_bench.specs.Bench.{new_bench};
 ghost use Rattle.fl_bench.specs.Jobs.{Does};
 ghost use Rattle.fl_bench.specs.Process.{newborn, standing_at};
 ghost use Rattle.fl_bench.specs.Orderly.{IsOrderly};
-ghost use Rattle.fl_monitor.specs.parts.Acts.{Births};
+ghost use Rattle.fl_monitor.specs.parts.Acts.{Births, IsAnswered};
 ghost use Rattle.fl_bench.specs.Gifts.{finished, cancelled};
 
 use crate::act::reply_of;
@@ -25,6 +25,7 @@ use fl_ops::op::Op;
 use fl_ops::view::View;
 use std::alloc::{AllocError, Global};
 use std::marker::Model;
+use std::mem::replace;
 
 /// One of a node's benches: its processes, and the serial of the next.
 #[derive(Drop)]
@@ -135,14 +136,17 @@ impl Bench {
         self.bear(Boxed::new(alloc, Process::new(alloc)))
     }
 
-    // Does what one process asks for, and what follows.
-    fn act<V: View>(
+    // Has the process bear one, or ends it. Out of line, so that the way of most jobs has no room for
+    // a child.
+    #[inline(never)]
+    fn live<V: View>(
         &mut self,
         alloc: Global,
         view: &mut V,
         pid: Pid,
         act: Act,
     ) -> Result<Outcome, Refusal>
+        requires { ¬ IsAnswered act }
         ensures does { Does (Listed (V.list view.old)) self.old (By pid act) result self.new }
         ensures same { view.new ≡ view.old }
     {
@@ -155,7 +159,25 @@ impl Bench {
                 self.processes.end(pid)?;
                 Ok(Outcome::Reply(Reply::Done))
             }
-            alone => self.processes.act(alloc, view, pid, alone),
+            _ => unreachable!("a process does it by itself"),
+        }
+    }
+
+    // Does what one process asks for, and what follows.
+    #[inline(always)]
+    fn act<V: View>(
+        &mut self,
+        alloc: Global,
+        view: &mut V,
+        pid: Pid,
+        act: &mut Act,
+    ) -> Result<Outcome, Refusal>
+        ensures does { Does (Listed (V.list view.old)) self.old (By pid act.old) result self.new }
+        ensures same { view.new ≡ view.old }
+    {
+        match act {
+            Act::Spawn(_) | Act::Exit => self.live(alloc, view, pid, replace(act, Act::Exit)),
+            _ => self.processes.act(alloc, view, pid, act),
         }
     }
 
@@ -194,20 +216,22 @@ impl Bench {
     /// a birth, an emission, an endpoint and a message ask the view once for each tag or capability
     /// that they take, and twice for a tag that has to be both added and removed; any other job
     /// asks it two questions at most. A message that comes looks along the labels of both ends.
+    ///
+    /// What the job brings is taken out of it, so that what is left of it says nothing.
     pub fn job<V: View>(
         &mut self,
         alloc: Global,
         view: &mut V,
-        job: Job,
+        job: &mut Job,
     ) -> Result<Outcome, Refusal>
-        ensures does { Does (Listed (V.list view.old)) self.old job result self.new }
+        ensures does { Does (Listed (V.list view.old)) self.old job.old result self.new }
         ensures same { view.new ≡ view.old }
     {
         match job {
             Job::Proc => self.proc(alloc),
-            Job::By(pid, act) => self.act(alloc, view, pid, act),
-            Job::Member(root, cap) => Ok(Outcome::Reply(reply_of(view.reaches(root, cap)))),
-            Job::Arrive(data) => self.processes.arrive(data),
+            Job::By(pid, act) => self.act(alloc, view, *pid, act),
+            Job::Member(root, cap) => Ok(Outcome::Reply(reply_of(view.reaches(*root, *cap)))),
+            Job::Arrive(_) => self.processes.arrive(replace(job, Job::Proc)),
         }
     }
 

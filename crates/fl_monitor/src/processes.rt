@@ -2,8 +2,10 @@
 ghost use Rattle.std.specs.Option.{option_copied};
 ghost use Rattle.std.specs.Prelude.{◌≡◌, [], IfOk, OnOk, OnErr, IsSome};
 ghost use Rattle.std.specs.FinMap as map;
+ghost use Rattle.fl_message.specs.declared.message.Data.{Data};
 ghost use Rattle.fl_ops.specs.Registry.{Listed};
 ghost use Rattle.fl_jobs.specs.declared.job.Act.TheVariants.{Spawn};
+ghost use Rattle.fl_jobs.specs.declared.job.Job.TheVariants.{Arrive};
 ghost use Rattle.fl_monitor.specs.parts.Acts.{ActsAt, ArrivesAt, Ends, IsAnswered, answered, bearing};
 ghost use Rattle.fl_bench.specs.Gifts.{given, receives};
 ghost use Rattle.fl_bench.specs.Process.{standing_at};
@@ -16,11 +18,10 @@ use fl_bench::process::{Holding, Process};
 use fl_bench::shared::Shared;
 use fl_bench::standing::Standing;
 use fl_jobs::answer::{Outcome, Refusal};
-use fl_jobs::job::Act;
+use fl_jobs::job::{Act, Job};
 use fl_labels::cap_set::CapSet;
 use fl_labels::pid::Pid;
 use fl_message::boxed::Boxed;
-use fl_message::message::Data;
 use fl_ops::op::Op;
 use fl_ops::view::View;
 use std::alloc::{AllocError, Global};
@@ -114,11 +115,11 @@ impl Processes {
         alloc: Global,
         view: &mut V,
         pid: Pid,
-        act: Act,
+        act: &mut Act,
     ) -> Result<Outcome, Refusal>
-        requires { IsAnswered act }
+        requires { IsAnswered act.old }
         ensures acts { let registry = Listed (V.list view.old) in
-            ActsAt registry self.old pid act (answered result) self.new }
+            ActsAt registry self.old pid act.old (answered result) self.new }
         ensures same { view.new ≡ view.old }
     {
         let Some(process) = self.all.get_mut(pid) else {
@@ -140,11 +141,15 @@ impl Processes {
         Ok(Some(process.share(alloc)?))
     }
 
-    /// Brings a message to its receiver.
+    /// Brings the message of an arrival to its receiver.
     #[inline(never)]
-    pub fn arrive(&mut self, data: Boxed<Data>) -> Result<Outcome, Refusal>
-        ensures { ArrivesAt self.old «data» result self.new }
+    pub fn arrive(&mut self, arrival: Job) -> Result<Outcome, Refusal>
+        requires { (d : Data) × (arrival ≡ Arrive d) }
+        ensures { (d : Data) → arrival ≡ Arrive d → ArrivesAt self.old d result self.new }
     {
+        let Job::Arrive(data) = arrival else {
+            unreachable!("a message arrives")
+        };
         let data = data.into_inner();
         let Some(process) = self.all.get_mut(data.receiver) else {
             return Err(Refusal::NoProcess(data.receiver));

@@ -13,6 +13,7 @@ use fl_labels::label::Label;
 use fl_mailbox::endpoints::Endpoints;
 use fl_ops::view::View;
 use fl_rules::labels::{Labels, LabelsRef};
+use std::mem::swap;
 
 fn label_of(labels: &Labels, side: Side) -> &Label
     ensures { result.now ≡ side_of side labels.now }
@@ -39,12 +40,13 @@ fn with_label<'a>(labels: &'a Labels, side: Side, label: &'a Label) -> LabelsRef
     }
 }
 
-fn set_label(labels: &mut Labels, side: Side, label: Label)
-    ensures { labels.new ≡ with_side side label labels.old }
+// Sets the label, and leaves the one that was there.
+fn set_label(labels: &mut Labels, side: Side, label: &mut Label)
+    ensures { labels.new ≡ with_side side label.old labels.old }
 {
     match side {
-        Side::Secrecy => labels.secrecy = label,
-        Side::Integrity => labels.integrity = label,
+        Side::Secrecy => swap(&mut labels.secrecy, label),
+        Side::Integrity => swap(&mut labels.integrity, label),
     }
 }
 
@@ -57,18 +59,18 @@ pub(crate) fn relabel<V: View>(
     endpoints: &Endpoints,
     labels: &mut Labels,
     side: Side,
-    label: Result<Label, TooLong>,
+    label: &mut Result<Label, TooLong>,
 ) -> Result<Outcome, Refusal>
     ensures relabels { let registry = Listed (V.list view.old) in
-        Relabels registry owned.now endpoints.now labels.old side label result labels.new }
+        Relabels registry owned.now endpoints.now labels.old side label.old result labels.new }
     ensures same { view.new ≡ view.old }
 {
     let Ok(label) = label else {
         return Err(Refusal::LabelTooLong);
     };
     let old = label_of(labels, side);
-    check(view, owned, Demand::Change(old, &label))?;
-    let as_changed = with_label(labels, side, &label);
+    check(view, owned, Demand::Change(old, label))?;
+    let as_changed = with_label(labels, side, label);
     check_endpoints(view, owned, as_changed, endpoints)?;
     set_label(labels, side, label);
     Ok(Outcome::Reply(Reply::Done))

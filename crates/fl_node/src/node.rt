@@ -32,7 +32,7 @@ use fl_bench::standing::Standing;
 use fl_desks::benches::Benches;
 use fl_desks::listing::Listing;
 use fl_jobs::answer::{Outcome, Refusal};
-use fl_jobs::job::{Job, let_go};
+use fl_jobs::job::Job;
 use fl_labels::name::{Name, NodeNumber};
 use fl_labels::pid::Pid;
 use fl_ops::op::{Body, Op};
@@ -236,11 +236,11 @@ impl<K: Keeper> Node<K> {
     }
 
     // Does a job at its bench, under what the desk sees. An order begins its operation.
-    fn work(&mut self, alloc: Global, desk: u8, job: Job) -> Result<Answer, Fault>
+    fn work(&mut self, alloc: Global, desk: u8, job: &mut Job) -> Result<Answer, Fault>
         requires { IsDeskOf self.old.node desk }
         ensures desks { length self.new.node.views ≡ length self.old.node.views }
         ensures works { (seen : _) → item_at self.old.node.views desk ≡ Some seen
-            → WorksAt self.old.node desk seen job result self.new.node }
+            → WorksAt self.old.node desk seen job.old result self.new.node }
         ensures keeper { self.new.keeper ≡ self.old.keeper }
     {
         match self.benches.job(alloc, &mut self.listing, desk, job) {
@@ -258,19 +258,21 @@ impl<K: Keeper> Node<K> {
     /// stopped node answers `Stopped`, and `Memory` comes too where the desk is to see more and
     /// there is no room for that: the desk and the benches are then as before. Costs what the bench
     /// does, and for each operation that the desk has not seen what `Desk::rise` does.
-    pub fn job(&mut self, alloc: Global, desk: u8, upto: u64, job: Job) -> Result<Answer, Fault>
+    pub fn job(
+        &mut self,
+        alloc: Global,
+        desk: u8,
+        upto: u64,
+        job: &mut Job,
+    ) -> Result<Answer, Fault>
         requires { IsDeskOf self.old.node desk }
         ensures desks { length self.new.node.views ≡ length self.old.node.views }
-        ensures job { Jobs self.old.node desk upto job result self.new.node }
+        ensures job { Jobs self.old.node desk upto job.old result self.new.node }
         ensures keeper { self.new.keeper ≡ self.old.keeper }
     {
-        if let Err(fault) = running(&self.state) {
-            let_go(job);
-            return Err(fault);
-        }
+        running(&self.state)?;
         let Ok(()) = self.listing.look(alloc, desk, upto) else {
-            self.benches.count(&job);
-            let_go(job);
+            self.benches.count(job);
             return Err(Fault::Refused(Refusal::Memory));
         };
         self.work(alloc, desk, job)

@@ -32,10 +32,10 @@ fn says(
     alloc: Global,
     bench: &mut Bench,
     desk: &mut Desk,
-    job: Job,
+    mut job: Job,
     wanted: Result<Outcome, Refusal>,
 ) -> bool {
-    bench.job(alloc, desk, job) == wanted
+    bench.job(alloc, desk, &mut job) == wanted
 }
 
 // Whether the process is made.

@@ -39,11 +39,11 @@ pub fn opened(alloc: Global, keeper: MemKeeper, number: NodeNumber) -> Result<No
 }
 
 /// What the node answers to a job at its first desk, which looks at the whole list.
-pub fn asked(alloc: Global, node: &mut Node<MemKeeper>, job: Job) -> Result<Answer, Fault> {
+pub fn asked(alloc: Global, node: &mut Node<MemKeeper>, mut job: Job) -> Result<Answer, Fault> {
     if node.desks() == 0 {
         return Err(Fault::Stopped);
     }
-    node.job(alloc, 1, u64::MAX, job)
+    node.job(alloc, 1, u64::MAX, &mut job)
 }
 
 /// Whether the node is asked for a process, and makes this one.

@@ -12,7 +12,7 @@ ghost use Rattle.fl_nodes.specs.parts.There.{IsNoSuch, IsThere};
 ghost use Rattle.fl_nodes.specs.parts.Published.{published_reply};
 
 use crate::highest::raised;
-use fl_jobs::job::{Job, let_go};
+use fl_jobs::job::Job;
 use fl_labels::name::NodeNumber;
 use fl_node::node::Node;
 use fl_notes::working::{Look, work};
@@ -217,17 +217,15 @@ impl<K: Keeper> Nodes<K> {
     /// Refused with `Memory` too where there is no room for what would be noted or sent, and never
     /// with `KeeperFailed`. For a job of which something is noted the labels of the process, and
     /// what it owns, are copied where one of them has changed since it was noted last.
-    pub fn job(&mut self, alloc: Global, number: NodeNumber, look: Look, job: Job) -> Reply
+    pub fn job(&mut self, alloc: Global, number: NodeNumber, look: Look, job: &mut Job) -> Reply
         ensures goes { Goes K.custody self.old self.new
-            (λ w w'. Step w (event.Job number look.desk look.upto job) result w') }
+            (λ w w'. Step w (event.Job number look.desk look.upto job.old) result w') }
         ensures cause { result ≢ Reply.Refused Fault.KeeperFailed }
     {
         let Some(node) = self.all.get_mut(&number) else {
-            let_go(job);
             return Reply::NoSuch;
         };
-        if lacks(node, look.desk, &job) {
-            let_go(job);
+        if lacks(node, look.desk, job) {
             return Reply::NoSuch;
         }
         work(

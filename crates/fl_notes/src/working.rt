@@ -21,7 +21,7 @@ use fl_bench::process::Process;
 use fl_bench::shared::Shared;
 use fl_bench::standing::Standing;
 use fl_jobs::answer::Refusal;
-use fl_jobs::job::{Act, Job, Mail, let_go};
+use fl_jobs::job::{Act, Job, Mail};
 use fl_labels::name::NodeNumber;
 use fl_node::node::Node;
 use fl_rules::endpoint::Mode;
@@ -279,23 +279,20 @@ fn send<K: Keeper>(
     number: NodeNumber,
     node: &mut Node<K>,
     look: Look,
-    job: Job,
+    job: &mut Job,
     audit: &mut Vec<Admission>,
     sent: &mut Vec<Sent>,
 ) -> Reply
     requires { IsDeskOf node.old.node look.desk }
-    ensures works { Worked number node.old.node look.desk look.upto job result node.new.node
+    ensures works { Worked number node.old.node look.desk look.upto job.old result node.new.node
         sent.old.items sent.new.items audit.old.items audit.new.items }
     ensures desks { length node.new.node.views ≡ length node.old.node.views }
     ensures keeper { node.new.keeper ≡ node.old.keeper }
 {
     let from = audit.len();
-    let Sending { draft, sender } = match prepare_sending(alloc, node, &job, audit, sent) {
+    let Sending { draft, sender } = match prepare_sending(alloc, node, job, audit, sent) {
         Ok(made) => made,
-        Err(fault) => {
-            let_go(job);
-            return Reply::Refused(fault);
-        }
+        Err(fault) => return Reply::Refused(fault),
     };
     match node.job(alloc, look.desk, look.upto, job) {
         Ok(answer) => {
@@ -318,26 +315,23 @@ pub fn work<K: Keeper>(
     number: NodeNumber,
     node: &mut Node<K>,
     look: Look,
-    job: Job,
+    job: &mut Job,
     audit: &mut Vec<Admission>,
     sent: &mut Vec<Sent>,
 ) -> Reply
     requires { IsDeskOf node.old.node look.desk }
-    ensures works { Worked number node.old.node look.desk look.upto job result node.new.node
+    ensures works { Worked number node.old.node look.desk look.upto job.old result node.new.node
         sent.old.items sent.new.items audit.old.items audit.new.items }
     ensures desks { length node.new.node.views ≡ length node.old.node.views }
     ensures keeper { node.new.keeper ≡ node.old.keeper }
 {
-    if sends(&job) {
+    if sends(job) {
         return send(alloc, number, node, look, job, audit, sent);
     }
     let from = audit.len();
-    let draft = match prepare(alloc, node, &job, audit) {
+    let draft = match prepare(alloc, node, job, audit) {
         Ok(draft) => draft,
-        Err(fault) => {
-            let_go(job);
-            return Reply::Refused(fault);
-        }
+        Err(fault) => return Reply::Refused(fault),
     };
     match node.job(alloc, look.desk, look.upto, job) {
         Ok(answer) => {

@@ -5,7 +5,7 @@ ghost use Rattle.fl_bench.specs.Jobs.{Does};
 ghost use Rattle.fl_replica.specs.Boards.{StartsWith};
 
 use fl_jobs::answer::{Outcome, Refusal};
-use fl_jobs::job::{Job, let_go};
+use fl_jobs::job::Job;
 use fl_monitor::bench::Bench;
 use fl_replica::desk::Desk;
 use std::alloc::Global;
@@ -16,7 +16,7 @@ pub(crate) fn decide(
     alloc: Global,
     desk: Desk,
     bench: &mut Bench,
-    job: Job,
+    mut job: Job,
 ) -> (Desk, Option<Result<Outcome, Refusal>>)
     ensures board { result.0.board ≡ desk.board }
     ensures later { StartsWith result.0.list desk.list }
@@ -25,12 +25,9 @@ pub(crate) fn decide(
 {
     match desk.look() {
         Ok(mut look) => {
-            let result = bench.job(alloc, &mut look, job);
+            let result = bench.job(alloc, &mut look, &mut job);
             (look.done(), Some(result))
         }
-        Err(desk) => {
-            let_go(job);
-            (desk, None)
-        }
+        Err(desk) => (desk, None),
     }
 }

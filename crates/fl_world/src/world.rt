@@ -175,9 +175,9 @@ impl<K: Keeper> World<K> {
 
     /// Has the node do a job at a desk, which first looks at the list up to a length, as
     /// `Nodes::job` has it. What the job lets pass is noted.
-    pub fn job(&mut self, alloc: Global, number: NodeNumber, look: Look, job: Job) -> Reply
+    pub fn job(&mut self, alloc: Global, number: NodeNumber, look: Look, job: &mut Job) -> Reply
         ensures goes { Goes K.custody self.old self.new
-            (λ w w'. Step w (event.Job number look.desk look.upto job) result w') }
+            (λ w w'. Step w (event.Job number look.desk look.upto job.old) result w') }
         ensures cause { result ≢ replies.Refused Fault.KeeperFailed }
     {
         self.nodes.job(alloc, number, look, job)
@@ -253,8 +253,8 @@ impl<K: Keeper> World<K> {
                 node,
                 desk,
                 upto,
-                job,
-            } => self.job(alloc, node, Look { desk, upto }, job),
+                mut job,
+            } => self.job(alloc, node, Look { desk, upto }, &mut job),
             Event::Save(node) => self.save(node),
             Event::Publish(node) => self.publish(alloc, node),
             Event::Cancel(node) => self.cancel(node),

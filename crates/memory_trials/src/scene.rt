@@ -91,11 +91,11 @@ pub fn stands(node: &MemNode, saved: &[Op], published: &[Op], stage: Stage) -> b
 }
 
 /// What the node answers to a job at its desk, which first looks at the list up to a length.
-pub fn asked(alloc: Global, node: &mut MemNode, upto: u64, job: Job) -> Result<Answer, Fault> {
+pub fn asked(alloc: Global, node: &mut MemNode, upto: u64, mut job: Job) -> Result<Answer, Fault> {
     if node.desks() == 0 {
         return Err(Fault::Stopped);
     }
-    node.job(alloc, 1, upto, job)
+    node.job(alloc, 1, upto, &mut job)
 }
 
 // Has the node save and publish the few operations.

@@ -57,12 +57,12 @@ fn expected(answer: Reply, wanted: Reply) -> Result<(), NotBegun> {
 }
 
 // What node 1 answers to a job.
-fn asked(alloc: Global, world: &mut MemWorld, job: Job) -> Reply {
+fn asked(alloc: Global, world: &mut MemWorld, mut job: Job) -> Reply {
     let look = Look {
         desk: 1,
         upto: u64::MAX,
     };
-    world.job(alloc, 1, look, job)
+    world.job(alloc, 1, look, &mut job)
 }
 
 // The node joins over a keeper of nothing.

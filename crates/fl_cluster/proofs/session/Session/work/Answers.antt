@@ -11,11 +11,11 @@ pub returns-clause-names : goal.returns-clause-names
 returns-clause-names g c =
     rw (← c.self.view_is) (names_none g.M.K.Keeper.custody g.M.MakesKeepers.making
     (record { cluster = c.self.inside.cluster; aliases = c.self.inside.aliases })
-    (record { cluster = c.ask.new.self; aliases = c.self.inside.aliases })
-    (line.Node c.args.node (requests.Job c.args.job)) (response.Said (calls.Reply c.ask.result)) refl
-    (responds_asked g.M.K.Keeper.custody g.M.MakesKeepers.making _ _ c.args.node (requests.Job c.args.job) (calls.Reply c.ask.result)
-    (rw c.job_at.ensures at c.ask.ensures.goes)))
+    (record { cluster = c.job.new.self; aliases = c.self.inside.aliases })
+    (line.Node c.args.node (requests.Job c.args.job.now)) (response.Said (calls.Reply c.job.result)) refl
+    (responds_asked g.M.K.Keeper.custody g.M.MakesKeepers.making _ _ c.args.node (requests.Job c.args.job.now) (calls.Reply c.job.result)
+    c.job.ensures.goes))
 
 pub returns-clause-cause : goal.returns-clause-cause
 returns-clause-cause g c failed =
-    rw (← c.self.view_is) (asked_job g.M.K.Keeper.custody g.M.MakesKeepers.making _ _ _ _ _ ((rw c.job_at.ensures at c.ask.ensures.cause) failed))
+    rw (← c.self.view_is) (asked_job g.M.K.Keeper.custody g.M.MakesKeepers.making _ _ _ _ _ (c.job.ensures.cause failed))

@@ -13,9 +13,9 @@ returns-clause-does c seen at =
     record {
       bench = bench;
       left = c.work.new.bench;
-      stands = item_here _ c.place-place.result (bench_at c.args.self.now c.args.job) bench c.place-place.ensures.place c.place-place.ensures.within stands;
+      stands = item_here _ c.place-place.result (bench_at c.args.self.now c.args.job.now) bench c.place-place.ensures.place c.place-place.ensures.within stands;
       does = c.work.ensures.does seen at;
-      leaves = with_here c.args.self.now c.self.inside.next c.self.inside.all.items c.place-place.result c.args.job c.work.new.bench c.place-place.ensures.place same;
+      leaves = with_here c.args.self.now c.self.inside.next c.self.inside.all.items c.place-place.result c.args.job.now c.work.new.bench c.place-place.ensures.place same;
     }
 
 pub returns-clause-count : goal.returns-clause-count

@@ -1,3 +1,4 @@
+use Rattle.std.proofs.Common.{◌∙◌}
 use Rattle.fl_monitor.proofs.JobLemmas.{births_does, arrives_does, reaches_does}
 use Rattle.fl_monitor.proofs.ActLemmas.{answers_of}
 use Rattle.fl_monitor.proofs.Kept.{arrives_kept}
@@ -12,8 +13,11 @@ returns-in-By-clause-does g c = rw c.in-By.is c.act.ensures.does
 pub returns-in-Member-clause-does : goal.returns-in-Member-clause-does
 returns-in-Member-clause-does g c = rw c.in-Member.is (reaches_does _ c.args.self.now c.in-Member.root c.in-Member.cap _ (answers_of c.reaches.result _ c.reply_of.ensures c.reaches.ensures.answer))
 
+pub arrive-requires : goal.arrive-requires
+arrive-requires g c = (_, c.replace.ensures.value ∙ c.in-Arrive.is)
+
 pub returns-in-Arrive-clause-does : goal.returns-in-Arrive-clause-does
-returns-in-Arrive-clause-does g c = rw c.in-Arrive.is (arrives_does _ _ c.args.self.now c.self.view_is _ c.arrive.ensures)
+returns-in-Arrive-clause-does g c = rw c.in-Arrive.is (arrives_does _ _ c.args.self.now c.self.view_is _ (c.arrive.ensures _ (c.replace.ensures.value ∙ c.in-Arrive.is)))
 
 pub invariant_of-self : goal.invariant_of-self
-invariant_of-self g c = let i = c.self.invariant in (i.0, (i.1.0, arrives_kept i.1.1 c.arrive.ensures))
+invariant_of-self g c = let i = c.self.invariant in (i.0, (i.1.0, arrives_kept i.1.1 (c.arrive.ensures _ (c.replace.ensures.value ∙ c.in-Arrive.is))))

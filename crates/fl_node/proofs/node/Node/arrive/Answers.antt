@@ -12,16 +12,16 @@ returns-in_err-running-clause-arrives g c =
     rw (p.1, p.2, ← c.self.view_is) (Arrives.stopped c.in_err-running.ensures.err)
 
 pub invariant_of-self : goal.invariant_of-self
-invariant_of-self g c = rw c.job.ensures.same (counts_on c.self.inside.state _ _ refl c.job.ensures.count c.self.invariant)
+invariant_of-self g c = rw c.hand.ensures.same (counts_on c.self.inside.state _ _ refl c.hand.ensures.count c.self.invariant)
 
 pub returns-clause-arrives : goal.returns-clause-arrives
 returns-clause-arrives g c =
     let v = has_view _ 1 (rw (← c.self.view_is) at c.requires) in
-    elim c.match-job.branch [
+    elim c.match-hand.branch [
       | in-Ok-Reply w ↦
           let does = rw w.in-Ok-Reply.field-0-is at w.in-Ok-Reply.ensures.does in
-          rw (w.result-is, ← c.self.view_is, c.job.ensures.same) (arrives_by _ _ _ c.in_ok-running.ensures.ok _ _ (does v.seen v.at))
-      | in-Err w ↦ rw (w.result-is, ← c.self.view_is, c.job.ensures.same) (not_arrived_by _ _ _ c.in_ok-running.ensures.ok _ _ (w.in-Err.ensures.does v.seen v.at))
+          rw (w.result-is, ← c.self.view_is, c.hand.ensures.same) (arrives_by _ _ _ c.in_ok-running.ensures.ok _ _ (does v.seen v.at))
+      | in-Err w ↦ rw (w.result-is, ← c.self.view_is, c.hand.ensures.same) (not_arrived_by _ _ _ c.in_ok-running.ensures.ok _ _ (w.in-Err.ensures.does v.seen v.at))
     ]
 
 pub unreachable-requires : goal.unreachable-requires

@@ -13,20 +13,20 @@ use Rattle.fl_nodes.proofs.nodes.Nodes.job.Goals as goal
 
 pub returns-in_default-clause-goes : goal.returns-in_default-clause-goes
 returns-in_default-clause-goes g c =
-    no_such_left g.K.Keeper.custody c.args.self.now _ (event.Job c.args.number c.args.look.desk c.args.look.upto c.args.job)
+    no_such_left g.K.Keeper.custody c.args.self.now _ (event.Job c.args.number c.args.look.desk c.args.look.upto c.args.job.now)
     (unchanged c.self.inside.all.entries _ c.self.inside.sent.items c.self.inside.audit.items c.args.self.now c.self.view_is (ap (λ (t : BTreeMap ℕ (NodeOver g.row.K.Denot)). t.entries) c.get_mut.follows.holds-at-none))
     (sym (held c.self.inside.all.entries c.self.inside.all.entries c.self.inside.sent.items c.self.inside.audit.items c.args.self.now c.self.view_is c.args.number) ∙ sym c.in_default.ensures.value)
 
 pub returns-then-lacks-clause-goes : goal.returns-then-lacks-clause-goes
 returns-then-lacks-clause-goes g c =
     no_such_job g.K.Keeper.custody c.self.inside.all.entries _ c.self.inside.sent.items c.self.inside.audit.items c.args.self.now c.self.view_is
-    c.args.number c.args.look.desk c.args.look.upto c.args.job c.in-Some.node.now c.in-Some.node.now (sym c.in-Some.ensures.value) (c.get_mut.follows.holds c.in-Some.node.now).0
+    c.args.number c.args.look.desk c.args.look.upto c.args.job.now c.in-Some.node.now c.in-Some.node.now (sym c.in-Some.ensures.value) (c.get_mut.follows.holds c.in-Some.node.now).0
     refl (c.lacks.ensures.lacking c.if-lacks.true)
 
 pub returns-clause-goes : goal.returns-clause-goes
 returns-clause-goes g c =
     worked g.K.Keeper.custody c.self.inside.all.entries _ c.self.inside.sent.items c.self.inside.audit.items c.args.self.now c.self.view_is
-    c.args.number c.args.look.desk c.args.look.upto c.args.job c.in-Some.node.now c.work.new.node (sym c.in-Some.ensures.value) (c.get_mut.follows.holds c.work.new.node).0
+    c.args.number c.args.look.desk c.args.look.upto c.args.job.now c.in-Some.node.now c.work.new.node (sym c.in-Some.ensures.value) (c.get_mut.follows.holds c.work.new.node).0
     _ _ _ c.work.ensures.keeper (c.lacks.ensures.there c.if-lacks.false)
     c.work.ensures.works
 

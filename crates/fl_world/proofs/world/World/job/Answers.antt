@@ -8,10 +8,10 @@ use Rattle.fl_world.proofs.world.World.job.Goals as goal
 
 pub invariant_of-self : goal.invariant_of-self
 invariant_of-self g c =
-    each_reached g.K.Keeper.custody _ _ (Happens (event.Job c.args.number c.args.look.desk c.args.look.upto c.args.job)) _ c.job.ensures.goes c.self.invariant
+    each_reached g.K.Keeper.custody _ _ (Happens (event.Job c.args.number c.args.look.desk c.args.look.upto c.args.job.now)) _ c.job.ensures.goes c.self.invariant
 
 pub returns-clause-goes : goal.returns-clause-goes
 returns-clause-goes g c =
     subst (λ old. Goes g.K.Keeper.custody old c.job.new.self
-    (λ w w'. Step w (event.Job c.args.number c.args.look.desk c.args.look.upto c.args.job) c.job.result w'))
+    (λ w w'. Step w (event.Job c.args.number c.args.look.desk c.args.look.upto c.args.job.now) c.job.result w'))
     c.self.view_is c.job.ensures.goes
