@@ -267,8 +267,9 @@ fn order_act(verb: &str, rest: &[&str]) -> Result<Act, Unread>
 }
 
 /// What a verb and the words after the process say that it does. `Bad` where they say nothing that
-/// a process does. Each act is read out of line, so that there is room for one of them alone. Takes memory for a list alone: for its tags, capabilities or bytes, and for the
-/// box that the labels of an endpoint and a message stand in.
+/// a process does. Each act is read out of line, so that there is room for one of them alone. Takes
+/// memory for a list alone: for its tags, capabilities or bytes, and for the box that the labels of
+/// an endpoint and a message stand in.
 #[inline(always)]
 pub fn act_from_words(alloc: Global, verb: &str, rest: &[&str]) -> Result<Act, Unread>
     ensures ok { (p : Pid) → Reads result (λ a.
@@ -315,8 +316,8 @@ pub fn job_from_words(verb: &str, rest: &[&str]) -> Option<Job>
     ensures { Finds result (λ j. SpellsJob j (verb.now ∷ map (λ w. w.now) rest.now)) }
 {
     match verb {
-        "proc" => proc_job(rest),
         "member" => member_job(rest),
+        "proc" => proc_job(rest),
         _ => None,
     }
 }

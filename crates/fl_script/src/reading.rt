@@ -54,8 +54,9 @@ fn is_quiet(bytes: &[u8]) -> bool
 /// that is not replaced, where fewer than 1,024 are set; else such a line is `Bad`.
 ///
 /// Looks at each byte a few times at most, and takes no memory but that of the replaced words,
-/// where an alias is in one, and of the lists of a `label`, `spawn`, `emit`, `open`, `tune`, `send`
-/// or `check` line; where this is refused, the line is not read.
+/// where an alias is in one, of the box of the alias behind `as`, and of the lists of a `label`,
+/// `spawn`, `emit`, `open`, `tune`, `send` or `check` line; where this is refused, the line is not
+/// read.
 pub fn read_line(alloc: Global, aliases: &Aliases, bytes: &[u8]) -> Result<Reading, AllocError>
     ensures ok { IfOk result (λ reading. IsReading aliases.now bytes.now reading) }
     ensures err { OnErr result (ReadingTakesMemory bytes.now) }

@@ -142,6 +142,10 @@ fn other_request(alloc: Global, verb: &str, rest: &[&str]) -> Result<Request, Un
     ensures ok { Reads result (λ r. SpellsRequest r (verb.now ∷ map (λ w. w.now) rest.now)) }
     ensures memory { StarvesIf result (IsListVerb verb.now) }
 {
+    // Questions of groups come most often.
+    if let Some(job) = job_from_words(verb, rest) {
+        return Ok(Request::Job(job));
+    }
     match verb {
         "begin" => begin_request(rest).ok_or(Unread::Bad),
         "deliver" => deliver_request(rest).ok_or(Unread::Bad),
@@ -152,10 +156,7 @@ fn other_request(alloc: Global, verb: &str, rest: &[&str]) -> Result<Request, Un
         "restart" => restart_request(rest).ok_or(Unread::Bad),
         "text" => text_request(rest).ok_or(Unread::Bad),
         "check" => check_request(alloc, rest),
-        _ => {
-            let job = job_from_words(verb, rest).ok_or(Unread::Bad)?;
-            Ok(Request::Job(job))
-        }
+        _ => Err(Unread::Bad),
     }
 }
 
