@@ -41,8 +41,8 @@ pub fn job_at(node: NodeNumber, job: Job) -> Event
     }
 }
 
-// The event happens, as `Cluster::ask` has it. Out of line, so that the way of a job, which most
-// lines ask for, has no room for it.
+// The event happens, as `Cluster::ask` has it. Out of line, so that there is room for one event, and
+// not for one of each kind.
 #[inline(never)]
 fn ask_seldom<M: MakesKeepers>(alloc: Global, cluster: &mut Cluster<M>, event: Event) -> Said
     requires { 0 < node_of event }
@@ -56,6 +56,7 @@ fn ask_seldom<M: MakesKeepers>(alloc: Global, cluster: &mut Cluster<M>, event: E
 }
 
 // What is asked of the node is answered.
+#[inline(always)]
 fn respond_for<M: MakesKeepers>(
     alloc: Global,
     cluster: &mut Cluster<M>,
@@ -87,9 +88,10 @@ fn respond_for<M: MakesKeepers>(
     }
 }
 
-// Answers the line, whatever the aliases are. Out of line, as `ask_seldom` is.
-#[inline(never)]
-fn respond_seldom<M: MakesKeepers>(alloc: Global, cluster: &mut Cluster<M>, line: Line) -> Response
+/// Answers the line, whatever the aliases are. In line, as what it calls is, so that no line is
+/// copied on its way down.
+#[inline(always)]
+pub fn respond_to<M: MakesKeepers>(alloc: Global, cluster: &mut Cluster<M>, line: Line) -> Response
     requires { All (λ node. 0 < node) (nodes_of line) }
     ensures responds { RespondsTo M.K.custody M.making
         cluster.old line result cluster.new }
@@ -103,24 +105,5 @@ fn respond_seldom<M: MakesKeepers>(alloc: Global, cluster: &mut Cluster<M>, line
         Line::Union { first, second } => Response::Said(cluster.union(alloc, first, second)),
         Line::Audit => Response::Said(cluster.audit()),
         Line::Aliases => Response::Aliases,
-    }
-}
-
-/// Answers the line, whatever the aliases are. Inlined, as its caller is, so that no job is copied
-/// on its way down.
-#[inline(always)]
-pub fn respond_to<M: MakesKeepers>(alloc: Global, cluster: &mut Cluster<M>, line: Line) -> Response
-    requires { All (λ node. 0 < node) (nodes_of line) }
-    ensures responds { RespondsTo M.K.custody M.making
-        cluster.old line result cluster.new }
-    ensures cause { status_said result ≡ 3
-        → FailsSaid M.K.custody M.making cluster.old cluster.new line }
-{
-    match line {
-        Line::Node {
-            node,
-            request: Request::Job(job),
-        } => Response::Said(Said::Reply(cluster.ask(alloc, job_at(node, job)))),
-        other => respond_seldom(alloc, cluster, other),
     }
 }

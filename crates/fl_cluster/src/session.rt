@@ -187,6 +187,7 @@ impl<M: MakesKeepers> Session<M> {
 
     // What is answered to a line of which this was read. Where memory was wanted to read it,
     // nothing changes.
+    #[inline(always)]
     fn respond(&mut self, alloc: Global, read: Result<Reading, AllocError>) -> Response
         requires { (bytes : List ℕ) × IsRead self.old.aliases bytes read }
         ensures turns { (bytes : List ℕ) → IsRead self.old.aliases bytes read
@@ -203,6 +204,7 @@ impl<M: MakesKeepers> Session<M> {
     }
 
     // Answers what was read of a line.
+    #[inline(always)]
     fn answer_reading(&mut self, alloc: Global, reading: Reading) -> Response
         requires { (bytes : List ℕ) × IsReading self.old.aliases bytes reading }
         ensures turns { (bytes : List ℕ) → IsReading self.old.aliases bytes reading
@@ -223,6 +225,7 @@ impl<M: MakesKeepers> Session<M> {
     }
 
     // Answers the line, which has no alias.
+    #[inline(always)]
     fn answer(&mut self, alloc: Global, line: Line) -> Response
         requires nodes { All (λ node. 0 < node) (nodes_of line) }
         ensures names { Names M.K.custody M.making
