@@ -38,17 +38,17 @@ pub fn write_reply<W: Writer>(
     match reply {
         Reply::Made(pid) => put_pid(b"", *pid, sink, output)?,
         // What is one word is put with its line feed.
-        Reply::Done => return sink.put_all(output, &[b"ok\n"]),
-        Reply::Yes => return sink.put_all(output, &[b"yes\n"]),
-        Reply::NotYet => return sink.put_all(output, &[b"not-yet\n"]),
-        Reply::Empty => return sink.put_all(output, &[b"empty\n"]),
+        Reply::Done => return sink.put(output, b"ok\n"),
+        Reply::Yes => return sink.put(output, b"yes\n"),
+        Reply::NotYet => return sink.put(output, b"not-yet\n"),
+        Reply::Empty => return sink.put(output, b"empty\n"),
         Reply::Entered(cap) => put_cap(b"ok ", *cap, sink, output)?,
         Reply::Emitted(payload) => put_bytes(b"out ", payload.as_slice(), sink, output)?,
         Reply::Opened(endpoint) => put_endpoint(b"ok ", *endpoint, sink, output)?,
         Reply::Taken(letter) => put_letter(letter, sink, output)?,
         Reply::Arrived(pid) => put_pid(b"arrived ", *pid, sink, output)?,
     }
-    sink.put_all(output, &[b"\n"])
+    sink.put(output, b"\n")
 }
 
 /// Puts the line of a refusal into the sink: `refused`, its number, and what it is about.
@@ -90,7 +90,7 @@ pub fn write_refusal_after<W: Writer>(
 {
     sink.put(output, front)?;
     put_refusal(refusal, sink, output)?;
-    sink.put_all(output, &[b"\n"])
+    sink.put(output, b"\n")
 }
 
 /// Puts the line of a packet that was sent into the sink, by its number: `sent 1`.
@@ -115,7 +115,7 @@ pub fn write_name<W: Writer>(
     ensures cause { OnErr result (W.has_failed output.new) }
 {
     put_name(front, name, sink, output)?;
-    sink.put_all(output, &[b"\n"])
+    sink.put(output, b"\n")
 }
 
 // A refusal's number, and what it is about.
@@ -133,19 +133,19 @@ fn put_refusal<W: Writer>(
         Refusal::NoEndpoint(endpoint) => put_endpoint(b"F2 ", endpoint, sink, output),
         Refusal::MissingCap(cap) => put_cap(b"F3 ", cap, sink, output),
         Refusal::UnsafeEndpoint(endpoint, tag) => put_unsafe(endpoint, tag, sink, output),
-        Refusal::EndpointsFull => sink.put_all(output, &[b"F5"]),
+        Refusal::EndpointsFull => sink.put(output, b"F5"),
         Refusal::NotWritable(endpoint) => put_endpoint(b"F6 ", endpoint, sink, output),
         Refusal::NotReadable(endpoint) => put_endpoint(b"F7 ", endpoint, sink, output),
         Refusal::Secrecy(tag) => put_name(b"F8 ", tag, sink, output),
         Refusal::Integrity(tag) => put_name(b"F9 ", tag, sink, output),
         Refusal::NoLogin(login) => put_name(b"F10 ", login, sink, output),
-        Refusal::WrongSecret => sink.put_all(output, &[b"F11"]),
-        Refusal::NamesSpent => sink.put_all(output, &[b"F12"]),
-        Refusal::LabelTooLong => sink.put_all(output, &[b"F13"]),
-        Refusal::Memory => sink.put_all(output, &[b"F14"]),
+        Refusal::WrongSecret => sink.put(output, b"F11"),
+        Refusal::NamesSpent => sink.put(output, b"F12"),
+        Refusal::LabelTooLong => sink.put(output, b"F13"),
+        Refusal::Memory => sink.put(output, b"F14"),
         Refusal::NotOwned(cap) => put_cap(b"F22 ", cap, sink, output),
-        Refusal::InboxFull => sink.put_all(output, &[b"F23"]),
-        Refusal::Busy => sink.put_all(output, &[b"F24"]),
+        Refusal::InboxFull => sink.put(output, b"F23"),
+        Refusal::Busy => sink.put(output, b"F24"),
     }
 }
 
@@ -299,7 +299,7 @@ fn put_word<W: Writer>(bytes: &[u8], sink: &mut Sink, output: &mut W) -> Result<
     ensures cause { OnErr result (W.has_failed output.new) }
 {
     match bytes {
-        [] => sink.put_all(output, &[b"none"]),
+        [] => sink.put(output, b"none"),
         _ => put_digits(bytes, sink, output),
     }
 }
@@ -338,11 +338,11 @@ fn put_caps<W: Writer>(caps: &CapSet, sink: &mut Sink, output: &mut W) -> Result
     ensures cause { OnErr result (W.has_failed output.new) }
 {
     match caps.as_slice().split_first() {
-        None => sink.put_all(output, &[b"{}"]),
+        None => sink.put(output, b"{}"),
         Some((first, rest)) => {
             put_cap(b"{", *first, sink, output)?;
             put_more(rest, sink, output)?;
-            sink.put_all(output, &[b"}"])
+            sink.put(output, b"}")
         }
     }
 }
@@ -354,7 +354,7 @@ fn put_letter<W: Writer>(letter: &Letter, sink: &mut Sink, output: &mut W) -> Re
     ensures cause { OnErr result (W.has_failed output.new) }
 {
     put_pid(b"message ", letter.sender, sink, output)?;
-    sink.put_all(output, &[b" "])?;
+    sink.put(output, b" ")?;
     put_caps(&letter.message.caps, sink, output)?;
     put_bytes(b" ", letter.message.payload.as_slice(), sink, output)
 }

@@ -32,10 +32,10 @@ pub fn write_world_reply<W: Writer>(
         Reply::Taking(count) => write_count(b"begun ", *count, sink, output),
         Reply::Took(count) => write_count(b"took ", *count, sink, output),
         Reply::Published(name) => write_name(b"ok ", *name, sink, output),
-        Reply::Done => sink.put_all(output, &[b"ok\n"]),
+        Reply::Done => sink.put(output, b"ok\n"),
         Reply::Booted(boot) => write_count(b"boot ", u64::from(*boot), sink, output),
         Reply::Sent { first, count } => write_packets(*first, *count, sink, output),
-        Reply::NoSuch => sink.put_all(output, &[b"no-such\n"]),
+        Reply::NoSuch => sink.put(output, b"no-such\n"),
         Reply::Refused(fault) => write_fault(fault, sink, output),
     }
 }
@@ -130,11 +130,11 @@ fn write_packets<W: Writer>(
     ensures cause { OnErr result (W.has_failed output.new) }
 {
     if count == 0 {
-        return sink.put_all(output, &[b"sent none\n"]);
+        return sink.put(output, b"sent none\n");
     }
-    sink.put_all(output, &[b"sent"])?;
+    sink.put(output, b"sent")?;
     put_numbers(first, count, sink, output)?;
-    sink.put_all(output, &[b"\n"])
+    sink.put(output, b"\n")
 }
 
 // So many numbers from the first on, also past 2^64, each after a space.

@@ -16,4 +16,4 @@ returns-in_err-put_more-in-Some-clause-puts g c =
 pub returns-in_ok-put_more-in-Some-clause-puts : goal.returns-in_ok-put_more-in-Some-clause-puts
 returns-in_ok-put_more-in-Some-clause-puts g c =
     rw (caps_some _ _ _ (sym c.as_slice.ensures ∙ c.in-Some.ensures.cases.0))
-    (puts_then c.in_ok-put_cap-in-Some.ensures.puts.is (puts_then c.in_ok-put_more-in-Some.ensures.puts.is c.put_all-in-Some.ensures.puts))
+    (puts_then c.in_ok-put_cap-in-Some.ensures.puts.is (puts_then c.in_ok-put_more-in-Some.ensures.puts.is c.put-in-Some.ensures.puts))

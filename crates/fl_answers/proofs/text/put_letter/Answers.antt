@@ -4,12 +4,12 @@ use Rattle.fl_answers.proofs.text.put_letter.Goals as goal
 pub returns-in_err-put_pid-clause-puts : goal.returns-in_err-put_pid-clause-puts
 returns-in_err-put_pid-clause-puts g c = puts_stop _ _ c.in_err-put_pid.ensures.puts.is c.from_residual.ensures.0
 
-pub returns-in_err-put_all-clause-puts : goal.returns-in_err-put_all-clause-puts
-returns-in_err-put_all-clause-puts g c = puts_then c.in_ok-put_pid.ensures.puts.is (puts_stop _ _ c.in_err-put_all.ensures.puts.is c.from_residual-in_err-put_all.ensures.0)
+pub returns-in_err-put-clause-puts : goal.returns-in_err-put-clause-puts
+returns-in_err-put-clause-puts g c = puts_then c.in_ok-put_pid.ensures.puts.is (puts_stop _ _ c.in_err-put.ensures.puts.is c.from_residual-in_err-put.ensures.0)
 
 pub returns-in_err-put_caps-clause-puts : goal.returns-in_err-put_caps-clause-puts
-returns-in_err-put_caps-clause-puts g c = puts_then c.in_ok-put_pid.ensures.puts.is (puts_then c.in_ok-put_all.ensures.puts.is (puts_stop _ _ c.in_err-put_caps.ensures.puts.is c.from_residual-in_err-put_caps.ensures.0))
+returns-in_err-put_caps-clause-puts g c = puts_then c.in_ok-put_pid.ensures.puts.is (puts_then c.in_ok-put.ensures.puts.is (puts_stop _ _ c.in_err-put_caps.ensures.puts.is c.from_residual-in_err-put_caps.ensures.0))
 
 pub returns-clause-puts : goal.returns-clause-puts
 returns-clause-puts g c = rw (← c.as_slice.ensures)
-    (puts_then c.in_ok-put_pid.ensures.puts.is (puts_then c.in_ok-put_all.ensures.puts.is (puts_then c.in_ok-put_caps.ensures.puts.is c.put_bytes.ensures.puts)))
+    (puts_then c.in_ok-put_pid.ensures.puts.is (puts_then c.in_ok-put.ensures.puts.is (puts_then c.in_ok-put_caps.ensures.puts.is c.put_bytes.ensures.puts)))

@@ -8,4 +8,4 @@ pub returns-in_err-put_name-clause-puts : goal.returns-in_err-put_name-clause-pu
 returns-in_err-put_name-clause-puts g c = rw (← append_assoc c.args.front.now (name_text c.args.name) (codes "\n")) (puts_stop _ _ c.in_err-put_name.ensures.puts.is c.from_residual.ensures.0)
 
 pub returns-clause-puts : goal.returns-clause-puts
-returns-clause-puts g c = rw (← append_assoc c.args.front.now (name_text c.args.name) (codes "\n")) (puts_then c.in_ok-put_name.ensures.puts.is c.put_all.ensures.puts)
+returns-clause-puts g c = rw (← append_assoc c.args.front.now (name_text c.args.name) (codes "\n")) (puts_then c.in_ok-put_name.ensures.puts.is c.put.ensures.puts)

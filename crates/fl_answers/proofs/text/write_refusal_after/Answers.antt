@@ -8,4 +8,4 @@ pub returns-in_err-put_refusal-clause-puts : goal.returns-in_err-put_refusal-cla
 returns-in_err-put_refusal-clause-puts g c = puts_then c.in_ok-put.ensures.puts.is (puts_stop _ _ c.in_err-put_refusal.ensures.puts.is c.from_residual-in_err-put_refusal.ensures.0)
 
 pub returns-clause-puts : goal.returns-clause-puts
-returns-clause-puts g c = puts_then c.in_ok-put.ensures.puts.is (puts_then c.in_ok-put_refusal.ensures.puts.is c.put_all.ensures.puts)
+returns-clause-puts g c = puts_then c.in_ok-put.ensures.puts.is (puts_then c.in_ok-put_refusal.ensures.puts.is c.put-2.ensures.puts)

@@ -23,10 +23,10 @@ returns-in_err-put_pid-in-Arrived-clause-puts g c = rw c.in-Arrived.is (puts_sto
 
 pub returns-clause-puts : goal.returns-clause-puts
 returns-clause-puts g c = elim c.match-reply.branch [
-  | in-Made+in_ok-put_pid-in-Made w ↦ rw w.in-Made.is (puts_then w.in_ok-put_pid-in-Made.ensures.puts.is (rw (← w.sink-is, ← w.output-is) c.put_all-2.ensures.puts))
-  | in-Entered+in_ok-put_cap-in-Entered w ↦ rw (w.in-Entered.is) (puts_then w.in_ok-put_cap-in-Entered.ensures.puts.is (rw (← w.sink-is, ← w.output-is) c.put_all-2.ensures.puts))
-  | in-Emitted+in_ok-put_bytes-in-Emitted w ↦ rw (w.in-Emitted.is, ← w.deref.ensures, ← w.as_slice.ensures) (puts_then w.in_ok-put_bytes-in-Emitted.ensures.puts.is (rw (← w.sink-is, ← w.output-is) c.put_all-2.ensures.puts))
-  | in-Opened+in_ok-put_endpoint-in-Opened w ↦ rw (w.in-Opened.is) (puts_then w.in_ok-put_endpoint-in-Opened.ensures.puts.is (rw (← w.sink-is, ← w.output-is) c.put_all-2.ensures.puts))
-  | in-Taken+in_ok-put_letter-in-Taken w ↦ rw (w.in-Taken.is, ← w.deref-in-Taken.ensures) (puts_then w.in_ok-put_letter-in-Taken.ensures.puts.is (rw (← w.sink-is, ← w.output-is) c.put_all-2.ensures.puts))
-  | in-Arrived+in_ok-put_pid-in-Arrived w ↦ rw (w.in-Arrived.is) (puts_then w.in_ok-put_pid-in-Arrived.ensures.puts.is (rw (← w.sink-is, ← w.output-is) c.put_all-2.ensures.puts))
+  | in-Made+in_ok-put_pid-in-Made w ↦ rw w.in-Made.is (puts_then w.in_ok-put_pid-in-Made.ensures.puts.is (rw (← w.sink-is, ← w.output-is) c.put-2.ensures.puts))
+  | in-Entered+in_ok-put_cap-in-Entered w ↦ rw (w.in-Entered.is) (puts_then w.in_ok-put_cap-in-Entered.ensures.puts.is (rw (← w.sink-is, ← w.output-is) c.put-2.ensures.puts))
+  | in-Emitted+in_ok-put_bytes-in-Emitted w ↦ rw (w.in-Emitted.is, ← w.deref.ensures, ← w.as_slice.ensures) (puts_then w.in_ok-put_bytes-in-Emitted.ensures.puts.is (rw (← w.sink-is, ← w.output-is) c.put-2.ensures.puts))
+  | in-Opened+in_ok-put_endpoint-in-Opened w ↦ rw (w.in-Opened.is) (puts_then w.in_ok-put_endpoint-in-Opened.ensures.puts.is (rw (← w.sink-is, ← w.output-is) c.put-2.ensures.puts))
+  | in-Taken+in_ok-put_letter-in-Taken w ↦ rw (w.in-Taken.is, ← w.deref-in-Taken.ensures) (puts_then w.in_ok-put_letter-in-Taken.ensures.puts.is (rw (← w.sink-is, ← w.output-is) c.put-2.ensures.puts))
+  | in-Arrived+in_ok-put_pid-in-Arrived w ↦ rw (w.in-Arrived.is) (puts_then w.in_ok-put_pid-in-Arrived.ensures.puts.is (rw (← w.sink-is, ← w.output-is) c.put-2.ensures.puts))
 ]
