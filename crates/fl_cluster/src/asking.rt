@@ -41,8 +41,8 @@ pub fn job_at(node: NodeNumber, job: Job) -> Event
     }
 }
 
-// The event happens, as `Cluster::ask` has it. Out of line, so that there is room for one event, and
-// not for one of each kind.
+// The event happens, as `Cluster::ask` has it. Out of line, so that there is room for one event,
+// and not for one of each kind.
 #[inline(never)]
 fn ask_seldom<M: MakesKeepers>(alloc: Global, cluster: &mut Cluster<M>, event: Event) -> Said
     requires { 0 < node_of event }

@@ -113,7 +113,8 @@ impl<M: MakesKeepers> Session<M> {
     fn work(&mut self, alloc: Global, node: NodeNumber, job: &mut Job) -> Reply
         requires { 0 < node }
         ensures names { let line = Line.Node node (Request.Job job.old) in
-            Names M.K.custody M.making self.old line None (Response.Said (Said.Reply result)) self.new }
+            Names M.K.custody M.making self.old line None
+            (Response.Said (Said.Reply result)) self.new }
         ensures cause { let line = Line.Node node (Request.Job job.old) in
             result ≡ Reply.Refused Fault.KeeperFailed
             → FailsSaid M.K.custody M.making self.old.cluster self.new.cluster line }
