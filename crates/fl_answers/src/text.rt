@@ -14,7 +14,7 @@ use fl_labels::cap_set::CapSet;
 use fl_labels::endpoint::Endpoint;
 use fl_labels::name::Name;
 use fl_labels::pid::Pid;
-use fl_message::message::Letter;
+use fl_message::message::{Letter, Message};
 use fl_sink::sink::{Sink, WriteFault};
 use fl_sink::writer::Writer;
 use hex::encode_to_slice;
@@ -347,6 +347,21 @@ fn put_caps<W: Writer>(caps: &CapSet, sink: &mut Sink, output: &mut W) -> Result
     }
 }
 
+// The capabilities of a message, and its bytes.
+fn put_message<W: Writer>(
+    message: &Message,
+    sink: &mut Sink,
+    output: &mut W,
+) -> Result<(), WriteFault>
+    ensures puts { let bytes = codes " " ++ bytes_text message.now.payload in
+        let text = caps_text message.now.caps ++ bytes in
+        Puts (W.contents output.old) (W.contents output.new) sink.old text sink.new result }
+    ensures cause { OnErr result (W.has_failed output.new) }
+{
+    put_caps(&message.caps, sink, output)?;
+    put_bytes(b" ", message.payload.as_slice(), sink, output)
+}
+
 // A message that was taken, with who sent it.
 fn put_letter<W: Writer>(letter: &Letter, sink: &mut Sink, output: &mut W) -> Result<(), WriteFault>
     ensures puts { let text = letter_text letter.now in
@@ -355,6 +370,5 @@ fn put_letter<W: Writer>(letter: &Letter, sink: &mut Sink, output: &mut W) -> Re
 {
     put_pid(b"message ", letter.sender, sink, output)?;
     sink.put(output, b" ")?;
-    put_caps(&letter.message.caps, sink, output)?;
-    put_bytes(b" ", letter.message.payload.as_slice(), sink, output)
+    put_message(&letter.message, sink, output)
 }

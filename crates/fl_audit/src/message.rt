@@ -7,9 +7,9 @@ ghost use Rattle.fl_system.specs.Audit.{message_entries};
 ghost use Rattle.fl_audit.specs.Drafts.{listed};
 
 use crate::party::copy_party;
-use fl_bench::shared::Shared;
 use fl_bench::standing::Standing;
 use fl_labels::pid::Pid;
+use fl_message::shared::Shared;
 use fl_system::admission::{Admission, Party};
 use std::alloc::AllocError;
 

@@ -5,10 +5,10 @@ ghost use Rattle.fl_bench.specs.declared.process.Process.{Process};
 ghost use Rattle.fl_audit.specs.Noted.{IsNotedWith};
 ghost use Rattle.fl_audit.specs.Senders.{party_of, sender_of};
 
-use fl_bench::shared::Shared;
 use fl_bench::standing::Standing;
 use fl_jobs::job::{Act, Job, Mail};
 use fl_labels::pid::Pid;
+use fl_message::shared::Shared;
 use fl_system::admission::Party;
 use std::alloc::AllocError;
 

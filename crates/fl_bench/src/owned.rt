@@ -7,11 +7,11 @@ ghost use Rattle.fl_bench.specs.parts.Changes.{after, Follows};
 
 use crate::change::Change;
 use crate::past::Past;
-use crate::shared::Shared;
 use crate::standing::Standing;
 use fl_labels::cap::Cap;
 use fl_labels::cap_set::CapSet;
 use fl_labels::roomy::RoomyCapSet;
+use fl_message::shared::Shared;
 use fl_rules::labels::Labels;
 use std::alloc::{AllocError, Global};
 use std::marker::Model;

@@ -4,9 +4,10 @@ ghost use Rattle.fl_labels.specs.SetBy as set;
 ghost use Rattle.fl_bench.specs.parts.Changes.{after};
 
 use crate::change::{Change, gains};
-use crate::shared::{Shared, SharedCaps};
+use crate::shared::SharedCaps;
 use crate::standing::Standing;
 use fl_labels::cap::Cap;
+use fl_message::shared::Shared;
 use fl_rules::labels::Labels;
 use std::alloc::{AllocError, Global};
 use std::marker::Model;

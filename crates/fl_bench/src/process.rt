@@ -6,11 +6,11 @@ ghost use Rattle.fl_bench.specs.Process.{newborn, held, standing_of, is_under_wa
 ghost use Rattle.fl_bench.specs.Gifts.{given, settled};
 
 use crate::owned::{Owned, RoomyOwned};
-use crate::shared::Shared;
 use crate::standing::Standing;
 use fl_labels::cap::Cap;
 use fl_labels::cap_set::CapSet;
 use fl_mailbox::mailbox::Mailbox;
+use fl_message::shared::Shared;
 use fl_ops::op::{Body, Op};
 use fl_rules::labels::Labels;
 use std::alloc::{AllocError, Global};

@@ -1,4 +1,4 @@
-//! Values with more than one holder, and sets of capabilities among them.
+//! Sets of capabilities with more than one holder.
 ghost use Rattle.std.specs.Prelude.{◌≡◌, IfOk};
 ghost use Rattle.fl_labels.specs.SetBy as set;
 ghost use Rattle.fl_bench.specs.parts.Changes.{after};
@@ -9,60 +9,7 @@ use fl_labels::cap::Cap;
 use fl_labels::cap_set::CapSet;
 use std::alloc::{AllocError, Global};
 use std::marker::Model;
-use std::ops::Deref;
 use std::sync::{Arc, ArcSlice};
-
-/// A value that stays as it is, of which another holder costs no copy. Contracts see the value.
-#[derive(Drop)]
-pub struct Shared<T> {
-    inner: Arc<T>,
-}
-
-impl<T> Model for Shared<T> {
-    ghost use Rattle.std.specs.Arc.{arc_value};
-
-    ghost Value = { T };
-
-    ghost coded = { T.code };
-
-    ghost view = { λ a. arc_value a.inner };
-}
-
-impl<T: Drop> Shared<T> {
-    /// The value, with one holder. Fails only where there is not enough memory; the value is then
-    /// let go.
-    pub fn new(alloc: Global, value: T) -> Result<Self, AllocError>
-        ensures { IfOk result (λ made. made ≡ value) }
-    {
-        Ok(Shared {
-            inner: Arc::new(alloc, value)?,
-        })
-    }
-}
-
-impl<T> Shared<T> {
-    /// The same value for one more holder, without a copy of it. Fails only where there are too
-    /// many holders.
-    pub fn copy(&self) -> Result<Self, AllocError>
-        ensures { IfOk result (λ made. made ≡ self.now) }
-    {
-        Ok(Shared {
-            inner: Arc::try_clone(&self.inner)?,
-        })
-    }
-}
-
-impl<T> Deref for Shared<T> {
-    type Target = T;
-
-    ghost deref_gives = { λ a x. x ≡ a };
-
-    fn deref(&self) -> &T
-        ensures { result.now ≡ self.now }
-    {
-        &self.inner
-    }
-}
 
 /// A set of capabilities that stays as it is, of which another holder costs no copy.
 #[derive(Drop)]

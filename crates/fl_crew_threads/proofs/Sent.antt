@@ -19,12 +19,13 @@ use Rattle.fl_labels.specs.contracts.roomy.RoomyCapSet as roomy
 use Rattle.fl_labels.specs.contracts.roomy.RoomyCapSet.TheInside as roomy_inside
 use Rattle.fl_message.specs.contracts.payload.Payload as payload
 use Rattle.fl_message.specs.contracts.payload.Payload.TheInside as payload_inside
+use Rattle.fl_message.specs.contracts.message.Message as message
+use Rattle.fl_message.specs.contracts.shared.Shared as held
+use Rattle.fl_message.specs.contracts.shared.Shared.TheInside as held_inside
 use Rattle.fl_bench.specs.contracts.history.History as history
 use Rattle.fl_bench.specs.contracts.history.History.TheInside as history_inside
 use Rattle.fl_bench.specs.contracts.shared.SharedCaps as shared
 use Rattle.fl_bench.specs.contracts.shared.SharedCaps.TheInside as shared_inside
-use Rattle.fl_bench.specs.contracts.shared.Shared as held
-use Rattle.fl_bench.specs.contracts.shared.Shared.TheInside as held_inside
 use Rattle.fl_bench.specs.contracts.standing.Standing as standing
 use Rattle.fl_bench.specs.contracts.past.Past as past
 use Rattle.fl_bench.specs.contracts.past.Past.TheInside as past_inside
@@ -62,11 +63,27 @@ label_sync = view_sync _ _ _ _ _ (declared_sync label_inside.the_type (search ap
 cap_set_send : IsSend cap_set.the_row
 cap_set_send = view_send _ _ _ _ _ (declared_send cap_set_inside.the_type (search apart depth 40 fits 100000))
 
+cap_set_sync : IsSync cap_set.the_row
+cap_set_sync = view_sync _ _ _ _ _ (declared_sync cap_set_inside.the_type (search apart depth 40 fits 100000))
+
 roomy_send : IsSend roomy.the_row
 roomy_send = view_send _ _ _ _ _ (declared_send roomy_inside.the_type (search apart depth 40 fits 100000))
 
 payload_send : IsSend payload.the_row
 payload_send = view_send _ _ _ _ _ (declared_send payload_inside.the_type (search apart depth 40 fits 100000))
+
+payload_sync : IsSync payload.the_row
+payload_sync = view_sync _ _ _ _ _ (declared_sync payload_inside.the_type (search apart depth 40 fits 100000))
+
+message_send : IsSend message.the_row
+message_send = declared_send message.the_type (search (apart, cap_set_send, payload_send) depth 40 fits 100000)
+
+message_sync : IsSync message.the_row
+message_sync = declared_sync message.the_type (search (apart, cap_set_sync, payload_sync) depth 40 fits 100000)
+
+held_message_send : IsSend (held.the_row message.the_row)
+held_message_send = view_send _ _ _ _ _ (declared_send (held_inside.the_type message.the_row) (
+    search (apart, message_send, message_sync) depth 40 fits 100000))
 
 history_send : IsSend history.the_row
 history_send = view_send _ _ _ _ _ (declared_send history_inside.the_type (search apart depth 40 fits 100000))
@@ -109,7 +126,7 @@ endpoints_send = view_send _ _ _ _ _ (declared_send endpoints_inside.the_type (s
 
 inbox_send : IsSend inbox.the_row
 inbox_send = view_send _ _ _ _ _ (declared_send inbox_inside.the_type (
-    search (apart, cap_set_send, payload_send) depth 40 fits 100000))
+    search (apart, held_message_send) depth 40 fits 100000))
 
 processes_send : IsSend processes.the_row
 processes_send = view_send _ _ _ _ _ (declared_send processes_inside.the_type (
@@ -119,13 +136,14 @@ bench_send : IsSend bench.the_row
 bench_send = view_send _ _ _ _ _ (declared_send bench_inside.the_type (search (apart, processes_send) depth 40 fits 100000))
 
 job_send : IsSend job.the_row
-job_send = variants_send job.enum (search (apart, label_send, cap_set_send, payload_send) depth 40 fits 100000)
+job_send = variants_send job.enum (
+    search (apart, label_send, cap_set_send, payload_send, held_message_send) depth 40 fits 100000)
 
 task_send : IsSend task.the_row
 task_send = declared_send task.the_type (search (apart, job_send) depth 40 fits 100000)
 
 told_send : IsSend told.the_row
-told_send = search (apart, cap_set_send, payload_send, label_send) depth 40 fits 100000
+told_send = search (apart, payload_send, label_send, held_message_send) depth 40 fits 100000
 
 entry_send : IsSend entry.the_row
 entry_send = declared_send entry.the_type (search (apart, told_send) depth 40 fits 100000)

@@ -13,12 +13,12 @@ ghost use Rattle.fl_desks.specs.Listing.{IsDesk, HasSeen};
 
 use crate::listing::Listing;
 use fl_bench::process::Process;
-use fl_bench::shared::Shared;
 use fl_bench::standing::Standing;
 use fl_jobs::answer::{Outcome, Refusal};
 use fl_jobs::job::Job;
 use fl_labels::name::NodeNumber;
 use fl_labels::pid::Pid;
+use fl_message::shared::Shared;
 use fl_monitor::bench::Bench;
 use fl_ops::op::Op;
 use std::alloc::{AllocError, Global};

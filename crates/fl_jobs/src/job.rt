@@ -12,6 +12,7 @@ use fl_labels::pid::Pid;
 use fl_message::boxed::Boxed;
 use fl_message::message::{Data, Message};
 use fl_message::payload::Payload;
+use fl_message::shared::Shared;
 use fl_ops::op::Policy;
 use fl_rules::endpoint::Mode;
 use fl_rules::labels::Labels;
@@ -75,7 +76,7 @@ pub enum Mail {
         from: Endpoint,
         receiver: Pid,
         to: Endpoint,
-        message: Boxed<Message>,
+        message: Shared<Message>,
     },
     /// The oldest message that waits.
     Take,
@@ -114,6 +115,6 @@ pub enum Job {
     Arrive(Boxed<Data>),
 }
 
-/// Lets go of a job that is not done. A call where a job is let go at many exits, so that each is
-/// proved in one step.
+/// Lets go of a job that is not done. A call, so that this is proved in one step where a job is let
+/// go.
 pub fn let_go(_job: Job) {}

@@ -6,6 +6,7 @@ use fl_labels::pid::Pid;
 use fl_mailbox::inbox::Inbox;
 use fl_message::message::{Letter, Message};
 use fl_message::payload::Payload;
+use fl_message::shared::Shared;
 use std::alloc::{AllocError, Global};
 use std::test::Fail;
 
@@ -19,6 +20,7 @@ fn letter(alloc: Global, serial: u32) -> Result<Letter, Fail>
         boot: 1,
         serial,
     };
+    let message = Shared::new(alloc, message)?;
     Ok(Letter { sender, message })
 }
 

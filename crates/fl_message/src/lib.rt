@@ -4,3 +4,4 @@
 pub mod boxed;
 pub mod message;
 pub mod payload;
+pub mod shared;

@@ -3,6 +3,7 @@ ghost use Rattle.std.specs.Prelude.{◌≡◌, ◌≤◌, ◌<◌, ◌⊎◌, If
 ghost use Rattle.fl_labels.specs.SetBy.{len};
 
 use crate::payload::Payload;
+use crate::shared::Shared;
 use fl_labels::cap_set::CapSet;
 use fl_labels::endpoint::Endpoint;
 use fl_labels::label::Label;
@@ -51,23 +52,13 @@ impl Message {
         }
         Some(Message { caps, payload })
     }
-
-    /// The same message again. Fails only where there is not enough memory.
-    pub fn copy(&self, alloc: Global) -> Result<Self, AllocError>
-        ensures { IfOk result (λ made. made ≡ self.now) }
-    {
-        Ok(Message {
-            caps: self.caps.copy(alloc)?,
-            payload: self.payload.copy(alloc)?,
-        })
-    }
 }
 
 /// A message that came, with who sent it.
 #[derive(Debug, Drop, PartialEq, Eq)]
 pub struct Letter {
     pub sender: Pid,
-    pub message: Message,
+    pub message: Shared<Message>,
 }
 
 /// A message on its way from an endpoint of one process to an endpoint of another.
@@ -83,7 +74,7 @@ pub struct Data {
     pub secrecy: Label,
     /// The integrity label that the message was sent under.
     pub integrity: Label,
-    pub message: Message,
+    pub message: Shared<Message>,
     pub ghost secrecy_fits: { len secrecy ≤ 256 },
     pub ghost integrity_fits: { len integrity ≤ 256 },
 }
@@ -103,7 +94,8 @@ impl Drop for Data {
 }
 
 impl Data {
-    /// The same again. Fails only where there is not enough memory.
+    /// The same again. Copies the labels, and shares the message. Fails only where there is not
+    /// enough memory, or the message is shared too often.
     pub fn copy(&self, alloc: Global) -> Result<Self, AllocError>
         ensures { IfOk result (λ made. made ≡ self.now) }
     {
@@ -114,7 +106,7 @@ impl Data {
             to: self.to,
             secrecy: self.secrecy.copy(alloc)?,
             integrity: self.integrity.copy(alloc)?,
-            message: self.message.copy(alloc)?,
+            message: self.message.copy()?,
         })
     }
 

@@ -1,7 +1,6 @@
 //! Bytes that processes send, or let out.
-ghost use Rattle.std.specs.Prelude.{◌≡◌, IfOk};
+ghost use Rattle.std.specs.Prelude.{◌≡◌};
 
-use std::alloc::{AllocError, Global};
 use std::marker::Model;
 
 /// Some bytes. Contracts see these alone.
@@ -24,13 +23,6 @@ impl Payload {
         ensures { result ≡ bytes.items }
     {
         Payload { bytes }
-    }
-
-    /// The same bytes again. Fails only where there is not enough memory.
-    pub fn copy(&self, alloc: Global) -> Result<Self, AllocError>
-        ensures { IfOk result (λ made. made ≡ self.now) }
-    {
-        Ok(Payload::from_vec(Vec::from_slice(alloc, &self.bytes)?))
     }
 
     /// The bytes.

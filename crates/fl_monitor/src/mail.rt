@@ -18,6 +18,7 @@ use fl_mailbox::endpoints::OpenEndpoint;
 use fl_mailbox::mailbox::Mailbox;
 use fl_message::boxed::Boxed;
 use fl_message::message::{Data, Message};
+use fl_message::shared::Shared;
 use fl_ops::view::View;
 use fl_rules::endpoint::Mode;
 use fl_rules::labels::{Labels, LabelsRef};
@@ -106,7 +107,7 @@ fn packet_of(
     alloc: Global,
     route: Route,
     labels: &Labels,
-    message: Boxed<Message>,
+    message: Shared<Message>,
 ) -> Result<Boxed<Data>, AllocError>
     ensures { IfOk result (λ d. IsSent route.sender route.from labels.now route.receiver route.to message d) }
 {
@@ -120,7 +121,7 @@ fn packet_of(
         to: route.to,
         secrecy,
         integrity,
-        message: message.into_inner(),
+        message,
     };
     Boxed::new(alloc, data)
 }
@@ -132,7 +133,7 @@ fn send<V: View>(
     owned: &CapSet,
     mailbox: &Mailbox,
     route: Route,
-    message: Boxed<Message>,
+    message: Shared<Message>,
 ) -> Result<Outcome, Refusal>
     ensures mails { let registry = Listed (V.list view.old) in
         (process : Labels) → Mails registry owned.now route.sender process mailbox.now

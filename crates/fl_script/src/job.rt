@@ -239,7 +239,7 @@ fn send_act(alloc: Global, rest: &[&str]) -> Result<Act, Unread>
         from: ends.from,
         receiver: ends.receiver,
         to: ends.to,
-        message: Boxed::new(alloc, message)?,
+        message,
     }))
 }
 

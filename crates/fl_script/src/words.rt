@@ -13,6 +13,7 @@ use fl_labels::error::SetError;
 use fl_labels::label::Label;
 use fl_message::message::Message;
 use fl_message::payload::Payload;
+use fl_message::shared::Shared;
 use fl_ops::op::Policy;
 use fl_rules::endpoint::Mode;
 use hex::{FromHex, FromHexError};
@@ -122,12 +123,21 @@ pub fn bytes_from_word(alloc: Global, word: &str) -> Result<Payload, Unread>
     }
 }
 
-/// The message whose capabilities one word lists and whose bytes another spells. `Bad` where a word
-/// is no such one, where there are more than 64 capabilities, or more than 1,024 bytes.
-pub fn message_from_words(alloc: Global, caps: &str, bytes: &str) -> Result<Message, Unread>
+// The message whose capabilities one word lists and whose bytes another spells, as it stands.
+fn bare_message(alloc: Global, caps: &str, bytes: &str) -> Result<Message, Unread>
     ensures { Reads result (λ message. AreMessageWords message caps.now bytes.now) }
 {
     let caps = caps_from_word(alloc, caps)?;
     let payload = bytes_from_word(alloc, bytes)?;
     Message::new(caps, payload).ok_or(Unread::Bad)
+}
+
+/// The message whose capabilities one word lists and whose bytes another spells, to be shared.
+/// `Bad` where a word is no such one, where there are more than 64 capabilities, or more than 1,024
+/// bytes.
+pub fn message_from_words(alloc: Global, caps: &str, bytes: &str) -> Result<Shared<Message>, Unread>
+    ensures { Reads result (λ message. AreMessageWords message caps.now bytes.now) }
+{
+    let message = bare_message(alloc, caps, bytes)?;
+    Ok(Shared::new(alloc, message)?)
 }

@@ -1,7 +1,6 @@
 //! What is noted of a world: each thing that a reference monitor admitted.
 
 use crate::granted::Granted;
-use fl_bench::shared::Shared;
 use fl_bench::standing::Standing;
 use fl_jobs::job::Side;
 use fl_labels::cap::Cap;
@@ -9,6 +8,7 @@ use fl_labels::label::Label;
 use fl_labels::name::{Name, NodeNumber};
 use fl_labels::pid::Pid;
 use fl_message::boxed::Boxed;
+use fl_message::shared::Shared;
 use fl_ops::digest::Digest;
 use fl_rules::endpoint::Mode;
 use fl_rules::labels::Labels;

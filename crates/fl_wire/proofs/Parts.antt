@@ -40,7 +40,7 @@ module _ (f : Format) (bs : List ℕ) (at place : ℕ) (next : place ≡ after_c
       let kept = message_kept f bs at in
       subst (λ fs. IsBadOrMemory kept fs x) (sym at_place)
       (bad_rest kept (caps_fields f bs at) (payload_fields bs place) x whole
-      (bad_more (short_at bs place) kept (payload_fields bs place) x (second_within (slice_index bs at) (ap (short_at bs) next)) bad))
+      (bad_more (short_at bs place) kept (payload_fields bs place) x (omega (arith, second_within (slice_index bs at) (ap (short_at bs) next))) bad))
 
 module _ (f : Format) (bs : List ℕ) (at middle : ℕ) (first : middle ≡ after_label f bs at) (whole : first_fault (label_fields f bs at) ≡ None) where
   abbrev at_middle : content_fields f bs at ≡ label_fields f bs at ++ (label_fields f bs middle ++ message_fields f bs (after_label f bs middle))

@@ -45,9 +45,9 @@ payload_fields bytes at =
     ∷ (at + 2 + short_at bytes at, nat_le (length bytes) (at + 2 + short_at bytes at))
     ∷ []
 
--- how many items of it are kept: capabilities and bytes
+-- how many items of it are kept: it itself, its capabilities and its bytes
 abbrev pub message_kept : Format → List ℕ → ℕ → ℕ
-message_kept f bytes at = slice_index bytes at + short_at bytes (after_caps f bytes at)
+message_kept f bytes at = 1 + (slice_index bytes at + short_at bytes (after_caps f bytes at))
 
 abbrev pub message_fields : Format → List ℕ → ℕ → List (ℕ × Bool)
 message_fields f bytes at = caps_fields f bytes at ++ payload_fields bytes (after_caps f bytes at)
@@ -58,7 +58,7 @@ content_fields f bytes at =
     label_fields f bytes at
     ++ (label_fields f bytes (after_label f bytes at) ++ message_fields f bytes (after_label f bytes (after_label f bytes at)))
 
--- how many items of them are kept: tags, capabilities and bytes
+-- how many items of them are kept: tags, the message, its capabilities and its bytes
 abbrev pub content_kept : Format → List ℕ → ℕ → ℕ
 content_kept f bytes at =
     short_at bytes at

@@ -15,6 +15,7 @@ use crate::packet::Packet;
 use crate::window::window_at;
 use fl_message::message::{Data, Message};
 use fl_message::payload::Payload;
+use fl_message::shared::Shared;
 use fl_ops::fields::byte_at;
 use fl_ops::format::Format;
 use std::alloc::{AllocError, Global};
@@ -58,7 +59,12 @@ fn payload_at(alloc: Global, bytes: &[u8], at: usize) -> Result<Payload, ReadFau
 }
 
 // The message, which ends the bytes.
-fn message_at(alloc: Global, format: Format, bytes: &[u8], at: usize) -> Result<Message, ReadFault>
+fn message_at(
+    alloc: Global,
+    format: Format,
+    bytes: &[u8],
+    at: usize,
+) -> Result<Shared<Message>, ReadFault>
     requires { at < 2 ^ 29 }
     ensures { MatchResult result
         (λ m. (first_fault (message_fields format bytes.now at) ≡ None)
@@ -71,7 +77,8 @@ fn message_at(alloc: Global, format: Format, bytes: &[u8], at: usize) -> Result<
         bytes,
         at + (1 + sized(format.cap_size(), caps.len())),
     )?;
-    Ok(Message { caps, payload })
+    let message = Shared::new(alloc, Message { caps, payload })?;
+    Ok(message)
 }
 
 // The message with its ends and its labels, which ends the bytes.
@@ -114,9 +121,8 @@ fn format_of(byte: u8) -> Format
 }
 
 /// The packet that the bytes spell, all of them, in either format. Linear, and takes memory for the
-/// sets, the operations, the spans and the payload alone, none before the head is right: the
-/// format, the kind, and what stands before the first of these. So none of a window without spans,
-/// nor of a message without tags, capabilities and bytes.
+/// sets, the operations, the spans and the message alone, none before the head is right: the
+/// format, the kind, and what stands before the first of these. So none of a window without spans.
 ///
 /// `BadPacket` where no packet spells them, at the first byte of the first field that is cut off,
 /// out of its range or against a rule with what came before it, or at the first byte after the

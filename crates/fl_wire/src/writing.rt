@@ -13,6 +13,7 @@ use fl_labels::endpoint::Endpoint;
 use fl_labels::label::Label;
 use fl_labels::pid::Pid;
 use fl_message::message::{Data, Message};
+use fl_message::shared::Shared;
 use fl_ops::fields::{push_cap, push_name};
 use fl_ops::writing::push_op;
 use fl_opset::intervals::Intervals;
@@ -58,7 +59,7 @@ fn push_caps(out: &mut Vec<u8>, caps: &CapSet) -> Result<(), AllocError>
 }
 
 // The capabilities of a message, how many bytes it has, and the bytes.
-fn push_message(out: &mut Vec<u8>, message: &Message) -> Result<(), AllocError>
+fn push_message(out: &mut Vec<u8>, message: &Shared<Message>) -> Result<(), AllocError>
     ensures { OnOk result (out.new.items ≡ out.old.items ++ message_bytes Two message.now) }
 {
     push_caps(out, &message.caps)?;

@@ -10,6 +10,7 @@ use fl_labels::pid::Pid;
 use fl_message::boxed::Boxed;
 use fl_message::message::{Data, Message};
 use fl_message::payload::Payload;
+use fl_message::shared::Shared;
 use fl_rules::endpoint::Mode;
 use fl_store::mem::MemKeeper;
 use fl_wire::packet::Packet;
@@ -74,7 +75,7 @@ fn sent<R: Threads + Wait + Sync + Send + Copy + Drop + 'static>(
         from: ENDPOINT,
         receiver: TWO,
         to: ENDPOINT,
-        message: Boxed::new(alloc, message).ok()?,
+        message: Shared::new(alloc, message).ok()?,
     };
     match answer_to(rt, alloc, crew, Job::By(ONE, Act::Mail(send)))? {
         Reply::Told(Told::Out(data)) => Some(data),

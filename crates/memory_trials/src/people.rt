@@ -15,6 +15,7 @@ use fl_labels::pid::Pid;
 use fl_message::boxed::Boxed;
 use fl_message::message::{Data, Message};
 use fl_message::payload::Payload;
+use fl_message::shared::Shared;
 use fl_rules::endpoint::Mode;
 use fl_system::answer::{Answer, Fault};
 use std::alloc::{AllocError, Global};
@@ -289,7 +290,7 @@ pub fn send_act(alloc: Global) -> Option<Act> {
         from: ENDPOINT,
         receiver: FIRST,
         to: ENDPOINT,
-        message: Boxed::new(alloc, message).ok()?,
+        message: Shared::new(alloc, message).ok()?,
     }))
 }
 

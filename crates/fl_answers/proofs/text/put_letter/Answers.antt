@@ -7,9 +7,6 @@ returns-in_err-put_pid-clause-puts g c = puts_stop _ _ c.in_err-put_pid.ensures.
 pub returns-in_err-put-clause-puts : goal.returns-in_err-put-clause-puts
 returns-in_err-put-clause-puts g c = puts_then c.in_ok-put_pid.ensures.puts.is (puts_stop _ _ c.in_err-put.ensures.puts.is c.from_residual-in_err-put.ensures.0)
 
-pub returns-in_err-put_caps-clause-puts : goal.returns-in_err-put_caps-clause-puts
-returns-in_err-put_caps-clause-puts g c = puts_then c.in_ok-put_pid.ensures.puts.is (puts_then c.in_ok-put.ensures.puts.is (puts_stop _ _ c.in_err-put_caps.ensures.puts.is c.from_residual-in_err-put_caps.ensures.0))
-
 pub returns-clause-puts : goal.returns-clause-puts
-returns-clause-puts g c = rw (← c.as_slice.ensures)
-    (puts_then c.in_ok-put_pid.ensures.puts.is (puts_then c.in_ok-put.ensures.puts.is (puts_then c.in_ok-put_caps.ensures.puts.is c.put_bytes.ensures.puts)))
+returns-clause-puts g c = rw (← c.deref.ensures)
+    (puts_then c.in_ok-put_pid.ensures.puts.is (puts_then c.in_ok-put.ensures.puts.is c.put_message.ensures.puts))

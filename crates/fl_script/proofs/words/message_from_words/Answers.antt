@@ -1,14 +1,10 @@
-use Rattle.fl_message.specs.declared.message.Message.{Message}
+use Rattle.std.proofs.Common.{subst, sym}
 use Rattle.fl_script.specs.Words.{AreMessageWords}
-use Rattle.fl_script.proofs.Found.{passed, reads}
-use Rattle.fl_script.proofs.MessageWords.{of_words}
+use Rattle.fl_script.proofs.Found.{passed}
 use Rattle.fl_script.proofs.words.message_from_words.Goals as goal
 
-pub returns-in_err-caps : goal.returns-in_err-caps
-returns-in_err-caps c = passed _ c.from_residual.ensures.1 c.in_err-caps.ensures (λ none message are. none message.caps are.caps)
-
-pub returns-in_err-payload : goal.returns-in_err-payload
-returns-in_err-payload c = passed _ c.from_residual-in_err-payload.ensures.1 c.in_err-payload.ensures.ok (λ none message are. none message.payload are.bytes)
+pub returns-in_err-message : goal.returns-in_err-message
+returns-in_err-message c = passed _ c.from_residual.ensures.1 c.in_err-message.ensures (λ none message are. none message are)
 
 pub returns : goal.returns
-returns c = rw c.ok_or.ensures.value (reads {T = Message} (λ m. AreMessageWords m c.args.caps.now c.args.bytes.now) c.new.result (of_words c.args.caps.now c.args.bytes.now c.in_ok-caps.caps c.in_ok-payload.payload c.in_ok-caps.ensures c.in_ok-payload.ensures.ok c.new.result c.new.ensures))
+returns c = subst (λ message. AreMessageWords message c.args.caps.now c.args.bytes.now) (sym c.in_ok-new.ensures) c.in_ok-message.ensures

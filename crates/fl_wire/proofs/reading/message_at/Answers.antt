@@ -33,4 +33,9 @@ returns c =
     let size : c.sized.result ≡ cap_size f * slice_index c.args.bytes.now c.args.at = c.sized.ensures ∙ (λ i. c.cap_size.ensures i * (c.len.ensures ∙ e.2) i) in
     let next : c.args.at + (1 + c.sized.result) ≡ after_caps f c.args.bytes.now c.args.at = omega (arith, size) in
     let found = message_found f c.args.bytes.now c.args.at _ next e.0 c.in_ok-caps.caps c.in_ok-payload.payload e.4 k.0 k.2 in
-    (found.0, e.1, found.1)
+    rw c.in_ok-message.ensures (found.0, e.1, found.1)
+
+pub returns-in_err-message : goal.returns-in_err-message
+returns-in_err-message c =
+    let p = err_from_is_err_and c.from_residual-in_err-message.result c.from_residual-in_err-message.ensures.1 in
+    rw (p.1, p.2) (omega arith)
