@@ -84,16 +84,17 @@ fn apply_groups(caps: &mut CapSet, groups: &[ArcSlice<Block>]) -> Result<(), All
 }
 
 impl History {
-    /// Of the set of these capabilities. Fails only where there is not enough memory. Copies them.
-    pub fn new(alloc: Global, caps: &[Cap]) -> Result<Self, AllocError>
-        ensures { IfOk result (λ made. made ≡ set.of_list caps.now) }
+    /// Of the set of these capabilities, before anything happens to it. Shares them, and takes no
+    /// memory.
+    pub fn begun_with(alloc: Global, first: ArcSlice<Cap>) -> Self
+        ensures { result ≡ set.of_list (arc_slice_items first) }
     {
-        Ok(History {
-            first: ArcSlice::from_slice(alloc, caps)?,
+        History {
+            first,
             groups: Vec::new(alloc),
             blocks: Vec::new(alloc),
             pieces: Vec::new(alloc),
-        })
+        }
     }
 
     // With all blocks in groups. An error leaves it.

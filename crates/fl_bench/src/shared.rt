@@ -11,14 +11,24 @@ use std::alloc::{AllocError, Global};
 use std::marker::Model;
 use std::sync::{Arc, ArcSlice};
 
+// What is kept of a set, so that one that never changed takes no more than its members.
+#[derive(Drop)]
+enum Kept {
+    // of a set with no members, which then takes no memory
+    Nothing,
+    // what it was made of, where it has not changed since then
+    Once(ArcSlice<Cap>),
+    // what it was at first, and its changes
+    Since(Arc<History>),
+}
+
 /// A set of capabilities that stays as it is, of which another holder costs no copy.
 #[derive(Drop)]
 pub struct SharedCaps {
-    history: Arc<History>,
+    kept: Kept,
 }
 
 impl Model for SharedCaps {
-    ghost use Rattle.std.specs.Arc.{arc_value};
     ghost use Rattle.fl_labels.specs.SetBy as set;
     ghost use Rattle.fl_labels.specs.Cap.{cap_cmp};
     ghost use Rattle.fl_labels.specs.CapOrder.{coded_cap};
@@ -27,17 +37,37 @@ impl Model for SharedCaps {
 
     ghost coded = { set.code coded_cap };
 
-    ghost view = { λ a. arc_value a.history };
+    ghost use Rattle.fl_bench.specs.parts.Kept.{kept_set};
+
+    ghost view = { λ a. kept_set a.kept };
 }
 
 impl SharedCaps {
     // The set of these capabilities, with one holder. Fails only where there is not enough memory.
+    // An empty set takes none. Others copy the capabilities.
     pub(crate) fn new(alloc: Global, caps: &[Cap]) -> Result<Self, AllocError>
         ensures { IfOk result (λ made. made ≡ set.of_list caps.now) }
     {
+        if caps.is_empty() {
+            return Ok(SharedCaps {
+                kept: Kept::Nothing,
+            });
+        }
         Ok(SharedCaps {
-            history: Arc::new(alloc, History::new(alloc, caps)?)?,
+            kept: Kept::Once(ArcSlice::from_slice(alloc, caps)?),
         })
+    }
+
+    // The set as a history of its own, so that changes can be added. Fails only where there is not
+    // enough memory. Costs what `History::copy` does at most.
+    fn history(&self, alloc: Global) -> Result<History, AllocError>
+        ensures { IfOk result (λ made. made ≡ self.now) }
+    {
+        match &self.kept {
+            Kept::Nothing => Ok(History::begun_with(alloc, ArcSlice::from_slice(alloc, &[])?)),
+            Kept::Once(caps) => Ok(History::begun_with(alloc, caps.clone()?)),
+            Kept::Since(history) => history.copy(),
+        }
     }
 
     // The set after these changes, with one holder. Fails only where there is not enough memory.
@@ -45,10 +75,10 @@ impl SharedCaps {
     pub(crate) fn changed_by(&self, alloc: Global, changes: &[Change]) -> Result<Self, AllocError>
         ensures { IfOk result (λ made. made ≡ after self.now changes.now) }
     {
-        let mut history = self.history.copy()?;
+        let mut history = self.history(alloc)?;
         history.add(alloc, ArcSlice::from_slice(alloc, changes)?)?;
         Ok(SharedCaps {
-            history: Arc::new(alloc, history)?,
+            kept: Kept::Since(Arc::new(alloc, history)?),
         })
     }
 
@@ -57,15 +87,22 @@ impl SharedCaps {
     pub fn copy(&self) -> Result<Self, AllocError>
         ensures { IfOk result (λ made. made ≡ self.now) }
     {
-        Ok(SharedCaps {
-            history: Arc::try_clone(&self.history)?,
-        })
+        let kept = match &self.kept {
+            Kept::Nothing => Kept::Nothing,
+            Kept::Once(caps) => Kept::Once(caps.clone()?),
+            Kept::Since(history) => Kept::Since(Arc::try_clone(history)?),
+        };
+        Ok(SharedCaps { kept })
     }
 
-    /// The set itself, made anew from its changes. Fails only where there is not enough memory.
+    /// The set itself, made anew from what is kept. Fails only where there is not enough memory.
     pub fn to_set(&self, alloc: Global) -> Result<CapSet, AllocError>
         ensures { IfOk result (λ made. made ≡ self.now) }
     {
-        self.history.to_set(alloc)
+        match &self.kept {
+            Kept::Nothing => Ok(CapSet::new(alloc)),
+            Kept::Once(caps) => CapSet::from_vec(Vec::from_slice(alloc, caps.as_slice())?),
+            Kept::Since(history) => history.to_set(alloc),
+        }
     }
 }
