@@ -102,6 +102,14 @@ pub over : (V : Registry) (pid : Pid) (p : Process) (act : Act) {q : Result Sequ
     {s t : SetBy cap_cmp} → s ≡ t → Acts V pid p act q (made s) → Acts V pid p act q (made t)
 over V pid p act {q} made e h = subst (λ u. Acts V pid p act q (made u)) e h
 
+-- what the process holds, by another name: before the act, and behind it
+module _ (V : Registry) (pid : Pid) (p : Process) (act : Act) {q : Result Sequel Refusal} {h : Holding} (e : p.owned ≡ h) where
+  pub held_before : {p' : Process} → Acts V pid (record p { owned = h }) act q p' → Acts V pid p act q p'
+  held_before {p'} x = subst (λ h. Acts V pid (record p { owned = h }) act q p') (sym e) x
+
+  pub held_behind : Acts V pid p act q (record p { owned = h }) → Acts V pid p act q p
+  held_behind x = subst (λ h. Acts V pid p act q (record p { owned = h })) (sym e) x
+
 -- of a process of which an operation is under way
 pub act_busy : (V : Registry) (pid : Pid) (p : Process) (act : Act) → ((owned : SetBy cap_cmp) → p.owned ≡ Idle owned → ⊥) → Acts V pid p act (Err Busy) p
 act_busy V pid p act n = is_refused V pid p act (inl (ap (λ b. cond b (Some Busy) None) (sym (busy p.owned n))))

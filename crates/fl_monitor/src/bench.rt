@@ -136,8 +136,8 @@ impl Bench {
         self.bear(Boxed::new(alloc, Process::new(alloc)))
     }
 
-    // Has the process bear one, or ends it. Out of line, so that the way of most jobs has no room for
-    // a child.
+    // Has the process bear one, or ends it. Out of line, so that the way of most jobs has no room
+    // for a child.
     #[inline(never)]
     fn live<V: View>(
         &mut self,
@@ -160,24 +160,6 @@ impl Bench {
                 Ok(Outcome::Reply(Reply::Done))
             }
             _ => unreachable!("a process does it by itself"),
-        }
-    }
-
-    // Does what one process asks for, and what follows.
-    #[inline(always)]
-    fn act<V: View>(
-        &mut self,
-        alloc: Global,
-        view: &mut V,
-        pid: Pid,
-        act: &mut Act,
-    ) -> Result<Outcome, Refusal>
-        ensures does { Does (Listed (V.list view.old)) self.old (By pid act.old) result self.new }
-        ensures same { view.new ≡ view.old }
-    {
-        match act {
-            Act::Spawn(_) | Act::Exit => self.live(alloc, view, pid, replace(act, Act::Exit)),
-            _ => self.processes.act(alloc, view, pid, act),
         }
     }
 
@@ -229,7 +211,10 @@ impl Bench {
     {
         match job {
             Job::Proc => self.proc(alloc),
-            Job::By(pid, act) => self.act(alloc, view, *pid, act),
+            Job::By(pid, act @ (Act::Spawn(_) | Act::Exit)) => {
+                self.live(alloc, view, *pid, replace(act, Act::Exit))
+            }
+            Job::By(pid, act) => self.processes.act(alloc, view, *pid, act),
             Job::Member(root, cap) => Ok(Outcome::Reply(reply_of(view.reaches(*root, *cap)))),
             Job::Arrive(_) => self.processes.arrive(replace(job, Job::Proc)),
         }
