@@ -46,6 +46,7 @@ fn asker<'a, K: Keeper>(node: &'a Node<K>, job: &Job) -> Option<&'a Process>
 
 // The mode of the endpoint that the job tunes, if it tunes one that is open. The process is looked
 // for then alone.
+#[inline(always)]
 fn tuned<K: Keeper>(node: &Node<K>, job: &Job) -> Option<Mode>
     ensures { result ≡ job_tunes (asker_of node.now.node job.now) job.now }
 {
@@ -67,6 +68,7 @@ fn sends(job: &Job) -> bool
 }
 
 // How the process that asks for the job stands, where that may be noted.
+#[inline(always)]
 fn share<K: Keeper>(
     alloc: Global,
     node: &mut Node<K>,
