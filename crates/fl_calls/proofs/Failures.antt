@@ -140,6 +140,20 @@ checks_otherwise n packet fault r refused is says =
 pub no_node : {X : Type 0} (o : Option X) (x : X) → o ≡ None → o ≡ Some x → ⊥
 no_node o x none some = cc
 
+some_one : {X : Type 0} (o : Option X) → (o ≡ None → ⊥) → (x : X) × (o ≡ Some x)
+some_one None h = absurd (h refl)
+some_one (Some x) h = (x, refl)
+
+module _ {K M : Type 0} (here : WorldOver K) (maker : M) (old : ClusterOver K M) (is : record { world = here; maker = maker } ≡ old) where
+  -- a node that is not missing is there
+  pub one_there : (number : ℕ) → (map.get here.nodes number ≡ None → ⊥) → (n : NodeOver K) × (map.get old.world.nodes number ≡ Some n)
+  one_there number h =
+      some_one (map.get old.world.nodes number) (λ none. h (ap (λ (c : ClusterOver K M). map.get c.world.nodes number) is ∙ none))
+
+  -- the world is as it was
+  pub as_before : (now : WorldOver K) → now ≡ here → record { world = now; maker = maker } ≡ old
+  as_before now same = (λ i. record { world = same i; maker = maker }) ∙ is
+
 -- an opened node has no such fault
 pub no_error : (u : Unit {0}) → ◌≡◌ {A = Result (Unit {0}) Fault} (Ok u) (Err faults.KeeperFailed) → ⊥
 no_error u e = cc

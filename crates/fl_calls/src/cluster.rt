@@ -21,7 +21,7 @@ ghost use Rattle.fl_calls.specs.Calls.{brings_ops};
 ghost use Rattle.fl_calls.specs.parts.Coming.{coming, is_message, sent_at};
 
 use crate::asking::{check, tell, unite};
-use crate::completing::{arrival, come, complete, complete_job, number_of};
+use crate::completing::{arrival, begins, come, complete, finish, is_nowhere, number_of};
 use crate::response::Response;
 use fl_jobs::job::Job;
 use fl_labels::name::NodeNumber;
@@ -37,6 +37,7 @@ use fl_wire::packet::Packet;
 use fl_world::world::World;
 use std::alloc::Global;
 use std::marker::Model;
+use std::mem::replace;
 
 // Whether a node joined, or why not. A keeper that is given back goes.
 fn outcome<K: Drop>(joined: Result<u32, (Fault, K)>) -> Result<(), Fault>
@@ -207,10 +208,35 @@ impl<M: MakesKeepers> Cluster<M> {
             (λ between. FailsCompleting M.K.custody between.world self.new.world
             (event.Job number look.desk look.upto job.old)) }
     {
-        match self.enter(alloc, number) {
-            Ok(()) => complete_job(alloc, &mut self.world, number, look, job),
-            Err(fault) => Reply::Refused(fault),
+        // Most nodes are there, and are so looked for once.
+        let reply = self.world.job(alloc, number, look, job);
+        if is_nowhere(&reply) {
+            return self.job_once_open(alloc, number, look, replace(job, Job::Proc));
         }
+        if begins(&reply) {
+            return finish(alloc, &mut self.world, number);
+        }
+        reply
+    }
+
+    // Has the node do the job once it is open, as `ask` has it. Out of line, as it is seldom done.
+    #[inline(never)]
+    fn job_once_open(&mut self, alloc: Global, number: NodeNumber, look: Look, job: Job) -> Reply
+        requires { 0 < number }
+        ensures goes { GoesOn M.K.custody M.making self.old self.new (λ openings w w'. Asks openings
+            w (event.Job number look.desk look.upto job) (replied result) w') }
+        ensures cause { result ≡ Reply.Refused Fault.KeeperFailed
+            → FailsOnceOpen M.K.custody M.making self.old self.new number
+            (λ between. FailsCompleting M.K.custody between.world self.new.world
+            (event.Job number look.desk look.upto job)) }
+    {
+        let asked = Event::Job {
+            node: number,
+            desk: look.desk,
+            upto: look.upto,
+            job,
+        };
+        self.ask(alloc, asked)
     }
 
     /// Has the event happen at its node, which is opened where it is not there. What it begins is

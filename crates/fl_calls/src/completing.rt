@@ -8,9 +8,7 @@ ghost use Rattle.fl_calls.specs.Failing.{FailsCompleting};
 ghost use Rattle.fl_calls.specs.parts.Coming.{IsSentAs};
 
 use fl_jobs::answer::Refusal;
-use fl_jobs::job::Job;
 use fl_labels::name::NodeNumber;
-use fl_notes::working::Look;
 use fl_store::keeper::Keeper;
 use fl_system::answer::Fault;
 use fl_system::event::Event;
@@ -29,11 +27,19 @@ pub fn number_of(event: &Event) -> NodeNumber
     }
 }
 
-// Whether the reply says that something is to be saved and published.
-fn begins(reply: &Reply) -> bool
+/// Whether the reply says that something is to be saved and published.
+pub fn begins(reply: &Reply) -> bool
     ensures { result ≡ begins reply.now }
 {
     matches!(reply, Reply::Begun(_) | Reply::Taking(_))
+}
+
+/// Whether what was asked for is not there.
+pub fn is_nowhere(reply: &Reply) -> bool
+    ensures yes { result ≡ true → reply.now ≡ Reply.NoSuch }
+    ensures no { result ≡ false → reply.now ≢ Reply.NoSuch }
+{
+    matches!(reply, Reply::NoSuch)
 }
 
 fn is_done(reply: &Reply) -> bool
@@ -51,9 +57,9 @@ fn is_starved(reply: &Reply) -> bool
     matches!(reply, Reply::Refused(Fault::Refused(Refusal::Memory)))
 }
 
-// Saves what is to be saved at the node, and publishes it. Where saving wants memory, it is given
-// up.
-fn finish<K: Keeper>(alloc: Global, world: &mut World<K>, number: NodeNumber) -> Reply
+/// Saves what is to be saved at the node, and publishes it. Where saving wants memory, it is given
+/// up.
+pub fn finish<K: Keeper>(alloc: Global, world: &mut World<K>, number: NodeNumber) -> Reply
     ensures goes { Goes K.custody world.old world.new (λ w w'. Finishes w number result w') }
     ensures cause { result ≡ Reply.Refused Fault.KeeperFailed
         → IsBrokenAt K.custody world.new number }
@@ -78,28 +84,6 @@ pub fn complete<K: Keeper>(alloc: Global, world: &mut World<K>, event: Event) ->
 {
     let number = number_of(&event);
     let reply = world.step(alloc, event);
-    if begins(&reply) {
-        return finish(alloc, world, number);
-    }
-    reply
-}
-
-/// Has the node do a job at a desk, and saves and publishes what it begins. Gives what the last of
-/// it is answered. What is left of the job says nothing.
-#[inline(always)]
-pub fn complete_job<K: Keeper>(
-    alloc: Global,
-    world: &mut World<K>,
-    number: NodeNumber,
-    look: Look,
-    job: &mut Job,
-) -> Reply
-    ensures goes { Goes K.custody world.old world.new
-        (λ w w'. Completes w (Event.Job number look.desk look.upto job.old) result w') }
-    ensures cause { result ≡ Reply.Refused Fault.KeeperFailed → FailsCompleting
-        K.custody world.old world.new (Event.Job number look.desk look.upto job.old) }
-{
-    let reply = world.job(alloc, number, look, job);
     if begins(&reply) {
         return finish(alloc, world, number);
     }

@@ -1,5 +1,5 @@
 -- A job at a node as a step of the world.
-use Rattle.std.proofs.Common.{◌<◌, ◌≤◌, ltb, false, ◌≡◌, ◌++◌, ◌∙◌, refl, sym, ap, subst, ℕ, zero, suc, List, [], ◌∷◌, length, Some, None, arith}
+use Rattle.std.proofs.Common.{◌<◌, ◌≤◌, ltb, false, ◌≡◌, ◌++◌, ◌∙◌, refl, sym, ap, subst, ℕ, zero, suc, List, [], ◌∷◌, length, Option, Some, None, arith}
 use Rattle.std.proofs.lemmas.Bool.Decides.{nat_tests}
 use Rattle.std.proofs.lemmas.Cmp.{nat_cmp_total}
 use Rattle.std.proofs.lemmas.List.{append-nil}
@@ -54,6 +54,18 @@ not_arrival Proc h k = k
 not_arrival (By pid act) h k = k
 not_arrival (Member root c) h k = k
 
+no_both : {X : Type 0} (o : Option X) (x : X) → o ≡ None → o ≡ Some x → ⊥
+no_both o x none some = cc
+
+-- a node that is there always answers something
+pub answers_always : {number desk upto count : ℕ} {n n' : NodeState} {job : Job} {result : Reply} {sent : List Sent} {admitted : List Admission}
+    → Works number n desk upto job count result n' sent admitted → result ≡ reply.NoSuch → ⊥
+answers_always (Works.refused h) e = cc
+answers_always (Works.replied h) e = cc
+answers_always (Works.begun h) e = cc
+answers_always (Works.sends h) e = cc
+answers_always (Works.no_room look seen noted) e = cc
+
 job_at : (w : World) (number desk upto count : ℕ) (n n' : NodeState) (k : Kept) (job : Job) (result : Reply) (sent : List Sent) (admitted : List Admission)
     → count ≡ length w.packets → Works number n desk upto job count result n' sent admitted
     → JobAt w number (with_kept n k) desk upto job result (went w number n' k sent admitted)
@@ -71,11 +83,22 @@ module _ {K : Type 0} (custody : Custody K) {desks : ℕ} (es fs : List (ℕ × 
   at_old : map.get old.nodes number ≡ Some x
   at_old = sym (held es es packets audit old is number) ∙ there
 
+  -- the node is left, and so is all
+  pub left_same : y ≡ x → of_entries desks fs packets audit ≡ old
+  left_same same =
+      changed es fs packets audit old is number x y there left
+      ∙ (λ i. record {
+        desks = old.desks;
+        nodes = (ap (λ n. map.insert old.nodes number n) same ∙ put_same nat_cmp_total nat_cmp-IsAntisymmetric old.nodes number x at_old) i;
+        packets = append-nil old.packets i;
+        audit = append-nil old.audit i;
+      })
+
   -- what the job names is not there, and the node is left
   pub no_such_job : y ≡ x → IsNoSuch x.node desk job
       → Goes custody old (of_entries desks fs packets audit) (λ w w'. Step w (event.Job number desk upto job) reply.NoSuch w')
   no_such_job same none =
-      subst (λ n. Goes custody old n (λ w w'. Step w (event.Job number desk upto job) reply.NoSuch w')) (sym unchanged)
+      subst (λ n. Goes custody old n (λ w w'. Step w (event.Job number desk upto job) reply.NoSuch w')) (sym (left_same same))
       (stays custody old _ (λ w may_be. by_cause w (node_there custody old w number x at_old may_be) none))
     where
       by_cause : (w : World) → StandsAs custody x (map.get w.nodes number) → IsNoSuch x.node desk job
@@ -83,15 +106,9 @@ module _ {K : Type 0} (custody : Custody K) {desks : ℕ} (es fs : List (ℕ × 
       by_cause w s (IsNoSuch.no_desk h) = Step.no_desk s.there h
       by_cause w s (IsNoSuch.no_job h) = Step.no_such_job h
 
-      unchanged : of_entries desks fs packets audit ≡ old
-      unchanged =
-          changed es fs packets audit old is number x y there left
-          ∙ (λ i. record {
-            desks = old.desks;
-            nodes = (ap (λ n. map.insert old.nodes number n) same ∙ put_same nat_cmp_total nat_cmp-IsAntisymmetric old.nodes number x at_old) i;
-            packets = append-nil old.packets i;
-            audit = append-nil old.audit i;
-          })
+  -- where there is no node, none was found
+  pub found_one : map.get old.nodes number ≡ None → ⊥
+  found_one none = no_both _ x none at_old
 
   -- the job is done at the node
   pub worked : (result : Reply) (packets_after : List Sent) (audit_after : List Admission) → y.keeper ≡ x.keeper → IsThere x.node desk job

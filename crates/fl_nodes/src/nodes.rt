@@ -1,5 +1,5 @@
 //! The nodes of a world, call by call.
-ghost use Rattle.std.specs.Prelude.{◌≡◌, ◌≢◌, ◌<◌, true, false};
+ghost use Rattle.std.specs.Prelude.{◌≡◌, ◌≢◌, ◌<◌, None, true, false};
 ghost use Rattle.std.specs.FinMap as map;
 ghost use Rattle.std.specs.Option.{option_copied};
 ghost use Rattle.fl_system.specs.declared.event.Event.TheVariants as event;
@@ -214,6 +214,8 @@ impl<K: Keeper> Nodes<K> {
     /// `Node::job` has it; sends the message that it may answer, and notes what is admitted. An
     /// arrival is not handed in so, and answers `NoSuch`, as does a desk that is not there.
     ///
+    /// Where it answers `NoSuch` nothing has changed, and the job is still there.
+    ///
     /// Refused with `Memory` too where there is no room for what would be noted or sent, and never
     /// with `KeeperFailed`. For a job of which something is noted the labels of the process, and
     /// what it owns, are copied where one of them has changed since it was noted last.
@@ -221,6 +223,8 @@ impl<K: Keeper> Nodes<K> {
         ensures goes { Goes K.custody self.old self.new
             (λ w w'. Step w (event.Job number look.desk look.upto job.old) result w') }
         ensures cause { result ≢ Reply.Refused Fault.KeeperFailed }
+        ensures nowhere { map.get self.old.nodes number ≡ None → result ≡ Reply.NoSuch }
+        ensures left { result ≡ Reply.NoSuch → (self.new ≡ self.old) × (job.new ≡ job.old) }
     {
         let Some(node) = self.all.get_mut(&number) else {
             return Reply::NoSuch;

@@ -179,6 +179,8 @@ impl<K: Keeper> World<K> {
         ensures goes { Goes K.custody self.old self.new
             (λ w w'. Step w (event.Job number look.desk look.upto job.old) result w') }
         ensures cause { result ≢ replies.Refused Fault.KeeperFailed }
+        ensures nowhere { map.get self.old.nodes number ≡ None → result ≡ replies.NoSuch }
+        ensures left { result ≡ replies.NoSuch → (self.new ≡ self.old) × (job.new ≡ job.old) }
     {
         self.nodes.job(alloc, number, look, job)
     }

@@ -6,7 +6,7 @@ use Rattle.fl_nodes.proofs.Entries.{held, unchanged}
 use Rattle.fl_nodes.proofs.CallLemmas.{no_such_left}
 use Rattle.fl_nodes.proofs.FailLemmas.{no_refusal_missing}
 use Rattle.fl_nodes.proofs.Unfailing.{job_replied}
-use Rattle.fl_nodes.proofs.JobLemmas.{no_such_job, worked}
+use Rattle.fl_nodes.proofs.JobLemmas.{answers_always, found_one, left_same, no_such_job, worked}
 use Rattle.fl_nodes.proofs.Highs.{unraised, looked_up, left_up}
 use Rattle.fl_nodes.proofs.Unsaved.{worked_saved}
 use Rattle.fl_nodes.proofs.nodes.Nodes.job.Goals as goal
@@ -58,3 +58,27 @@ invariant_of-self-2 g c = (
 pub invariant_of-self : goal.invariant_of-self
 invariant_of-self g c =
     (c.self.invariant.0, left_up c.self.inside.highest c.self.inside.desks c.self.inside.all.entries _ (ap (λ (t : BTreeMap ℕ (NodeOver g.row.K.Denot)). t.entries) c.get_mut.follows.holds-at-none) c.self.invariant.1)
+
+pub returns-in_default-clause-left : goal.returns-in_default-clause-left
+returns-in_default-clause-left g c is = (
+  unchanged c.self.inside.all.entries _ c.self.inside.sent.items c.self.inside.audit.items c.args.self.now c.self.view_is
+      (ap (λ (t : BTreeMap ℕ (NodeOver g.row.K.Denot)). t.entries) c.get_mut.follows.holds-at-none),
+  refl,
+)
+
+pub returns-then-lacks-clause-left : goal.returns-then-lacks-clause-left
+returns-then-lacks-clause-left g c is = (
+  left_same g.K.Keeper.custody c.self.inside.all.entries _ c.self.inside.sent.items c.self.inside.audit.items c.args.self.now c.self.view_is
+      c.args.number c.args.look.desk c.args.look.upto c.args.job.now c.in-Some.node.now c.in-Some.node.now
+      (sym c.in-Some.ensures.value) (c.get_mut.follows.holds c.in-Some.node.now).0 refl,
+  refl,
+)
+
+pub returns-clause-nowhere : goal.returns-clause-nowhere
+returns-clause-nowhere g c none =
+    absurd (found_one g.K.Keeper.custody c.self.inside.all.entries _ c.self.inside.sent.items c.self.inside.audit.items c.args.self.now c.self.view_is
+    c.args.number c.args.look.desk c.args.look.upto c.args.job.now c.in-Some.node.now c.work.new.node
+    (sym c.in-Some.ensures.value) (c.get_mut.follows.holds c.work.new.node).0 none)
+
+pub returns-clause-left : goal.returns-clause-left
+returns-clause-left g c is = absurd (answers_always c.work.ensures.works.works is)
