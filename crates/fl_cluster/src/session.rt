@@ -2,14 +2,14 @@
 ghost use Rattle.std.specs.Prelude.{◌≡◌, ◌<◌, ℕ, All, IfOk, IsSome, List, None, OnErr, Some, length, true};
 ghost use Rattle.fl_aliases.specs.Table.{Table, target_of};
 ghost use Rattle.fl_script.specs.Grammar.{nodes_of};
-ghost use Rattle.fl_script.specs.Reading.{IsReading, makes};
+ghost use Rattle.fl_script.specs.Reading.{IsReading, ReadingTakesMemory, makes};
 ghost use Rattle.fl_script.specs.declared.reading.Reading.TheVariants as reading;
 ghost use Rattle.fl_turns.specs.Naming.{IsPlaced, renamed};
 ghost use Rattle.fl_turns.specs.Failing.{FailsRead, FailsSaid};
 ghost use Rattle.fl_stream.specs.Turns.{AnswerCuts, AnswerPasses};
-ghost use Rattle.fl_turns.specs.Over.{TurnOver, TurnsOver, begun_over};
+ghost use Rattle.fl_turns.specs.Over.{SessionOver, TurnOver, TurnsOver, begun_over};
 ghost use Rattle.fl_cluster.specs.Shown.{shown, status_said};
-ghost use Rattle.fl_cluster.specs.parts.Answering.{IsRead, Names, NamesOrStarves};
+ghost use Rattle.fl_cluster.specs.parts.Answering.{Names, NamesOrStarves};
 
 use crate::answers::write_response;
 use crate::asking::{LOOK, respond_to};
@@ -22,6 +22,7 @@ use fl_calls::response::Response as Said;
 use fl_jobs::job::Job;
 use fl_labels::name::{Name, NodeNumber};
 use fl_makers::maker::MakesKeepers;
+use fl_message::boxed::Boxed;
 use fl_replies::text::write_world_reply;
 use fl_script::line::Line;
 use fl_script::reading::{Reading, read_line};
@@ -122,31 +123,102 @@ impl<M: MakesKeepers> Session<M> {
         self.cluster.job(alloc, node, LOOK, job)
     }
 
-    // Answers the line of this number, of which this was read. Out of line, so that the way of a job
-    // has no room for it.
-    #[inline(never)]
-    fn answer_seldom<W: Writer>(
-        &mut self,
-        alloc: Global,
+    // Puts what is answered to the line of this number into the sink, and says its status.
+    #[inline(always)]
+    fn say<W: Writer>(
+        &self,
         number: u64,
-        read: Result<Reading, AllocError>,
+        response: Response,
         sink: &mut Sink,
         output: &mut W,
     ) -> Result<u8, WriteFault>
-        requires { (bytes : List ℕ) × IsRead self.old.aliases bytes read }
-        ensures ok { (bytes : List ℕ) → IsRead self.old.aliases bytes read
+        ensures ok { (old : SessionOver M.K M) (bytes : List ℕ)
+            → TurnOver M.K.custody M.making old bytes (shown self.now response) self.now
+            → (status_said response ≡ 3 → FailsRead M.K.custody M.making
+            old.aliases old.cluster self.now.cluster bytes)
+            → IfOk result (λ status. AnswerPasses (TurnsOver M.K.custody M.making)
+            number old bytes status self.now
+            (W.contents output.old) (W.contents output.new) sink.old sink.new) }
+        ensures err { (old : SessionOver M.K M) (bytes : List ℕ)
+            → TurnOver M.K.custody M.making old bytes (shown self.now response) self.now
+            → (status_said response ≡ 3 → FailsRead M.K.custody M.making
+            old.aliases old.cluster self.now.cluster bytes)
+            → OnErr result (AnswerCuts (TurnsOver M.K.custody M.making)
+            number old bytes self.now
+            (W.contents output.old) (W.contents output.new) sink.old) }
+        ensures cause { OnErr result (W.has_failed output.new) }
+    {
+        write_response(self, number, &response, sink, output)?;
+        Ok(response.status())
+    }
+
+    // Answers that the line of this number is none of the script. Out of line, as all is that is
+    // seldom answered, so that the way of a job has no room for it.
+    #[inline(never)]
+    fn answer_bad<W: Writer>(
+        &self,
+        number: u64,
+        sink: &mut Sink,
+        output: &mut W,
+    ) -> Result<u8, WriteFault>
+        ensures ok { (bytes : List ℕ) → IsReading self.now.aliases bytes reading.Bad
+            → IfOk result (λ status. AnswerPasses (TurnsOver M.K.custody M.making)
+            number self.now bytes status self.now
+            (W.contents output.old) (W.contents output.new) sink.old sink.new) }
+        ensures err { (bytes : List ℕ) → IsReading self.now.aliases bytes reading.Bad
+            → OnErr result (AnswerCuts (TurnsOver M.K.custody M.making)
+            number self.now bytes self.now
+            (W.contents output.old) (W.contents output.new) sink.old) }
+        ensures cause { OnErr result (W.has_failed output.new) }
+    {
+        self.say(number, Response::bad_line(), sink, output)
+    }
+
+    // Answers that there was not enough memory to read the line of this number.
+    #[inline(never)]
+    fn answer_starved<W: Writer>(
+        &self,
+        number: u64,
+        sink: &mut Sink,
+        output: &mut W,
+    ) -> Result<u8, WriteFault>
+        ensures ok { (bytes : List ℕ) → ReadingTakesMemory bytes
+            → IfOk result (λ status. AnswerPasses (TurnsOver M.K.custody M.making)
+            number self.now bytes status self.now
+            (W.contents output.old) (W.contents output.new) sink.old sink.new) }
+        ensures err { (bytes : List ℕ) → ReadingTakesMemory bytes
+            → OnErr result (AnswerCuts (TurnsOver M.K.custody M.making)
+            number self.now bytes self.now
+            (W.contents output.old) (W.contents output.new) sink.old) }
+        ensures cause { OnErr result (W.has_failed output.new) }
+    {
+        self.say(number, Response::starved(), sink, output)
+    }
+
+    // Answers the line of this number, and has its alias, if it has one, stand for what it made.
+    #[inline(never)]
+    fn answer_meant<W: Writer>(
+        &mut self,
+        alloc: Global,
+        number: u64,
+        line: Line,
+        alias: Option<Boxed<Alias>>,
+        sink: &mut Sink,
+        output: &mut W,
+    ) -> Result<u8, WriteFault>
+        requires { (bytes : List ℕ) × IsReading self.old.aliases bytes (reading.Means line alias) }
+        ensures ok { (bytes : List ℕ) → IsReading self.old.aliases bytes (reading.Means line alias)
             → IfOk result (λ status. AnswerPasses (TurnsOver M.K.custody M.making)
             number self.old bytes status self.new
             (W.contents output.old) (W.contents output.new) sink.old sink.new) }
-        ensures err { (bytes : List ℕ) → IsRead self.old.aliases bytes read
+        ensures err { (bytes : List ℕ) → IsReading self.old.aliases bytes (reading.Means line alias)
             → OnErr result (AnswerCuts (TurnsOver M.K.custody M.making)
             number self.old bytes self.new
             (W.contents output.old) (W.contents output.new) sink.old) }
         ensures cause { OnErr result (W.has_failed output.new) }
     {
-        let response = self.respond(alloc, read);
-        write_response(self, number, &response, sink, output)?;
-        Ok(response.status())
+        let response = self.respond(alloc, line, alias);
+        self.say(number, response, sink, output)
     }
 
     // Answers the line, which has no alias. A job is done here, and any other line out of line.
@@ -179,49 +251,24 @@ impl<M: MakesKeepers> Session<M> {
                 write_world_reply(&reply, sink, output)?;
                 Ok(reply_status(&reply))
             }
-            line => {
-                let read = Ok(Reading::Means { line, alias: None });
-                self.answer_seldom(alloc, number, read, sink, output)
-            }
+            line => self.answer_meant(alloc, number, line, None, sink, output),
         }
     }
 
-    // What is answered to a line of which this was read. Where memory was wanted to read it,
-    // nothing changes.
+    // What is answered to the line, whose alias, if it has one, stands for what it made then.
     #[inline(always)]
-    fn respond(&mut self, alloc: Global, read: Result<Reading, AllocError>) -> Response
-        requires { (bytes : List ℕ) × IsRead self.old.aliases bytes read }
-        ensures turns { (bytes : List ℕ) → IsRead self.old.aliases bytes read
+    fn respond(&mut self, alloc: Global, line: Line, alias: Option<Boxed<Alias>>) -> Response
+        requires { (bytes : List ℕ) × IsReading self.old.aliases bytes (reading.Means line alias) }
+        ensures turns { (bytes : List ℕ) → IsReading self.old.aliases bytes (reading.Means line alias)
             → TurnOver M.K.custody M.making
             self.old bytes (shown self.new result) self.new }
-        ensures cause { (bytes : List ℕ) → IsRead self.old.aliases bytes read
+        ensures cause { (bytes : List ℕ) → IsReading self.old.aliases bytes (reading.Means line alias)
             → status_said result ≡ 3 → FailsRead M.K.custody M.making
             self.old.aliases self.old.cluster self.new.cluster bytes }
     {
-        match read {
-            Ok(reading) => self.answer_reading(alloc, reading),
-            Err(AllocError) => Response::starved(),
-        }
-    }
-
-    // Answers what was read of a line.
-    #[inline(always)]
-    fn answer_reading(&mut self, alloc: Global, reading: Reading) -> Response
-        requires { (bytes : List ℕ) × IsReading self.old.aliases bytes reading }
-        ensures turns { (bytes : List ℕ) → IsReading self.old.aliases bytes reading
-            → TurnOver M.K.custody M.making
-            self.old bytes (shown self.new result) self.new }
-        ensures cause { (bytes : List ℕ) → IsReading self.old.aliases bytes reading
-            → status_said result ≡ 3 → FailsRead M.K.custody M.making
-            self.old.aliases self.old.cluster self.new.cluster bytes }
-    {
-        match reading {
-            Reading::Quiet => Response::Silence,
-            Reading::Bad => Response::bad_line(),
-            Reading::Means { line, alias } => match alias {
-                None => self.answer(alloc, line),
-                Some(alias) => self.answer_named(alloc, line, *alias),
-            },
+        match alias {
+            None => self.answer(alloc, line),
+            Some(alias) => self.answer_named(alloc, line, *alias),
         }
     }
 
@@ -273,17 +320,14 @@ impl<M: MakesKeepers> Machine for Session<M> {
     ) -> Result<u8, WriteFault> {
         match read_line(alloc, &self.aliases, line) {
             Ok(Reading::Quiet) => Ok(0),
-            Ok(Reading::Means { line, alias }) => match alias {
-                None => self.answer_plain(alloc, number, line, sink, output),
-                Some(alias) => {
-                    let read = Ok(Reading::Means {
-                        line,
-                        alias: Some(alias),
-                    });
-                    self.answer_seldom(alloc, number, read, sink, output)
-                }
-            },
-            read => self.answer_seldom(alloc, number, read, sink, output),
+            Ok(Reading::Means { line, alias: None }) => {
+                self.answer_plain(alloc, number, line, sink, output)
+            }
+            Ok(Reading::Means { line, alias }) => {
+                self.answer_meant(alloc, number, line, alias, sink, output)
+            }
+            Ok(Reading::Bad) => self.answer_bad(number, sink, output),
+            Err(AllocError) => self.answer_starved(number, sink, output),
         }
     }
 }

@@ -1,22 +1,15 @@
 -- What is responded to a line that was read.
-use Rattle.std.specs.Prelude.{◌≡◌, ◌⊎◌, ℕ, List, Option, Result, IfOk, OnErr}
-use Rattle.std.specs.declared.alloc.AllocError.{AllocError}
+use Rattle.std.specs.Prelude.{◌≡◌, ◌⊎◌, ℕ, List, Option}
 use Rattle.fl_aliases.specs.Table.{Table}
 use Rattle.fl_store.specs.Custody.{Custody}
 use Rattle.fl_makers.specs.Making.{Making}
 use Rattle.fl_script.specs.declared.line.Line.{Line}
-use Rattle.fl_script.specs.declared.reading.Reading.{Reading}
-use Rattle.fl_script.specs.Reading.{IsReading, ReadingTakesMemory}
 use Rattle.fl_calls.specs.Over.{ClusterOver, GoesOn}
 use Rattle.fl_turns.specs.Answer.{starved_line}
 use Rattle.fl_turns.specs.Over.{SessionOver}
 use Rattle.fl_turns.specs.Turn.{AnswersLine, AnswersNamed}
 use Rattle.fl_cluster.specs.Shown.{shown}
 use Rattle.fl_cluster.specs.declared.response.Response.{Response}
-
--- this was read of the line, or there was no memory to read it
-abbrev pub IsRead : Table → List ℕ → Result Reading AllocError → Type 0
-IsRead aliases bytes read = IfOk read (IsReading aliases bytes) × OnErr read (ReadingTakesMemory bytes)
 
 -- the response answers the line, whatever the aliases are
 abbrev pub RespondsTo : {K M : Type 0} → Custody K → Making M → ClusterOver K M → Line → Response → ClusterOver K M → Type 0

@@ -47,7 +47,7 @@ returns-in_err-write_world_reply-in-Node-default-Job-clause-err g c = λ bytes s
     c.in_err-write_world_reply-in-Node-default-Job.ensures.puts.is)
 
 pub returns-in_default-clause-ok : goal.returns-in_default-clause-ok
-returns-in_default-clause-ok g c = λ bytes said. c.answer_seldom.ensures.ok bytes (search rules)
+returns-in_default-clause-ok g c = λ bytes said. c.answer_meant.ensures.ok bytes (search rules)
 
 pub returns-in_default-clause-err : goal.returns-in_default-clause-err
-returns-in_default-clause-err g c = λ bytes said. c.answer_seldom.ensures.err bytes (search rules)
+returns-in_default-clause-err g c = λ bytes said. c.answer_meant.ensures.err bytes (search rules)

@@ -1,19 +1,29 @@
-use Rattle.fl_cluster.proofs.Failures.{no_three}
-use Rattle.fl_cluster.proofs.Turning.{turns_starved}
+use Rattle.std.proofs.Common.{None, Some}
+use Rattle.fl_cluster.proofs.Turning.{turns_named, turns_placed}
 use Rattle.fl_cluster.proofs.session.Session.respond.Goals as goal
 
-pub answer_reading-requires : goal.answer_reading-requires
-answer_reading-requires g c = (c.requires.0, (rw c.in-Ok.is at c.requires.1).0)
+pub returns-in-None-clause-turns : goal.returns-in-None-clause-turns
+returns-in-None-clause-turns g c = λ bytes says.
+    turns_named g.M.K.Keeper.custody g.M.MakesKeepers.making
+    _ _ bytes c.args.line None c.answer.result (rw c.in-None.is at says) c.answer.ensures.names
 
-pub returns-in-Ok-clause-turns : goal.returns-in-Ok-clause-turns
-returns-in-Ok-clause-turns g c = λ bytes says. c.answer_reading.ensures.turns bytes (rw c.in-Ok.is at says).0
+pub returns-in-Some-clause-turns : goal.returns-in-Some-clause-turns
+returns-in-Some-clause-turns g c = λ bytes says.
+    turns_placed g.M.K.Keeper.custody g.M.MakesKeepers.making
+    _ _ bytes c.args.line c.in-Some.alias c.answer_named.result (rw c.in-Some.is at says) (rw c.deref.ensures at c.answer_named.ensures.names)
 
-pub returns-in-Err-clause-turns : goal.returns-in-Err-clause-turns
-returns-in-Err-clause-turns g c = λ bytes says.
-    rw c.starved.ensures (turns_starved g.M.K.Keeper.custody g.M.MakesKeepers.making _ bytes (rw c.in-Err.is at says).1)
+pub returns-in-None-clause-cause : goal.returns-in-None-clause-cause
+returns-in-None-clause-cause g c bytes says three = record {
+  line = c.args.line;
+  alias = None;
+  says = rw c.in-None.is at says;
+  fails = c.answer.ensures.cause three;
+}
 
-pub returns-in-Ok-clause-cause : goal.returns-in-Ok-clause-cause
-returns-in-Ok-clause-cause g c = λ bytes says. c.answer_reading.ensures.cause bytes (rw c.in-Ok.is at says).0
-
-pub returns-in-Err-clause-cause : goal.returns-in-Err-clause-cause
-returns-in-Err-clause-cause g c = λ bytes says. rw c.starved.ensures (λ three. absurd (no_three three))
+pub returns-in-Some-clause-cause : goal.returns-in-Some-clause-cause
+returns-in-Some-clause-cause g c bytes says three = record {
+  line = c.args.line;
+  alias = Some c.in-Some.alias;
+  says = rw c.in-Some.is at says;
+  fails = c.answer_named.ensures.cause three;
+}

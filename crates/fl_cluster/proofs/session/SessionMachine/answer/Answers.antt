@@ -13,20 +13,20 @@ returns-in-Ok-Quiet-clause-ok g c =
     (turns_quiet g.M.K.Keeper.custody g.M.MakesKeepers.making _ c.args.line.now says)
     (λ three. absurd (no_three three)) (passes_nothing _ c.args.sink.now)
 
-pub returns-in-None-clause-ok : goal.returns-in-None-clause-ok
-returns-in-None-clause-ok g c = c.answer_plain.ensures.ok c.args.line.now (search rules)
+pub returns-in-Ok-Means-clause-ok : goal.returns-in-Ok-Means-clause-ok
+returns-in-Ok-Means-clause-ok g c = c.answer_meant.ensures.ok c.args.line.now (search rules)
 
-pub returns-in-None-clause-err : goal.returns-in-None-clause-err
-returns-in-None-clause-err g c = c.answer_plain.ensures.err c.args.line.now (search rules)
+pub returns-in-Ok-Means-clause-err : goal.returns-in-Ok-Means-clause-err
+returns-in-Ok-Means-clause-err g c = c.answer_meant.ensures.err c.args.line.now (search rules)
 
-pub returns-in-Some-clause-ok : goal.returns-in-Some-clause-ok
-returns-in-Some-clause-ok g c = c.answer_seldom.ensures.ok c.args.line.now (search rules)
+pub returns-in-Ok-Bad-clause-ok : goal.returns-in-Ok-Bad-clause-ok
+returns-in-Ok-Bad-clause-ok g c = c.answer_bad.ensures.ok c.args.line.now (search rules)
 
-pub returns-in-Some-clause-err : goal.returns-in-Some-clause-err
-returns-in-Some-clause-err g c = c.answer_seldom.ensures.err c.args.line.now (search rules)
+pub returns-in-Ok-Bad-clause-err : goal.returns-in-Ok-Bad-clause-err
+returns-in-Ok-Bad-clause-err g c = c.answer_bad.ensures.err c.args.line.now (search rules)
 
-pub returns-in_default-clause-ok : goal.returns-in_default-clause-ok
-returns-in_default-clause-ok g c = c.answer_seldom-in_default.ensures.ok c.args.line.now (search rules)
+pub returns-in-Err-clause-ok : goal.returns-in-Err-clause-ok
+returns-in-Err-clause-ok g c = c.answer_starved.ensures.ok c.args.line.now (search rules)
 
-pub returns-in_default-clause-err : goal.returns-in_default-clause-err
-returns-in_default-clause-err g c = c.answer_seldom-in_default.ensures.err c.args.line.now (search rules)
+pub returns-in-Err-clause-err : goal.returns-in-Err-clause-err
+returns-in-Err-clause-err g c = c.answer_starved.ensures.err c.args.line.now (search rules)
