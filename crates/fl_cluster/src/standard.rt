@@ -6,6 +6,7 @@ use crate::run::converse;
 use crate::watched::Watched;
 use fl_makers::maker::MakesKeepers;
 use std::io;
+use std::mem::forget;
 use std::process::ExitCode;
 
 /// The status where a read, a write or memory failed.
@@ -20,12 +21,15 @@ pub fn tell_length<R>(rt: &HostRuntime, input: &Watched<R>, ended: Result<u8, Ru
 
 /// Runs the script of standard input over these keepers, by one call after another, and writes the
 /// answers to standard output. It is [`converse`], with its statuses and its faults; a script that
-/// is too long is told on standard error.
+/// is too long is told on standard error. It is for a program that ends then: what the session holds
+/// is not let go block by block.
 pub fn answer<M: MakesKeepers + Drop>(rt: &HostRuntime, keepers: M) -> Result<u8, RunFault> {
     let mut input = Watched::new(rt.reader());
     let mut output = io::writer(rt);
-    let (_session, result) = converse(rt, &mut input, &mut output, keepers);
+    let (session, result) = converse(rt, &mut input, &mut output, keepers);
     tell_length(rt, &input, result);
+    // The program ends here, and all that the session holds goes with it.
+    forget(session);
     result
 }
 
