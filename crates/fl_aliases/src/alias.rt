@@ -14,7 +14,10 @@ pub const MOST_ALIAS_LETTERS: usize = 32;
 pub fn is_letter(byte: u8) -> bool
     ensures { result ≡ is_letter byte }
 {
-    matches!(byte, b'a'..=b'z' | b'0'..=b'9' | b'_')
+    if byte >= b'a' {
+        return byte <= b'z';
+    }
+    byte.is_ascii_digit() || byte == b'_'
 }
 
 fn is_alias(bytes: &[u8]) -> bool

@@ -1,5 +1,5 @@
 //! Aliases replaced in a line.
-ghost use Rattle.std.specs.Prelude.{◌≡◌, ◌++◌, ◌∷◌, ℕ, List, IfOk, IfSome, IfNone, OnOk, MatchOption};
+ghost use Rattle.std.specs.Prelude.{◌≡◌, ◌<◌, ◌++◌, ◌∷◌, ℕ, List, IfOk, IfSome, IfNone, OnOk, MatchOption, length, slice_index, take};
 ghost use Rattle.std.specs.Bool.{MatchBool};
 ghost use Rattle.std.specs.String.{string_bytes};
 ghost use Rattle.std.specs.List.{prefix_len};
@@ -8,15 +8,7 @@ ghost use Rattle.fl_aliases.specs.Expansion.{Expands, ExpandsBehind, NoDollar, N
 
 use crate::alias::{Alias, MOST_ALIAS_LETTERS, is_letter};
 use crate::table::Aliases;
-use memchr::memchr;
 use std::alloc::AllocError;
-
-/// Whether a `$` stands in the line. A line with none expands to itself. One look at each byte.
-pub fn has_dollar(line: &str) -> bool
-    ensures { MatchBool result (¬ NoDollar line.now) (NoDollar line.now) }
-{
-    memchr(b'$', line.as_bytes()).is_some()
-}
 
 // How many letters stand at the front of the text.
 fn letters_in_front(text: &str) -> usize
@@ -48,12 +40,20 @@ fn split_alias(text: &str) -> Option<Front<'_>>
     Some(Front { alias, behind })
 }
 
+// Where the first `$` of a word stands. A search that is made for long texts costs more.
+fn dollar_at(word: &[u8]) -> Option<usize>
+    ensures { MatchOption result (NoDollar word.now) (λ at.
+        (at < length word.now) × (slice_index word.now at ≡ 36) × NoDollar (take at word.now)) }
+{
+    word.iter().position(|byte| *byte == b'$')
+}
+
 // What stands before the first `$` of a text, and behind it.
 fn split_dollar(text: &str) -> Option<(&str, &str)>
     ensures { MatchOption result (NoDollar text.now) (λ parts.
         (text.now ≡ parts.0.now ++ 36 ∷ parts.1.now) × NoDollar parts.0.now) }
 {
-    match memchr(b'$', text.as_bytes()) {
+    match dollar_at(text.as_bytes()) {
         None => None,
         Some(at) => Some((text.split_at(at).0, text.split_at(at + 1).1)),
     }

@@ -1,6 +1,6 @@
 //! Tests of text in which aliases are replaced.
 use fl_aliases::alias::Alias;
-use fl_aliases::expand::{expand, has_dollar};
+use fl_aliases::expand::expand;
 use fl_aliases::table::Aliases;
 use fl_aliases::target::Target;
 use fl_labels::endpoint::Endpoint;
@@ -65,8 +65,7 @@ fn is_expanded(
     buffer.clear();
     buffer.push_str("before ")?;
     let is_whole = expand(aliases, line, buffer)?;
-    let is_told = has_dollar(line) == (line != text);
-    Ok(is_whole && is_told && buffer.as_str().strip_prefix("before ") == Some(text))
+    Ok(is_whole && buffer.as_str().strip_prefix("before ") == Some(text))
 }
 
 #[test]
