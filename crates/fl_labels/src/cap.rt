@@ -90,9 +90,10 @@ impl Ord for Cap {
     ghost matches_eq = { cap_tied };
 
     fn cmp(&self, other: &Self) -> Ordering {
-        self.name()
-            .cmp(&other.name())
-            .then(self.rank().cmp(&other.rank()))
+        match self.name().cmp(&other.name()) {
+            Ordering::Equal => self.rank().cmp(&other.rank()),
+            unlike => unlike,
+        }
     }
 }
 
