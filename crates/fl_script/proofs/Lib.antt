@@ -13,3 +13,5 @@ pub mod Found
 pub mod OfProcess
 pub mod AsciiWords
 pub mod PartWords
+pub mod ActVerbs
+pub mod NodeLines

@@ -276,19 +276,19 @@ pub fn act_from_words(alloc: Global, verb: &str, rest: &[&str]) -> Result<Act, U
         SpellsAct p a verb.now (map (λ w. w.now) rest.now)) }
     ensures memory { StarvesIf result (IsListVerb verb.now) }
 {
-    match verb {
-        "ask" => ask_act(rest),
-        "label" => label_act(alloc, rest),
-        "send" => send_act(alloc, rest),
-        "take" => take_act(rest),
-        "emit" => emit_act(alloc, rest),
-        "spawn" => spawn_act(alloc, rest),
-        "exit" => exit_act(rest),
-        "drop" => drop_act(rest),
-        "open" => open_act(alloc, rest),
-        "tune" => tune_act(alloc, rest),
-        "close" => close_act(rest),
-        "enter" => enter_act(rest),
+    match verb.as_bytes() {
+        b"ask" => ask_act(rest),
+        b"label" => label_act(alloc, rest),
+        b"send" => send_act(alloc, rest),
+        b"take" => take_act(rest),
+        b"emit" => emit_act(alloc, rest),
+        b"spawn" => spawn_act(alloc, rest),
+        b"exit" => exit_act(rest),
+        b"drop" => drop_act(rest),
+        b"open" => open_act(alloc, rest),
+        b"tune" => tune_act(alloc, rest),
+        b"close" => close_act(rest),
+        b"enter" => enter_act(rest),
         _ => order_act(verb, rest),
     }
 }
@@ -315,9 +315,9 @@ pub fn job_from_words(verb: &str, rest: &[&str]) -> Option<Job>
     requires { NoPidFirst (map (λ w. w.now) rest.now) }
     ensures { Finds result (λ j. SpellsJob j (verb.now ∷ map (λ w. w.now) rest.now)) }
 {
-    match verb {
-        "member" => member_job(rest),
-        "proc" => proc_job(rest),
+    match verb.as_bytes() {
+        b"member" => member_job(rest),
+        b"proc" => proc_job(rest),
         _ => None,
     }
 }

@@ -1,6 +1,7 @@
 //! Lines of the script.
-ghost use Rattle.std.specs.Prelude.{◌≡◌, ◌≢◌, ◌∷◌, map, codes};
+ghost use Rattle.std.specs.Prelude.{ℕ, ◌∷◌, map, codes};
 ghost use Rattle.fl_labels.specs.Found.{Finds};
+ghost use Rattle.fl_labels.specs.Words.{IsNumber};
 ghost use Rattle.fl_script.specs.parts.Reads.{Reads, StarvesIf};
 ghost use Rattle.fl_script.specs.Grammar.{HoldsList, IsListVerb, Spells};
 
@@ -39,14 +40,32 @@ fn union_line(rest: &[&str]) -> Option<Line>
     Some(Line::Union { first, second })
 }
 
-// The line that a node's number, a verb and the words after it spell.
-#[inline(always)]
-fn node_line(alloc: Global, n: &str, verb: &str, rest: &[&str]) -> Result<Line, Unread>
-    requires { n.now ≢ codes "union" }
-    ensures ok { Reads result (λ l. Spells l (n.now ∷ verb.now ∷ map (λ w. w.now) rest.now)) }
-    ensures memory { StarvesIf result (IsListVerb verb.now) }
+// The line of no node that a word and those behind it spell.
+fn other_line(first: &str, rest: &[&str]) -> Option<Line>
+    requires { (n : ℕ) → IsNumber n first.now → ⊥ }
+    ensures { Finds result (λ l. Spells l (first.now ∷ map (λ w. w.now) rest.now)) }
 {
-    let node = read_number(n).ok_or(Unread::Bad)?;
+    match (first, rest) {
+        ("union", rest) => union_line(rest),
+        ("audit", []) => Some(Line::Audit),
+        ("aliases", []) => Some(Line::Aliases),
+        _ => None,
+    }
+}
+
+// The line that a word and those behind it spell.
+#[inline(always)]
+fn line_behind(alloc: Global, first: &str, rest: &[&str]) -> Result<Line, Unread>
+    ensures ok { Reads result (λ l. Spells l (first.now ∷ map (λ w. w.now) rest.now)) }
+    ensures memory { StarvesIf result (HoldsList (first.now ∷ map (λ w. w.now) rest.now)) }
+{
+    // Most lines ask something of a node, and then no other words are looked for.
+    let Some(node) = read_number(first) else {
+        return other_line(first, rest).ok_or(Unread::Bad);
+    };
+    let [verb, rest @ ..] = rest else {
+        return Err(Unread::Bad);
+    };
     let request = request_from_words(alloc, verb, rest)?;
     Ok(Line::Node { node, request })
 }
@@ -59,10 +78,7 @@ pub(crate) fn line_from_words(alloc: Global, words: &[&str]) -> Result<Line, Unr
     ensures memory { StarvesIf result (HoldsList (map (λ w. w.now) words.now)) }
 {
     match words {
-        ["aliases"] => Ok(Line::Aliases),
-        ["audit"] => Ok(Line::Audit),
-        ["union", rest @ ..] => union_line(rest).ok_or(Unread::Bad),
-        [n, verb, rest @ ..] => node_line(alloc, n, verb, rest),
-        _ => Err(Unread::Bad),
+        [] => Err(Unread::Bad),
+        [first, rest @ ..] => line_behind(alloc, first, rest),
     }
 }

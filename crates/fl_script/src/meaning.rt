@@ -70,9 +70,9 @@ fn split_alias<'a, 'b>(words: &'a [&'b str]) -> Option<Named<'a, 'b>>
     let [front @ .., word, last] = words else {
         return None;
     };
-    if *word != "as" {
+    let b"as" = word.as_bytes() else {
         return None;
-    }
+    };
     let alias = Alias::from_word(last)?;
     Some(Named { front, alias })
 }

@@ -23,10 +23,10 @@ use std::alloc::Global;
 pub fn policy_from_word(word: &str) -> Option<Policy>
     ensures { Finds result (λ policy. word.now ≡ policy_text policy) }
 {
-    match word {
-        "export" => Some(Policy::Export),
-        "read" => Some(Policy::Read),
-        "integrity" => Some(Policy::Integrity),
+    match word.as_bytes() {
+        b"export" => Some(Policy::Export),
+        b"read" => Some(Policy::Read),
+        b"integrity" => Some(Policy::Integrity),
         _ => None,
     }
 }
@@ -35,9 +35,9 @@ pub fn policy_from_word(word: &str) -> Option<Policy>
 pub fn side_from_word(word: &str) -> Option<Side>
     ensures { Finds result (λ side. word.now ≡ side_text side) }
 {
-    match word {
-        "S" => Some(Side::Secrecy),
-        "I" => Some(Side::Integrity),
+    match word.as_bytes() {
+        b"S" => Some(Side::Secrecy),
+        b"I" => Some(Side::Integrity),
         _ => None,
     }
 }
@@ -46,10 +46,10 @@ pub fn side_from_word(word: &str) -> Option<Side>
 pub fn mode_from_word(word: &str) -> Option<Mode>
     ensures { Finds result (λ mode. word.now ≡ mode_text mode) }
 {
-    match word {
-        "r" => Some(Mode::Read),
-        "w" => Some(Mode::Write),
-        "rw" => Some(Mode::Both),
+    match word.as_bytes() {
+        b"r" => Some(Mode::Read),
+        b"w" => Some(Mode::Write),
+        b"rw" => Some(Mode::Both),
         _ => None,
     }
 }
@@ -112,7 +112,7 @@ pub fn bytes_from_word(alloc: Global, word: &str) -> Result<Payload, Unread>
     ensures ok { Reads result (λ bytes. IsBytesWord bytes word.now) }
     ensures memory { StarvesIf result (word.now ≢ codes "none") }
 {
-    if word == "none" {
+    if let b"none" = word.as_bytes() {
         return Ok(Payload::from_vec(Vec::new(alloc)));
     }
     match hex::decode(alloc, word) {

@@ -1,6 +1,5 @@
 -- Words that end in `as $x`.
-use Rattle.std.proofs.Common.{◌≡◌, ◌≢◌, ◌<◌, ◌≤◌, ◌+◌, ◌-◌, ℕ, suc, Bool, true, false, not, nat_eq, true≢false, List, [], ◌∷◌, ◌++◌, length, map, get_or, take, drop, sym, ap, refl, ◌∙◌, codes, length-append, length-drop, take-append-drop, Bor, arith}
-use Rattle.std.specs.Cmp.Lexicographic.{pointwise, bytes_decides}
+use Rattle.std.proofs.Common.{◌≡◌, ◌≢◌, ◌<◌, ◌≤◌, ◌+◌, ◌-◌, ℕ, suc, List, [], ◌∷◌, ◌++◌, length, map, get_or, take, drop, sym, ap, refl, ◌∙◌, codes, length-append, length-drop, take-append-drop, Bor, arith}
 use Rattle.std.proofs.lemmas.List.{drop_more, length-map, get_or-map, take-map}
 use Rattle.fl_aliases.specs.Alias.{IsAliasWord, alias_text}
 use Rattle.fl_aliases.specs.Words.{Word}
@@ -81,14 +80,3 @@ module _ (words : List (Bor Word)) where
         ∙ (λ i. take-map (λ w. w.now) (length words - 2) words i ++ (last_at (length words - 2) d (omega arith) ∙ word) i ∷ (last_at (length words - 1) e (omega arith) ∙ last.spelled) i ∷ []);
     is_alias = last.alias;
   }
-
--- what the test for `as` tells
-pub is_as : (word : Word) → false ≡ not (pointwise nat_eq word (codes "as")) → word ≡ codes "as"
-is_as word e = told (pointwise nat_eq word (codes "as")) (bytes_decides word (codes "as")).0 e
-  where
-    told : (r : Bool) → (r ≡ true → word ≡ codes "as") → false ≡ not r → word ≡ codes "as"
-    told true same e = same refl
-    told false same e = absurd (true≢false (sym e))
-
-pub is_not_as : (word : Word) → true ≡ not (pointwise nat_eq word (codes "as")) → word ≢ codes "as"
-is_not_as word e same = absurd (true≢false (e ∙ ap not ((bytes_decides word (codes "as")).1 same)))
