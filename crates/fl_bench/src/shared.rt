@@ -16,6 +16,8 @@ use std::sync::{Arc, ArcSlice};
 enum Kept {
     // of a set with no members, which then takes no memory
     Nothing,
+    // the only member of one that has not changed since then, which takes no memory either
+    One(Cap),
     // what it was made of, where it has not changed since then
     Once(ArcSlice<Cap>),
     // what it was at first, and its changes
@@ -44,18 +46,16 @@ impl Model for SharedCaps {
 
 impl SharedCaps {
     // The set of these capabilities, with one holder. Fails only where there is not enough memory.
-    // An empty set takes none. Others copy the capabilities.
+    // A set of one member at most takes none. Others copy the capabilities.
     pub(crate) fn new(alloc: Global, caps: &[Cap]) -> Result<Self, AllocError>
         ensures { IfOk result (λ made. made ≡ set.of_list caps.now) }
     {
-        if caps.is_empty() {
-            return Ok(SharedCaps {
-                kept: Kept::Nothing,
-            });
-        }
-        Ok(SharedCaps {
-            kept: Kept::Once(ArcSlice::from_slice(alloc, caps)?),
-        })
+        let kept = match caps {
+            [] => Kept::Nothing,
+            [cap] => Kept::One(*cap),
+            _ => Kept::Once(ArcSlice::from_slice(alloc, caps)?),
+        };
+        Ok(SharedCaps { kept })
     }
 
     // The set as a history of its own, so that changes can be added. Fails only where there is not
@@ -65,6 +65,7 @@ impl SharedCaps {
     {
         match &self.kept {
             Kept::Nothing => Ok(History::begun_with(alloc, ArcSlice::from_slice(alloc, &[])?)),
+            Kept::One(cap) => Ok(History::begun_with(alloc, ArcSlice::from_slice(alloc, &[*cap])?)),
             Kept::Once(caps) => Ok(History::begun_with(alloc, caps.clone()?)),
             Kept::Since(history) => history.copy(),
         }
@@ -89,6 +90,7 @@ impl SharedCaps {
     {
         let kept = match &self.kept {
             Kept::Nothing => Kept::Nothing,
+            Kept::One(cap) => Kept::One(*cap),
             Kept::Once(caps) => Kept::Once(caps.clone()?),
             Kept::Since(history) => Kept::Since(Arc::try_clone(history)?),
         };
@@ -101,6 +103,7 @@ impl SharedCaps {
     {
         match &self.kept {
             Kept::Nothing => Ok(CapSet::new(alloc)),
+            Kept::One(cap) => CapSet::from_vec(Vec::from_slice(alloc, &[*cap])?),
             Kept::Once(caps) => CapSet::from_vec(Vec::from_slice(alloc, caps.as_slice())?),
             Kept::Since(history) => history.to_set(alloc),
         }
