@@ -43,8 +43,8 @@ pub enum Demand<'a, 'b> {
     Endpoints(LabelsRef<'a>, &'b Endpoints),
 }
 
-// Why the owner of these capabilities does not meet the demand, or none where that does. In line, as
-// what calls it is, so that each demand is met by a way of its own.
+// Why the owner of these capabilities does not meet the demand, or none where that does. In line,
+// as what calls it is, so that each demand is met by a way of its own.
 #[inline(always)]
 fn first_refusal<V: View>(view: &mut V, owned: &CapSet, demand: Demand<'_, '_>) -> Option<Refusal>
     ensures refuses { demanded demand.entry (InEffect (Listed (V.list view.old)) (In owned.now)) result }

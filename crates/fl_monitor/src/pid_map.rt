@@ -67,7 +67,7 @@ fn stands_at<T>(slots: &[Slot<T>], place: usize, pid: Pid) -> bool
 }
 
 // Where the slot of that pid stands, or else where it would. It is guessed by how far the serial is
-// from the first one, which is right where no slot between them was dropped.
+// from the first one, which is right where no slot between them was dropped, and from the last one.
 #[inline(always)]
 fn place_of<T>(slots: &[Slot<T>], stride: u32, pid: Pid) -> Result<usize, usize>
     requires { IsRising slots.now }
@@ -80,16 +80,6 @@ fn place_of<T>(slots: &[Slot<T>], stride: u32, pid: Pid) -> Result<usize, usize>
             return Ok(guess);
         }
     }
-    search(slots, stride, pid)
-}
-
-// The same, by how far the serial is from the last one, and else by a binary search.
-#[inline(never)]
-fn search<T>(slots: &[Slot<T>], stride: u32, pid: Pid) -> Result<usize, usize>
-    requires { IsRising slots.now }
-    ensures ok { IfOk result (IsAt slots.now pid) }
-    ensures err { IfErr result (IsGapFor slots.now pid) }
-{
     if let Some(last) = slots.last() {
         let away = steps(pid.serial, last.pid.serial, stride);
         let guess = (slots.len() - 1).wrapping_sub(away);
@@ -97,6 +87,16 @@ fn search<T>(slots: &[Slot<T>], stride: u32, pid: Pid) -> Result<usize, usize>
             return Ok(guess);
         }
     }
+    search(slots, pid)
+}
+
+// The same, by a binary search. Out of line, since most guesses are right.
+#[inline(never)]
+fn search<T>(slots: &[Slot<T>], pid: Pid) -> Result<usize, usize>
+    requires { IsRising slots.now }
+    ensures ok { IfOk result (IsAt slots.now pid) }
+    ensures err { IfErr result (IsGapFor slots.now pid) }
+{
     slots.binary_search_by_key(&pid, |slot| slot.pid)
 }
 

@@ -1,4 +1,4 @@
-use Rattle.std.proofs.Common.{◌∙◌, ap, refl, sym}
+use Rattle.std.proofs.Common.{◌∙◌, ap, sym}
 use Rattle.fl_bench.specs.declared.process.Holding.TheVariants.{Idle}
 use Rattle.fl_monitor.proofs.ActLemmas.{answers_of, act_busy, act_relabel, act_ask, act_drop, act_enter, act_mail, held_before, over}
 use Rattle.fl_monitor.proofs.act.act_alone.Goals as goal
