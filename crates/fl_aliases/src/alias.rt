@@ -115,7 +115,8 @@ impl PartialEq for Alias {
     ghost laws = { partial_equiv_from_equiv nat_list_eq_equiv };
 
     fn eq(&self, other: &Self) -> bool {
-        self.letters() == other.letters()
+        // With the zeros, since their count is then known, and so costs less.
+        self.bytes == other.bytes
     }
 }
 

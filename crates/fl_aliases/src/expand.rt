@@ -1,10 +1,11 @@
 //! Aliases replaced in a line.
-ghost use Rattle.std.specs.Prelude.{◌≡◌, ◌<◌, ◌++◌, ◌∷◌, ℕ, List, IfOk, IfSome, IfNone, OnOk, MatchOption, length, slice_index, take};
+ghost use Rattle.std.specs.Prelude.{◌≡◌, ◌<◌, ◌++◌, ◌∷◌, ℕ, List, None, IfOk, IfSome, IfNone, OnOk, MatchOption, length, slice_index, take};
 ghost use Rattle.std.specs.Bool.{MatchBool};
 ghost use Rattle.std.specs.String.{string_bytes};
 ghost use Rattle.std.specs.List.{prefix_len};
-ghost use Rattle.fl_aliases.specs.Alias.{is_letter, IsAlias};
+ghost use Rattle.fl_aliases.specs.Alias.{is_letter, IsAlias, IsAliasWord};
 ghost use Rattle.fl_aliases.specs.Expansion.{Expands, ExpandsBehind, NoDollar, NoLetterFirst};
+ghost use Rattle.fl_aliases.specs.Table.{target_of};
 
 use crate::alias::{Alias, MOST_ALIAS_LETTERS, is_letter};
 use crate::table::Aliases;
@@ -99,7 +100,9 @@ pub fn expand(aliases: &Aliases, line: &str, buffer: &mut String) -> Result<bool
 /// What a line that is one alias expands to, as it is kept. `None` of any other line, and where the
 /// alias is not set. One look-up, and no memory.
 pub fn kept_expansion<'a>(aliases: &'a Aliases, line: &str) -> Option<&'a str>
-    ensures { IfSome result (λ text. Expands aliases.now line.now text.now) }
+    ensures some { IfSome result (λ text. Expands aliases.now line.now text.now) }
+    ensures none { IfNone result ((letters : List ℕ) →
+        IsAliasWord letters line.now → target_of aliases.now letters ≡ None) }
 {
     let alias = Alias::from_word(line)?;
     let text = aliases.text_of(&alias)?;
