@@ -32,8 +32,8 @@ use std::io::{Read, Write};
 ///
 /// The session is given back as the lines that were begun left it, at a fault too. Where its
 /// keepers are honest, the text is that of one run of the definitions (`one_run`), and at a fault a
-/// front of one's (`first_run`). Where a status is answered, that run is one of worlds: what holds of
-/// each world that a run leads to holds all along it, and a tag is confined (`lasting`).
+/// front of one's (`first_run`). Where a status is answered, that run is one of worlds: what holds
+/// of each world that a run leads to holds all along it, and a tag is confined (`lasting`).
 pub fn converse<RT: AllocGlobal, C: Conversation<W>, W: Writer, M: MakesKeepers + Drop>(
     rt: &RT,
     input: &mut C,
@@ -96,8 +96,8 @@ pub fn converse<RT: AllocGlobal, C: Conversation<W>, W: Writer, M: MakesKeepers 
 ///
 /// The session is given back as the lines that were begun left it, at a fault too. Where its
 /// keepers are honest, the text is that of one run of the definitions (`one_run`), and at a fault a
-/// front of one's (`first_run`). Where a status is answered, that run is one of worlds: what holds of
-/// each world that a run leads to holds all along it, and a tag is confined (`lasting`).
+/// front of one's (`first_run`). Where a status is answered, that run is one of worlds: what holds
+/// of each world that a run leads to holds all along it, and a tag is confined (`lasting`).
 pub fn run<RT: AllocGlobal, R: Read, W: Write, M: MakesKeepers + Drop>(
     rt: &RT,
     input: &mut R,

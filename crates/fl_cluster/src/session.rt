@@ -259,10 +259,11 @@ impl<M: MakesKeepers> Session<M> {
     #[inline(always)]
     fn respond(&mut self, alloc: Global, line: Line, alias: Option<Boxed<Alias>>) -> Response
         requires { (bytes : List ℕ) × IsReading self.old.aliases bytes (reading.Means line alias) }
-        ensures turns { (bytes : List ℕ) → IsReading self.old.aliases bytes (reading.Means line alias)
-            → TurnOver M.K.custody M.making
-            self.old bytes (shown self.new result) self.new }
-        ensures cause { (bytes : List ℕ) → IsReading self.old.aliases bytes (reading.Means line alias)
+        ensures turns { (bytes : List ℕ)
+            → IsReading self.old.aliases bytes (reading.Means line alias)
+            → TurnOver M.K.custody M.making self.old bytes (shown self.new result) self.new }
+        ensures cause { (bytes : List ℕ)
+            → IsReading self.old.aliases bytes (reading.Means line alias)
             → status_said result ≡ 3 → FailsRead M.K.custody M.making
             self.old.aliases self.old.cluster self.new.cluster bytes }
     {

@@ -21,8 +21,8 @@ pub fn tell_length<R>(rt: &HostRuntime, input: &Watched<R>, ended: Result<u8, Ru
 
 /// Runs the script of standard input over these keepers, by one call after another, and writes the
 /// answers to standard output. It is [`converse`], with its statuses and its faults; a script that
-/// is too long is told on standard error. It is for a program that ends then: what the session holds
-/// is not let go block by block.
+/// is too long is told on standard error. It is for a program that ends then: what the session
+/// holds is not let go block by block.
 pub fn answer<M: MakesKeepers + Drop>(rt: &HostRuntime, keepers: M) -> Result<u8, RunFault> {
     let mut input = Watched::new(rt.reader());
     let mut output = io::writer(rt);
