@@ -63,6 +63,8 @@ fn settle(aliases: &mut Aliases, alias: Alias, is_new: bool, made: Option<Target
 pub struct Session<M: MakesKeepers> {
     cluster: Cluster<M>,
     aliases: Aliases,
+    // The words of a line in which aliases were replaced, in room that the next line has too.
+    text: String,
 }
 
 impl<M: MakesKeepers> Model for Session<M> {
@@ -80,6 +82,7 @@ impl<M: MakesKeepers + Drop> Drop for Session<M> {
         let Session {
             cluster: _,
             aliases: _,
+            text: _,
         } = self;
     }
 }
@@ -92,6 +95,7 @@ impl<M: MakesKeepers> Session<M> {
         Session {
             cluster: Cluster::new(alloc, keepers),
             aliases: Aliases::new(alloc),
+            text: String::new(alloc),
         }
     }
 
@@ -319,7 +323,7 @@ impl<M: MakesKeepers> Machine for Session<M> {
         sink: &mut Sink,
         output: &mut W,
     ) -> Result<u8, WriteFault> {
-        match read_line(alloc, &self.aliases, line) {
+        match read_line(alloc, &self.aliases, line, &mut self.text) {
             Ok(Reading::Quiet) => Ok(0),
             Ok(Reading::Means { line, alias: None }) => {
                 self.answer_plain(alloc, number, line, sink, output)

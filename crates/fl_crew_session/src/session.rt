@@ -54,8 +54,8 @@ enum Asked {
 }
 
 // What the bytes of a line ask for where these aliases are set.
-fn understood(alloc: Global, aliases: &Aliases, line: &[u8]) -> Asked {
-    match read_line(alloc, aliases, line) {
+fn understood(alloc: Global, aliases: &Aliases, line: &[u8], text: &mut String) -> Asked {
+    match read_line(alloc, aliases, line, text) {
         Ok(Reading::Quiet) => Asked::Nothing,
         Ok(Reading::Bad) => Asked::Bad,
         Ok(Reading::Means { line, alias }) => match line {
@@ -79,6 +79,8 @@ fn understood(alloc: Global, aliases: &Aliases, line: &[u8]) -> Asked {
 pub struct Session<R: Wait, M: MakesKeepers> {
     crews: Crews<R, M>,
     aliases: Aliases,
+    // The words of a line in which aliases were replaced, in room that the next line has too.
+    text: String,
     held: Held,
 }
 
@@ -87,6 +89,7 @@ impl<R: Wait + Drop, M: MakesKeepers + Drop> Drop for Session<R, M> {
         let Session {
             crews: _,
             aliases: _,
+            text: _,
             held: _,
         } = self;
     }
@@ -98,6 +101,7 @@ impl<R: Threads + Wait + Sync + Send + Copy + Drop + 'static, M: MakesKeepers> S
         Session {
             crews,
             aliases: Aliases::new(alloc),
+            text: String::new(alloc),
             held: Held::new(alloc, 1),
         }
     }
@@ -378,7 +382,7 @@ impl<R: Threads + Wait + Sync + Send + Copy + Drop + 'static, M: MakesKeepers> S
         ensures cause { OnErr result (W.has_failed output.new) }
     {
         let told = self.end_named(alloc, line, sink, output)?;
-        let asked = understood(alloc, &self.aliases, line);
+        let asked = understood(alloc, &self.aliases, line, &mut self.text);
         let own = self.answer_asked(alloc, number, asked, sink, output)?;
         Ok(worse(told, own))
     }

@@ -1,12 +1,17 @@
 -- Lines that begin with the number of a node.
-use Rattle.std.proofs.Common.{◌<◌, ℕ, List, [], ◌∷◌, Bor, length, map, arith, rules}
+use Rattle.std.proofs.Common.{◌≡◌, ◌<◌, ◌≤◌, ◌-◌, ℕ, List, [], ◌∷◌, Bor, length, get_or, take, drop, map, refl, subst, arith, rules}
+use Rattle.fl_labels.specs.Text.{pid_text}
 use Rattle.fl_labels.specs.Words.{IsNumber}
+use Rattle.fl_labels.specs.declared.pid.Pid.{Pid}
+use Rattle.fl_jobs.specs.declared.job.Act.{Act}
 use Rattle.fl_aliases.specs.Words.{Word}
 use Rattle.fl_script.specs.Grammar.{Spells, SpellsRequest}
 use Rattle.fl_script.specs.declared.line.Line.{Line}
 use Rattle.fl_script.specs.declared.line.Line.TheVariants.{Node as OfNode, Union, Audit, Aliases}
 use Rattle.fl_script.specs.declared.request.Request.{Request}
 use Rattle.fl_script.specs.laws.OneWord.{no_letter}
+use Rattle.fl_script.specs.parts.Acts.{SpellsAct}
+use Rattle.fl_script.proofs.OfProcess.{first_word, no_request}
 
 module _ (node : ℕ) (word : Word) (is : IsNumber node word) where
   alone : (line : Line) → Spells line (word ∷ []) → ⊥
@@ -21,8 +26,25 @@ module _ (node : ℕ) (word : Word) (is : IsNumber node word) where
   no_words (w ∷ words) none line s = absurd (omega (arith, none))
 
   -- behind a number stands what is asked of a node
-  pub no_request : (words : List Word) → ((request : Request) → SpellsRequest request words → ⊥) → (line : Line) → Spells line (word ∷ words) → ⊥
-  no_request words none (OfNode n request) s = none request s.1
-  no_request words none (Union n m) s = no_letter node 117 _ word (omega arith) is s.0
-  no_request words none Audit s = no_letter node 97 _ word (omega arith) is s.0
-  no_request words none Aliases s = no_letter node 97 _ word (omega arith) is s.0
+  pub no_line : (words : List Word) → ((request : Request) → SpellsRequest request words → ⊥) → (line : Line) → Spells line (word ∷ words) → ⊥
+  no_line words none (OfNode n request) s = none request s.1
+  no_line words none (Union n m) s = no_letter node 117 _ word (omega arith) is s.0
+  no_line words none Audit s = no_letter node 97 _ word (omega arith) is s.0
+  no_line words none Aliases s = no_letter node 97 _ word (omega arith) is s.0
+
+  -- behind a number, a verb and a process stands what the process does
+  pub no_act : (rest : List (Bor Word)) (d e : Bor Word) (pid : Pid)
+      → 1 ≤ length rest → 1 ≤ length (take (length rest - 1) (drop 1 rest))
+      → (get_or (take (length rest - 1) (drop 1 rest)) 0 e).now ≡ pid_text pid
+      → (let words = take (length rest - 1) (drop 1 rest) in (q : Pid) (act : Act)
+      → SpellsAct q act (get_or rest 0 d).now (map (λ w. w.now) (take (length words - 1) (drop 1 words))) → ⊥)
+      → (line : Line) → Spells line (word ∷ map (λ w. w.now) rest) → ⊥
+  no_act rest d e pid one two process none line s =
+      let words = take (length rest - 1) (drop 1 rest) in
+      let behind = map (λ (w : Bor Word). w.now) (take (length words - 1) (drop 1 words)) in
+      let verb = (get_or rest 0 d).now in
+      let front = first_word rest d verb one refl in
+      let pid_first = first_word words e (pid_text pid) two process in
+      no_line (verb ∷ map (λ w. w.now) words) (λ request asks. no_request verb pid behind none request
+      (subst (λ ws. SpellsRequest request (verb ∷ ws)) pid_first asks)) line
+      (subst (λ ws. Spells line (word ∷ ws)) front s)

@@ -3,12 +3,14 @@ ghost use Rattle.std.specs.Prelude.{ℕ, ◌∷◌, map, codes};
 ghost use Rattle.fl_labels.specs.Found.{Finds};
 ghost use Rattle.fl_labels.specs.Words.{IsNumber};
 ghost use Rattle.fl_script.specs.parts.Reads.{Reads, StarvesIf};
-ghost use Rattle.fl_script.specs.Grammar.{HoldsList, IsListVerb, Spells};
+ghost use Rattle.fl_script.specs.Grammar.{HoldsList, Spells};
 
-use crate::request::{Request, request_from_words};
+use crate::job::act_from_words;
+use crate::request::{Request, other_request};
 use crate::unread::Unread;
+use fl_jobs::job::Job;
 use fl_labels::name::NodeNumber;
-use fl_labels::text::read_number;
+use fl_labels::text::{read_number, read_pid};
 use std::alloc::Global;
 
 /// A line that asks something of one node, of two, or of none. A line that was read names nodes
@@ -66,7 +68,15 @@ fn line_behind(alloc: Global, first: &str, rest: &[&str]) -> Result<Line, Unread
     let [verb, rest @ ..] = rest else {
         return Err(Unread::Bad);
     };
-    let request = request_from_words(alloc, verb, rest)?;
+    // A process stands behind the verb of what a process does, and behind no other verb.
+    if let [word, words @ ..] = rest {
+        if let Some(pid) = read_pid(word) {
+            let act = act_from_words(alloc, verb, words)?;
+            let request = Request::Job(Job::By(pid, act));
+            return Ok(Line::Node { node, request });
+        }
+    }
+    let request = other_request(alloc, verb, rest)?;
     Ok(Line::Node { node, request })
 }
 

@@ -97,9 +97,14 @@ fn parted_line<'a>(
     line_from_words(alloc, words.as_slice())
 }
 
-// The line that the words spell with each alias in them replaced. Takes memory for the replaced
-// words, where an alias is in one, and for what a line of such words takes.
-fn replaced_line<'a>(alloc: Global, aliases: &'a Aliases, words: &[&'a str]) -> Result<Line, Unread>
+// The line that the words spell with each alias in them replaced. Takes memory for what a line of
+// the replaced words takes, and for these where the text has no room for them.
+fn replaced_line<'a>(
+    alloc: Global,
+    aliases: &'a Aliases,
+    words: &[&'a str],
+    text: &mut String,
+) -> Result<Line, Unread>
     ensures ok { Reads result (λ line.
         SpellsReplaced aliases.now line (map (λ w. w.now) words.now)) }
     ensures memory { StarvesIf result (WantsMemory (map (λ w. w.now) words.now)) }
@@ -112,40 +117,47 @@ fn replaced_line<'a>(alloc: Global, aliases: &'a Aliases, words: &[&'a str]) -> 
         return line_from_words(alloc, placed.as_slice());
     }
     let mut lengths = ArrayVec::new();
-    let text = build(alloc, aliases, &words[placed.len()..], &mut lengths)?;
+    build(aliases, &words[placed.len()..], text, &mut lengths)?;
     parted_line(alloc, placed.as_slice(), text.as_str(), lengths.as_slice())
 }
 
 // The line that the words before `as $x` spell. `Bad` where they spell no line that makes
 // something, or no more aliases can be set.
-fn named_line(alloc: Global, aliases: &Aliases, front: &[&str]) -> Result<Line, Unread>
+fn named_line(
+    alloc: Global,
+    aliases: &Aliases,
+    front: &[&str],
+    text: &mut String,
+) -> Result<Line, Unread>
     ensures { Reads result (λ line. CanBeNamed aliases.now line (map (λ w. w.now) front.now)) }
 {
     if aliases.is_full() {
         return Err(Unread::Bad);
     }
-    let line = replaced_line(alloc, aliases, front)?;
+    let line = replaced_line(alloc, aliases, front, text)?;
     if !makes(&line) {
         return Err(Unread::Bad);
     }
     Ok(line)
 }
 
-/// What the words say where these aliases are set. `Bad` where they say nothing.
+/// What the words say where these aliases are set. `Bad` where they say nothing. Words in which
+/// aliases are replaced are put into the text, in place of what it held.
 pub(crate) fn meaning_of(
     alloc: Global,
     aliases: &Aliases,
     words: &[&str],
+    text: &mut String,
 ) -> Result<Meaning, Unread>
     ensures ok { Reads result (λ meaning.
         WordsSay aliases.now meaning.line meaning.alias (map (λ w. w.now) words.now)) }
     ensures memory { StarvesIf result (WantsMemory (map (λ w. w.now) words.now)) }
 {
     let Some(named) = split_alias(words) else {
-        let line = replaced_line(alloc, aliases, words)?;
+        let line = replaced_line(alloc, aliases, words, text)?;
         return Ok(Meaning { line, alias: None });
     };
-    let line = named_line(alloc, aliases, named.front)?;
+    let line = named_line(alloc, aliases, named.front, text)?;
     Ok(Meaning {
         line,
         alias: Some(Boxed::new(alloc, named.alias)?),

@@ -53,11 +53,19 @@ fn is_quiet(bytes: &[u8]) -> bool
 /// replaced, are those of no form. A line that makes something may end in `as $x`, with an alias
 /// that is not replaced, where fewer than 1,024 are set; else such a line is `Bad`.
 ///
+/// Words in which aliases are replaced are put into the text, in place of what it held, so that
+/// lines share its memory.
+///
 /// Looks at each byte a few times at most, and takes no memory but that of the replaced words,
-/// where an alias is in one, of the box of the alias behind `as`, and of the lists of a `label`,
-/// `spawn`, `emit`, `open`, `tune`, `send` or `check` line; where this is refused, the line is not
-/// read.
-pub fn read_line(alloc: Global, aliases: &Aliases, bytes: &[u8]) -> Result<Reading, AllocError>
+/// where an alias is in one and the text has no room for them, of the box of the alias behind `as`,
+/// and of the lists of a `label`, `spawn`, `emit`, `open`, `tune`, `send` or `check` line; where
+/// this is refused, the line is not read.
+pub fn read_line(
+    alloc: Global,
+    aliases: &Aliases,
+    bytes: &[u8],
+    text: &mut String,
+) -> Result<Reading, AllocError>
     ensures ok { IfOk result (λ reading. IsReading aliases.now bytes.now reading) }
     ensures err { OnErr result (ReadingTakesMemory bytes.now) }
 {
@@ -80,7 +88,7 @@ pub fn read_line(alloc: Global, aliases: &Aliases, bytes: &[u8]) -> Result<Readi
             Err(Unread::Memory) => Err(AllocError),
         };
     }
-    match meaning_of(alloc, aliases, words) {
+    match meaning_of(alloc, aliases, words, text) {
         Ok(Meaning { line, alias }) => Ok(Reading::Means { line, alias }),
         Err(Unread::Bad) => Ok(Reading::Bad),
         Err(Unread::Memory) => Err(AllocError),

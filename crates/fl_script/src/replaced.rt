@@ -1,5 +1,5 @@
 //! Words in which aliases are replaced.
-ghost use Rattle.std.specs.Prelude.{◌≡◌, ◌↔◌, ◌<◌, ◌≤◌, ◌+◌, ◌++◌, List, [], IfOk, IfErr, IfSome, IfNone, IsTrue, length, map, take};
+ghost use Rattle.std.specs.Prelude.{◌≡◌, ◌↔◌, ◌<◌, ◌≤◌, ◌+◌, ◌++◌, List, [], IfOk, IfErr, IfSome, IfNone, IsTrue, length, map, take, OnOk};
 ghost use Rattle.std.specs.Bool.{MatchBool, OnFalse};
 ghost use Rattle.std.specs.List.{All, AllZip};
 ghost use Rattle.std.specs.String.{string_bytes};
@@ -13,10 +13,6 @@ use crate::unread::Unread;
 use arrayvec::ArrayVec;
 use fl_aliases::expand::{expand, kept_expansion};
 use fl_aliases::table::Aliases;
-use std::alloc::Global;
-
-// Room for what aliases stand for, beside the words that have them. Most lines have one such word.
-const ROOM: usize = 32;
 
 // Whether no `$` stands in the word. A search that is made for long texts costs more.
 fn is_plain(word: &str) -> bool
@@ -61,31 +57,32 @@ pub(crate) fn place_kept<'a>(
     true
 }
 
-/// What the words become, one behind the other. Adds how long each is. `Bad` where a word becomes
-/// nothing. Takes memory for the text.
+/// Puts what the words become into the text, one behind the other, in place of what it held. Adds
+/// how long each is. `Bad` where a word becomes nothing. Takes memory where the text has no room
+/// for them.
 pub(crate) fn build(
-    alloc: Global,
     aliases: &Aliases,
     words: &[&str],
+    text: &mut String,
     lengths: &mut ArrayVec<usize, MOST_LINE_WORDS>,
-) -> Result<String, Unread>
+) -> Result<(), Unread>
     requires few { length words.now ≤ 8 }
     requires empty { lengths.old.items ≡ [] }
-    ensures ok { IfOk result (λ text. BuiltOf aliases.now (map (λ w. w.now) words.now)
-        lengths.new.items (string_bytes text)) }
+    ensures ok { OnOk result (BuiltOf aliases.now (map (λ w. w.now) words.now)
+        lengths.new.items (string_bytes text.new)) }
     ensures bad { let said = map (λ w. w.now) words.now in
         IfErr result (λ e. e ≡ Bad → (texts : List Word) →
         AllZip (Expands aliases.now) said texts → ⊥) }
 {
-    let mut text = String::with_capacity(alloc, ROOM)?;
+    text.clear();
     for word in words {
         let start = text.len();
-        if !expand(aliases, word, &mut text)? {
+        if !expand(aliases, word, text)? {
             return Err(Unread::Bad);
         }
         lengths.push(text.len() - start);
     }
-    Ok(text)
+    Ok(())
 }
 
 /// Adds the parts of the text that are so long.

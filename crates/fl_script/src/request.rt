@@ -5,7 +5,7 @@ ghost use Rattle.fl_script.specs.parts.Acts.{NoPidFirst};
 ghost use Rattle.fl_script.specs.parts.Reads.{Reads, StarvesIf};
 ghost use Rattle.fl_script.specs.Grammar.{IsListVerb, SpellsRequest};
 
-use crate::job::{act_from_words, job_from_words, order_from_words};
+use crate::job::{job_from_words, order_from_words};
 use crate::unread::Unread;
 use crate::words::bytes_from_word;
 use fl_jobs::job::{Job, Order};
@@ -136,8 +136,9 @@ fn begin_request(rest: &[&str]) -> Option<Request>
     }
 }
 
-// What is asked where no process stands behind the verb.
-fn other_request(alloc: Global, verb: &str, rest: &[&str]) -> Result<Request, Unread>
+/// What a verb and the words after it ask of a node, where no process stands behind the verb. `Bad`
+/// where they ask nothing. Takes memory for the bytes of a `check` alone.
+pub(crate) fn other_request(alloc: Global, verb: &str, rest: &[&str]) -> Result<Request, Unread>
     requires { NoPidFirst (map (λ w. w.now) rest.now) }
     ensures ok { Reads result (λ r. SpellsRequest r (verb.now ∷ map (λ w. w.now) rest.now)) }
     ensures memory { StarvesIf result (IsListVerb verb.now) }
@@ -158,26 +159,4 @@ fn other_request(alloc: Global, verb: &str, rest: &[&str]) -> Result<Request, Un
         "check" => check_request(alloc, rest),
         _ => Err(Unread::Bad),
     }
-}
-
-/// What a verb and the words after it ask of a node. `Bad` where they ask nothing. Takes memory for
-/// a list alone: of tags, of capabilities or of bytes.
-#[inline(always)]
-pub(crate) fn request_from_words(
-    alloc: Global,
-    verb: &str,
-    rest: &[&str],
-) -> Result<Request, Unread>
-    ensures ok { Reads result (λ r. SpellsRequest r (verb.now ∷ map (λ w. w.now) rest.now)) }
-    ensures memory { StarvesIf result (IsListVerb verb.now) }
-{
-    let [first, words @ ..] = rest else {
-        return other_request(alloc, verb, rest);
-    };
-    // A process stands behind the verb of what a process does, and behind no other verb.
-    let Some(pid) = read_pid(first) else {
-        return other_request(alloc, verb, rest);
-    };
-    let act = act_from_words(alloc, verb, words)?;
-    Ok(Request::Job(Job::By(pid, act)))
 }

@@ -27,24 +27,24 @@ returns-then-place_kept-clause-memory c =
     starves_as _ c.line_from_words.ensures.memory
     (wants_as_replaced c.args.aliases.now (map (λ w. w.now) c.args.words.now) (map (λ w. w.now) c.as_slice.result.now) (rw c.as_slice.ensures.value each))
 
-pub returns-in_err-text-clause-ok : goal.returns-in_err-text-clause-ok
-returns-in_err-text-clause-ok c =
-    passed _ c.from_residual.ensures.1 c.in_err-text.ensures.bad
+pub returns-in_err-build-clause-ok : goal.returns-in_err-build-clause-ok
+returns-in_err-build-clause-ok c =
+    passed _ c.from_residual.ensures.1 c.in_err-build.ensures.bad
     (none_built c.args.aliases.now c.args.words.now c.len.result)
 
 pub parted_line-requires-clause-room : goal.parted_line-requires-clause-room
 parted_line-requires-clause-room c =
     let placed = c.place_kept.new.placed.items in
-    let built = rw c.len.ensures.value at c.in_ok-text.ensures.ok in
+    let built = rw c.len.ensures.value at c.in_ok-build.ensures.ok in
     let few : length c.args.words.now ≤ 8 = c.if-words-gt-MOST_LINE_WORDS.false in
     let within : length placed ≤ length c.args.words.now = omega (arith, c.if-place_kept.ensures.count) in
     rw (c.as_slice-2.ensures.value, c.as_slice-3.ensures.value)
-    (room_for_built c.args.aliases.now c.args.words.now (length placed) c.build.new.lengths.items (string_bytes c.in_ok-text.text) few within built)
+    (room_for_built c.args.aliases.now c.args.words.now (length placed) c.build.new.lengths.items (string_bytes c.build.new.text) few within built)
 
 pub returns-clause-ok : goal.returns-clause-ok
 returns-clause-ok c =
     let placed = c.place_kept.new.placed.items in
-    let built = rw c.len.ensures.value at c.in_ok-text.ensures.ok in
-    let each = kept_and_built c.args.aliases.now c.args.words.now (length placed) (map (λ w. w.now) placed) c.build.new.lengths.items (string_bytes c.in_ok-text.text) c.if-place_kept.ensures.kept built in
+    let built = rw c.len.ensures.value at c.in_ok-build.ensures.ok in
+    let each = kept_and_built c.args.aliases.now c.args.words.now (length placed) (map (λ w. w.now) placed) c.build.new.lengths.items (string_bytes c.build.new.text) c.if-place_kept.ensures.kept built in
     read_replaced c.args.aliases.now (map (λ w. w.now) c.args.words.now) (map (λ w. w.now) c.as_slice-2.result.now ++ parts_of c.as_slice-3.result.now c.as_str.result.now)
     (rw (c.as_slice-2.ensures.value, c.as_slice-3.ensures.value, c.as_str.ensures.value) each) _ c.parted_line.ensures
