@@ -66,10 +66,23 @@ impl Tags {
     }
 
     /// The same tags again. Fails only where there is not enough memory.
+    #[inline]
     pub(crate) fn copy(&self, alloc: Global) -> Result<Self, AllocError>
         ensures { IfOk result (λ made. items made ≡ items self.now) }
     {
-        Ok(match self.as_slice() {
+        match self {
+            Tags::None => Ok(Tags::None),
+            Tags::One(tag) => Ok(Tags::One(*tag)),
+            Tags::Many(tags) => Tags::of(alloc, tags),
+        }
+    }
+
+    // These tags, which rise.
+    #[inline(never)]
+    fn of(alloc: Global, tags: &[Name]) -> Result<Self, AllocError>
+        ensures { IfOk result (λ made. items made ≡ tags.now) }
+    {
+        Ok(match tags {
             [] => Tags::None,
             [tag] => Tags::One(*tag),
             tags => Tags::Many(Vec::from_slice(alloc, tags)?),

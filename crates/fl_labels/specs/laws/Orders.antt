@@ -1,9 +1,8 @@
 -- Only equal values tie in their orders, and `==` holds of equal values alone.
-use Rattle.std.proofs.Common.{◌≡◌, ◌↔◌, Bool, true, sym, ap, ◌∙◌, rules}
+use Rattle.std.proofs.Common.{◌≡◌, ◌↔◌, Bool, sym, ap, ◌∙◌, rules}
 use Rattle.std.specs.Bool.{IsTrue}
 use Rattle.std.specs.Cmp.{IsTotalOrder, Equal-is, tied_itself}
 use Rattle.std.specs.Cmp.Rules.{comparing}
-use Rattle.std.specs.Cmp.Lexicographic.{slice_cmp, lists_total}
 use Rattle.std.specs.FinMap.{IsAntisymmetric, slice_cmp-IsAntisymmetric}
 use Rattle.std.specs.Ordering.{eq_by_cmp, is_eq}
 use Rattle.std.specs.declared.cmp.Ordering.{Ordering}
@@ -14,7 +13,7 @@ use Rattle.fl_labels.specs.declared.pid.Pid.{Pid}
 use Rattle.fl_labels.specs.declared.endpoint.Endpoint.{Endpoint}
 use Rattle.fl_labels.specs.Pid.{pid_cmp}
 use Rattle.fl_labels.specs.Endpoint.{endpoint_cmp}
-use Rattle.fl_labels.specs.SetBy.{SetBy, members, of_list, of_list-members}
+use Rattle.fl_labels.specs.SetBy.{members, of_list, of_list-members}
 use Rattle.fl_labels.specs.SetEquality.{set_cmp}
 
 -- where only equal keys tie, those that tie are the equal ones

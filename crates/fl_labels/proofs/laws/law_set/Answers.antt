@@ -1,5 +1,5 @@
 use Rattle.std.proofs.Common.{Bool, true, false, ◌≡◌, refl, sym}
-use Rattle.fl_labels.specs.SetBy.{contains, contains-empty, contains-insert, contains-remove, contains-union, contains-of_list, contains-members, members_rise, len-members, same_set}
+use Rattle.fl_labels.specs.SetBy.{contains-empty, contains-insert, contains-remove, contains-union, contains-of_list, contains-members, members_rise, len-members, same_set}
 use Rattle.fl_labels.proofs.laws.law_set.Goals as goal
 
 -- tests that tell the same
