@@ -1,12 +1,17 @@
 //! Bytes that processes send, or let out.
-ghost use Rattle.std.specs.Prelude.{◌≡◌};
+ghost use Rattle.std.specs.Prelude.{◌≡◌, ◌<◌, [], length, IfOk, OnErr};
 
+use smallvec::SmallVec;
+use std::alloc::{AllocError, Global};
 use std::marker::Model;
 
-/// Some bytes. Contracts see these alone.
+/// How many bytes take no block of their own.
+pub const FEW_BYTES: usize = 16;
+
+/// Some bytes, which stand in place where they are few. Contracts see these alone.
 #[derive(Debug, Drop)]
 pub struct Payload {
-    bytes: Vec<u8>,
+    bytes: SmallVec<u8, FEW_BYTES>,
 }
 
 impl Model for Payload {
@@ -18,18 +23,40 @@ impl Model for Payload {
 }
 
 impl Payload {
-    /// A payload of these bytes, which are not copied.
+    /// No bytes. Takes no memory.
+    pub fn new(alloc: Global) -> Self
+        ensures { result ≡ [] }
+    {
+        Payload {
+            bytes: SmallVec::new(alloc),
+        }
+    }
+
+    /// These bytes. Copies them, and fails only where they are more than 16 and there is not enough
+    /// memory.
+    pub fn from_slice(alloc: Global, bytes: &[u8]) -> Result<Self, AllocError>
+        ensures ok { IfOk result (λ made. made ≡ bytes.now) }
+        ensures err { OnErr result (16 < length bytes.now) }
+    {
+        Ok(Payload {
+            bytes: SmallVec::from_slice(alloc, bytes)?,
+        })
+    }
+
+    /// These bytes. Takes no memory: copies them where they are few, and else keeps their block.
     pub fn from_vec(bytes: Vec<u8>) -> Self
         ensures { result ≡ bytes.items }
     {
-        Payload { bytes }
+        Payload {
+            bytes: SmallVec::from_vec(bytes),
+        }
     }
 
     /// The bytes.
     pub fn as_slice(&self) -> &[u8]
         ensures { result.now ≡ self.now }
     {
-        &self.bytes
+        self.bytes.as_slice()
     }
 }
 
