@@ -1,19 +1,20 @@
 -- What a cache still knows.
-use Rattle.std.specs.Prelude.{◌≡◌, ◌&&◌, ◌⊎◌, Bool, true, false, List, Contains, Option, Some, None, OnOk, OnErr, Result, Ok, Err, is_some}
+use Rattle.std.specs.Prelude.{◌≡◌, ◌&&◌, ◌⊎◌, Bool, true, false, List, Contains, Option, Some, None, OnOk, OnErr, Result, Ok, Err, is_some, IfSome}
 use Rattle.std.proofs.Common.{refl, inl, inr, sym, subst, ◌∙◌}
 use Rattle.std.specs.Cmp.{Equal-is}
 use Rattle.std.specs.Map.{lookup}
 use Rattle.std.specs.Option.{option_map}
-use Rattle.std.proofs.lemmas.Bool.{false≢true}
 use Rattle.fl_labels.specs.Cap.{cap_cmp}
 use Rattle.fl_labels.specs.CapOrder.{cap_exact, cap_tied}
-use Rattle.fl_labels.specs.Found.{Within, Tells}
+use Rattle.fl_labels.specs.Found.{Within}
 use Rattle.fl_labels.specs.SetBy.{SetBy, In}
 use Rattle.fl_labels.specs.contracts.cap.CapPartialEq.TheImpl as caps
 use Rattle.fl_labels.specs.declared.cap.Cap.{Cap}
 use Rattle.fl_ops.specs.OpOrder.{op_cmp}
 use Rattle.fl_ops.specs.Registry.{From, Reach}
 use Rattle.fl_ops.specs.laws.Reaching.{reach_more}
+use Rattle.fl_closure.specs.Witness.{IsWitness}
+use Rattle.fl_closure.specs.declared.witness.Witness.{Witness}
 use Rattle.fl_cache.specs.contracts.yes.QuestionPartialEq.TheImpl as questions
 use Rattle.fl_cache.specs.declared.yes.Question.{Question}
 use Rattle.fl_cache.specs.parts.Known.{AreYes, AreKept}
@@ -78,5 +79,6 @@ pub mapped_some : {A B : Type 0} (f : A → B) (r : Option A) → is_some r ≡ 
 mapped_some f None h = absurd (cc)
 mapped_some f (Some x) h = refl
 
-pub told_yes : {P : Type 0} → P → Tells true P
-told_yes p = record { holds = λ _. p; fails = λ never. absurd (false≢true (sym never)) }
+-- what the last question came upon shows what it did then
+pub kept_shows : (index s : SetBy op_cmp) (kept : Option Witness) (w : Witness) → index ≡ s → kept ≡ Some w → IfSome kept (IsWitness (In index)) → IsWitness (In s) w
+kept_shows index s kept w view e is = subst (λ t. IsWitness (In t) w) view (subst (λ o. IfSome o (IsWitness (In index))) e is)

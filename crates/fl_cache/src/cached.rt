@@ -1,15 +1,17 @@
 //! An index with a cache of what it answered yes.
-ghost use Rattle.std.specs.Prelude.{◌≡◌, OnOk, OnErr, false};
+ghost use Rattle.std.specs.Prelude.{◌≡◌, OnOk, OnErr, false, true};
 ghost use Rattle.std.specs.List.{Contains};
 ghost use Rattle.fl_labels.specs.Found.{Tells};
 ghost use Rattle.fl_labels.specs.SetBy as set;
 ghost use Rattle.fl_labels.specs.SetBy.{In};
 ghost use Rattle.fl_ops.specs.declared.op.Op.{Op};
-ghost use Rattle.fl_ops.specs.Registry.{From, Reach};
+ghost use Rattle.fl_ops.specs.Registry.{From, Reach, InEffect};
 
 use crate::yes::YesCache;
 use fl_closure::index::Index;
+use fl_closure::witness::Witness;
 use fl_labels::cap::Cap;
+use fl_labels::cap_set::CapSet;
 use fl_ops::op::Op;
 use std::alloc::{AllocError, Global};
 use std::marker::Model;
@@ -21,6 +23,8 @@ const CAPACITY: usize = 1024;
 pub struct CachedIndex {
     index: Index,
     cache: YesCache,
+    // what the last question of what is in effect came upon, where it came upon something
+    witness: Option<Witness>,
     alloc: Global,
 }
 
@@ -29,15 +33,14 @@ impl Drop for CachedIndex {
         let CachedIndex {
             index: _,
             cache: _,
+            witness: _,
             alloc: _,
         } = self;
     }
 }
 
 impl Model for CachedIndex {
-    ghost use Rattle.fl_labels.specs.Found.{Within};
     ghost use Rattle.fl_labels.specs.SetBy as set;
-    ghost use Rattle.fl_labels.specs.SetBy.{In};
     ghost use Rattle.fl_ops.specs.OpOrder.{op_cmp};
     ghost use Rattle.fl_ops.specs.OpLaws.{coded_op};
 
@@ -47,7 +50,9 @@ impl Model for CachedIndex {
 
     ghost view = { λ a. a.index };
 
-    ghost invariant = { λ a. Within (In a.cache) (In a.index) };
+    ghost use Rattle.fl_cache.specs.parts.Known.{StillHolds};
+
+    ghost invariant = { λ a. StillHolds a.cache a.witness a.index };
 }
 
 impl CachedIndex {
@@ -58,6 +63,7 @@ impl CachedIndex {
         CachedIndex {
             index: Index::new(alloc),
             cache: YesCache::new(alloc, CAPACITY),
+            witness: None,
             alloc,
         }
     }
@@ -84,6 +90,35 @@ impl CachedIndex {
             ((op : Op) × Contains ops.now op × (set.contains self.old op ≡ false)) }
     {
         self.index.absorb_all(alloc, ops)
+    }
+
+    // Whether what the last question came upon shows that the owner of these capabilities has this
+    // one in effect.
+    fn is_shown(&self, owned: &CapSet, cap: Cap) -> bool
+        ensures { result ≡ true → InEffect (In self.now) (In owned.now) cap }
+    {
+        match &self.witness {
+            Some(witness) => witness.shows(owned, cap),
+            None => false,
+        }
+    }
+
+    /// Whether the owner of these capabilities has this one in effect, as [`Index::effective`]
+    /// answers. Takes no memory. Costs a binary search in what is owned. Where it is not there, and
+    /// the last question that came so far came upon another capability that stands near this one,
+    /// a glance or one binary search more, and else what [`Index::witness`] does.
+    pub fn effective(&mut self, owned: &CapSet, cap: Cap) -> bool
+        ensures answer { Tells result (InEffect (In self.old) (In owned.now) cap) }
+        ensures same { self.new ≡ self.old }
+    {
+        if owned.contains(cap) || self.is_shown(owned, cap) {
+            return true;
+        }
+        let Some(witness) = self.index.witness(owned, cap) else {
+            return false;
+        };
+        self.witness = Some(witness);
+        true
     }
 
     /// Whether the owner of the one capability reaches the other, as [`YesCache::ask`] answers.

@@ -85,6 +85,9 @@ place_exact a b h =
 pub place_tied : (a b : Place) → places.ghosts.eq a b ≡ eq_by_cmp place_cmp a b
 place_tied a b = search (comparing, rules)
 
+pub same_by_eq : (a b : Place) (r : Bool) → r ≡ places.ghosts.eq a b → r ≡ true → a ≡ b
+same_by_eq a b r e h = place_exact a b ((Equal-is (place_cmp a b)).0 (sym (place_tied a b) ∙ sym e ∙ h))
+
 pub place_or : (p q : Place) → (q ≡ p) ⊎ ¬ (q ≡ p)
 place_or p q = by_test (is_at (place_cmp p) q) refl
   where

@@ -1,7 +1,6 @@
 -- What operations give to everybody.
 use Rattle.std.specs.Prelude.{◌≡◌, ◌⊎◌, ◌↔◌, Option, None, Some, List, [], ◌∷◌, ◌++◌, ℕ, ◌+◌, ◌<◌, length, get_or, take, refl}
 use Rattle.std.proofs.Common.{inl, inr, sym, ap, subst, ◌∙◌}
-use Rattle.std.specs.List.{Contains}
 use Rattle.std.proofs.lemmas.List.{take_more}
 use Rattle.std.proofs.lemmas.List.Elements.{Contains-push, Contains-push_cases, Contains-append_left}
 use Rattle.fl_labels.specs.declared.cap.Cap.{Cap}

@@ -19,7 +19,7 @@ use Rattle.fl_closure.specs.parts.Closed.{entry, Gives}
 use Rattle.fl_closure.specs.parts.Knowing.{IsHeld, Follows, IsKnown}
 use Rattle.fl_closure.proofs.Closing.{AreGifts, first_part, second_part}
 use Rattle.fl_closure.proofs.Exists.{contains_more}
-use Rattle.fl_closure.proofs.Leading.{told, told_yes}
+use Rattle.fl_closure.specs.laws.Told.{told, told_yes}
 use Rattle.fl_closure.proofs.Members.{in_all}
 
 no_entry : {e : Entry} → None ≡ Some e → ⊥

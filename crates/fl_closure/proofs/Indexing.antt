@@ -1,5 +1,5 @@
 -- Rows closed under the operations of an index.
-use Rattle.std.specs.Prelude.{◌≡◌, ◌⊎◌, ◌↔◌, Bool, true, false, ◌||◌, ◌&&◌, OnOk, OnErr, Option, None, Some, Result, Ok, Err, List, [], ◌∷◌, ◌++◌, refl}
+use Rattle.std.specs.Prelude.{◌≡◌, ◌⊎◌, ◌↔◌, Bool, true, false, ◌||◌, ◌&&◌, OnOk, OnErr, Option, None, Some, MatchOption, Result, Ok, Err, List, [], ◌∷◌, ◌++◌, refl}
 use Rattle.std.proofs.Common.{inl, inr, sym, ap, subst, ◌∙◌}
 use Rattle.std.specs.Cmp.{Equal-is, tied_itself}
 use Rattle.std.specs.List.{Contains}
@@ -30,15 +30,17 @@ use Rattle.fl_closure.specs.declared.rows.Owner.{Owner}
 use Rattle.fl_closure.specs.declared.rows.Owner.TheVariants.{Everybody, Group}
 use Rattle.fl_closure.specs.declared.closure.Closure.{Closure}
 use Rattle.fl_closure.specs.declared.closure.News.{News}
-use Rattle.fl_closure.specs.parts.Rows.{Holds}
-use Rattle.fl_closure.specs.parts.Closed.{Alone, Gives, IsGiven, AreClosed, Leads, With}
+use Rattle.fl_closure.specs.declared.witness.Witness.{Witness}
+use Rattle.fl_closure.specs.Witness.{ReachedBy, IsWitness, Owns, Shows}
+use Rattle.fl_closure.specs.parts.Rows.{Holds, ComesUpon}
+use Rattle.fl_closure.specs.parts.Closed.{Alone, Gives, IsGiven, AreClosed, Behind, ComesBehind, Leads, With}
 use Rattle.fl_closure.specs.parts.Globals.{Has}
 use Rattle.fl_closure.specs.parts.Closure.{IsClosure, FollowsWith, GainsAll, LosesAll}
 use Rattle.fl_closure.specs.parts.Knowing.{AreLogins, IsHeld, IsKnown}
 use Rattle.fl_closure.proofs.Members.{none, one, first, any_has, has_any}
 use Rattle.fl_closure.proofs.Following.{same_closure, undone}
 use Rattle.fl_closure.proofs.Growing.{leads_chain, chain_leads, are_transitive}
-use Rattle.fl_closure.proofs.Leading.{told, told_yes}
+use Rattle.fl_closure.specs.laws.Told.{told, told_yes}
 
 pub closure_of_none : (ops : List Op) (closure : Closure) → ops ≡ [] → IsClosure (λ (op : Op). ⊥) closure
     → IsClosure (In (set.of_list {R = op_cmp} ops)) closure
@@ -261,15 +263,14 @@ used_owned : (owned : SetBy cap_cmp) (uses : List Cap) → AreUsesOf owned uses 
 used_owned owned uses are_uses root h =
     second_of (is_use root) _ (sym (are_uses.are root) ∙ contains-of_list cap_total uses root ∙ has_any cap_total cap_exact uses root h)
 
--- what is owned and leads to another capability is a use
-leading_used : (owned : SetBy cap_cmp) (uses : List Cap) (rows : Rows) → AreUsesOf owned uses → (root c : Cap) → In owned root
-    → ¬ (c ≡ root) → Leads rows root c → Contains uses root
-leading_used owned uses rows are_uses root c there other (inl e) = absurd (other e)
-leading_used owned uses rows are_uses (Use group) c there other (inr h) =
+-- what is owned and has something behind it is a use
+used_behind : (owned : SetBy cap_cmp) (uses : List Cap) (rows : Rows) → AreUsesOf owned uses → (root c : Cap) → In owned root
+    → Behind rows root c → Contains uses root
+used_behind owned uses rows are_uses (Use group) c there h =
     any_has cap_total cap_exact uses (Use group) (sym (contains-of_list cap_total uses (Use group)) ∙ are_uses.are (Use group) ∙ there)
-leading_used owned uses rows are_uses (Plus tag) c there other (inr h) = absurd h
-leading_used owned uses rows are_uses (Minus tag) c there other (inr h) = absurd h
-leading_used owned uses rows are_uses (Grow group) c there other (inr h) = absurd h
+used_behind owned uses rows are_uses (Plus tag) c there h = absurd h
+used_behind owned uses rows are_uses (Minus tag) c there h = absurd h
+used_behind owned uses rows are_uses (Grow group) c there h = absurd h
 
 -- ---- what everybody has
 
@@ -306,30 +307,48 @@ row_reached U rows closed owned c h =
     let w = (closed.way Everybody c).0 h in
     (w.0, inr (given_global U w.0 w.1), w.2)
 
+-- what a row has is reached by its owner
+held_reached : {U : Registry} {rows : Rows} → AreClosed U rows → (owner : Owner) → Within (Holds rows owner) (ReachedBy U owner)
+held_reached closed (Group group) c h = chain_from c (leads_chain closed (Use group) c (inr h))
+held_reached {U} {rows} closed Everybody c h = row_reached U rows closed (λ x. ⊥) c h
+
 module _ (s : SetBy op_cmp) (owned : SetBy cap_cmp) (c : Cap) where
   pub told_owned : In owned c → Tells true (InEffect (In s) (In owned) c)
   told_owned h = told_yes (owned_eff c h)
 
-  pub told_row : (inside : SetBy op_cmp) (rows : Rows) → inside ≡ s → AreClosed (In inside) rows → Holds rows Everybody c
-      → Tells true (InEffect (In s) (In owned) c)
-  told_row inside rows view as_kept h =
-      told_yes (row_reached (In s) rows (subst (λ o. AreClosed (In o) rows) view as_kept) (In owned) c h)
+  abbrev Answers : Option Witness → Type 0
+  Answers r = MatchOption r (¬ InEffect (In s) (In owned) c) (λ w. IsWitness (In s) w × Shows w (In owned) c)
 
-  -- what is neither owned nor everybody's
-  pub told_led : (inside : SetBy op_cmp) (rows : Rows) (uses : List Cap) (b : Bool) → inside ≡ s
-      → AreClosed (In inside) rows → AreUsesOf owned uses
-      → set.contains owned c ≡ false → ¬ Holds rows Everybody c
-      → Tells b ((root : Cap) × Contains uses root × Leads rows root c) → Tells b (InEffect (In s) (In owned) c)
-  told_led inside rows uses b view as_kept are_uses lacking no_row t = told b to (λ h. from h.0 h.1 h.2) t
-    where
-      closed : AreClosed (In s) rows
-      closed = subst (λ o. AreClosed (In o) rows) view as_kept
+  module _ (inside : SetBy op_cmp) (rows : Rows) (view : inside ≡ s) (as_kept : AreClosed (In inside) rows) where
+    closed : AreClosed (In s) rows
+    closed = subst (λ o. AreClosed (In o) rows) view as_kept
 
-      to : (root : Cap) × Contains uses root × Leads rows root c → InEffect (In s) (In owned) c
-      to h = (h.0, inl (used_owned owned uses are_uses h.0 h.1), leads_chain closed h.0 c h.2)
+    came_upon : (owner : Owner) (w : Witness) → Owns (In owned) owner → ComesUpon rows owner c w → IsWitness (In s) w × Shows w (In owned) c
+    came_upon owner w owns came = (
+      record { reached = λ d h. held_reached closed w.owner d (subst (λ o. Holds rows o d) (sym came.by) (came.held d h)) },
+      record { among = came.among; owns = subst (Owns (In owned)) (sym came.by) owns },
+    )
 
-      from : (a : Cap) → WithGlobal (In s) (In owned) a → Chain (In s) a c → (root : Cap) × Contains uses root × Leads rows root c
-      from a (inl there) way =
-          let led = chain_leads closed way in
-          (a, leading_used owned uses rows are_uses a c there (λ e. false≢true (sym lacking ∙ subst (In owned) (sym e) there)) led, led)
-      from a (inr g) way = absurd (no_row ((closed.way Everybody c).1 (a, global_given (In s) a g, way)))
+    pub came_row : (w : Witness) → ComesUpon rows Everybody c w → IsWitness (In s) w × Shows w (In owned) c
+    came_row w came = came_upon Everybody w tt came
+
+    came_behind : (root : Cap) (w : Witness) → In owned root → ComesBehind rows root c w → IsWitness (In s) w × Shows w (In owned) c
+    came_behind (Use group) w there came = came_upon (Group group) w there came
+    came_behind (Plus tag) w there came = absurd came
+    came_behind (Minus tag) w there came = absurd came
+    came_behind (Grow group) w there came = absurd came
+
+    module _ (uses : List Cap) (are_uses : AreUsesOf owned uses) (lacking : set.contains owned c ≡ false) (no_row : ¬ Holds rows Everybody c) where
+      none_shows : ((root : Cap) → Contains uses root → ¬ Behind rows root c) → (a : Cap) → WithGlobal (In s) (In owned) a → Chain (In s) a c → ⊥
+      none_shows none a (inl there) way = elim (chain_leads closed way) [
+        | inl e ↦ false≢true (sym lacking ∙ subst (In owned) (sym e) there)
+        | inr h ↦ none a (used_behind owned uses rows are_uses a c there h) h
+      ]
+      none_shows none a (inr g) way = no_row ((closed.way Everybody c).1 (a, global_given (In s) a g, way))
+
+      -- what is neither owned nor everybody's
+      pub told_behind : (r : Option Witness)
+          → MatchOption r ((root : Cap) → Contains uses root → ¬ Behind rows root c) (λ w. (root : Cap) × Contains uses root × ComesBehind rows root c w)
+          → Answers r
+      told_behind None none = λ h. none_shows none h.0 h.1 h.2
+      told_behind (Some w) found = came_behind found.0 w (used_owned owned uses are_uses found.0 found.1) found.2

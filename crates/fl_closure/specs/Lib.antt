@@ -1,1 +1,3 @@
 pub mod parts
+pub mod Witness
+pub mod laws

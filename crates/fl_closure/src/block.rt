@@ -55,6 +55,13 @@ impl Block {
         }
     }
 
+    /// Whether the capability is one of these.
+    pub fn has(self, cap: Cap) -> bool
+        ensures { Tells result (IsIn self cap) }
+    {
+        self.place == place_of(cap) && marks(self.bits, cap)
+    }
+
     // The group whose use is here and has this bit. A use has the rank 3.
     fn used_at(self, bit: u32) -> Option<Name>
         requires { bit < 32 }

@@ -1,5 +1,5 @@
 //! What each group reaches and what everybody does, and who reaches the use of a group.
-ghost use Rattle.std.specs.Prelude.{◌≡◌, ◌↔◌, ◌⊎◌, Some, IfOk, OnOk, []};
+ghost use Rattle.std.specs.Prelude.{◌≡◌, ◌↔◌, ◌⊎◌, Some, IfOk, OnOk, MatchOption, []};
 ghost use Rattle.std.specs.List.{Contains};
 ghost use Rattle.fl_labels.specs.Found.{Tells};
 ghost use Rattle.fl_labels.specs.declared.name.Name.{Name};
@@ -8,12 +8,13 @@ ghost use Rattle.fl_closure.specs.declared.rows.Owner.TheVariants.{Everybody, Gr
 ghost use Rattle.fl_labels.specs.declared.cap.Cap.{Cap};
 ghost use Rattle.fl_labels.specs.declared.cap.Cap.TheVariants.{Use};
 ghost use Rattle.fl_closure.specs.parts.Block.{AreIn};
-ghost use Rattle.fl_closure.specs.parts.Rows.{Holds, Adds, OfOne};
-ghost use Rattle.fl_closure.specs.parts.Closed.{entry, Gives, Leads, IsAbove, AreTransitive, AreMirrored, AreLed, AreAbove, Renews, ClosesWith};
+ghost use Rattle.fl_closure.specs.parts.Rows.{Holds, Adds, OfOne, ComesUpon};
+ghost use Rattle.fl_closure.specs.parts.Closed.{entry, Gives, Behind, ComesBehind, Leads, IsAbove, AreTransitive, AreMirrored, AreLed, AreAbove, Renews, ClosesWith};
 ghost use Rattle.fl_closure.specs.parts.Noted.{GainsBoth, LosesBoth, NotesBoth};
 
 use crate::block::{Block, used};
 use crate::rows::{Note, Owner, Rows};
+use crate::witness::Witness;
 use fl_labels::cap::Cap;
 use fl_labels::name::Name;
 use fl_ops::op::{Body, Op, Policy};
@@ -115,18 +116,41 @@ impl ClosedRows {
         }
     }
 
-    /// Whether one of these leads to the capability. As `leads`, for each of these that is the use
-    /// of a group, and a glance at each other one.
-    pub fn one_leads(&self, roots: &[Cap], cap: Cap) -> bool
-        ensures { Tells result
-            ((root : Cap) × Contains roots.now root × Leads self.now.reached root cap) }
+    /// What everybody reaches at the place of the capability, where everybody reaches that. One
+    /// search by hash.
+    pub fn everybodys(&self, cap: Cap) -> Option<Witness>
+        ensures { let rows = self.now.reached in
+            MatchOption result (¬ Holds rows Everybody cap) (ComesUpon rows Everybody cap) }
+    {
+        self.reached.witness(Owner::Everybody, cap)
+    }
+
+    // What the group reaches at the place of the capability, where the first one is the use of a
+    // group that reaches that. A search by hash and one by order.
+    fn behind(&self, root: Cap, cap: Cap) -> Option<Witness>
+        ensures { let rows = self.now.reached in
+            MatchOption result (¬ Behind rows root cap) (ComesBehind rows root cap) }
+    {
+        match root {
+            Cap::Use(group) => self.reached.witness(Owner::Group(group), cap),
+            Cap::Plus(_) | Cap::Minus(_) | Cap::Grow(_) => None,
+        }
+    }
+
+    /// What the first of these groups reaches at the place of the capability that reaches it, where
+    /// one of these is the use of such a group. For each that is the use of a group a search by
+    /// hash and one by order, up to that one, and a glance at each other one.
+    pub fn one_behind(&self, roots: &[Cap], cap: Cap) -> Option<Witness>
+        ensures { let rows = self.now.reached in MatchOption result
+            ((root : Cap) → Contains roots.now root → ¬ Behind rows root cap)
+            (λ w. (root : Cap) × Contains roots.now root × ComesBehind rows root cap w) }
     {
         for root in roots {
-            if self.leads(*root, cap) {
-                return true;
+            if let Some(witness) = self.behind(*root, cap) {
+                return Some(witness);
             }
         }
-        false
+        None
     }
 
     /// Whether the owner reaches the capability. A search by hash, and then for a group one by

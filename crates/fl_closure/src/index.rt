@@ -1,5 +1,5 @@
 //! The index of who reaches what.
-ghost use Rattle.std.specs.Prelude.{◌≡◌, OnOk, OnErr, false};
+ghost use Rattle.std.specs.Prelude.{◌≡◌, OnOk, OnErr, MatchOption, false};
 ghost use Rattle.std.specs.List.{Contains};
 ghost use Rattle.fl_labels.specs.Found.{Tells, Within};
 ghost use Rattle.fl_labels.specs.SetBy as set;
@@ -8,11 +8,13 @@ ghost use Rattle.fl_ops.specs.declared.op.Op.{Op};
 ghost use Rattle.fl_ops.specs.OpOrder.{op_cmp};
 ghost use Rattle.fl_ops.specs.Logins.{FindsLogin};
 ghost use Rattle.fl_ops.specs.Registry.{Reach, From, IsGlobal, InEffect, Listed};
+ghost use Rattle.fl_closure.specs.Witness.{IsWitness, Shows};
 ghost use Rattle.fl_closure.specs.parts.Knowing.{IsKnown};
 
 use crate::absorbed::Absorbed;
 use crate::closure::{Closure, News};
 use crate::logins::logins_of;
+use crate::witness::Witness;
 use fl_labels::cap::Cap;
 use fl_labels::cap_set::CapSet;
 use fl_labels::name::Name;
@@ -177,17 +179,28 @@ impl Index {
         self.closure.globals.has(cap)
     }
 
-    /// Whether the owner of these capabilities has this one in effect: reaches it from what it
-    /// owns, or from what everybody has. Takes no memory.
+    /// What shows that the owner of these capabilities has this one in effect, which it does not
+    /// own, or none where it has not. Takes no memory.
     ///
-    /// A binary search in what is owned, and a search by hash in what everybody reaches. Where it
-    /// is in neither, then one by hash and one by order for each use of a group that is owned.
+    /// A search by hash in what everybody reaches. Where it is not there, then one by hash and one
+    /// by order for each use of a group that is owned, up to the first that reaches it.
+    pub fn witness(&self, owned: &CapSet, cap: Cap) -> Option<Witness>
+        requires { set.contains owned.now cap ≡ false }
+        ensures { let U = In self.now in let O = In owned.now in
+            MatchOption result (¬ InEffect U O cap) (λ w. IsWitness U w × Shows w O cap) }
+    {
+        match self.closure.rows.everybodys(cap) {
+            Some(witness) => Some(witness),
+            None => self.closure.rows.one_behind(owned.uses(), cap),
+        }
+    }
+
+    /// Whether the owner of these capabilities has this one in effect: reaches it from what it
+    /// owns, or from what everybody has. Takes no memory. A binary search in what is owned, and
+    /// where it is not there, what `witness` costs.
     pub fn effective(&self, owned: &CapSet, cap: Cap) -> bool
         ensures { Tells result (InEffect (In self.now) (In owned.now) cap) }
     {
-        if owned.contains(cap) || self.closure.rows.is_everybodys(cap) {
-            return true;
-        }
-        self.closure.rows.one_leads(owned.uses(), cap)
+        owned.contains(cap) || self.witness(owned, cap).is_some()
     }
 }

@@ -11,3 +11,4 @@ mod logins;
 mod place;
 mod row;
 mod rows;
+pub mod witness;

@@ -1,5 +1,5 @@
 //! Rows of capabilities.
-ghost use Rattle.std.specs.Prelude.{◌≡◌, ◌↔◌, ◌⊎◌, IfOk, OnOk, OnErr};
+ghost use Rattle.std.specs.Prelude.{◌≡◌, ◌↔◌, ◌⊎◌, IfOk, OnOk, OnErr, MatchOption};
 ghost use Rattle.std.specs.List.{Contains};
 ghost use Rattle.fl_labels.specs.Found.{Tells};
 ghost use Rattle.fl_labels.specs.declared.name.Name.{Name};
@@ -8,12 +8,13 @@ ghost use Rattle.fl_closure.specs.declared.rows.Owner.{Owner};
 ghost use Rattle.fl_closure.specs.declared.rows.Owner.TheVariants.{Everybody, Group};
 ghost use Rattle.fl_closure.specs.parts.Block.{AreIn};
 ghost use Rattle.fl_closure.specs.parts.Bits.{Joins, Parts, IsNew, IsSameBits};
-ghost use Rattle.fl_closure.specs.parts.Rows.{bits_among, bits_at, Holds, At, OfOne, OfEach, Adds, Takes, IsSameRows};
+ghost use Rattle.fl_closure.specs.parts.Rows.{bits_among, bits_at, Holds, At, OfOne, OfEach, Adds, Takes, IsSameRows, ComesUpon};
 ghost use Rattle.fl_closure.specs.parts.Noted.{Continues, Loses};
 
 use crate::block::{Block, marks, place_of};
 use crate::place::Place;
 use crate::row::Row;
+use crate::witness::Witness;
 use fl_labels::cap::Cap;
 use fl_labels::name::Name;
 use std::alloc::{AllocError, Global};
@@ -102,6 +103,20 @@ impl Rows {
         marks(self.bits_at(owner, place_of(cap)), cap)
     }
 
+    /// What the owner's row has at the place of the capability, where it has that. Costs what `has`
+    /// does.
+    pub fn witness(&self, owner: Owner, cap: Cap) -> Option<Witness>
+        ensures { MatchOption result (¬ Holds self.now owner cap) (ComesUpon self.now owner cap) }
+    {
+        let place = place_of(cap);
+        let bits = self.bits_at(owner, place);
+        if !marks(bits, cap) {
+            return None;
+        }
+        let block = Block { place, bits };
+        Some(Witness { owner, block })
+    }
+
     // Adds a block to the owner's row, and answers which of its bits are new there. An error leaves
     // the rows.
     fn add(&mut self, owner: Owner, block: Block) -> Result<u32, AllocError>
@@ -167,7 +182,8 @@ impl Rows {
     }
 
     /// Adds a block to the owner's row, and notes what is new there: after an error too, so that it
-    /// can be taken out again. A search as `has` makes. Fails only where there is not enough memory.
+    /// can be taken out again. A search as `has` makes. Fails only where there is not enough
+    /// memory.
     pub fn note(
         &mut self,
         owner: Owner,

@@ -79,7 +79,7 @@ impl View for Desk {
     }
 
     fn effective(&mut self, owned: &CapSet, cap: Cap) -> bool {
-        self.index.index().effective(owned, cap)
+        self.index.effective(owned, cap)
     }
 
     fn reaches(&mut self, root: Cap, cap: Cap) -> bool {

@@ -16,7 +16,8 @@ use Rattle.fl_closure.specs.declared.block.Block.{Block}
 use Rattle.fl_closure.specs.declared.closed.ClosedRows.{ClosedRows}
 use Rattle.fl_closure.specs.declared.closed.Entry.{Entry}
 use Rattle.fl_closure.specs.parts.Block.{AreIn}
-use Rattle.fl_closure.specs.parts.Rows.{Holds}
+use Rattle.fl_closure.specs.declared.witness.Witness.{Witness}
+use Rattle.fl_closure.specs.parts.Rows.{Holds, ComesUpon}
 
 abbrev pub entry : Owner → Cap → Entry
 entry owner c = record { owner = owner; cap = c }
@@ -54,6 +55,13 @@ Behind rows (Use group) c = Holds rows (Group group) c
 Behind rows (Plus tag) c = ⊥
 Behind rows (Minus tag) c = ⊥
 Behind rows (Grow group) c = ⊥
+
+-- what a look for c into the row of the group that the capability uses came upon
+abbrev pub ComesBehind : Rows → Cap → Cap → Witness → Type 0
+ComesBehind rows (Use group) c w = ComesUpon rows (Group group) c w
+ComesBehind rows (Plus tag) c w = ⊥
+ComesBehind rows (Minus tag) c w = ⊥
+ComesBehind rows (Grow group) c w = ⊥
 
 -- the one capability leads to the other
 abbrev pub Leads : Rows → Cap → Caps

@@ -3,12 +3,14 @@ use Rattle.std.specs.Prelude.{◌≡◌, ◌⊎◌, ◌↔◌, ℕ, Option, Some
 use Rattle.std.specs.HashMap.{HashMap, get as look}
 use Rattle.std.specs.List.{Contains}
 use Rattle.fl_labels.specs.Caps.{Caps}
+use Rattle.fl_labels.specs.Found.{Within}
 use Rattle.fl_labels.specs.declared.name.Name.{Name}
 use Rattle.fl_labels.specs.declared.cap.Cap.{Cap}
 use Rattle.fl_labels.specs.contracts.name.NamePartialEq.TheImpl as names
 use Rattle.fl_closure.specs.contracts.place.PlacePartialEq.TheImpl as places
 use Rattle.fl_closure.specs.declared.place.Place.{Place}
 use Rattle.fl_closure.specs.declared.block.Block.{Block}
+use Rattle.fl_closure.specs.declared.witness.Witness.{Witness}
 use Rattle.fl_closure.specs.declared.row.Row.{Row}
 use Rattle.fl_closure.specs.declared.rows.Rows.{Rows}
 use Rattle.fl_closure.specs.declared.rows.Owner.{Owner}
@@ -61,3 +63,9 @@ pub record Takes (old : Rows) (pairs : Owner → Caps) (new : Rows) : Type 0 whe
 -- each row is as it was
 pub record IsSameRows (old new : Rows) : Type 0 where
   pub holds : (owner : Owner) (c : Cap) → Holds new owner c ↔ Holds old owner c
+
+-- what a look into the owner's row for c came upon
+pub record ComesUpon (rows : Rows) (owner : Owner) (c : Cap) (w : Witness) : Type 0 where
+  pub by : w.owner ≡ owner
+  pub among : IsIn w.block c
+  pub held : Within (IsIn w.block) (Holds rows owner)

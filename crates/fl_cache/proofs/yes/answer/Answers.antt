@@ -1,6 +1,7 @@
 use Rattle.std.proofs.Common.{sym, ap, ◌∙◌}
 use Rattle.std.specs.Option.{is_some}
-use Rattle.fl_cache.proofs.Asked.{told_yes, found_yes, still_known, put_either, mapped_some}
+use Rattle.fl_cache.proofs.Asked.{found_yes, still_known, put_either, mapped_some}
+use Rattle.fl_closure.specs.laws.Told.{told_yes}
 use Rattle.fl_cache.proofs.yes.answer.Goals as goal
 
 pub returns-then-is_some-clause-answer : goal.returns-then-is_some-clause-answer

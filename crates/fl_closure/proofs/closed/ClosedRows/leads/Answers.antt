@@ -1,5 +1,6 @@
 use Rattle.std.proofs.Common.{inl, sym}
-use Rattle.fl_closure.proofs.Leading.{same_cap, told_yes}
+use Rattle.fl_closure.proofs.Leading.{same_cap}
+use Rattle.fl_closure.specs.laws.Told.{told_yes}
 use Rattle.fl_closure.proofs.closed.ClosedRows.leads.Goals as goal
 
 pub returns-then-eq : goal.returns-then-eq

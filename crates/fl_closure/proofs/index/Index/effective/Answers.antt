@@ -1,15 +1,11 @@
 use Rattle.std.proofs.Common.{sym, ◌∙◌}
-use Rattle.fl_closure.proofs.Indexing.{told_owned, told_row, told_led}
-use Rattle.fl_closure.proofs.index.Index.effective.Goals.{then-contains-via-then-contains, then-contains-via-else-contains+then-is_everybodys}
+use Rattle.fl_closure.specs.laws.Witnesses.{shown}
+use Rattle.fl_closure.proofs.Indexing.{told_owned}
+use Rattle.fl_closure.specs.laws.Told.{told_by}
 use Rattle.fl_closure.proofs.index.Index.effective.Goals as goal
 
 pub returns-then-contains : goal.returns-then-contains
-returns-then-contains c = elim c.then-contains.branch [
-  | then-contains-via-then-contains w ↦ told_owned c.args.self.now _ c.args.cap (sym c.contains.ensures ∙ w.if-contains.true)
-  | then-contains-via-else-contains+then-is_everybodys w ↦
-      told_row c.args.self.now c.args.owned.now c.args.cap _ _ c.self.view_is c.self.invariant.is_closure.closed (w.is_everybodys.ensures.holds w.if-is_everybodys.true)
-]
+returns-then-contains c = rw (c.if-contains.true) (told_owned c.args.self.now _ c.args.cap (sym c.contains.ensures ∙ c.if-contains.true))
 
-pub returns : goal.returns
-returns c =
-    told_led c.args.self.now c.args.owned.now c.args.cap _ _ _ _ c.self.view_is c.self.invariant.is_closure.closed c.uses.ensures (sym c.contains.ensures ∙ c.if-contains.false) (c.is_everybodys.ensures.fails c.if-is_everybodys.false) c.one_leads.ensures
+pub returns-else-contains : goal.returns-else-contains
+returns-else-contains c = told_by _ _ _ _ c.is_some.ensures (λ w h. shown w c.args.cap h.0 h.1) c.witness.ensures
