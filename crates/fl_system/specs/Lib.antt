@@ -22,3 +22,4 @@ pub mod Joins
 pub mod Runs
 pub mod Taint
 pub mod Whereabouts
+pub mod parts

@@ -6,31 +6,42 @@ use fl_labels::cap::Cap;
 use std::alloc::{AllocError, Global};
 use std::marker::Model;
 
+// What is kept of a set, so that one of a single capability takes no block.
+#[derive(Drop)]
+enum Kept {
+    One(Cap),
+    Many(Vec<Cap>),
+}
+
 /// A set of capabilities that were handed on together, which stays as it is.
 #[derive(Drop)]
 pub struct Granted {
-    caps: Vec<Cap>,
+    kept: Kept,
 }
 
 impl Model for Granted {
     ghost use Rattle.fl_labels.specs.SetBy as set;
     ghost use Rattle.fl_labels.specs.Cap.{cap_cmp};
     ghost use Rattle.fl_labels.specs.CapOrder.{coded_cap};
+    ghost use Rattle.fl_system.specs.parts.Granted.{items};
 
     ghost Value = { set.SetBy cap_cmp };
 
     ghost coded = { set.code coded_cap };
 
-    ghost view = { λ a. set.of_list a.caps.items };
+    ghost view = { λ a. set.of_list (items a.kept) };
 }
 
 impl Granted {
-    /// The set of these capabilities. Fails only where there is not enough memory. Copies them.
+    /// The set of these capabilities. Fails only where there is not enough memory. One capability
+    /// takes none; others are copied.
     pub fn new(alloc: Global, caps: &[Cap]) -> Result<Self, AllocError>
         ensures { IfOk result (λ made. made ≡ set.of_list caps.now) }
     {
-        Ok(Granted {
-            caps: Vec::from_slice(alloc, caps)?,
-        })
+        let kept = match caps {
+            [cap] => Kept::One(*cap),
+            _ => Kept::Many(Vec::from_slice(alloc, caps)?),
+        };
+        Ok(Granted { kept })
     }
 }
