@@ -12,6 +12,7 @@ pub mod SendWords
 pub mod Found
 pub mod OfProcess
 pub mod AsciiWords
+pub mod BytesWord
 pub mod PartWords
 pub mod ActVerbs
 pub mod NodeLines

@@ -1,5 +1,5 @@
 //! Words of a line: a reader for each form that only lines have.
-ghost use Rattle.std.specs.Prelude.{◌≡◌, ◌≢◌, codes};
+ghost use Rattle.std.specs.Prelude.{◌≡◌, ◌≢◌, ◌<◌, ◌≤◌, codes, length};
 ghost use Rattle.fl_labels.specs.Found.{Finds};
 ghost use Rattle.fl_script.specs.parts.Reads.{Reads, StarvesIf};
 ghost use Rattle.fl_ops.specs.PolicyText.{policy_text};
@@ -12,7 +12,7 @@ use fl_labels::cap_set::CapSet;
 use fl_labels::error::SetError;
 use fl_labels::label::Label;
 use fl_message::message::Message;
-use fl_message::payload::Payload;
+use fl_message::payload::{FEW_BYTES, Payload};
 use fl_message::shared::Shared;
 use fl_ops::op::Policy;
 use fl_rules::endpoint::Mode;
@@ -106,17 +106,35 @@ pub fn secret_from_word(word: &str) -> Option<Secret>
     Some(Secret { bytes })
 }
 
+// The bytes that the digits of a word spell, where they are so few that they stand in place.
+fn few_bytes(alloc: Global, word: &str) -> Result<Payload, Unread>
+    requires few { length word.now ≤ 32 }
+    requires digits { word.now ≢ codes "none" }
+    ensures ok { Reads result (λ bytes. IsBytesWord bytes word.now) }
+    ensures memory { StarvesIf result ⊥ }
+{
+    let mut room = [0; FEW_BYTES];
+    let bytes = &mut room[..word.len() / 2];
+    match hex::decode_to_slice(word, bytes) {
+        Ok(()) if !bytes.is_empty() => Ok(Payload::from_slice(alloc, bytes)?),
+        _ => Err(Unread::Bad),
+    }
+}
+
 /// The bytes that a word spells: no bytes of `none`, and else those of its hexadecimal digits, two
-/// of each byte, in either case. `Bad` where the word is neither. Linear; `none` takes no memory.
+/// of each byte, in either case. `Bad` where the word is neither. Linear; takes no memory for 16
+/// bytes at most.
 pub fn bytes_from_word(alloc: Global, word: &str) -> Result<Payload, Unread>
     ensures ok { Reads result (λ bytes. IsBytesWord bytes word.now) }
-    ensures memory { StarvesIf result (word.now ≢ codes "none") }
+    ensures memory { StarvesIf result (32 < length word.now) }
 {
     if let b"none" = word.as_bytes() {
-        return Ok(Payload::from_vec(Vec::new(alloc)));
+        return Ok(Payload::new(alloc));
+    }
+    if word.len() <= 2 * FEW_BYTES {
+        return few_bytes(alloc, word);
     }
     match hex::decode(alloc, word) {
-        Ok(bytes) if bytes.is_empty() => Err(Unread::Bad),
         Ok(bytes) => Ok(Payload::from_vec(bytes)),
         Err(FromHexError::OutOfMemory) => Err(Unread::Memory),
         Err(_) => Err(Unread::Bad),
