@@ -1,8 +1,7 @@
 -- What one look finds.
 use Rattle.std.proofs.Common.{◌≡◌, inl, inr, refl, sym, ap, subst, ◌∙◌, List, Option}
-use Rattle.std.specs.Prelude.{⊤, Bool, true, ℕ, ◌<◌, length, get_or, Result, Ok}
+use Rattle.std.specs.Prelude.{⊤, Bool, true, ℕ, ◌<◌, length, get_or}
 use Rattle.std.specs.Cmp.{Equal-is, eq_by_cmp_equiv}
-use Rattle.std.specs.Result.{is_ok}
 use Rattle.std.proofs.lemmas.List.Elements.{Contains-get_or}
 use Rattle.std.specs.List.{Contains}
 use Rattle.std.proofs.lemmas.Bool.{false≢true}
@@ -47,12 +46,11 @@ met_at caps i this c r within at e eq =
     sym (contains-of_list cap_total caps c ∙ list_any-from_Contains (eq_by_cmp_equiv cap_total) c caps there)
 
 -- what is met among what is owned is in effect
-pub owned_told : (U : Op → Type 0) (owned : SetBy cap_cmp) (caps : List Cap) (c : Cap) (r : Result ℕ ℕ) (place : ℕ)
-    → caps ≡ members owned → is_ok r ≡ contains (of_list {R = cap_cmp} caps) c → r ≡ Ok place
-    → Tells true (InEffect U (In owned) c)
-owned_told U owned caps c r place e found is =
+pub owned_told : (U : Op → Type 0) (owned : SetBy cap_cmp) (caps : List Cap) (c : Cap)
+    → caps ≡ members owned → contains (of_list {R = cap_cmp} caps) c ≡ true → Tells true (InEffect U (In owned) c)
+owned_told U owned caps c e found =
     let there : contains owned c ≡ true =
-    sym (ap (λ s. contains s c) (ap of_list e ∙ of_list-members cap_total cap_exact owned)) ∙ sym found ∙ ap is_ok is in record {
+    sym (ap (λ s. contains s c) (ap of_list e ∙ of_list-members cap_total cap_exact owned)) ∙ found in record {
       holds = λ _. owned_eff c there;
       fails = λ never. absurd (false≢true (sym never));
     }

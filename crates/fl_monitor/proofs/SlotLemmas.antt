@@ -1,8 +1,9 @@
 -- What the slots of a map by pids hold, where a search ends, and what a write, an insert and the
 -- packing leave.
-use Rattle.std.proofs.Common.{arith, ◌≡◌, ℕ, zero, suc, ◌<◌, ◌≤◌, Bool, true, false, cond, List, [], ◌∷◌, length, get_or, set, refl, sym, ap, subst, ◌∙◌, Option, Some, None, Result, Ok, Err, IfOk, IfErr, Less, Greater}
-use Rattle.std.proofs.lemmas.Bool.{false≢true, or_parts, or_from}
+use Rattle.std.proofs.Common.{arith, ◌≡◌, ℕ, zero, suc, ◌<◌, ◌≤◌, Bool, true, false, cond, List, [], ◌∷◌, length, get_or, set, refl, sym, ap, subst, ◌∙◌, Option, Some, None, Result, Ok, Err, IfOk, IfErr, inl, inr, Ordering, Less, Equal, Greater, ◌-◌, slice_get}
+use Rattle.std.proofs.lemmas.Bool.{cases_lt, false≢true, or_parts, or_from}
 use Rattle.std.proofs.lemmas.List.{set-get_or}
+use Rattle.std.proofs.lemmas.Option.{slice_get_within, get_or_from_slice_get}
 use Rattle.std.proofs.lemmas.Map.Keys.{sorted_head, sorted_tail, Less-from_sorted}
 use Rattle.std.specs.BTreeMap.{is_at}
 use Rattle.std.specs.Box.{with_value}
@@ -12,7 +13,7 @@ use Rattle.std.specs.List.{AllByRecursion, filter, insert, list_any, cons_option
 use Rattle.std.specs.List.Sorted.{IsStrictlySortedBy, IsBinarySearchResult, IsSearchInRange, IsNonDecreasingBy, IsPartitionPoint}
 use Rattle.std.specs.Map.{lookup}
 use Rattle.std.specs.Option.{option_map, option_or, is_some}
-use Rattle.std.specs.Ordering.{is_eq, ordering_index}
+use Rattle.std.specs.Ordering.{is_eq, is_lt, ordering_index}
 use Rattle.std.specs.Prelude.{Box, box_value}
 use Rattle.std.specs.declared.alloc.Global.{Global}
 use Rattle.fl_labels.specs.Pid.{pid_cmp}
@@ -24,6 +25,11 @@ use Rattle.fl_monitor.specs.declared.pid_map.Slot.{Slot}
 use Rattle.fl_monitor.specs.parts.Slots.{held, with_held, pids_of, entries_of, IsRising, IsAt, IsGapFor, Keeps}
 
 -- ---- pids
+
+is_less : (o : Ordering) → is_lt o ≡ true → o ≡ Less
+is_less Less e = refl
+is_less Equal e = absurd (cc)
+is_less Greater e = absurd (cc)
 
 same_pid : (q k : Pid) → is_at (pid_cmp q) k ≡ true → q ≡ k
 same_pid q k e = pid_exact q k ((Equal-is (pid_cmp q k)).0 e)
@@ -151,6 +157,42 @@ module _ {T : Type 0} where
       subst (λ p. rank p ≤ rank (get_or slots j d).pid) (pid_of_get slots i d)
       (subst (λ p. rank (get_or (pids_of slots) i d.pid) ≤ rank p) (pid_of_get slots j d) h)
 
+  -- where a new slot stands in the order
+  gap_at : (slots : List (Slot T)) (q : Pid) (i : ℕ) → IsRising slots → i ≤ length slots
+      → IsPartitionPoint (λ p. pid_cmp p q ≡ Less) (λ p. pid_cmp p q ≡ Greater) (pids_of slots) i
+      → IsGapFor slots q i
+  gap_at slots q i up within among = record {
+    in_range = within;
+    absent = missed_by_search pid_total (pids_of slots) q i among;
+    rises = rising_insert pid_total (pids_of slots) q i up (omega (arith, length_pids slots, within)) among;
+  }
+
+  -- behind the last one, where that is below
+  pub behind_last : (slots : List (Slot T)) (q : Pid) (s : Slot T) (r : Ordering) → IsRising slots
+      → slice_get slots (length slots - 1) ≡ Some s → r ≡ pid_cmp s.pid q → is_lt r ≡ true
+      → IsGapFor slots q (length slots)
+  behind_last slots q s r up last cmp below =
+      gap_at slots q (length slots) up (omega arith) (
+        λ i d low high. elim (cases_lt i (length slots - 1)) [
+          | inl before ↦ pid_total.trans (get_or (pids_of slots) i d) (get_or (pids_of slots) (length slots - 1) d) q
+              (Less-from_sorted pid_cmp (pids_of slots) i (length slots - 1) d up before
+              (omega (arith, length_pids slots, within)))
+              (at_last d)
+          | inr at ↦
+              subst (λ j. pid_cmp (get_or (pids_of slots) j d) q ≡ Less)
+              (omega (arith, within)) (at_last d)
+        ],
+        λ i d low high. absurd (omega (arith, length_pids slots)),
+      )
+    where
+      within : length slots - 1 < length slots
+      within = slice_get_within slots (length slots - 1) s last
+
+      at_last : (d : Pid) → pid_cmp (get_or (pids_of slots) (length slots - 1) d) q ≡ Less
+      at_last d = pid_at (λ p. pid_cmp p q ≡ Less) slots (length slots - 1) d within (λ x.
+          ap (λ (t : Slot T). pid_cmp t.pid q) (get_or_from_slice_get slots (length slots - 1) s x last)
+          ∙ sym cmp ∙ is_less r below)
+
   pub searched : (slots : List (Slot T)) (q : Pid) (r : Result ℕ ℕ) → IsRising slots
       → IsSearchInRange r (length slots) → IsBinarySearchResult (λ s. pid_cmp s.pid q) slots r
       → IfOk r (IsAt slots q) × IfErr r (IsGapFor slots q)
@@ -166,14 +208,7 @@ module _ {T : Type 0} where
             let inside : k < length slots = omega (arith, length_pids slots) in
             pid_at is_above slots k d inside (λ s. parted.1 k s low inside),
       ) in
-      let gap : i ≤ length (pids_of slots) = omega (arith, length_pids slots) in (
-        tt,
-        record {
-          in_range = within;
-          absent = missed_by_search pid_total (pids_of slots) q i among;
-          rises = rising_insert pid_total (pids_of slots) q i up gap among;
-        },
-      )
+      (tt, gap_at slots q i up within among)
 
   found_at : (slots : List (Slot T)) (q : Pid) (i : ℕ) (d : Slot T) → IsRising slots
       → IsAt slots q i → looked q slots ≡ held (get_or slots i d)

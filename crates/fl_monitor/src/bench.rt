@@ -47,7 +47,13 @@ impl Model for Bench {
     ghost coded = { coded_state };
 
     ghost view = { λ b.
-        record { node = b.node; boot = b.boot; next = b.next; stride = b.stride; processes = b.processes } };
+        record {
+          node = b.node;
+          boot = b.boot;
+          next = b.next;
+          stride = b.stride;
+          processes = b.processes;
+        } };
 
     ghost invariant = { λ b. (0 < b.node) × ((0 < b.boot) × IsOrderly (record {
       node = b.node;

@@ -8,7 +8,7 @@ ghost use Rattle.fl_monitor.specs.parts.Demand.{demanded};
 ghost use Rattle.fl_monitor.specs.parts.Checked.{CheckedBy};
 
 use crate::grant::first_unheld;
-use crate::holder::Holder;
+use crate::holder::{Holder, Runs};
 use fl_bench::taken::Taken;
 use fl_jobs::answer::Refusal;
 use fl_jobs::job::Order;
@@ -47,13 +47,14 @@ pub enum Demand<'a, 'b> {
 // as what calls it is, so that each demand is met by a way of its own.
 #[inline(always)]
 fn first_refusal<V: View>(view: &mut V, owned: &CapSet, demand: Demand<'_, '_>) -> Option<Refusal>
-    ensures refuses { demanded demand.entry (InEffect (Listed (V.list view.old)) (In owned.now)) result }
+    ensures refuses { demanded demand.entry (InEffect (Listed (V.list view.old)) (In owned.now))
+        result }
     ensures same { view.new ≡ view.old }
 {
     let mut holder = Holder {
         view,
         owned,
-        place: 0,
+        runs: Runs::new(),
     };
     Some(match demand {
         Demand::Change(from, to) => Refusal::MissingCap(safe_change(&mut holder, from, to)?),

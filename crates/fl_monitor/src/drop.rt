@@ -39,7 +39,8 @@ impl<'a, V: View> Judge<'a, V> {
             self,
             |judge, rest|
                 ensures checked { CheckedBy (V.list judge.old.view.now) rest.now
-                    (λ E. endpoints_check E (sets_of judge.old.labels) judge.old.endpoints.now) result }
+                    (λ E. endpoints_check E (sets_of judge.old.labels) judge.old.endpoints.now)
+                    result }
                 ensures same { judge.new.view.now ≡ judge.old.view.now }
                 ensures view { judge.new.view.ghost_name ≡ judge.old.view.ghost_name }
             { check_endpoints(judge.view, rest, judge.labels, judge.endpoints) },
@@ -57,8 +58,8 @@ pub(crate) fn drop_cap<V: View>(
     owned: &mut Owned,
     cap: Cap,
 ) -> Result<Outcome, Refusal>
-    ensures drops { Drops (Listed (V.list view.old)) (sets_of labels.entry) endpoints.now owned.old cap
-        result owned.new }
+    ensures drops { Drops (Listed (V.list view.old)) (sets_of labels.entry) endpoints.now owned.old
+        cap result owned.new }
     ensures same { view.new ≡ view.old }
 {
     if !owned.caps().contains(cap) {

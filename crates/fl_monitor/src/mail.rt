@@ -109,7 +109,8 @@ fn packet_of(
     labels: &Labels,
     message: Shared<Message>,
 ) -> Result<Boxed<Data>, AllocError>
-    ensures { IfOk result (λ d. IsSent route.sender route.from labels.now route.receiver route.to message d) }
+    ensures { IfOk result (λ d. IsSent route.sender route.from labels.now route.receiver route.to
+        message d) }
 {
     let secrecy = labels.secrecy.copy(alloc)?;
     let integrity = labels.integrity.copy(alloc)?;

@@ -100,6 +100,20 @@ fn search<T>(slots: &[Slot<T>], pid: Pid) -> Result<usize, usize>
     slots.binary_search_by_key(&pid, |slot| slot.pid)
 }
 
+// The same for a pid that is about to be put. Most are greater than all others, and are not
+// searched for.
+#[inline(always)]
+fn place_for<T>(slots: &[Slot<T>], stride: u32, pid: Pid) -> Result<usize, usize>
+    requires { IsRising slots.now }
+    ensures ok { IfOk result (IsAt slots.now pid) }
+    ensures err { IfErr result (IsGapFor slots.now pid) }
+{
+    match slots.last() {
+        Some(last) if last.pid.cmp(&pid).is_lt() => Err(slots.len()),
+        _ => place_of(slots, stride, pid),
+    }
+}
+
 // Drops the slots without a value, and gives back most of the room that is left.
 fn pack<T: Drop>(slots: &mut Vec<Slot<T>>)
     ensures { Keeps slots.old.items slots.new.items }
@@ -173,8 +187,8 @@ impl<T> PidMap<T> {
         self.slots[place].get_mut()
     }
 
-    /// Puts a value, in the place of one of that pid. An error leaves them. Costs a search, and
-    /// moves the slots of greater pids.
+    /// Puts a value, in the place of one of that pid. An error leaves them. Costs a search where
+    /// the pid is not above all others, and moves the slots of greater pids.
     pub fn insert(&mut self, pid: Pid, value: Boxed<T>) -> Result<(), AllocError>
     where
         T: Drop,
@@ -182,7 +196,7 @@ impl<T> PidMap<T> {
         ensures err { OnErr result (self.new ≡ self.old) }
     {
         let value = Some(value.into_box());
-        match place_of(&self.slots, self.stride, pid) {
+        match place_for(&self.slots, self.stride, pid) {
             Ok(place) => self.slots[place].value = value,
             Err(place) => self.slots.insert(place, Slot { pid, value })?,
         }

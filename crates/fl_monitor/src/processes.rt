@@ -128,8 +128,9 @@ impl Processes {
         act_alone(process, alloc, view, pid, act)
     }
 
-    /// How the process stands, for whoever notes it, or none where it is not there. Fails only where
-    /// there is not enough memory. Costs a search for the process, and what `Owned::share` does.
+    /// How the process stands, for whoever notes it, or none where it is not there. Fails only
+    /// where there is not enough memory. Costs a search for the process, and what `Owned::share`
+    /// does.
     pub fn share(&mut self, alloc: Global, pid: Pid) -> Result<Option<Shared<Standing>>, AllocError>
         ensures ok { IfOk result (λ made. made ≡ standing_at (map.get self.old pid)) }
         ensures err { OnErr result (IsSome (map.get self.old pid)) }

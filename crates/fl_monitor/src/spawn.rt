@@ -37,7 +37,8 @@ pub(crate) fn spawn<V: View>(
     labels: &Labels,
     caps: CapSet,
 ) -> Result<Result<Boxed<Process>, AllocError>, Refusal>
-    ensures spawns { Spawns (InEffect (Listed (V.list view.old)) (In owned.now)) labels.now caps (bearing result) }
+    ensures spawns { Spawns (InEffect (Listed (V.list view.old)) (In owned.now)) labels.now caps
+        (bearing result) }
     ensures same { view.new ≡ view.old }
 {
     check(view, owned, Demand::Grant(&caps))?;
