@@ -338,10 +338,10 @@ fn put_cap(audit: &mut Vec<Admission>, cap: Cap)
 impl Draft {
     /// Notes the job, as it is noted if it is admitted at a node of this number and boot, and says
     /// what becomes of that once it is answered. The mode is that of the endpoint which the job
-    /// tunes, if it tunes one that is open, and who asks for the job stands so, where that is noted.
-    /// Nothing is copied where nothing would be noted, and memory is wanted only where something may
-    /// be: then at most for the labels or the capabilities that the job names, and room for one
-    /// entry. Of a secret it takes the digest.
+    /// tunes, if it tunes one that is open, and who asks for the job stands so, where that is
+    /// noted. Nothing is copied where nothing would be noted, and memory is wanted only where
+    /// something may be: then at most for the labels or the capabilities that the job names, and
+    /// room for one entry. Of a secret it takes the digest.
     pub fn note(
         alloc: Global,
         number: NodeNumber,

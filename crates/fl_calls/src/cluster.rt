@@ -294,7 +294,8 @@ impl<M: MakesKeepers> Cluster<M> {
     pub fn begin_to_take(&mut self, alloc: Global, number: NodeNumber, packet: u32) -> Response
         requires { 0 < number }
         ensures goes { GoesOn M.K.custody M.making self.old self.new
-            (λ openings w w'. BeginsToTake openings w number packet (shown self.new.world result) w') }
+            (λ openings w w'.
+            BeginsToTake openings w number packet (shown self.new.world result) w') }
         ensures cause { SaysFailed result
             → FailsOnceOpen M.K.custody M.making self.old self.new number
             (λ between. ⊥) }
@@ -333,7 +334,8 @@ impl<M: MakesKeepers> Cluster<M> {
         requires first { 0 < first }
         requires second { 0 < second }
         ensures goes { GoesOn M.K.custody M.making self.old self.new
-            (λ openings w w'. AsksForUnion openings w first second (shown self.new.world result) w') }
+            (λ openings w w'.
+            AsksForUnion openings w first second (shown self.new.world result) w') }
         ensures cause { SaysFailed result
             → FailsOnceOpen M.K.custody M.making self.old self.new first
             (λ between. FailsOnceOpen M.K.custody M.making between self.new second (λ _. ⊥)) }
@@ -352,7 +354,8 @@ impl<M: MakesKeepers> Cluster<M> {
     pub fn check(&mut self, alloc: Global, number: NodeNumber, bytes: &[u8]) -> Response
         requires { 0 < number }
         ensures goes { GoesOn M.K.custody M.making self.old self.new
-            (λ openings w w'. AsksToCheck openings w number bytes.now (shown self.new.world result) w') }
+            (λ openings w w'.
+            AsksToCheck openings w number bytes.now (shown self.new.world result) w') }
         ensures cause { SaysFailed result
             → FailsOnceOpen M.K.custody M.making self.old self.new number
             (λ between. ⊥) }

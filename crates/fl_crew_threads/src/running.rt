@@ -41,8 +41,8 @@ fn has_order(worker: &Worker) -> bool {
 /// packet is what the row of the record says of it; where there is no row, the registrar was
 /// stopped or had no row left, or stopped at it.
 ///
-/// Where there is neither an order nor a packet, the registrar has nothing to do, and this thread is
-/// that of a worker: so no thread is made where only one worker has tasks.
+/// Where there is neither an order nor a packet, the registrar has nothing to do, and this thread
+/// is that of a worker: so no thread is made where only one worker has tasks.
 ///
 /// Where no thread can be made, the ends on which the registrar rules are let go first, so that no
 /// worker waits for a ruling: each serves what it can, one after the other, and stops at an order.

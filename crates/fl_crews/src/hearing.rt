@@ -196,12 +196,14 @@ impl<R: Threads + Wait + Sync + Send + Copy + Drop + 'static, M: MakesKeepers> H
     ) -> Result<bool, RunFault>
         requires status { IsStatus self.old.status }
         requires chunk { length chunk.old ≤ 65536 }
-        requires answered { IfSome (C.heard input.old) (λ bytes. C.may_hear bytes (C.said output.old)) }
+        requires answered { IfSome (C.heard input.old)
+            (λ bytes. C.may_hear bytes (C.said output.old)) }
         requires patient { C.hearings input.old < 16777217 }
         ensures grows { Grows (W.contents output.old) (W.contents output.new) }
         ensures status { IsStatus self.new.status }
         ensures chunk { length chunk.new ≡ length chunk.old }
-        ensures said { IfOk result (λ more. more ≡ true → C.said output.new ≡ W.contents output.new) }
+        ensures said { IfOk result (λ more.
+            more ≡ true → C.said output.new ≡ W.contents output.new) }
         ensures less { IfOk result (λ more. more ≡ true → self.new.room < self.old.room) }
         ensures count { IfOk result (λ more. more ≡ true →
             C.hearings input.new + self.new.room ≤ C.hearings input.old + self.old.room) }

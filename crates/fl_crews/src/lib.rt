@@ -1,5 +1,5 @@
-//! Runs a script whose nodes are crews: consecutive jobs of a node are one batch, whose answers come
-//! when the batch has ended.
+//! Runs a script whose nodes are crews: consecutive jobs of a node are one batch, whose answers
+//! come when the batch has ended.
 #![tactic(auto)]
 
 mod hearing;

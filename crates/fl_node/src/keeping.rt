@@ -69,7 +69,8 @@ pub fn keep<K: Keeper>(keeper: &mut K, saved: &mut OpSet, batch: &Batch) -> Resu
     ensures broken { result ≡ Err Unkept.Broken → IsTrue (K.custody.is_broken keeper.new) }
     ensures number { K.custody.number keeper.new ≡ K.custody.number keeper.old }
     ensures held { K.custody.is_honest keeper.new → K.custody.is_honest keeper.old
-        × Keeps (ops_of batch.now) (K.custody.may_hold keeper.old) (K.custody.may_hold keeper.new) result }
+        × Keeps (ops_of batch.now) (K.custody.may_hold keeper.old) (K.custody.may_hold keeper.new)
+        result }
 {
     let Ok(()) = add_batch(saved, batch) else {
         return Err(Unkept::Memory);

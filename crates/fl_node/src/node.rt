@@ -83,7 +83,8 @@ impl<K: Keeper> Model for Node<K> {
     } };
 
     ghost invariant = { λ a. IsSound (K.custody.is_honest a.keeper) (K.custody.may_hold a.keeper)
-        a.number a.boot a.saved a.listing.published a.state (length a.listing.views) (length a.benches.benches) };
+        a.number a.boot a.saved a.listing.published a.state (length a.listing.views)
+        (length a.benches.benches) };
 }
 
 impl<K: Keeper + Drop> Drop for Node<K> {
@@ -110,8 +111,8 @@ impl<K: Keeper> Node<K> {
     /// - `NamesSpent`: it was opened 4,294,967,295 times.
     /// - `Memory`: there was not enough.
     ///
-    /// A refused opening may have raised the boot. Loads what is saved, and copies it, and once more
-    /// for each desk, into its index; there each put costs a search by order.
+    /// A refused opening may have raised the boot. Loads what is saved, and copies it, and once
+    /// more for each desk, into its index; there each put costs a search by order.
     pub fn open(
         alloc: Global,
         mut keeper: K,
@@ -121,15 +122,18 @@ impl<K: Keeper> Node<K> {
         requires { 0 < number }
         ensures number { IfOk result (λ node. node.node.number ≡ number) }
         ensures desks { IfOk result (λ node. length node.node.views ≡ desks) }
-        ensures ok { IfOk result (λ node. K.custody.is_honest node.keeper → K.custody.is_honest keeper
+        ensures ok { IfOk result (λ node. K.custody.is_honest node.keeper
+            → K.custody.is_honest keeper
             × Follows (λ k k'. Opens desks (IsOf number) k (Ok node.node) k')
             (K.custody.may_hold keeper) (K.custody.may_hold node.keeper)) }
         ensures cause { let bad = K.custody.has_bad_row keeper in IfErr result (λ e.
             KeeperFails (IsLeftBroken K.custody keeper e.1) (K.custody.is_honest e.1) bad e.0) }
-        ensures broken { IfErr result (λ e. IsTrue (K.custody.is_broken keeper) → K.custody.number keeper ≡ number
+        ensures broken { IfErr result (λ e. IsTrue (K.custody.is_broken keeper)
+            → K.custody.number keeper ≡ number
             → e.0 ≡ Fault.KeeperFailed) }
         ensures sound { IfOk result (λ node. ¬ IsTrue (K.custody.is_broken keeper)) }
-        ensures whole { IfOk result (λ node. K.custody.is_honest node.keeper → ¬ K.custody.has_bad_row keeper) }
+        ensures whole { IfOk result (λ node. K.custody.is_honest node.keeper
+            → ¬ K.custody.has_bad_row keeper) }
         ensures err { IfErr result (λ e. K.custody.is_honest e.1 → K.custody.is_honest keeper
             × Follows (λ k k'. Opens desks (IsOf number) k (Err e.0) k')
             (K.custody.may_hold keeper) (K.custody.may_hold e.1)) }
@@ -343,9 +347,11 @@ impl<K: Keeper> Node<K> {
     pub fn save(&mut self) -> Result<(), Fault>
         ensures number { self.new.node.number ≡ self.old.node.number }
         ensures keeper { K.custody.number self.new.keeper ≡ K.custody.number self.old.keeper }
-        ensures cause { result ≡ Err Fault.KeeperFailed → IsTrue (K.custody.is_broken self.new.keeper) }
+        ensures cause { result ≡ Err Fault.KeeperFailed
+            → IsTrue (K.custody.is_broken self.new.keeper) }
         ensures desks { length self.new.node.views ≡ length self.old.node.views }
-        ensures node { (k : Kept) → (left : Kept) × Saves self.old.node k result self.new.node left }
+        ensures node { (k : Kept) →
+            (left : Kept) × Saves self.old.node k result self.new.node left }
         ensures saves { K.custody.is_honest self.new.keeper → K.custody.is_honest self.old.keeper
             × Follows (λ k k'. Saves self.old.node k result self.new.node k')
             (K.custody.may_hold self.old.keeper) (K.custody.may_hold self.new.keeper) }
@@ -371,9 +377,11 @@ impl<K: Keeper> Node<K> {
             (KeeperFails (IsTrue (K.custody.is_broken self.new.keeper))
             (K.custody.is_honest self.new.keeper) bad) }
         ensures broken { IsTrue (K.custody.is_broken self.old.keeper)
-            → K.custody.number self.old.keeper ≡ self.old.node.number → result ≡ Err Fault.KeeperFailed }
+            → K.custody.number self.old.keeper ≡ self.old.node.number
+            → result ≡ Err Fault.KeeperFailed }
         ensures whole { IfOk result
-            (λ boot. K.custody.is_honest self.new.keeper → ¬ K.custody.has_bad_row self.old.keeper) }
+            (λ boot. K.custody.is_honest self.new.keeper
+            → ¬ K.custody.has_bad_row self.old.keeper) }
         ensures desks { length self.new.node.views ≡ length self.old.node.views }
         ensures opens { K.custody.is_honest self.new.keeper → K.custody.is_honest self.old.keeper
             × Follows (λ k k'. OpensAgain self.old.node (doubt_of self.old.node.state) k
@@ -420,8 +428,10 @@ impl<K: Keeper> Node<K> {
             let bad = LoadsBadRow K.custody node.state self.old.keeper in IfErr result
             (KeeperFails (IsTrue (K.custody.is_broken self.new.keeper))
             (K.custody.is_honest self.new.keeper) bad) }
-        ensures broken { (¬ IsRunning self.old.node.state) → IsTrue (K.custody.is_broken self.old.keeper)
-            → K.custody.number self.old.keeper ≡ self.old.node.number → result ≡ Err Fault.KeeperFailed }
+        ensures broken { (¬ IsRunning self.old.node.state)
+            → IsTrue (K.custody.is_broken self.old.keeper)
+            → K.custody.number self.old.keeper ≡ self.old.node.number
+            → result ≡ Err Fault.KeeperFailed }
         ensures desks { length self.new.node.views ≡ length self.old.node.views }
         ensures restarts { K.custody.is_honest self.new.keeper → K.custody.is_honest self.old.keeper
             × Follows (λ k k'. Restarts self.old.node k keeps result self.new.node k')
@@ -502,7 +512,8 @@ impl<K: Keeper> Node<K> {
         ensures cause { let left = self.new.keeper in
             IfErr result (λ fault. fault ≡ Fault.KeeperFailed
             → (made : K) × FnOnceReturnsAtMut F.FnOnce make self.old.keeper tt made
-            × (IsTrue (K.custody.is_broken left) ⊎ (K.custody.is_honest left → K.custody.has_bad_row made))) }
+            × (IsTrue (K.custody.is_broken left)
+            ⊎ (K.custody.is_honest left → K.custody.has_bad_row made))) }
         ensures broken { (¬ IsRunning self.old.node.state)
             → (made : K) × FnOnceReturnsAtMut F.FnOnce make self.old.keeper tt made
             × (IsTrue (K.custody.is_broken made) → K.custody.number made ≡ self.old.node.number
@@ -531,7 +542,8 @@ impl<K: Keeper> Node<K> {
         ensures cause { let left = result.0.keeper in
             IfErr result.1 (λ fault. fault ≡ Fault.KeeperFailed
             → (made : K) × F.post make self.keeper made
-            × (IsTrue (K.custody.is_broken left) ⊎ (K.custody.is_honest left → K.custody.has_bad_row made))) }
+            × (IsTrue (K.custody.is_broken left)
+            ⊎ (K.custody.is_honest left → K.custody.has_bad_row made))) }
         ensures broken { (¬ IsRunning self.node.state) → (made : K) × F.post make self.keeper made
             × (IsTrue (K.custody.is_broken made) → K.custody.number made ≡ self.node.number
             → result.1 ≡ Err Fault.KeeperFailed) }

@@ -85,7 +85,8 @@ pub fn recover<K: Keeper>(
         × Follows (λ k k'. Opens had.desks own k
         (Ok (starting had.desks had.number r.boot r.saved (set.members r.saved))) k')
         (K.custody.may_hold keeper.old) (K.custody.may_hold keeper.new)) }
-    ensures kept { IfOk result (λ r. K.custody.is_honest keeper.new → (k : Kept) → K.custody.may_hold keeper.new k
+    ensures kept { IfOk result (λ r. K.custody.is_honest keeper.new
+        → (k : Kept) → K.custody.may_hold keeper.new k
         → k ≡ record { number = had.number; boot = r.boot; saved = r.saved }) }
     ensures listing { IfOk result (λ r. r.listing ≡ listing_of r.saved had.desks) }
     ensures benches { IfOk result (λ r. r.benches ≡ benches_of had.number r.boot had.desks) }
@@ -101,9 +102,11 @@ pub fn recover<K: Keeper>(
     ensures cause { let bad = K.custody.has_bad_row keeper.old in
         let broken = IsTrue (K.custody.is_broken keeper.new) in
         IfErr result (KeeperFails broken (K.custody.is_honest keeper.new) bad) }
-    ensures broken { IsTrue (K.custody.is_broken keeper.old) → K.custody.number keeper.old ≡ had.number
+    ensures broken { IsTrue (K.custody.is_broken keeper.old)
+        → K.custody.number keeper.old ≡ had.number
         → result ≡ Err Fault.KeeperFailed }
-    ensures whole { IfOk result (λ r. K.custody.is_honest keeper.new → ¬ K.custody.has_bad_row keeper.old) }
+    ensures whole { IfOk result (λ r. K.custody.is_honest keeper.new
+        → ¬ K.custody.has_bad_row keeper.old) }
 {
     let found = match find(alloc, keeper, had.number) {
         Ok(found) => found,

@@ -187,10 +187,12 @@ impl<K: Keeper> Nodes<K> {
             → TakesOver K.custody n.keeper made }
         ensures absent { map.get self.old.nodes number ≡ None
             → (self.new ≡ self.old) × (result ≡ replies.NoSuch) }
-        ensures running { (n : NodeOver K) → map.get self.old.nodes number ≡ Some n → IsRunning n.node.state
+        ensures running { (n : NodeOver K) → map.get self.old.nodes number ≡ Some n
+            → IsRunning n.node.state
             → (self.new ≡ self.old) × (result ≡ replies.Refused (Fault.Refused Refusal.Busy)) }
         ensures stopped { (n : NodeOver K) → map.get self.old.nodes number ≡ Some n
-            → (¬ IsRunning n.node.state) → (made : K) × FnOnceReturnsAtMut F.FnOnce make n.keeper tt made
+            → (¬ IsRunning n.node.state)
+            → (made : K) × FnOnceReturnsAtMut F.FnOnce make n.keeper tt made
             × Goes K.custody self.old self.new (ReturnsOver K.custody made number result) }
         ensures cause { result ≡ Reply.Refused Fault.KeeperFailed
             → FailsAt K.custody (λ n. (made : K)

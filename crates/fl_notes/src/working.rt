@@ -307,8 +307,8 @@ fn send<K: Keeper>(
 
 /// Has the node of this number do the job at a desk, which looks first: gives the answer as it is
 /// shown, sends the message that it may be, and notes what is admitted. What would be noted and
-/// sent is made and has its room before. Copies the labels of who asks, and what it owns, only where
-/// one of them has changed since it was noted last.
+/// sent is made and has its room before. Copies the labels of who asks, and what it owns, only
+/// where one of them has changed since it was noted last.
 ///
 /// Refused as `Node::job` has it; `Stopped` where the node is stopped, and `Memory` where there is
 /// no room for what would be noted or sent. Nothing is sent or noted then.

@@ -150,9 +150,9 @@ impl<K: Keeper, G: Gate + Send + Drop + 'static> Crew<K, G> {
         Ok(Crew { gate, seats })
     }
 
-    /// Serves a batch: the workers do the jobs, each in a thread of its own, while this thread takes
-    /// the packets, and then names, saves and publishes what the jobs order. Gives an entry for each
-    /// job in its place, and behind them one for each packet.
+    /// Serves a batch: the workers do the jobs, each in a thread of its own, while this thread
+    /// takes the packets, and then names, saves and publishes what the jobs order. Gives an entry
+    /// for each job in its place, and behind them one for each packet.
     ///
     /// A job of a process is done by the worker with its bench, a question about groups by the
     /// first, and each new process is made by the next one in turn. One worker does its jobs in
@@ -176,8 +176,8 @@ impl<K: Keeper, G: Gate + Send + Drop + 'static> Crew<K, G> {
     ///   begun, and all is as it was.
     ///
     /// Waits until each worker has done its jobs, and so for the gate. Costs what the jobs do, and
-    /// what the registrar's calls do for each order and packet, and for each worker a thread and two
-    /// numbers that are compared; memory in proportion to the places of the batch.
+    /// what the registrar's calls do for each order and packet, and for each worker a thread and
+    /// two numbers that are compared; memory in proportion to the places of the batch.
     pub fn batch<R: Threads + Wait + Sync + Send + Copy + Drop + 'static>(
         &mut self,
         rt: R,
