@@ -1,5 +1,5 @@
 -- What a cache still knows.
-use Rattle.std.specs.Prelude.{◌≡◌, ◌&&◌, ◌⊎◌, Bool, true, false, List, Contains, Option, Some, None, OnOk, OnErr, Result, Ok, Err, is_some, IfSome}
+use Rattle.std.specs.Prelude.{◌≡◌, ◌&&◌, ◌⊎◌, Bool, true, false, List, Contains, Option, Some, None, OnOk, OnErr, Result, Ok, Err, is_some}
 use Rattle.std.proofs.Common.{refl, inl, inr, sym, subst, ◌∙◌}
 use Rattle.std.specs.Cmp.{Equal-is}
 use Rattle.std.specs.Map.{lookup}
@@ -13,8 +13,6 @@ use Rattle.fl_labels.specs.declared.cap.Cap.{Cap}
 use Rattle.fl_ops.specs.OpOrder.{op_cmp}
 use Rattle.fl_ops.specs.Registry.{From, Reach}
 use Rattle.fl_ops.specs.laws.Reaching.{reach_more}
-use Rattle.fl_closure.specs.Witness.{IsWitness}
-use Rattle.fl_closure.specs.declared.witness.Witness.{Witness}
 use Rattle.fl_cache.specs.contracts.yes.QuestionPartialEq.TheImpl as questions
 use Rattle.fl_cache.specs.declared.yes.Question.{Question}
 use Rattle.fl_cache.specs.parts.Known.{AreYes, AreKept}
@@ -78,7 +76,3 @@ module _ {s : SetBy op_cmp} where
 pub mapped_some : {A B : Type 0} (f : A → B) (r : Option A) → is_some r ≡ true → is_some (option_map f r) ≡ true
 mapped_some f None h = absurd (cc)
 mapped_some f (Some x) h = refl
-
--- what the last question came upon shows what it did then
-pub kept_shows : (index s : SetBy op_cmp) (kept : Option Witness) (w : Witness) → index ≡ s → kept ≡ Some w → IfSome kept (IsWitness (In index)) → IsWitness (In s) w
-kept_shows index s kept w view e is = subst (λ t. IsWitness (In t) w) view (subst (λ o. IfSome o (IsWitness (In index))) e is)

@@ -1,11 +1,13 @@
 //! An index with a cache of what it answered yes.
-ghost use Rattle.std.specs.Prelude.{◌≡◌, OnOk, OnErr, false, true};
+ghost use Rattle.std.specs.Prelude.{◌≡◌, IfSome, OnOk, OnErr, false, true};
 ghost use Rattle.std.specs.List.{Contains};
 ghost use Rattle.fl_labels.specs.Found.{Tells};
 ghost use Rattle.fl_labels.specs.SetBy as set;
 ghost use Rattle.fl_labels.specs.SetBy.{In};
+ghost use Rattle.fl_ops.specs.OpOrder.{op_cmp};
 ghost use Rattle.fl_ops.specs.declared.op.Op.{Op};
 ghost use Rattle.fl_ops.specs.Registry.{From, Reach, InEffect};
+ghost use Rattle.fl_closure.specs.Witness.{IsWitness};
 
 use crate::yes::YesCache;
 use fl_closure::index::Index;
@@ -23,8 +25,10 @@ const CAPACITY: usize = 1024;
 pub struct CachedIndex {
     index: Index,
     cache: YesCache,
-    // what the last question of what is in effect came upon, where it came upon something
-    witness: Option<Witness>,
+    // what the last questions of what is in effect came upon: of what adds a tag, and of all else,
+    // since the two come in turn and stand apart
+    adding: Option<Witness>,
+    other: Option<Witness>,
     alloc: Global,
 }
 
@@ -33,7 +37,8 @@ impl Drop for CachedIndex {
         let CachedIndex {
             index: _,
             cache: _,
-            witness: _,
+            adding: _,
+            other: _,
             alloc: _,
         } = self;
     }
@@ -52,7 +57,18 @@ impl Model for CachedIndex {
 
     ghost use Rattle.fl_cache.specs.parts.Known.{StillHolds};
 
-    ghost invariant = { λ a. StillHolds a.cache a.witness a.index };
+    ghost invariant = { λ a. StillHolds a.cache a.adding a.other a.index };
+}
+
+// Whether what a question came upon shows that the owner of these capabilities has this one.
+fn shows(last: &Option<Witness>, owned: &CapSet, cap: Cap) -> bool
+    ensures { (s : set.SetBy op_cmp) → IfSome last.now (IsWitness (In s))
+        → result ≡ true → InEffect (In s) (In owned.now) cap }
+{
+    match last {
+        Some(witness) => witness.shows(owned, cap),
+        None => false,
+    }
 }
 
 impl CachedIndex {
@@ -63,7 +79,8 @@ impl CachedIndex {
         CachedIndex {
             index: Index::new(alloc),
             cache: YesCache::new(alloc, CAPACITY),
-            witness: None,
+            adding: None,
+            other: None,
             alloc,
         }
     }
@@ -92,21 +109,32 @@ impl CachedIndex {
         self.index.absorb_all(alloc, ops)
     }
 
-    // Whether what the last question came upon shows that the owner of these capabilities has this
-    // one in effect.
+    // Whether what the last question of this kind came upon shows that the owner of these
+    // capabilities has this one in effect.
     fn is_shown(&self, owned: &CapSet, cap: Cap) -> bool
         ensures { result ≡ true → InEffect (In self.now) (In owned.now) cap }
     {
-        match &self.witness {
-            Some(witness) => witness.shows(owned, cap),
-            None => false,
+        match cap {
+            Cap::Plus(_) => shows(&self.adding, owned, cap),
+            Cap::Minus(_) | Cap::Use(_) | Cap::Grow(_) => shows(&self.other, owned, cap),
+        }
+    }
+
+    // Keeps what a question of this capability came upon.
+    fn keep(&mut self, cap: Cap, witness: Witness)
+        requires { IsWitness (In self.old) witness }
+        ensures { self.new ≡ self.old }
+    {
+        match cap {
+            Cap::Plus(_) => self.adding = Some(witness),
+            Cap::Minus(_) | Cap::Use(_) | Cap::Grow(_) => self.other = Some(witness),
         }
     }
 
     /// Whether the owner of these capabilities has this one in effect, as [`Index::effective`]
-    /// answers. Takes no memory. Costs a binary search in what is owned. Where it is not there, and
-    /// the last question that came so far came upon another capability that stands near this one,
-    /// a glance or one binary search more, and else what [`Index::witness`] does.
+    /// answers. Takes no memory. Costs a binary search in what is owned, and where it is not there,
+    /// what [`Index::witness`] does; where the last question of this kind that went so far came
+    /// upon capabilities that this one stands among, one binary search more at most.
     pub fn effective(&mut self, owned: &CapSet, cap: Cap) -> bool
         ensures answer { Tells result (InEffect (In self.old) (In owned.now) cap) }
         ensures same { self.new ≡ self.old }
@@ -117,7 +145,7 @@ impl CachedIndex {
         let Some(witness) = self.index.witness(owned, cap) else {
             return false;
         };
-        self.witness = Some(witness);
+        self.keep(cap, witness);
         true
     }
 

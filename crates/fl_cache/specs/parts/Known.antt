@@ -18,7 +18,8 @@ abbrev pub AreKept : SetBy op_cmp → Option (LruCache Question (Unit {0})) → 
 AreKept s None = Unit {0}
 AreKept s (Some cache) = AreYes s cache.entries
 
--- what the cache and the last question came upon holds under what the index has now
-pub record StillHolds (asked : SetBy op_cmp) (witness : Option Witness) (index : SetBy op_cmp) : Type 0 where
+-- what the cache and the last questions came upon holds under what the index has now
+pub record StillHolds (asked : SetBy op_cmp) (adding other : Option Witness) (index : SetBy op_cmp) : Type 0 where
   pub within : Within (In asked) (In index)
-  pub witnessed : IfSome witness (IsWitness (In index))
+  pub adding_holds : IfSome adding (IsWitness (In index))
+  pub other_holds : IfSome other (IsWitness (In index))

@@ -8,7 +8,7 @@ use Rattle.fl_cache.proofs.Grown.{after_union}
 use Rattle.fl_cache.proofs.cached.CachedIndex.absorb_all.Goals as goal
 
 pub invariant_of-self : goal.invariant_of-self
-invariant_of-self c = after_union _ _ _ _ c.self.invariant (of_list c.args.ops.now) c.absorb_all.result c.absorb_all.ensures.ok c.absorb_all.ensures.err
+invariant_of-self c = after_union _ _ _ _ _ c.self.invariant (of_list c.args.ops.now) c.absorb_all.result c.absorb_all.ensures.ok c.absorb_all.ensures.err
 
 pub returns-clause-absent : goal.returns-clause-absent
 returns-clause-absent c = subst (λ (s : SetBy op_cmp). OnErr c.absorb_all.result ((op : Op) × Contains c.args.ops.now op × (contains s op ≡ false))) c.self.view_is c.absorb_all.ensures.absent

@@ -7,5 +7,6 @@ use Rattle.fl_cache.proofs.cached.CachedIndex.renew.Goals as goal
 pub invariant_of-self : goal.invariant_of-self
 invariant_of-self c = record {
   within = λ op h. absurd (false≢true (sym (contains-empty op_cmp op) ∙ ap (λ s. contains s op) (sym c.new.ensures) ∙ h));
-  witnessed = c.self.invariant.witnessed;
+  adding_holds = c.self.invariant.adding_holds;
+  other_holds = c.self.invariant.other_holds;
 }
