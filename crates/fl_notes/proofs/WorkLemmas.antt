@@ -16,6 +16,7 @@ use Rattle.fl_jobs.specs.declared.job.Job.{Job}
 use Rattle.fl_jobs.specs.declared.job.Job.TheVariants.{Proc, By, Member, Arrive}
 use Rattle.fl_jobs.specs.declared.answer.Refusal.TheVariants.{Memory}
 use Rattle.fl_jobs.specs.declared.answer.Reply.TheVariants as replies
+use Rattle.fl_bench.specs.Process.{newborn}
 use Rattle.fl_bench.specs.declared.process.Process.{Process}
 use Rattle.fl_bench.specs.laws.Orders.{sending_at}
 use Rattle.fl_system.specs.declared.admission.Admission.{Admission}
@@ -39,12 +40,34 @@ use Rattle.fl_system.specs.State.{NodeState}
 use Rattle.fl_system.specs.Waiting.{IsRunning, NotRunning}
 use Rattle.fl_system.specs.WorldJobs.{MayBeNoted, party_at, sent_message}
 use Rattle.fl_audit.specs.Drafts.{asker_of, IsAskedAt, IsDrafted}
+use Rattle.fl_audit.specs.Noted.{asker_noted}
 use Rattle.fl_audit.specs.Senders.{sender_of}
 use Rattle.fl_audit.specs.declared.draft.Draft.{Draft}
 use Rattle.fl_node.specs.Desks.{IsDeskOf}
-use Rattle.fl_notes.specs.Working.{IsUnready, Shows, Works, Worked, is_sending}
+use Rattle.fl_notes.specs.Working.{IsUnready, Shows, Works, Worked, is_sending, is_tuning}
 
 -- ---- what is shared
+
+-- what is not noted of a new process is noted of none, unless an endpoint is tuned
+pub untuned : (asker : Option Process) (job : Job) → is_tuning job ≡ false → asker_noted (Some newborn) job ≡ false → false ≡ asker_noted asker job
+untuned None job other none = refl
+untuned (Some p) Proc other none = refl
+untuned (Some p) (Member root c) other none = refl
+untuned (Some p) (Arrive d) other none = refl
+untuned (Some p) (By pid (Mail (Tune endpoint given))) other none = absurd (false≢true (sym other))
+untuned (Some p) (By pid (Mail (Open mode given))) other none = sym none
+untuned (Some p) (By pid (Mail (Close endpoint))) other none = sym none
+untuned (Some p) (By pid (Mail (Send from receiver to message))) other none = sym none
+untuned (Some p) (By pid (Mail Take)) other none = sym none
+untuned (Some p) (By pid (Order order)) other none = sym none
+untuned (Some p) (By pid (Relabel side (Ok label))) other none = sym none
+untuned (Some p) (By pid (Relabel side (Err long))) other none = sym none
+untuned (Some p) (By pid (Ask c)) other none = sym none
+untuned (Some p) (By pid (Spawn caps)) other none = sym none
+untuned (Some p) (By pid Exit) other none = sym none
+untuned (Some p) (By pid (Drop c)) other none = sym none
+untuned (Some p) (By pid (Enter login secret)) other none = sym none
+untuned (Some p) (By pid (Emit bytes)) other none = sym none
 
 -- the process that asks is there, so what any may have noted may be noted
 pub any_noted : {T E : Type 0} (r : Result T E) (n : NodeState) (job : Job) (pid : Pid) (act : Act) → job ≡ By pid act

@@ -8,7 +8,7 @@ use Rattle.fl_wire.specs.declared.packet.Packet.TheVariants as packet
 use Rattle.fl_jobs.specs.declared.job.Act.TheVariants.{Mail}
 use Rattle.fl_jobs.specs.declared.job.Job.{Job}
 use Rattle.fl_jobs.specs.declared.job.Job.TheVariants.{By}
-use Rattle.fl_jobs.specs.declared.job.Mail.TheVariants.{Send}
+use Rattle.fl_jobs.specs.declared.job.Mail.TheVariants.{Tune, Send}
 use Rattle.fl_jobs.specs.declared.answer.Reply as jobs
 use Rattle.fl_jobs.specs.declared.answer.Refusal.TheVariants.{Memory}
 use Rattle.fl_system.specs.declared.admission.Admission.{Admission}
@@ -30,6 +30,11 @@ use Rattle.fl_system.specs.WorldJobs.{MayBeNoted, sent_message}
 abbrev pub is_sending : Job → Bool
 is_sending (By pid (Mail (Send from receiver to message))) = true
 is_sending other = false
+
+-- whether it tunes an endpoint
+abbrev pub is_tuning : Job → Bool
+is_tuning (By pid (Mail (Tune endpoint given))) = true
+is_tuning other = false
 
 -- why a job is not done: the node is stopped, or there is no room for what would be noted of it
 pub data IsUnready (n : NodeState) (job : Job) : Fault → Type 0 where

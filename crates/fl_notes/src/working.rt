@@ -1,19 +1,22 @@
 //! A job at a node, with what it sends and what is noted of it.
 ghost use Rattle.std.specs.Prelude.{◌≡◌, ◌≢◌, ◌<◌, ℕ, List, length, take};
 ghost use Rattle.std.specs.Prelude.{IfOk, IfErr, OnOk, OnErr, IsSome};
+ghost use Rattle.std.specs.Prelude.{false, true};
 ghost use Rattle.std.specs.declared.option.Option.{Option};
+ghost use Rattle.std.specs.declared.option.Option.TheVariants.{Some};
 ghost use Rattle.std.specs.Option.{option_copied};
 ghost use Rattle.std.specs.Vec.{vec_len, vec_capacity};
+ghost use Rattle.fl_bench.specs.Process.{newborn};
 ghost use Rattle.fl_system.specs.declared.admission.Party.{Party};
 ghost use Rattle.fl_system.specs.declared.answer.Answer.TheVariants as answers;
 ghost use Rattle.fl_system.specs.declared.sent.Sent.{Sent};
 ghost use Rattle.fl_system.specs.Audit.{entries};
 ghost use Rattle.fl_system.specs.WorldJobs.{MayBeNoted};
 ghost use Rattle.fl_audit.specs.Drafts.{asker_of, IsDrafted};
-ghost use Rattle.fl_audit.specs.Noted.{IsNotedWith, job_tunes};
+ghost use Rattle.fl_audit.specs.Noted.{IsNotedWith, asker_noted, job_tunes};
 ghost use Rattle.fl_audit.specs.Senders.{sender_of};
 ghost use Rattle.fl_node.specs.Desks.{IsDeskOf};
-ghost use Rattle.fl_notes.specs.Working.{IsUnready, Shows, Worked, is_sending};
+ghost use Rattle.fl_notes.specs.Working.{IsUnready, Shows, Worked, is_sending, is_tuning};
 
 use fl_audit::draft::{Draft, names_any, names_asker};
 use fl_audit::party::sender;
@@ -67,6 +70,24 @@ fn sends(job: &Job) -> bool
     matches!(job, Job::By(_, Act::Mail(Mail::Send { .. })))
 }
 
+// Whether the job tunes an endpoint.
+fn tunes(job: &Job) -> bool
+    ensures { result ≡ is_tuning job.now }
+{
+    matches!(job, Job::By(_, Act::Mail(Mail::Tune(_, _))))
+}
+
+// Whether the job, which is not noted of whoever asks, may be noted of who does: where that tunes an
+// endpoint of its own. The process is looked for then alone.
+#[inline(always)]
+fn names_tuner<K: Keeper>(node: &Node<K>, job: &Job) -> bool
+    ensures noted { asker_noted (Some newborn) job.now ≡ false
+        → result ≡ asker_noted (asker_of node.now.node job.now) job.now }
+    ensures may_be { result ≡ true → MayBeNoted node.now.node job.now }
+{
+    tunes(job) && names_asker(asker(node, job), job)
+}
+
 // How the process that asks for the job stands, where that may be noted.
 #[inline(always)]
 fn share<K: Keeper>(
@@ -79,7 +100,7 @@ fn share<K: Keeper>(
     ensures err { OnErr result (MayBeNoted node.old.node job.now) }
     ensures same { node.new ≡ node.old }
 {
-    if !names_any(job) && !names_asker(asker(node, job), job) {
+    if !names_any(job) && !names_tuner(node, job) {
         return Ok(None);
     }
     match job {
