@@ -12,7 +12,7 @@ ghost use Rattle.fl_rules.specs.Endpoint.{reads, writes, Loosens, Crosses, SafeE
 
 use crate::has::{Has, has_both};
 use crate::labels::LabelsRef;
-use crate::walk::split_change;
+use crate::walk::split_loss;
 use fl_labels::cap::Cap;
 use fl_labels::label::Label;
 use fl_labels::name::Name;
@@ -68,7 +68,7 @@ fn first_lost<H: Has>(has: &mut H, from: &Label, to: &Label) -> Option<Name>
 {
     let mut old = from.as_slice();
     let mut new = to.as_slice();
-    while let Some(step) = split_change(old, new) {
+    while let Some(step) = split_loss(old, new) {
         if let Some(tag) = tag_lost(step.cap) {
             if !has_both(has, tag) {
                 return Some(tag);

@@ -54,3 +54,16 @@ pub(crate) fn split_change<'a>(from: &'a [Name], to: &'a [Name]) -> Option<Step<
         }),
     }
 }
+
+/// The same, up to where nothing is left of the first list: from there on nothing is lost.
+pub(crate) fn split_loss<'a>(from: &'a [Name], to: &'a [Name]) -> Option<Step<'a>>
+    requires from_rises { IsStrictlySortedBy name_cmp from.now }
+    requires to_rises { IsStrictlySortedBy name_cmp to.now }
+    ensures { MatchOption result (from.now ≡ [])
+        (λ step. Splits from.now to.now step.cap step.from.now step.to.now) }
+{
+    if from.is_empty() {
+        return None;
+    }
+    split_change(from, to)
+}

@@ -42,4 +42,4 @@ loop-step-preserved g c =
     ]
 
 pub returns-clause-found : goal.returns-clause-found
-returns-clause-found g c = c.loop-step.invariant.rest _ (at_end _ _ _ c.in_default.ensures.0)
+returns-clause-found g c = c.loop-step.invariant.rest _ (at_end _ _ _ c.in_default.ensures)
