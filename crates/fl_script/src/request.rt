@@ -11,6 +11,7 @@ use crate::words::bytes_from_word;
 use fl_jobs::job::{Job, Order};
 use fl_labels::pid::Pid;
 use fl_labels::text::{read_number, read_pid};
+use fl_message::boxed::Boxed;
 use fl_message::payload::Payload;
 use std::alloc::Global;
 
@@ -40,7 +41,7 @@ pub enum Request {
     /// What it has published is to be written.
     Text,
     /// What a packet of these bytes would bring to it is to be written.
-    Check(Payload),
+    Check(Boxed<Payload>),
 }
 
 fn tell_request(rest: &[&str]) -> Option<Request>
@@ -103,7 +104,7 @@ fn check_request(alloc: Global, rest: &[&str]) -> Result<Request, Unread>
         return Err(Unread::Bad);
     };
     let bytes = bytes_from_word(alloc, bytes)?;
-    Ok(Request::Check(bytes))
+    Ok(Request::Check(Boxed::new(alloc, bytes)?))
 }
 
 fn begin_deliver_request(rest: &[&str]) -> Option<Request>
