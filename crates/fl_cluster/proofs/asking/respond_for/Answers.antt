@@ -1,3 +1,4 @@
+use Rattle.std.proofs.Common.{◌∙◌}
 use Rattle.fl_cluster.proofs.Failures.{asked_cancel, asked_job, asked_publish, asked_restart, asked_save, asked_tell, begun_job, delivered, only_asked, says_reply}
 use Rattle.fl_cluster.proofs.asking.respond_for.Goals as goal
 
@@ -32,7 +33,7 @@ pub returns-in-Text-clause-goes : goal.returns-in-Text-clause-goes
 returns-in-Text-clause-goes g c = rw c.in-Text.is c.text.ensures.goes
 
 pub returns-in-Check-clause-goes : goal.returns-in-Check-clause-goes
-returns-in-Check-clause-goes g c = rw (c.in-Check.is, ← c.as_slice.ensures) c.check.ensures.goes
+returns-in-Check-clause-goes g c = rw (c.in-Check.is, ← (c.as_slice.ensures ∙ c.deref.ensures)) c.check.ensures.goes
 
 pub returns-in-Job-clause-cause : goal.returns-in-Job-clause-cause
 returns-in-Job-clause-cause g c says =
