@@ -1,5 +1,5 @@
-//! Measures batches of 12 processes, at a plain node over a keeper in memory, and at crews of one to
-//! four workers. Of `changes TAGS` a job is a change between two labels of so many tags, at most
+//! Measures batches of 12 processes, at a plain node over a keeper in memory, and at crews of one
+//! to four workers. Of `changes TAGS` a job is a change between two labels of so many tags, at most
 //! 256 and none in both; of `questions GROUPS` it is a question of who may use so many groups, at
 //! most 1,000, for what none of them has; of `orders` it is as of `changes 1`, but one in a hundred
 //! makes a tag. These batches have 256 jobs. Those of `single` are as of `changes 1`, of one job

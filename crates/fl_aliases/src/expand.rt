@@ -28,7 +28,8 @@ struct Front<'a> {
 // The alias that all the letters at the front of the text make. `None` where they make none.
 fn split_alias(text: &str) -> Option<Front<'_>>
     ensures some { IfSome result (λ front.
-        (text.now ≡ front.alias ++ front.behind.now) × IsAlias front.alias × NoLetterFirst front.behind.now) }
+        (text.now ≡ front.alias ++ front.behind.now) × IsAlias front.alias
+        × NoLetterFirst front.behind.now) }
     ensures none { IfNone result ((letters rest : List ℕ) →
         IsAlias letters → NoLetterFirst rest → text.now ≡ letters ++ rest → ⊥) }
 {

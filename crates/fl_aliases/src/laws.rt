@@ -10,13 +10,15 @@ ghost use Rattle.fl_aliases.specs.declared.target.Target.{Target};
 
 /// A line expands to one text at most.
 pub fn law_one_expansion()
-    ensures { (table : Table) (line a b : List ℕ) → Expands table line a → Expands table line b → a ≡ b }
+    ensures { (table : Table) (line a b : List ℕ) → Expands table line a → Expands table line b
+        → a ≡ b }
 {}
 
 /// A line with no `$` expands to itself, and to nothing else.
 pub fn law_plain()
     ensures itself { (table : Table) (line : List ℕ) → NoDollar line → Expands table line line }
-    ensures alone { (table : Table) (line out : List ℕ) → NoDollar line → Expands table line out → out ≡ line }
+    ensures alone { (table : Table) (line out : List ℕ) → NoDollar line → Expands table line out
+        → out ≡ line }
 {}
 
 /// What an alias stands for is written as a part of a word, which is not empty, and holds no `$`.
@@ -42,9 +44,11 @@ pub fn law_comment()
 /// taken back, the table is as it was before.
 pub fn law_place()
     ensures found { (table : Table) (letters : List ℕ) (target : Target) →
-        target_of table letters ≡ None → target_of (table ++ (letters, target) ∷ []) letters ≡ Some target }
+        target_of table letters ≡ None
+        → target_of (table ++ (letters, target) ∷ []) letters ≡ Some target }
     ensures others { (table : Table) (letters other : List ℕ) (target : Target) →
-        other ≢ letters → target_of (table ++ (letters, target) ∷ []) other ≡ target_of table other }
+        other ≢ letters
+        → target_of (table ++ (letters, target) ∷ []) other ≡ target_of table other }
     ensures set { (table : Table) (letters : List ℕ) (first then : Target) →
         target_of table letters ≡ None →
         retargeted (table ++ (letters, first) ∷ []) letters then ≡ table ++ (letters, then) ∷ [] }
@@ -56,7 +60,8 @@ pub fn law_place()
 /// they did, and all keep their places.
 pub fn law_set()
     ensures found { (table : Table) (letters : List ℕ) (target : Target) →
-        IsSome (target_of table letters) → target_of (retargeted table letters target) letters ≡ Some target }
+        IsSome (target_of table letters)
+        → target_of (retargeted table letters target) letters ≡ Some target }
     ensures others { (table : Table) (letters other : List ℕ) (target : Target) →
         IsSome (target_of table letters) → other ≢ letters →
         target_of (retargeted table letters target) other ≡ target_of table other }

@@ -77,7 +77,6 @@ impl Aliases {
     }
 
     /// How what the alias stands for is written, or `None` where it is not set. One look-up.
-    #[inline(always)]
     pub(crate) fn text_of(&self, alias: &Alias) -> Option<&str>
         ensures { let found = target_of self.now alias.now in
             MatchOption result (found ≡ None) (λ text. (target : Target) × (found ≡ Some target)

@@ -72,7 +72,6 @@ impl Drop for RoomyOwned {
 }
 
 // The set of these capabilities with these labels, by its past, which is begun where there is none.
-#[inline]
 fn share(
     alloc: Global,
     past: &mut Option<Past>,
@@ -212,7 +211,8 @@ impl Owned {
         requires { J.IsAlwaysCallable judge }
         ensures ok { OnOk result (self.new ≡ set.remove self.old cap) }
         ensures err { OnErr result (self.new ≡ self.old) }
-        ensures judged { Judges J.FnOnce judge asked.old (set.remove self.old cap) result asked.new }
+        ensures judged { Judges J.FnOnce judge asked.old
+            (set.remove self.old cap) result asked.new }
     {
         let result = self.caps.remove_if(cap, asked, judge);
         if result.is_ok() {

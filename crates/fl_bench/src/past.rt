@@ -134,7 +134,6 @@ impl Past {
     /// The set with these labels, for one more holder. Fails only where there is not enough memory.
     /// Copies nothing where neither has changed since it was asked last. Else it copies the labels,
     /// and of a changed set what `SharedCaps::changed_by` does.
-    #[inline]
     pub fn share(&mut self, alloc: Global, labels: &Labels) -> Result<Shared<Standing>, AllocError>
         ensures shared { IfOk result (λ made.
             made ≡ record { labels = labels.now; owned = self.old }) }

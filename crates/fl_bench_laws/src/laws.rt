@@ -47,9 +47,11 @@ pub fn law_summary()
 pub fn law_orderly()
     ensures opened { (node boot index stride : ℕ) →
         0 < index → 0 < stride → IsOrderly (new_bench node boot index stride) }
-    ensures job { (ops : List Op) (b after : BenchState) (job : Job) (result : Result Outcome Refusal) →
+    ensures job { (ops : List Op) (b after : BenchState) (job : Job)
+        (result : Result Outcome Refusal) →
         IsOrderly b → Does (Listed ops) b job result after → IsOrderly after }
-    ensures finish { (b : BenchState) (maker : Pid) (op : Op) → IsOrderly b → IsOrderly (finished b maker op) }
+    ensures finish { (b : BenchState) (maker : Pid) (op : Op) → IsOrderly b
+        → IsOrderly (finished b maker op) }
     ensures cancel { (b : BenchState) (maker : Pid) → IsOrderly b → IsOrderly (cancelled b maker) }
 {}
 
@@ -57,9 +59,10 @@ pub fn law_orderly()
 /// good: no process of the one is called as one of the other, and no new one is. Benches that open
 /// under different indices are two such, and a job leaves the residue (`law_births`).
 pub fn law_apart()
-    ensures opened { (stride i j : ℕ) → 0 < i → i ≤ stride → 0 < j → j ≤ stride → i ≢ j → i % stride ≢ j % stride }
-    ensures next { (a b : BenchState) (p q : Pid) → a.stride ≡ b.stride → a.next % a.stride ≢ b.next % b.stride →
-        IsNext a p → IsNext b q → p ≢ q }
+    ensures opened { (stride i j : ℕ) → 0 < i → i ≤ stride → 0 < j → j ≤ stride → i ≢ j
+        → i % stride ≢ j % stride }
+    ensures next { (a b : BenchState) (p q : Pid) → a.stride ≡ b.stride
+        → a.next % a.stride ≢ b.next % b.stride → IsNext a p → IsNext b q → p ≢ q }
     ensures there { (a b : BenchState) (p q : Pid) (x y : Process) → a.stride ≡ b.stride →
         a.next % a.stride ≢ b.next % b.stride → IsOrderly a → IsOrderly b →
         map.get a.processes p ≡ Some x → map.get b.processes q ≡ Some y → p ≢ q }
@@ -68,11 +71,13 @@ pub fn law_apart()
 /// No label of a process gains or loses what its process had not in effect: whatever a job is
 /// answered, and when an operation is finished or cancelled.
 pub fn law_labels()
-    ensures job { (ops : List Op) (b after : BenchState) (job : Job) (result : Result Outcome Refusal)
-        (pid : Pid) → IsOrderly b → Does (Listed ops) b job result after →
+    ensures job { (ops : List Op) (b after : BenchState) (job : Job)
+        (result : Result Outcome Refusal) (pid : Pid) →
+        IsOrderly b → Does (Listed ops) b job result after →
         Follows (Listed ops) (map.get b.processes pid) (map.get after.processes pid) }
     ensures finish { (ops : List Op) (b : BenchState) (maker pid : Pid) (op : Op) →
-        Follows (Listed ops) (map.get b.processes pid) (map.get (finished b maker op).processes pid) }
+        Follows (Listed ops) (map.get b.processes pid)
+        (map.get (finished b maker op).processes pid) }
     ensures cancel { (ops : List Op) (b : BenchState) (maker pid : Pid) →
         Follows (Listed ops) (map.get b.processes pid) (map.get (cancelled b maker).processes pid) }
 {}
@@ -82,10 +87,12 @@ pub fn law_labels()
 /// serial never falls and keeps its residue, so no pid is given twice: not while its process stands
 /// there, and not later. The end of an operation brings no process.
 pub fn law_births()
-    ensures job { (ops : List Op) (b after : BenchState) (job : Job) (result : Result Outcome Refusal) (pid : Pid)
+    ensures job { (ops : List Op) (b after : BenchState) (job : Job)
+        (result : Result Outcome Refusal) (pid : Pid)
         (child : Process) → Does (Listed ops) b job result after → map.get b.processes pid ≡ None →
         map.get after.processes pid ≡ Some child → IsBirth (Listed ops) b job pid child }
-    ensures forward { (ops : List Op) (b after : BenchState) (job : Job) (result : Result Outcome Refusal) →
+    ensures forward { (ops : List Op) (b after : BenchState) (job : Job)
+        (result : Result Outcome Refusal) →
         Does (Listed ops) b job result after → GoesOn b after }
     ensures longer { (a b c : BenchState) → GoesOn a b → GoesOn b c → GoesOn a c }
     ensures once { (b later : BenchState) (pid next : Pid) (p : Process) → IsOrderly b →
@@ -101,11 +108,14 @@ pub fn law_births()
 /// A process leaves a bench only by its own exit. To finish or cancel an operation removes no
 /// process.
 pub fn law_exits()
-    ensures job { (ops : List Op) (b after : BenchState) (job : Job) (result : Result Outcome Refusal) (pid : Pid)
-        (old : Process) → Does (Listed ops) b job result after → map.get b.processes pid ≡ Some old →
+    ensures job { (ops : List Op) (b after : BenchState) (job : Job)
+        (result : Result Outcome Refusal) (pid : Pid)
+        (old : Process) → Does (Listed ops) b job result after →
+        map.get b.processes pid ≡ Some old →
         map.get after.processes pid ≡ None → job ≡ By pid Exit }
     ensures finish { (b : BenchState) (maker pid : Pid) (old : Process) (op : Op) →
-        map.get b.processes pid ≡ Some old → map.get (finished b maker op).processes pid ≡ None → ⊥ }
+        map.get b.processes pid ≡ Some old →
+        map.get (finished b maker op).processes pid ≡ None → ⊥ }
     ensures cancel { (b : BenchState) (maker pid : Pid) (old : Process) →
         map.get b.processes pid ≡ Some old → map.get (cancelled b maker).processes pid ≡ None → ⊥ }
 {}
@@ -114,7 +124,8 @@ pub fn law_exits()
 /// in effect, entered by a secret, or got in a message that came. After its operation it owns
 /// besides what that gives its maker, and nothing more where the operation is cancelled.
 pub fn law_owned()
-    ensures job { (ops : List Op) (b after : BenchState) (job : Job) (result : Result Outcome Refusal) (pid : Pid)
+    ensures job { (ops : List Op) (b after : BenchState) (job : Job)
+        (result : Result Outcome Refusal) (pid : Pid)
         (cap : Cap) → Does (Listed ops) b job result after → OwnsAt after pid cap →
         OwnsAt b pid cap ⊎ Gains (Listed ops) b job pid cap }
     ensures finish { (b : BenchState) (maker pid : Pid) (op : Op) (cap : Cap) →
@@ -129,7 +140,8 @@ pub fn law_owned()
 pub fn law_endpoints()
     ensures opened { (ops : List Op) (number boot index stride : ℕ) →
         IsGuarded (Listed ops) (new_bench number boot index stride) }
-    ensures job { (view ops : List Op) (b after : BenchState) (job : Job) (result : Result Outcome Refusal) →
+    ensures job { (view ops : List Op) (b after : BenchState) (job : Job)
+        (result : Result Outcome Refusal) →
         Within (Listed view) (Listed ops) → IsGuarded (Listed ops) b →
         Does (Listed view) b job result after → IsGuarded (Listed ops) after }
     ensures finish { (ops : List Op) (b : BenchState) (maker : Pid) (op : Op) →
@@ -145,7 +157,8 @@ pub fn law_endpoints()
 /// and by what each had in effect under those: whatever view the one was sent under, and the other
 /// taken in.
 pub fn law_arrivals()
-    ensures { (sending earlier taking ops : List Op) (a sent b after : BenchState) (job : Job) (message : Data)
+    ensures { (sending earlier taking ops : List Op) (a sent b after : BenchState) (job : Job)
+        (message : Data)
         (outcome : Outcome) (p q : Process) →
         IsGuarded (Listed earlier) a → map.get a.processes message.sender ≡ Some p →
         Does (Listed sending) a job (Ok (Outcome.Out message)) sent →

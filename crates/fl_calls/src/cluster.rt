@@ -180,7 +180,6 @@ impl<M: MakesKeepers> Cluster<M> {
     /// publishes what it begins. Gives what the last of it is answered, or why the node was not
     /// opened, with which nothing has changed. Where saving wants memory what was begun is given
     /// up, and where publishing does it stays due: `Memory`.
-    #[inline(always)]
     pub fn ask(&mut self, alloc: Global, event: Event) -> Reply
         requires { 0 < node_of event }
         ensures goes { GoesOn M.K.custody M.making self.old self.new
@@ -198,7 +197,6 @@ impl<M: MakesKeepers> Cluster<M> {
     /// Has the node, which is opened where it is not there, do a job at a desk that looks at the
     /// list up to a length, and save and publish what it begins, as `ask` has it. What is left of
     /// the job says nothing.
-    #[inline(always)]
     pub fn job(&mut self, alloc: Global, number: NodeNumber, look: Look, job: &mut Job) -> Reply
         requires { 0 < number }
         ensures goes { GoesOn M.K.custody M.making self.old self.new (λ openings w w'. Asks openings
@@ -219,8 +217,7 @@ impl<M: MakesKeepers> Cluster<M> {
         reply
     }
 
-    // Has the node do the job once it is open, as `ask` has it. Out of line, as it is seldom done.
-    #[inline(never)]
+    // Has the node do the job once it is open, as `ask` has it.
     fn job_once_open(&mut self, alloc: Global, number: NodeNumber, look: Look, job: Job) -> Reply
         requires { 0 < number }
         ensures goes { GoesOn M.K.custody M.making self.old self.new (λ openings w w'. Asks openings
@@ -383,7 +380,8 @@ impl<M: MakesKeepers> Cluster<M> {
         sink: &mut Sink,
         output: &mut W,
     ) -> Result<(), WriteFault>
-        ensures puts { let text = registry_text (registry_of (map.get self.now.world.nodes number)) in
+        ensures puts { let text = registry_text
+            (registry_of (map.get self.now.world.nodes number)) in
             Puts (W.contents output.old) (W.contents output.new) sink.old text sink.new result }
         ensures cause { OnErr result (W.has_failed output.new) }
     {

@@ -76,7 +76,6 @@ pub fn finish<K: Keeper>(alloc: Global, world: &mut World<K>, number: NodeNumber
 
 /// Has the event happen, and saves and publishes what it begins. Gives what the last of it is
 /// answered.
-#[inline(always)]
 pub fn complete<K: Keeper>(alloc: Global, world: &mut World<K>, event: Event) -> Reply
     ensures goes { Goes K.custody world.old world.new (λ w w'. Completes w event result w') }
     ensures cause { result ≡ Reply.Refused Fault.KeeperFailed

@@ -29,7 +29,6 @@ fn owns(owned: &CapSet, owner: Owner) -> bool
 impl Witness {
     /// Whether the capability is one of these, and who owns the others reaches it. A glance, and
     /// where it is one of what a group reaches, a binary search in what is owned.
-    #[inline]
     pub fn shows(&self, owned: &CapSet, cap: Cap) -> bool
         ensures { Tells result (Shows self.now (In owned.now) cap) }
     {

@@ -41,9 +41,7 @@ pub fn job_at(node: NodeNumber, job: Job) -> Event
     }
 }
 
-// The event happens, as `Cluster::ask` has it. Out of line, so that there is room for one event,
-// and not for one of each kind.
-#[inline(never)]
+// The event happens, as `Cluster::ask` has it.
 fn ask_seldom<M: MakesKeepers>(alloc: Global, cluster: &mut Cluster<M>, event: Event) -> Said
     requires { 0 < node_of event }
     ensures goes { GoesOn M.K.custody M.making cluster.old cluster.new

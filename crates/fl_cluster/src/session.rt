@@ -114,7 +114,6 @@ impl<M: MakesKeepers> Session<M> {
     }
 
     // Does the job at the only desk of the node, as `Cluster::job` has it.
-    #[inline(always)]
     fn work(&mut self, alloc: Global, node: NodeNumber, job: &mut Job) -> Reply
         requires { 0 < node }
         ensures names { let line = Line.Node node (Request.Job job.old) in
@@ -156,9 +155,7 @@ impl<M: MakesKeepers> Session<M> {
         Ok(response.status())
     }
 
-    // Answers that the line of this number is none of the script. Out of line, as all is that is
-    // seldom answered, so that the way of a job has no room for it.
-    #[inline(never)]
+    // Answers that the line of this number is none of the script.
     fn answer_bad<W: Writer>(
         &self,
         number: u64,
@@ -179,7 +176,6 @@ impl<M: MakesKeepers> Session<M> {
     }
 
     // Answers that there was not enough memory to read the line of this number.
-    #[inline(never)]
     fn answer_starved<W: Writer>(
         &self,
         number: u64,
@@ -200,7 +196,6 @@ impl<M: MakesKeepers> Session<M> {
     }
 
     // Answers the line of this number, and has its alias, if it has one, stand for what it made.
-    #[inline(never)]
     fn answer_meant<W: Writer>(
         &mut self,
         alloc: Global,
@@ -225,8 +220,7 @@ impl<M: MakesKeepers> Session<M> {
         self.say(number, response, sink, output)
     }
 
-    // Answers the line, which has no alias. A job is done here, and any other line out of line.
-    #[inline(always)]
+    // Answers the line, which has no alias. A job is lent to its node as it stands in the line.
     fn answer_plain<W: Writer>(
         &mut self,
         alloc: Global,
@@ -260,7 +254,6 @@ impl<M: MakesKeepers> Session<M> {
     }
 
     // What is answered to the line, whose alias, if it has one, stands for what it made then.
-    #[inline(always)]
     fn respond(&mut self, alloc: Global, line: Line, alias: Option<Boxed<Alias>>) -> Response
         requires { (bytes : List ℕ) × IsReading self.old.aliases bytes (reading.Means line alias) }
         ensures turns { (bytes : List ℕ)
@@ -278,7 +271,6 @@ impl<M: MakesKeepers> Session<M> {
     }
 
     // Answers the line, which has no alias.
-    #[inline(always)]
     fn answer(&mut self, alloc: Global, line: Line) -> Response
         requires nodes { All (λ node. 0 < node) (nodes_of line) }
         ensures names { Names M.K.custody M.making

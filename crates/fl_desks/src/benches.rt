@@ -69,7 +69,6 @@ impl Benches {
     }
 
     // The place of the bench of a process.
-    #[inline(always)]
     fn home(&self, pid: Pid) -> usize
         requires { 0 < length self.now.benches }
         ensures place { suc result ≡ bench_of (length self.now.benches) pid.serial }
@@ -83,7 +82,6 @@ impl Benches {
     }
 
     // The place of the bench that does a job.
-    #[inline(always)]
     fn place(&self, job: &Job) -> usize
         requires { 0 < length self.now.benches }
         ensures place { suc result ≡ bench_at self.now job.now }
@@ -167,7 +165,6 @@ impl Benches {
     }
 
     /// The process, or none where it does not stand here.
-    #[inline(always)]
     pub fn process(&self, pid: Pid) -> Option<&Process>
         ensures { let bench = bench_of (length self.now.benches) pid.serial in
             option_copied result ≡ process_at (item_at self.now.benches bench) pid }
@@ -179,7 +176,6 @@ impl Benches {
     }
 
     /// How the process stands, for whoever notes it, as [`Bench::share`] has it.
-    #[inline(always)]
     pub fn share(&mut self, alloc: Global, pid: Pid) -> Result<Option<Shared<Standing>>, AllocError>
         ensures ok { let bench = bench_of (length self.old.benches) pid.serial in
             IfOk result (λ made.

@@ -104,7 +104,6 @@ impl Listing {
     }
 
     /// Has the bench do a job under what the desk sees, as [`Bench::job`] has it.
-    #[inline(always)]
     pub fn work(
         &mut self,
         alloc: Global,

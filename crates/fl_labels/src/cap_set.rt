@@ -266,7 +266,8 @@ impl CapSet {
         requires { J.IsAlwaysCallable judge }
         ensures ok { OnOk result (self.new ≡ set.remove self.old cap) }
         ensures err { OnErr result (self.new ≡ self.old) }
-        ensures judged { Judges J.FnOnce judge asked.old (set.remove self.old cap) result asked.new }
+        ensures judged { Judges J.FnOnce judge asked.old
+            (set.remove self.old cap) result asked.new }
     {
         let Ok(place) = self.caps.as_slice().binary_search(&cap) else {
             return judge(asked, self);

@@ -98,7 +98,8 @@ impl CapDeque {
         requires { IsDeque self.old }
         ensures fits { IsDeque self.new }
         ensures items { items self.new ≡ items self.old }
-        ensures room { OnOk result (vec_len self.new.all + length more.now ≤ vec_capacity self.new.all) }
+        ensures room { OnOk result
+            (vec_len self.new.all + length more.now ≤ vec_capacity self.new.all) }
     {
         if let (Some(least), Some(first)) = (more.first(), self.as_slice().first()) {
             if least < first {

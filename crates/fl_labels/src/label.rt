@@ -226,7 +226,6 @@ impl Label {
     }
 
     /// The same label again. Fails only where there is not enough memory.
-    #[inline]
     pub fn copy(&self, alloc: Global) -> Result<Self, AllocError>
         ensures { IfOk result (λ made. made ≡ self.now) }
     {

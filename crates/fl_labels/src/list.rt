@@ -88,7 +88,8 @@ pub(crate) fn read_parts<T: Item>(alloc: Global, inner: &str) -> Result<Vec<T>, 
 /// spaces, `Memory`.
 pub fn read_items<T: Item>(alloc: Global, text: &str) -> Result<Vec<T>, SetError>
     ensures ok { IfOk result (λ items. text.now ≡ braces T.text items.items) }
-    ensures bad_text { IsErrOf result SetError.BadText → (items : List T) → text.now ≢ braces T.text items }
+    ensures bad_text { IsErrOf result SetError.BadText → (items : List T)
+        → text.now ≢ braces T.text items }
     ensures never_too_long { IsErrOf result SetError.TooLong → ⊥ }
 {
     let inner = inner_of(text).ok_or(SetError::BadText)?;

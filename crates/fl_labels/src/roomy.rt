@@ -48,7 +48,8 @@ pub(crate) fn put(caps: &mut CapDeque, cap: Cap)
     requires room { vec_len caps.old.all < vec_capacity caps.old.all }
     ensures fits { IsDeque caps.new }
     ensures rises { IsStrictlySortedBy cap_cmp (items caps.new) }
-    ensures members { set.of_list {R = cap_cmp} (items caps.new) ≡ set.insert (set.of_list (items caps.old)) cap }
+    ensures members { set.of_list {R = cap_cmp} (items caps.new)
+        ≡ set.insert (set.of_list (items caps.old)) cap }
     ensures len { vec_len caps.new.all ≤ vec_len caps.old.all + 1 }
     ensures capacity { vec_capacity caps.new.all ≡ vec_capacity caps.old.all }
 {
@@ -65,7 +66,8 @@ pub(crate) fn put_all(caps: &mut CapDeque, others: &[Cap])
     ensures fits { IsDeque caps.new }
     ensures rises { IsStrictlySortedBy cap_cmp (items caps.new) }
     ensures members { (cap : Cap) → set.contains (set.of_list {R = cap_cmp} (items caps.new)) cap
-        ≡ (set.contains (set.of_list {R = cap_cmp} (items caps.old)) cap || list_any (eq_by_cmp cap_cmp cap) others.now) }
+        ≡ (set.contains (set.of_list {R = cap_cmp} (items caps.old)) cap
+        || list_any (eq_by_cmp cap_cmp cap) others.now) }
 {
     for cap in others {
         put(caps, *cap);

@@ -30,7 +30,8 @@ pub fn arrange<T: Ord + Drop>(items: &mut Vec<T>)
 pub fn first_outside<T: Ord + Copy + Drop>(these: &[T], those: &[T]) -> Option<T>
     requires these { IsStrictlySortedBy T.cmp these.now }
     requires those { IsStrictlySortedBy T.cmp those.now }
-    ensures { Found T.cmp (In (of_list {R = T.cmp} these.now)) (In (of_list {R = T.cmp} those.now)) result }
+    ensures { Found T.cmp (In (of_list {R = T.cmp} these.now))
+        (In (of_list {R = T.cmp} those.now)) result }
 {
     let mut i = 0;
     let mut j = 0;

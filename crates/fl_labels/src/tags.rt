@@ -66,7 +66,6 @@ impl Tags {
     }
 
     /// The same tags again. Fails only where there is not enough memory.
-    #[inline]
     pub(crate) fn copy(&self, alloc: Global) -> Result<Self, AllocError>
         ensures { IfOk result (λ made. items made ≡ items self.now) }
     {
@@ -78,7 +77,6 @@ impl Tags {
     }
 
     // These tags, which rise.
-    #[inline(never)]
     fn of(alloc: Global, tags: &[Name]) -> Result<Self, AllocError>
         ensures { IfOk result (λ made. items made ≡ tags.now) }
     {

@@ -33,7 +33,6 @@ fn number_in(bytes: &[u8]) -> Option<(u32, &[u8])>
 }
 
 // The number from 1 to 4294967295 that the bytes are.
-#[inline(always)]
 fn number_of(bytes: &[u8]) -> Option<u32>
     ensures { Finds result (λ n. IsNumber n bytes.now) }
 {
@@ -45,7 +44,6 @@ fn number_of(bytes: &[u8]) -> Option<u32>
 }
 
 // What stands behind this byte, where it is the first.
-#[inline(always)]
 fn behind(first: u8, bytes: &[u8]) -> Option<&[u8]>
     ensures { MatchOption result ((rest : List ℕ) → bytes.now ≢ first ∷ rest)
         (λ rest. bytes.now ≡ first ∷ rest.now) }
@@ -57,7 +55,6 @@ fn behind(first: u8, bytes: &[u8]) -> Option<&[u8]>
 }
 
 // The number that the bytes begin with, and what stands behind the dot after it.
-#[inline(always)]
 fn dotted_in(bytes: &[u8]) -> Option<(u32, &[u8])>
     ensures { FindsDotted bytes.now result }
 {
@@ -67,7 +64,6 @@ fn dotted_in(bytes: &[u8]) -> Option<(u32, &[u8])>
 }
 
 // The name that the bytes are.
-#[inline(always)]
 fn name_of(bytes: &[u8]) -> Option<Name>
     ensures { Finds result (λ name. bytes.now ≡ name_text name) }
 {

@@ -28,7 +28,8 @@ pub(crate) fn make_room(uses: &mut CapDeque, cap: Cap) -> Result<(), AllocError>
     requires { IsDeque uses.old }
     ensures fits { IsDeque uses.new }
     ensures same { items uses.new ≡ items uses.old }
-    ensures room { OnOk result (is_use cap ≡ true → vec_len uses.new.all < vec_capacity uses.new.all) }
+    ensures room { OnOk result
+        (is_use cap ≡ true → vec_len uses.new.all < vec_capacity uses.new.all) }
 {
     if cap.is_use() {
         uses.make_room(&[cap])?;

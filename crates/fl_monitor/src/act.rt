@@ -27,9 +27,7 @@ pub(crate) fn reply_of(yes: bool) -> Reply
     if yes { Reply::Yes } else { Reply::NotYet }
 }
 
-// Takes the order of the process. In line, as `emit` is, so that there is room for what it makes
-// only where it is made.
-#[inline(always)]
+// Takes the order of the process.
 fn order<V: View>(
     process: &mut Process,
     alloc: Global,
@@ -55,7 +53,6 @@ fn order<V: View>(
 }
 
 // Lets the bytes of an emission out, where the process may emit.
-#[inline(always)]
 fn emit<V: View>(
     process: &Process,
     view: &mut V,

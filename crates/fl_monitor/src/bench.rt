@@ -110,9 +110,7 @@ impl Bench {
         self.processes.share(alloc, pid)
     }
 
-    // A new process, under the next serial, where there was memory for it. Out of line, as `proc`
-    // is, so that the way of most jobs has no room for a process.
-    #[inline(never)]
+    // A new process, under the next serial, where there was memory for it.
     fn bear(&mut self, process: Result<Boxed<Process>, AllocError>) -> Result<Outcome, Refusal>
         ensures { Births self.old process result self.new }
     {
@@ -135,16 +133,13 @@ impl Bench {
     }
 
     // A new process, with nothing.
-    #[inline(never)]
     fn proc(&mut self, alloc: Global) -> Result<Outcome, Refusal>
         ensures { Births self.old (Ok newborn) result self.new }
     {
         self.bear(Boxed::new(alloc, Process::new(alloc)))
     }
 
-    // Has the process bear one, or ends it. Out of line, so that the way of most jobs has no room
-    // for a child.
-    #[inline(never)]
+    // Has the process bear one, or ends it.
     fn live<V: View>(
         &mut self,
         alloc: Global,

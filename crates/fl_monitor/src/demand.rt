@@ -93,7 +93,6 @@ pub(crate) fn check<V: View>(
 
 /// The same of all of these endpoints, beside a process of these labels. Most processes have none,
 /// and nothing is looked at for them.
-#[inline(always)]
 pub(crate) fn check_endpoints<V: View>(
     view: &mut V,
     owned: &CapSet,

@@ -11,7 +11,6 @@ use fl_labels::name::Name;
 use fl_ops::view::View;
 
 /// Adds the capability of the login of this name, where the secret is that of the login.
-#[inline(never)]
 pub(crate) fn enter<V: View>(
     view: &mut V,
     owned: &mut Owned,

@@ -59,7 +59,8 @@ impl Runs {
         Runs {
             start: 0,
             next: 0,
-            other: 0,
+            // behind all that are owned, since no run came before
+            other: usize::MAX,
         }
     }
 

@@ -166,7 +166,6 @@ fn take(mailbox: &mut Mailbox) -> Outcome
 }
 
 /// Does what a process of these labels, the owner of these capabilities, asks for of its mailbox.
-#[inline(never)]
 pub(crate) fn do_mail<V: View>(
     alloc: Global,
     view: &mut V,

@@ -46,7 +46,6 @@ impl<T> Slot<T> {
 }
 
 // How many steps of that stride lead from one serial up to another.
-#[inline(always)]
 fn steps(from: u32, to: u32, stride: u32) -> usize {
     let distance = to.wrapping_sub(from);
     // A division costs as much as all else here.
@@ -59,7 +58,6 @@ fn steps(from: u32, to: u32, stride: u32) -> usize {
 }
 
 // Whether the slot at this place is that of the pid.
-#[inline(always)]
 fn stands_at<T>(slots: &[Slot<T>], place: usize, pid: Pid) -> bool
     ensures { IsTrue result → IsAt slots.now pid place }
 {
@@ -90,8 +88,7 @@ fn place_of<T>(slots: &[Slot<T>], stride: u32, pid: Pid) -> Result<usize, usize>
     search(slots, pid)
 }
 
-// The same, by a binary search. Out of line, since most guesses are right.
-#[inline(never)]
+// The same, by a binary search, which is seldom wanted, since most guesses are right.
 fn search<T>(slots: &[Slot<T>], pid: Pid) -> Result<usize, usize>
     requires { IsRising slots.now }
     ensures ok { IfOk result (IsAt slots.now pid) }
@@ -102,7 +99,6 @@ fn search<T>(slots: &[Slot<T>], pid: Pid) -> Result<usize, usize>
 
 // The same for a pid that is about to be put. Most are greater than all others, and are not
 // searched for.
-#[inline(always)]
 fn place_for<T>(slots: &[Slot<T>], stride: u32, pid: Pid) -> Result<usize, usize>
     requires { IsRising slots.now }
     ensures ok { IfOk result (IsAt slots.now pid) }

@@ -143,7 +143,6 @@ impl Processes {
     }
 
     /// Brings the message of an arrival to its receiver.
-    #[inline(never)]
     pub fn arrive(&mut self, arrival: Job) -> Result<Outcome, Refusal>
         requires { (d : Data) × (arrival ≡ Arrive d) }
         ensures { (d : Data) → arrival ≡ Arrive d → ArrivesAt self.old d result self.new }

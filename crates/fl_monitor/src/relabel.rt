@@ -53,7 +53,6 @@ fn set_label(labels: &mut Labels, side: Side, label: &mut Label)
 /// Sets the label of a side, where the owner of these capabilities may change it so, and each of
 /// its endpoints stays safe. A label of too many tags is refused before anything is asked. Takes no
 /// memory.
-#[inline(always)]
 pub(crate) fn relabel<V: View>(
     view: &mut V,
     owned: &CapSet,

@@ -29,7 +29,6 @@ fn child_with(alloc: Global, labels: &Labels, caps: CapSet) -> Result<Boxed<Proc
 
 /// A process with these labels that owns the second capabilities is to be born, where the owner of
 /// the first ones has them in effect.
-#[inline(never)]
 pub(crate) fn spawn<V: View>(
     alloc: Global,
     view: &mut V,

@@ -79,7 +79,8 @@ pub fn recover<K: Keeper>(
     doubt: Option<&Batch>,
 ) -> Result<Recovered, Fault>
     requires { 0 < had.number }
-    ensures ok { let was : Kept = record { number = had.number; boot = had.boot; saved = saved.now } in
+    ensures ok { let was : Kept =
+        record { number = had.number; boot = had.boot; saved = saved.now } in
         let own = IsOwn was (option_copied doubt.entry) in
         IfOk result (λ r. K.custody.is_honest keeper.new → K.custody.is_honest keeper.old
         × Follows (λ k k'. Opens had.desks own k
@@ -94,7 +95,8 @@ pub fn recover<K: Keeper>(
     ensures count { IfOk result (λ r. length r.benches.benches ≡ had.desks) }
     ensures names { IfOk result (λ r. HasNamesOnce r.saved) }
     ensures positive { IfOk result (λ r. 0 < r.boot) }
-    ensures err { let was : Kept = record { number = had.number; boot = had.boot; saved = saved.now } in
+    ensures err { let was : Kept =
+        record { number = had.number; boot = had.boot; saved = saved.now } in
         let own = IsOwn was (option_copied doubt.entry) in
         IfErr result (λ fault. K.custody.is_honest keeper.new → K.custody.is_honest keeper.old
         × Follows (λ k k'. Opens had.desks own k (Err fault) k')

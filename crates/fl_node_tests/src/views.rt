@@ -21,8 +21,8 @@ const OPENED: Name = Name { node: 1, seq: 5 };
 
 const DIGEST: Digest = Digest { bytes: [7; 32] };
 
-/// A tag that everybody may remove, a group that holds the use of the tag, a login, and an operation
-/// that opens the group.
+/// A tag that everybody may remove, a group that holds the use of the tag, a login, and an
+/// operation that opens the group.
 const LIST: [Op; 4] = [
     Op {
         name: TAG,

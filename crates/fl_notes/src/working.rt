@@ -77,9 +77,8 @@ fn tunes(job: &Job) -> bool
     matches!(job, Job::By(_, Act::Mail(Mail::Tune(_, _))))
 }
 
-// Whether the job, which is not noted of whoever asks, may be noted of who does: where that tunes an
-// endpoint of its own. The process is looked for then alone.
-#[inline(always)]
+// Whether the job, which is not noted of whoever asks, may be noted of who does: where that tunes
+// an endpoint of its own. The process is looked for then alone.
 fn names_tuner<K: Keeper>(node: &Node<K>, job: &Job) -> bool
     ensures noted { asker_noted (Some newborn) job.now ≡ false
         → result ≡ asker_noted (asker_of node.now.node job.now) job.now }
@@ -296,7 +295,6 @@ pub struct Look {
 }
 
 // Has the node of this number do a job that sends a message, as `work` has it.
-#[inline(never)]
 fn send<K: Keeper>(
     alloc: Global,
     number: NodeNumber,

@@ -18,7 +18,8 @@ use std::alloc::AllocError;
 pub fn byte_at(bytes: &[u8], at: usize, low: u8, high: u8) -> Result<u8, BadField>
     requires { at < 2 ^ 32 }
     ensures { MatchResult result
-        (λ b. (has_byte bytes.now at low high ≡ true) × (b ≡ slice_index bytes.now at) × (low ≤ b) × (b ≤ high)
+        (λ b. (has_byte bytes.now at low high ≡ true) × (b ≡ slice_index bytes.now at) × (low ≤ b)
+        × (b ≤ high)
         × (drop at bytes.now ≡ b ∷ drop (at + 1) bytes.now))
         (λ f. (has_byte bytes.now at low high ≡ false) × (f.place ≡ at)) }
 {

@@ -25,7 +25,8 @@ use crate::op::Op;
 /// those alone.
 pub fn law_order()
     ensures bytes { (a b : Op)
-        → op_cmp a b ≡ ordering_then (name_cmp a.name b.name) (slice_cmp nat_cmp (op_bytes Two a) (op_bytes Two b)) }
+        → op_cmp a b ≡ ordering_then (name_cmp a.name b.name)
+        (slice_cmp nat_cmp (op_bytes Two a) (op_bytes Two b)) }
     ensures ties { (a b : Op) → (⟦<Op as Ord>⟧.cmp a b ≡ Equal) ↔ (a ≡ b) }
     ensures equality { (a b : Op) → IsTrue (⟦<Op as PartialEq>⟧.eq a b) ↔ (a ≡ b) }
 {}
@@ -33,7 +34,8 @@ pub fn law_order()
 /// What an operation spells is read, in each format that has it, whatever follows it; and no
 /// spelling begins another.
 pub fn law_one_spelling()
-    ensures read { (f : Format) (op : Op) (rest : List ℕ) → HasOp f op → op_fault (op_bytes f op ++ rest) ≡ None }
+    ensures read { (f : Format) (op : Op) (rest : List ℕ) → HasOp f op
+        → op_fault (op_bytes f op ++ rest) ≡ None }
     ensures one { (f g : Format) (a b : Op) (x y : List ℕ) → HasOp f a → HasOp g b
         → op_bytes f a ++ x ≡ op_bytes g b ++ y → (f ≡ g) × (a ≡ b) × (x ≡ y) }
     ensures written { (op : Op) → HasOp Two op }

@@ -107,7 +107,8 @@ impl Op {
 
 // As the bytes of the capabilities: by kind, and then by name.
 fn cmp_caps(a: Cap, b: Cap) -> Ordering
-    ensures { result ≡ ordering_then (nat_cmp (cap_rank a) (cap_rank b)) (name_cmp (cap_name a) (cap_name b)) }
+    ensures { result ≡ ordering_then (nat_cmp (cap_rank a) (cap_rank b))
+        (name_cmp (cap_name a) (cap_name b)) }
 {
     a.rank().cmp(&b.rank()).then(a.name().cmp(&b.name()))
 }

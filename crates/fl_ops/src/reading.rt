@@ -15,7 +15,8 @@ use crate::op::{Body, Op, Policy};
 fn policy_at(bytes: &[u8], at: usize) -> Result<Policy, BadField>
     requires { at < 2 ^ 32 }
     ensures { MatchResult result
-        (λ p. (has_byte bytes.now at 1 3 ≡ true) × (take 1 (drop at bytes.now) ≡ policy_byte p ∷ []))
+        (λ p. (has_byte bytes.now at 1 3 ≡ true)
+        × (take 1 (drop at bytes.now) ≡ policy_byte p ∷ []))
         (λ f. (has_byte bytes.now at 1 3 ≡ false) × (f.place ≡ at)) }
 {
     Ok(match byte_at(bytes, at, 1, 3)? {
@@ -45,9 +46,11 @@ fn body_at(format: Format, bytes: &[u8], kind: u8) -> Result<Body, BadField>
     requires low { 1 ≤ kind }
     requires high { kind ≤ last_kind format }
     ensures { MatchResult result
-        (λ b. (first_fault (body_fields format bytes.now kind (body_place format)) ≡ None) × (kind_byte b ≡ kind)
+        (λ b. (first_fault (body_fields format bytes.now kind (body_place format)) ≡ None)
+        × (kind_byte b ≡ kind)
         × HasBody format b
-        × (take (length (body_bytes format b)) (drop (body_place format) bytes.now) ≡ body_bytes format b))
+        × (take (length (body_bytes format b)) (drop (body_place format) bytes.now)
+        ≡ body_bytes format b))
         (λ f. first_fault (body_fields format bytes.now kind (body_place format)) ≡ Some f.place) }
 {
     let at = format.body_place();

@@ -17,7 +17,8 @@ fn all_below(left: &[Op], right: &[Op]) -> bool
     requires first { IsStrictlySortedBy op_cmp left.now }
     requires second { IsStrictlySortedBy op_cmp right.now }
     ensures below { result ≡ true → All (λ x. All (λ y. op_cmp x y ≡ Less) right.now) left.now }
-    ensures not_below { result ≡ false → ¬ All (λ x. All (λ y. op_cmp x y ≡ Less) right.now) left.now }
+    ensures not_below { result ≡ false
+        → ¬ All (λ x. All (λ y. op_cmp x y ≡ Less) right.now) left.now }
 {
     match (left.last(), right.first()) {
         (Some(last), Some(first)) => last < first,

@@ -409,7 +409,8 @@ impl OpSet {
     /// Writes the text of the members, as [`OpSet::write_text`] has it. At a fault a front of it
     /// was written.
     pub fn text<W: Writer>(&self, output: &mut W) -> Result<(), WriteFault>
-        ensures writes { Writes (W.contents output.old) (W.contents output.new) (registry_text self.now) result }
+        ensures writes { Writes (W.contents output.old) (W.contents output.new)
+            (registry_text self.now) result }
         ensures cause { OnErr result (W.has_failed output.new) }
     {
         let mut sink = Sink::new(*self.nodes.allocator());

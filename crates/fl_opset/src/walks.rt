@@ -104,7 +104,8 @@ pub fn write_lines_but<W: Writer>(
     sink: &mut Sink,
     output: &mut W,
 ) -> Result<(), WriteFault>
-    ensures puts { let text = flat_map op_line (filter (is_outside those.now) (all_ops nodes.now)) in
+    ensures puts { let text = flat_map op_line
+        (filter (is_outside those.now) (all_ops nodes.now)) in
         Puts (W.contents output.old) (W.contents output.new) sink.old text sink.new result }
     ensures cause { OnErr result (W.has_failed output.new) }
 {

@@ -30,7 +30,8 @@ pub trait Has {
     ghost keeps_on: { (a b c : Self) → keeps a b → keeps b c → keeps a c };
 
     // no question changes what is in effect
-    ghost keeps_effective: { (a b : Self) → keeps a b → (cap : Cap) → effective b cap ↔ effective a cap };
+    ghost keeps_effective: { (a b : Self) → keeps a b → (cap : Cap)
+        → effective b cap ↔ effective a cap };
 }
 
 /// Whether the tag may be both added and removed. At most two questions.
@@ -64,5 +65,6 @@ impl<'a> Has for Owner<'a> {
 
     ghost keeps_on = { λ a b c p q. q ∙ p };
 
-    ghost keeps_effective = { λ a b e cap. (subst (λ s. In s cap) e, subst (λ s. In s cap) (sym e)) };
+    ghost keeps_effective = { λ a b e cap.
+        (subst (λ s. In s cap) e, subst (λ s. In s cap) (sym e)) };
 }

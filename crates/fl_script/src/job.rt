@@ -81,7 +81,6 @@ pub fn order_from_words(verb: &str, rest: &[&str]) -> Option<Order>
     }
 }
 
-#[inline(never)]
 fn label_act(alloc: Global, rest: &[&str]) -> Result<Act, Unread>
     ensures { (p : Pid) → Reads result (λ a.
         SpellsAct p a (codes "label") (map (λ w. w.now) rest.now)) }
@@ -94,7 +93,6 @@ fn label_act(alloc: Global, rest: &[&str]) -> Result<Act, Unread>
     Ok(Act::Relabel(side, label))
 }
 
-#[inline(never)]
 fn ask_act(rest: &[&str]) -> Result<Act, Unread>
     ensures ok { (p : Pid) → Reads result (λ a.
         SpellsAct p a (codes "ask") (map (λ w. w.now) rest.now)) }
@@ -105,7 +103,6 @@ fn ask_act(rest: &[&str]) -> Result<Act, Unread>
     Ok(Act::Ask(cap))
 }
 
-#[inline(never)]
 fn spawn_act(alloc: Global, rest: &[&str]) -> Result<Act, Unread>
     ensures { (p : Pid) → Reads result (λ a.
         SpellsAct p a (codes "spawn") (map (λ w. w.now) rest.now)) }
@@ -117,7 +114,6 @@ fn spawn_act(alloc: Global, rest: &[&str]) -> Result<Act, Unread>
     Ok(Act::Spawn(Boxed::new(alloc, caps)?))
 }
 
-#[inline(never)]
 fn exit_act(rest: &[&str]) -> Result<Act, Unread>
     ensures ok { (p : Pid) → Reads result (λ a.
         SpellsAct p a (codes "exit") (map (λ w. w.now) rest.now)) }
@@ -127,7 +123,6 @@ fn exit_act(rest: &[&str]) -> Result<Act, Unread>
     Ok(Act::Exit)
 }
 
-#[inline(never)]
 fn drop_act(rest: &[&str]) -> Result<Act, Unread>
     ensures ok { (p : Pid) → Reads result (λ a.
         SpellsAct p a (codes "drop") (map (λ w. w.now) rest.now)) }
@@ -138,7 +133,6 @@ fn drop_act(rest: &[&str]) -> Result<Act, Unread>
     Ok(Act::Drop(cap))
 }
 
-#[inline(never)]
 fn enter_act(rest: &[&str]) -> Result<Act, Unread>
     ensures ok { (p : Pid) → Reads result (λ a.
         SpellsAct p a (codes "enter") (map (λ w. w.now) rest.now)) }
@@ -152,7 +146,6 @@ fn enter_act(rest: &[&str]) -> Result<Act, Unread>
     Ok(Act::Enter(login, secret))
 }
 
-#[inline(never)]
 fn emit_act(alloc: Global, rest: &[&str]) -> Result<Act, Unread>
     ensures { (p : Pid) → Reads result (λ a.
         SpellsAct p a (codes "emit") (map (λ w. w.now) rest.now)) }
@@ -164,7 +157,6 @@ fn emit_act(alloc: Global, rest: &[&str]) -> Result<Act, Unread>
     Ok(Act::Emit(Boxed::new(alloc, bytes)?))
 }
 
-#[inline(never)]
 fn open_act(alloc: Global, rest: &[&str]) -> Result<Act, Unread>
     ensures { (p : Pid) → Reads result (λ a.
         SpellsAct p a (codes "open") (map (λ w. w.now) rest.now)) }
@@ -177,7 +169,6 @@ fn open_act(alloc: Global, rest: &[&str]) -> Result<Act, Unread>
     Ok(Act::Mail(Mail::Open(mode, Boxed::new(alloc, given)?)))
 }
 
-#[inline(never)]
 fn tune_act(alloc: Global, rest: &[&str]) -> Result<Act, Unread>
     ensures { (p : Pid) → Reads result (λ a.
         SpellsAct p a (codes "tune") (map (λ w. w.now) rest.now)) }
@@ -190,7 +181,6 @@ fn tune_act(alloc: Global, rest: &[&str]) -> Result<Act, Unread>
     Ok(Act::Mail(Mail::Tune(endpoint, Boxed::new(alloc, given)?)))
 }
 
-#[inline(never)]
 fn close_act(rest: &[&str]) -> Result<Act, Unread>
     ensures ok { (p : Pid) → Reads result (λ a.
         SpellsAct p a (codes "close") (map (λ w. w.now) rest.now)) }
@@ -223,7 +213,6 @@ fn ends_from_words(from: &str, receiver: &str, to: &str) -> Option<Ends>
     Some(Ends { from, receiver, to })
 }
 
-#[inline(never)]
 fn send_act(alloc: Global, rest: &[&str]) -> Result<Act, Unread>
     ensures { (p : Pid) → Reads result (λ a.
         SpellsAct p a (codes "send") (map (λ w. w.now) rest.now)) }
@@ -243,7 +232,6 @@ fn send_act(alloc: Global, rest: &[&str]) -> Result<Act, Unread>
     }))
 }
 
-#[inline(never)]
 fn take_act(rest: &[&str]) -> Result<Act, Unread>
     ensures ok { (p : Pid) → Reads result (λ a.
         SpellsAct p a (codes "take") (map (λ w. w.now) rest.now)) }
@@ -267,9 +255,8 @@ fn order_act(verb: &str, rest: &[&str]) -> Result<Act, Unread>
 }
 
 /// What a verb and the words after the process say that it does. `Bad` where they say nothing that
-/// a process does. Each act is read out of line, so that there is room for one of them alone. Takes
-/// memory for a list alone: for its tags, capabilities or bytes, and for the box that the labels of
-/// an endpoint and a message stand in.
+/// a process does. Takes memory for a list alone: for its tags, capabilities or bytes, and for the
+/// box that the labels of an endpoint and a message stand in.
 #[inline(always)]
 pub fn act_from_words(alloc: Global, verb: &str, rest: &[&str]) -> Result<Act, Unread>
     ensures ok { (p : Pid) → Reads result (λ a.

@@ -101,8 +101,7 @@ impl Sink {
         Ok(())
     }
 
-    // Writes what waits, and takes the bytes then. Out of line, as it is seldom done.
-    #[inline(never)]
+    // Writes what waits, and takes the bytes then.
     #[tactic(auto, using(crate::proofs::SinkLemmas::passes))]
     fn put_past<W: Writer>(&mut self, output: &mut W, bytes: &[u8]) -> Result<(), WriteFault>
         ensures puts { let text = bytes.now in

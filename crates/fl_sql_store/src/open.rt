@@ -53,7 +53,8 @@ fn found_on<S: Alter>(conn: &mut Connection<S>, number: NodeNumber) -> Result<()
     ensures ready { HasCleanDisk (state S.Store conn.new)
         → OnOk result (IsReady number (state S.Store conn.new)) }
     ensures held { HasCleanDisk (state S.Store conn.new)
-        → Stays (held_in number (state S.Store conn.old)) (held_in number (state S.Store conn.new)) }
+        → Stays (held_in number (state S.Store conn.old))
+        (held_in number (state S.Store conn.new)) }
 {
     match found(conn, number) {
         Ok(()) => Ok(()),
@@ -155,7 +156,8 @@ fn migrate_on<S: Alter>(
     ensures refuses { HasCleanDisk (state S.Store conn.new) → IfErr result
         (RefusesToRewrite (state S.Store conn.old) (state S.Store conn.new)) }
     ensures held { HasCleanDisk (state S.Store conn.new)
-        → Stays (held_in number (state S.Store conn.old)) (held_in number (state S.Store conn.new)) }
+        → Stays (held_in number (state S.Store conn.old))
+        (held_in number (state S.Store conn.new)) }
 {
     match former_ops(alloc, conn, number) {
         Ok(former) => {
@@ -186,7 +188,8 @@ fn own_on<S: Alter>(
     ensures refuses { HasCleanDisk (state S.Store conn.new) → IfErr result
         (RefusesToOpen number (state S.Store conn.old) (state S.Store conn.new)) }
     ensures held { HasCleanDisk (state S.Store conn.new)
-        → Stays (held_in number (state S.Store conn.old)) (held_in number (state S.Store conn.new)) }
+        → Stays (held_in number (state S.Store conn.old))
+        (held_in number (state S.Store conn.new)) }
 {
     match itself_on(conn, number) {
         Ok(Format::Two) => Ok(()),
@@ -211,7 +214,8 @@ pub fn check<S: Alter>(
     ensures refuses { HasCleanDisk (state S.Store conn.new) → IfErr result
         (RefusesToOpen number (state S.Store conn.old) (state S.Store conn.new)) }
     ensures held { HasCleanDisk (state S.Store conn.new)
-        → Stays (held_in number (state S.Store conn.old)) (held_in number (state S.Store conn.new)) }
+        → Stays (held_in number (state S.Store conn.old))
+        (held_in number (state S.Store conn.new)) }
 {
     if !conn.is_autocommit() {
         return Err(KeeperFault::Broken);

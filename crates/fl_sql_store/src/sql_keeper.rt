@@ -39,7 +39,12 @@ impl<S: Alter> Model for SqlKeeper<S> {
 
     ghost coded = { sql_code S.code };
 
-    ghost view = { λ k. record { conn = k.conn; number = k.number; failures = k.failures; is_broken = k.is_broken } };
+    ghost view = { λ k. record {
+      conn = k.conn;
+      number = k.number;
+      failures = k.failures;
+      is_broken = k.is_broken;
+    } };
 
     ghost invariant = { λ k. (k.conn.in_transaction ≡ false)
         × (k.is_broken ≡ false → IsServing k.number (state S.Store k.conn))
@@ -68,7 +73,8 @@ impl<S: Alter> SqlKeeper<S> {
     fn over(alloc: Global, conn: Connection<S>, number: NodeNumber) -> SqlKeeper<S>
         requires idle { conn.in_transaction ≡ false }
         requires serving { IsServing number (state S.Store conn) }
-        ensures { result ≡ record { conn = conn; number = number; failures = 0; is_broken = false } }
+        ensures { result
+            ≡ record { conn = conn; number = number; failures = 0; is_broken = false } }
     {
         SqlKeeper {
             alloc,
@@ -134,9 +140,11 @@ impl<S: Alter> SqlKeeper<S> {
         ensures opens { HasCleanDisk (state S.Store result.0.conn)
             → OnOk result.1 (OpensAs number (state S.Store conn) (state S.Store result.0.conn)) }
         ensures refuses { HasCleanDisk (state S.Store result.0.conn)
-            → IfErr result.1 (RefusesToOpen number (state S.Store conn) (state S.Store result.0.conn)) }
+            → IfErr result.1 (RefusesToOpen number (state S.Store conn)
+            (state S.Store result.0.conn)) }
         ensures held { HasCleanDisk (state S.Store result.0.conn)
-            → Stays (held_in number (state S.Store conn)) (held_in number (state S.Store result.0.conn)) }
+            → Stays (held_in number (state S.Store conn))
+            (held_in number (state S.Store result.0.conn)) }
     {
         let mut conn = conn;
         match check(alloc, &mut conn, number) {
@@ -206,7 +214,8 @@ impl<S: Alter> Keeper for SqlKeeper<S> {
     ghost holds = { λ k clean. something_held k.number
         (S.Store.recovers k.conn.store) (S.Store.survives k.conn.store clean) };
 
-    ghost numbered = { λ keeper k h. ap (λ (k : Kept). k.number) h.2 ∙ kept_number keeper.number h.0 };
+    ghost numbered = { λ keeper k h. ap (λ (k : Kept). k.number) h.2
+        ∙ kept_number keeper.number h.0 };
 
     fn number(&self) -> NodeNumber {
         self.number

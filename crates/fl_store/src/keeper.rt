@@ -118,7 +118,8 @@ pub trait Keeper {
         ensures cause { let failed = custody.failed self.new in
             IfErr result (SaveFails (custody.is_broken self.new) failed) }
         ensures broke { custody.is_honest self.new → result ≡ Err KeeperFault.Broken
-            → IsTrue (custody.is_broken self.old) ⊎ custody.breaks (Save ops.now) self.old self.new }
+            → IsTrue (custody.is_broken self.old)
+            ⊎ custody.breaks (Save ops.now) self.old self.new }
         ensures counted { custody.is_honest self.new
             → (custody.failed self.new ≡ custody.failed self.old)
             ⊎ ((custody.failed self.new ≡ custody.failed self.old + 1)

@@ -146,7 +146,8 @@ impl MemKeeper {
     /// it breaks (`MemBecomes`). A broken keeper stays as it is.
     pub fn break_at(&mut self, save: u64, keeps: bool)
         requires { 0 < save }
-        ensures { self.new ≡ record self.old { health = breaking self.old.health (save - 1) keeps } }
+        ensures { self.new
+            ≡ record self.old { health = breaking self.old.health (save - 1) keeps } }
     {
         if !self.health.is_broken() {
             self.health = Health::BreaksAfter {

@@ -45,7 +45,8 @@ pub trait Conversation<W: Writer> {
         ensures bytes { ReadConsumes (remaining self.old) (remaining self.new) result chunk.new }
         ensures grows { IfOk result (λ count.
             heard self.new ≡ append_known (heard self.old) (take count chunk.new)) }
-        ensures counts { IfOk result (λ count. counted self.new ≡ plus_known (counted self.old) count) }
+        ensures counts { IfOk result
+            (λ count. counted self.new ≡ plus_known (counted self.old) count) }
         ensures count { hearings self.new ≤ hearings self.old + 1 }
         ensures deaf { OnErr result (is_deaf self.new) };
 

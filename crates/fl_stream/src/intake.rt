@@ -37,15 +37,18 @@ impl<M: Machine> Intake<M> {
     ) -> Result<bool, RunFault>
         requires ready { IsReady self.old.stream self.old.room }
         requires chunk { vec_len self.old.chunk ≡ 65536 }
-        requires answered { IfSome (C.heard input.old) (λ bytes. C.may_hear bytes (C.said output.old)) }
+        requires answered { IfSome (C.heard input.old)
+            (λ bytes. C.may_hear bytes (C.said output.old)) }
         requires patient { C.hearings input.old < 16777217 }
-        ensures reads { OnOk result (ReadingPasses M.turns (C.remaining input.old) (C.remaining input.new)
+        ensures reads { OnOk result
+            (ReadingPasses M.turns (C.remaining input.old) (C.remaining input.new)
             (C.heard input.old) (C.heard input.new) (W.contents output.old) (W.contents output.new)
             self.old.stream self.new.stream self.old.room self.new.room) }
         ensures end { IfOk result (λ more. more ≡ false → IsAtEnd (C.remaining input.new)) }
         ensures ready { OnOk result (IsReady self.new.stream self.new.room) }
         ensures chunk { OnOk result (vec_len self.new.chunk ≡ 65536) }
-        ensures said { IfOk result (λ more. more ≡ true → C.said output.new ≡ W.contents output.new) }
+        ensures said { IfOk result
+            (λ more. more ≡ true → C.said output.new ≡ W.contents output.new) }
         ensures less { IfOk result (λ more. more ≡ true → self.new.room < self.old.room) }
         ensures count { IfOk result (λ more. more ≡ true →
             C.hearings input.new + self.new.room ≤ C.hearings input.old + self.old.room) }
@@ -63,7 +66,8 @@ impl<M: Machine> Intake<M> {
             (C.heard input.old) (C.heard input.new)) }
         ensures same { IfErr result (λ e. e ≡ RunFault.Read →
             self.new.stream.interpreter.machine ≡ self.old.stream.interpreter.machine) }
-        ensures err { OnErr result (ReadingCuts M.turns (C.remaining input.old) (C.remaining input.new)
+        ensures err { OnErr result
+            (ReadingCuts M.turns (C.remaining input.old) (C.remaining input.new)
             (W.contents output.old) (W.contents output.new)
             self.old.stream self.new.stream.interpreter.machine) }
     {
@@ -138,7 +142,8 @@ impl<M: Machine> Intake<M> {
             (W.contents output.old) (W.contents output.new) script status
             self.new.stream.interpreter.machine)) }
         ensures whole { OnOk result (IsAtEnd (C.remaining input.new)) }
-        ensures short { OnOk result (IfSome (C.remaining input.old) (λ script. length script ≤ 16777216)) }
+        ensures short { OnOk result
+            (IfSome (C.remaining input.old) (λ script. length script ≤ 16777216)) }
         ensures said { OnOk result (C.said output.new ≡ W.contents output.new) }
         ensures served { IfErr result (λ e. e ≡ RunFault.Read →
             Served M.turns self.old.stream.interpreter.machine

@@ -52,7 +52,8 @@ pub fn converse<M: Machine + Drop, C: Conversation<W>, W: Writer>(
         WritesOutput M.turns machine
         (W.contents output.old) (W.contents output.new) script status result.0)) }
     ensures whole { OnOk result.1 (IsAtEnd (C.remaining input.new)) }
-    ensures short { OnOk result.1 (IfSome (C.remaining input.old) (λ script. length script ≤ 16777216)) }
+    ensures short { OnOk result.1
+        (IfSome (C.remaining input.old) (λ script. length script ≤ 16777216)) }
     ensures said { OnOk result.1 (C.said output.new ≡ W.contents output.new) }
     ensures served { IfErr result.1 (λ e. e ≡ RunFault.Read → Served M.turns machine
         (C.remaining input.old) (C.remaining input.new)
@@ -101,7 +102,8 @@ pub fn run<RT: AllocGlobal, M: Machine + Drop, R: Read, W: Write>(
         WritesOutput M.turns machine
         (W.contents output.old) (W.contents output.new) script status result.0)) }
     ensures whole { OnOk result.1 (IsAtEnd (R.remaining input.new)) }
-    ensures short { OnOk result.1 (IfSome (R.remaining input.old) (λ script. length script ≤ 16777216)) }
+    ensures short { OnOk result.1
+        (IfSome (R.remaining input.old) (λ script. length script ≤ 16777216)) }
 
     // Any read may fail, so that all lines that have ended are answered before each.
     ensures served { IfErr result.1 (λ e. e ≡ RunFault.Read → Served M.turns machine

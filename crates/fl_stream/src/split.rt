@@ -17,7 +17,8 @@ pub fn without_return(line: &[u8]) -> &[u8]
 
 /// What stands before the first line feed, and what follows it.
 pub fn cut_line(text: &[u8]) -> Option<(&[u8], &[u8])>
-    ensures cut { MatchOption result (HasNoFeed text.now) (λ r. text.now ≡ r.0.now ++ 10 ∷ r.1.now) }
+    ensures cut { MatchOption result (HasNoFeed text.now)
+        (λ r. text.now ≡ r.0.now ++ 10 ∷ r.1.now) }
     ensures first { IfSome result (λ r. HasNoFeed r.0.now) }
     ensures shorter { IfSome result (λ r. length r.1.now < length text.now) }
     ensures within { IfSome result (λ r. length r.0.now ≤ length text.now) }

@@ -65,7 +65,8 @@ impl<M: Machine> Stream<M> {
         ensures ok { OnOk result (
             BytesPass M.turns self.old self.new
             (W.contents output.old) (W.contents output.new) (line.now ++ 10 ∷ [])) }
-        ensures number { OnOk result (self.new.interpreter.number ≡ self.old.interpreter.number + 1) }
+        ensures number { OnOk result
+            (self.new.interpreter.number ≡ self.old.interpreter.number + 1) }
         ensures part { OnOk result (self.new.held ≡ []) }
         ensures cause { OnErr result (W.has_failed output.new) }
         ensures err { OnErr result (

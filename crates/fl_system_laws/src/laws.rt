@@ -95,7 +95,8 @@ pub fn law_sound()
 /// this, and an opening makes it so.
 pub fn law_kept_own()
     ensures begins { (n n' : NodeState) (k : Kept) (body : Body) (maker : Option Pid)
-        (desk : Option ℕ) (result : Result Name Fault) → IsKeptOwn n k → Begins n body maker desk result n' →
+        (desk : Option ℕ) (result : Result Name Fault) → IsKeptOwn n k
+        → Begins n body maker desk result n' →
         IsKeptOwn n' k }
     ensures jobs { (n n' : NodeState) (k : Kept) (desk upto : ℕ) (job : Job)
         (result : Result Answer Fault) → IsKeptOwn n k → Jobs n desk upto job result n' →

@@ -131,7 +131,8 @@ pub fn law_output<M: MakesKeepers>()
 /// So it is over keepers in memory, which open one way.
 pub fn law_in_memory()
     ensures { (lines : List (List ℕ)) (a b : List Answer) (m n : Session) →
-        Run in_memory begun lines a m → Run in_memory begun lines b n → All IsSure a → All IsSure b →
+        Run in_memory begun lines a m → Run in_memory begun lines b n → All IsSure a
+        → All IsSure b →
         (a ≡ b) × (m ≡ n) }
 {
     law_output::<MemMaker>();

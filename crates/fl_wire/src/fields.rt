@@ -62,7 +62,8 @@ fn node_at(format: Format, bytes: &[u8], at: usize) -> Result<u32, ReadFault>
     requires { at < 2 ^ 32 }
     ensures { MatchResult result
         (λ n. (has_node format bytes.now at ≡ true) × (0 < n) × (n < node_limit format)
-        × (drop at bytes.now ≡ to_be_bytes (node_width format) n ++ drop (at + node_size format) bytes.now))
+        × (drop at bytes.now ≡ to_be_bytes (node_width format) n
+        ++ drop (at + node_size format) bytes.now))
         (λ f. (has_node format bytes.now at ≡ false) × (f ≡ ReadFault.BadPacket at)) }
 {
     if bytes.len() < at + format.node_size() {
@@ -79,7 +80,8 @@ fn node_at(format: Format, bytes: &[u8], at: usize) -> Result<u32, ReadFault>
 pub(crate) fn tag_at(format: Format, bytes: &[u8], at: usize) -> Result<Name, ReadFault>
     requires { at < 2 ^ 32 }
     ensures { MatchResult result
-        (λ n. (has_name format bytes.now at ≡ true) × HasName format n × (tag_key format bytes.now at ≡ name_key n)
+        (λ n. (has_name format bytes.now at ≡ true) × HasName format n
+        × (tag_key format bytes.now at ≡ name_key n)
         × (drop at bytes.now ≡ name_bytes format n ++ drop (at + name_size format) bytes.now))
         (λ f. (has_name format bytes.now at ≡ false) × (f ≡ ReadFault.BadPacket at)) }
 {
@@ -90,7 +92,8 @@ pub(crate) fn tag_at(format: Format, bytes: &[u8], at: usize) -> Result<Name, Re
 pub(crate) fn whole_cap_at(format: Format, bytes: &[u8], at: usize) -> Result<Cap, ReadFault>
     requires { at < 2 ^ 31 }
     ensures { MatchResult result
-        (λ c. (has_cap format bytes.now at ≡ true) × HasCap format c × (cap_key format bytes.now at ≡ key_of_cap c)
+        (λ c. (has_cap format bytes.now at ≡ true) × HasCap format c
+        × (cap_key format bytes.now at ≡ key_of_cap c)
         × (drop at bytes.now ≡ cap_bytes format c ++ drop (at + cap_size format) bytes.now))
         (λ f. (has_cap format bytes.now at ≡ false) × (f ≡ ReadFault.BadPacket at)) }
 {
@@ -120,7 +123,8 @@ pub(crate) fn end_at(format: Format, bytes: &[u8], at: usize) -> Result<(Pid, En
     requires { at < 2 ^ 31 }
     ensures { MatchResult result
         (λ x. (first_fault (end_fields format bytes.now at) ≡ None) × HasPid format x.0
-        × (drop at bytes.now ≡ pid_bytes format x.0 ++ x.1.number ∷ drop (at + end_size format) bytes.now))
+        × (drop at bytes.now ≡ pid_bytes format x.0
+        ++ x.1.number ∷ drop (at + end_size format) bytes.now))
         (IsBad (end_fields format bytes.now at)) }
 {
     let pid = pid_at(format, bytes, at)?;

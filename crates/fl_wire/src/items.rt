@@ -43,8 +43,10 @@ fn tag_above(
     requires { at < 2 ^ 32 }
     ensures { MatchResult result
         (IsNext name_cmp (HasName format) (name_bytes format) name_key
-        (has_name format bytes.now) (tag_key format bytes.now) (name_size format) bytes.now at before)
-        (λ f. (is_next (has_name format bytes.now) (tag_key format bytes.now) at (key_before name_key before) ≡ false)
+        (has_name format bytes.now) (tag_key format bytes.now)
+        (name_size format) bytes.now at before)
+        (λ f. (is_next (has_name format bytes.now) (tag_key format bytes.now) at
+        (key_before name_key before) ≡ false)
         × (f ≡ ReadFault.BadPacket at)) }
 {
     let tag = tag_at(format, bytes, at)?;
@@ -66,7 +68,8 @@ fn tags_at(
     requires place { at < 2 ^ 31 }
     requires few { count ≤ 256 }
     ensures { MatchResult result
-        (λ tags. AreRead name_cmp (HasName format) (name_bytes format) (tag_fields format bytes.now at count)
+        (λ tags. AreRead name_cmp (HasName format) (name_bytes format)
+        (tag_fields format bytes.now at count)
         (name_size format) bytes.now at count tags.items)
         (IsBadOrMemory count (tag_fields format bytes.now at count)) }
 {
@@ -91,9 +94,11 @@ pub(crate) fn label_at(
 ) -> Result<Label, ReadFault>
     requires { at < 2 ^ 30 }
     ensures { MatchResult result
-        (λ s. (first_fault (label_fields format bytes.now at) ≡ None) × HasLabel format s × (len s ≡ short_at bytes.now at)
+        (λ s. (first_fault (label_fields format bytes.now at) ≡ None) × HasLabel format s
+        × (len s ≡ short_at bytes.now at)
         × (len s ≤ 256)
-        × (drop at bytes.now ≡ label_bytes format s ++ drop (after_label format bytes.now at) bytes.now))
+        × (drop at bytes.now ≡ label_bytes format s
+        ++ drop (after_label format bytes.now at) bytes.now))
         (IsBadOrMemory (short_at bytes.now at) (label_fields format bytes.now at)) }
 {
     let count = usize::from(short_at(bytes, at, 0, 256)?);
@@ -107,7 +112,8 @@ fn cap_above(format: Format, bytes: &[u8], at: usize, before: Option<Cap>) -> Re
     ensures { MatchResult result
         (IsNext cap_cmp (HasCap format) (cap_bytes format) key_of_cap
         (has_cap format bytes.now) (cap_key format bytes.now) (cap_size format) bytes.now at before)
-        (λ f. (is_next (has_cap format bytes.now) (cap_key format bytes.now) at (key_before key_of_cap before) ≡ false)
+        (λ f. (is_next (has_cap format bytes.now) (cap_key format bytes.now) at
+        (key_before key_of_cap before) ≡ false)
         × (f ≡ ReadFault.BadPacket at)) }
 {
     let cap = whole_cap_at(format, bytes, at)?;
@@ -129,7 +135,8 @@ fn each_cap_at(
     requires place { at < 2 ^ 30 }
     requires few { count ≤ 64 }
     ensures { MatchResult result
-        (λ caps. AreRead cap_cmp (HasCap format) (cap_bytes format) (each_cap format bytes.now at count)
+        (λ caps. AreRead cap_cmp (HasCap format) (cap_bytes format)
+        (each_cap format bytes.now at count)
         (cap_size format) bytes.now at count caps.items)
         (IsBadOrMemory count (each_cap format bytes.now at count)) }
 {
@@ -165,9 +172,11 @@ pub(crate) fn caps_at(
 ) -> Result<CapSet, ReadFault>
     requires { at < 2 ^ 29 }
     ensures { MatchResult result
-        (λ s. (first_fault (caps_fields format bytes.now at) ≡ None) × HasCaps format s × (len s ≡ slice_index bytes.now at)
+        (λ s. (first_fault (caps_fields format bytes.now at) ≡ None) × HasCaps format s
+        × (len s ≡ slice_index bytes.now at)
         × (len s ≤ 64)
-        × (drop at bytes.now ≡ caps_bytes format s ++ drop (after_caps format bytes.now at) bytes.now))
+        × (drop at bytes.now ≡ caps_bytes format s
+        ++ drop (after_caps format bytes.now at) bytes.now))
         (IsBadOrMemory (slice_index bytes.now at) (caps_fields format bytes.now at)) }
 {
     let count = usize::from(byte_at(bytes, at, 0, 64)?);

@@ -50,7 +50,8 @@ pub(crate) fn batch_at(
 ) -> Result<Batch, ReadFault>
     requires { at < 2 ^ 27 }
     ensures { MatchResult result
-        (λ b. (first_fault (batch_fields format bytes.now at) ≡ None) × AllByRecursion (HasOp format) b.ops
+        (λ b. (first_fault (batch_fields format bytes.now at) ≡ None)
+        × AllByRecursion (HasOp format) b.ops
         × (drop at bytes.now ≡ batch_bytes format b.ops))
         (IsBadOrMemoryAfter (batch_head bytes.now at) (batch_kept bytes.now at)
         (batch_fields format bytes.now at)) }

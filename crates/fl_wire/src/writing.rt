@@ -104,7 +104,8 @@ fn push_span(out: &mut Vec<u8>, span: &Span) -> Result<(), AllocError>
 fn push_spans(out: &mut Vec<u8>, spans: &[Span]) -> Result<(), AllocError>
     requires { length spans.now ≤ 512 }
     ensures { let count = to_be_bytes w16 (length spans.now) in
-        OnOk result (out.new.items ≡ out.old.items ++ (count ++ flat_map (span_bytes Two) spans.now)) }
+        OnOk result (out.new.items
+        ≡ out.old.items ++ (count ++ flat_map (span_bytes Two) spans.now)) }
 {
     let count = spans.len() as u16;
     out.extend_from_slice(&count.to_be_bytes())?;

@@ -80,9 +80,9 @@ impl Groups {
         }
     }
 
-    /// The question of this turn: whether who uses a group has the use of the group three further. So
-    /// it is with the first seven of each chain. Each group comes as often as another, unless they are
-    /// a multiple of the stride.
+    /// The question of this turn: whether who uses a group has the use of the group three further.
+    /// So it is with the first seven of each chain. Each group comes as often as another, unless
+    /// they are a multiple of the stride.
     pub fn question(self, turn: u64) -> (Cap, Cap) {
         let number = (turn.wrapping_mul(STRIDE) % self.count as u64) as u32 + 1;
         (use_of(number), use_of(number + 3))

@@ -1,7 +1,8 @@
-//! Asks 200,000 questions of an index, of a desk, and at one look of it: about 500 groups, of which a
-//! desk keeps each yes in its cache, and about all groups. The first word says how many groups there
-//! are, at most a million; where it is none there are 1,000. Prints how many answers are yes; where
-//! there is a second word, as `times`, also the nanoseconds that the fastest of five runs took.
+//! Asks 200,000 questions of an index, of a desk, and at one look of it: about 500 groups, of which
+//! a desk keeps each yes in its cache, and about all groups. The first word says how many groups
+//! there are, at most a million; where it is none there are 1,000. Prints how many answers are yes;
+//! where there is a second word, as `times`, also the nanoseconds that the fastest of five runs
+//! took.
 ghost use Rattle.std.specs.Prelude.{◌≤◌};
 
 use crate::chains::{Groups, gifts};

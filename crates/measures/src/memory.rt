@@ -1,7 +1,8 @@
-//! Makes a board, and a node over a keeper in memory, each desk of which sees so many operations, and
-//! prints what was made. Who runs it looks how much memory that takes. The first word says how many
-//! operations there are, at most a million, and 1,000 where it is none; the second how many desks,
-//! from 1 to 64, and 2 where it is none. The third word, `board` or `node`, has that made alone.
+//! Makes a board, and a node over a keeper in memory, each desk of which sees so many operations,
+//! and prints what was made. Who runs it looks how much memory that takes. The first word says how
+//! many operations there are, at most a million, and 1,000 where it is none; the second how many
+//! desks, from 1 to 64, and 2 where it is none. The third word, `board` or `node`, has that made
+//! alone.
 ghost use Rattle.std.specs.Prelude.{◌<◌, ◌≤◌};
 
 use crate::chains::{Groups, gift, published_gift};

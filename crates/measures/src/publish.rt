@@ -138,7 +138,8 @@ fn time_each<R: Wait + Clock>(
     Ok((published, start.elapsed(rt)?.as_nanos()))
 }
 
-// Publishes these once a thread for each desk has begun. The press and each thread end, whatever comes.
+// Publishes these once a thread for each desk has begun. The press and each thread end, whatever
+// comes.
 fn time_beside<R: Wait + Threads + Clock>(
     rt: &R,
     alloc: Global,
