@@ -302,9 +302,9 @@ pub fn job_from_words(verb: &str, rest: &[&str]) -> Option<Job>
     requires { NoPidFirst (map (λ w. w.now) rest.now) }
     ensures { Finds result (λ j. SpellsJob j (verb.now ∷ map (λ w. w.now) rest.now)) }
 {
-    match verb.as_bytes() {
-        b"member" => member_job(rest),
-        b"proc" => proc_job(rest),
+    match verb {
+        "member" => member_job(rest),
+        "proc" => proc_job(rest),
         _ => None,
     }
 }
