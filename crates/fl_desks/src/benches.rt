@@ -113,7 +113,6 @@ impl Benches {
     /// Does a job at its bench under what the desk sees, as [`Bench::job`] has it: who asks for it
     /// or receives has its bench, a new process is made on each in turn, and a question of groups
     /// is asked at the first one. The job is taken, and what is left of it says nothing.
-    #[inline(always)]
     pub fn job(
         &mut self,
         alloc: Global,

@@ -50,7 +50,6 @@ impl<'a, V: View> Judge<'a, V> {
 
 /// Takes the capability away, where it is owned, and each endpoint of its owner, who has these
 /// labels, stays safe. Takes no memory.
-#[inline(never)]
 pub(crate) fn drop_cap<V: View>(
     view: &mut V,
     labels: LabelsRef<'_>,

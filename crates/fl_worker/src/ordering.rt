@@ -45,8 +45,6 @@ fn end_order(bench: &mut Bench, body: Body, pid: Pid, ruling: Ruling) -> Result<
 }
 
 // Has the registrar rule on an order, and ends it so. It is cancelled where the worker is to stop.
-// Apart, since room for its locals would be cleared for each job else.
-#[inline(never)]
 fn order<R: Wait>(
     rt: &R,
     bench: &mut Bench,
