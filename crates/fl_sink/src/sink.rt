@@ -116,7 +116,6 @@ impl Sink {
     }
 
     // Keeps the bytes after what waits, where that is little and there is memory.
-    #[inline(always)]
     fn hold(&mut self, bytes: &[u8]) -> bool
         ensures held { OnTrue result (self.new ≡ self.old ++ bytes.now) }
         ensures refused { OnFalse result (self.new ≡ self.old) }
