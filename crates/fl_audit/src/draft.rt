@@ -126,7 +126,6 @@ pub fn names_asker(asker: Option<&Process>, job: &Job) -> bool
 }
 
 // Notes this.
-#[inline(always)]
 fn note(audit: &mut Vec<Admission>, entry: Admission) -> Result<(), AllocError>
     ensures ok { OnOk result (audit.new.items ≡ audit.old.items ++ entry ∷ []) }
     ensures err { OnErr result (audit.new.items ≡ audit.old.items) }
