@@ -29,7 +29,7 @@ use fl_script::reading::{Reading, read_line};
 use fl_script::request::Request;
 use fl_sink::sink::{Sink, WriteFault};
 use fl_sink::writer::Writer;
-use fl_stream::machine::Machine;
+use fl_stream::responder::Responder;
 use fl_system::answer::Fault;
 use fl_system::reply::Reply;
 use std::alloc::{AllocError, Global};
@@ -302,7 +302,7 @@ impl<M: MakesKeepers> Session<M> {
     }
 }
 
-impl<M: MakesKeepers> Machine for Session<M> {
+impl<M: MakesKeepers> Responder for Session<M> {
     ghost use Rattle.fl_turns.specs.Over.{TurnsOver};
 
     ghost turns = { TurnsOver M.K.custody M.making };

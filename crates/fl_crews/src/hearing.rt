@@ -42,7 +42,7 @@ fn cut_line(text: &[u8]) -> Option<(&[u8], &[u8])>
 /// A session, its line that has not ended, how many lines it answered, the greatest of their
 /// statuses, what waits to be written, and how many more bytes may be heard.
 ///
-/// The loop of fl_stream calls its machine by a trait, and what a method of a trait may send to a
+/// The loop of fl_stream calls its responder by a trait, and what a method of a trait may send to a
 /// thread is not known; so a session that starts threads has its own.
 pub(crate) struct Hearing<R: Wait, M: MakesKeepers> {
     session: Session<R, M>,

@@ -126,7 +126,7 @@ module _ {M : Type 0} {turns : Turns M} where
   }
 
   -- more was read than was taken
-  pub reading_cuts_beyond : {r l a : Option (List ℕ)} (s : StreamState M) (bytes : List ℕ) → Consumes r l bytes → ReadingCuts turns r l a a s s.interpreter.machine
+  pub reading_cuts_beyond : {r l a : Option (List ℕ)} (s : StreamState M) (bytes : List ℕ) → Consumes r l bytes → ReadingCuts turns r l a a s s.interpreter.responder
   reading_cuts_beyond {r} {l} {a} s bytes q = record { bytes = bytes; consumed = q; stops = bytes_cut_passed bytes (bytes_pass_none a s) }
 
   -- what was read was taken, and its answers stopped
@@ -138,11 +138,11 @@ module _ {M : Type 0} {turns : Turns M} where
   }
 
   -- what was read was taken and written, and not sent
-  pub reading_cuts_unsent : {r l a b c : Option (List ℕ)} {s t u : StreamState M} (d : Option (List ℕ)) (bytes : List ℕ) → Consumes r l bytes → BytesPass turns s t a b bytes → BytesPass turns t u b c [] → Keeps c d → ReadingCuts turns r l a d s u.interpreter.machine
+  pub reading_cuts_unsent : {r l a b c : Option (List ℕ)} {s t u : StreamState M} (d : Option (List ℕ)) (bytes : List ℕ) → Consumes r l bytes → BytesPass turns s t a b bytes → BytesPass turns t u b c [] → Keeps c d → ReadingCuts turns r l a d s u.interpreter.responder
   reading_cuts_unsent {r} {l} {a} {b} {c} {s} {t} {u} d bytes q taken sent keep = record {
     bytes = bytes;
     consumed = q;
-    stops = subst (λ x. BytesCut turns s u.interpreter.machine a d x) (append-nil (bytes ++ []) ∙ append-nil bytes) (bytes_cut_passed [] (bytes_pass_kept d (bytes_pass_then c taken sent) keep));
+    stops = subst (λ x. BytesCut turns s u.interpreter.responder a d x) (append-nil (bytes ++ []) ∙ append-nil bytes) (bytes_cut_passed [] (bytes_pass_kept d (bytes_pass_then c taken sent) keep));
   }
 
   -- hearing failed, or gave more than there was room for at first
@@ -173,7 +173,7 @@ module _ {M : Type 0} {turns : Turns M} where
     text = texts (p.proceeds.outputs ++ q.outputs);
     output = record {
       outputs = p.proceeds.outputs ++ q.outputs;
-      run = rw (← append-nil taken, bytes_pass_split p [], append-nil s.held) (Run-append turns 1 start p.seen p.proceeds.outputs s.interpreter.machine (lines s.held) q.outputs end p.proceeds.run (rw p.proceeds.count at q.run));
+      run = rw (← append-nil taken, bytes_pass_split p [], append-nil s.held) (Run-append turns 1 start p.seen p.proceeds.outputs s.interpreter.responder (lines s.held) q.outputs end p.proceeds.run (rw p.proceeds.count at q.run));
       text_is = refl;
       status_is = q.status_is ∙ ap (λ x. max x (worst q.outputs)) (p.proceeds.status_is ∙ zero-max (worst p.proceeds.outputs)) ∙ sym (worst-append p.proceeds.outputs q.outputs);
     };
@@ -238,7 +238,7 @@ module _ {M : Type 0} {turns : Turns M} where
       Consumes-whole r l p.bytes (λ script. length script ≤ room) p.consumed end (omega (arith, p.fits))
 
   -- all answers were written: exactly the lines that ended are answered
-  pub reading_replied : {r l h k a b : Option (List ℕ)} {start : M} {s : StreamState M} {room less : ℕ} (p : ReadingPasses turns r l h k a b (fresh_stream start) s room less) → IsReady s less → Answered turns start p.bytes a b s.interpreter.machine
+  pub reading_replied : {r l h k a b : Option (List ℕ)} {start : M} {s : StreamState M} {room less : ℕ} (p : ReadingPasses turns r l h k a b (fresh_stream start) s room less) → IsReady s less → Answered turns start p.bytes a b s.interpreter.responder
   reading_replied {r} {l} {h} {k} {a} {b} {start} {s} {room} {less} p ready =
       let g = p.advance.proceeds in record {
         done = p.advance.done;
@@ -250,27 +250,27 @@ module _ {M : Type 0} {turns : Turns M} where
         status = _;
         output = record {
           outputs = g.outputs;
-          run = subst (λ x. Run turns 1 start x g.outputs s.interpreter.machine) (sym (ap lines (sym (append-nil p.advance.done)) ∙ p.advance.split [] ∙ append-nil p.advance.seen)) g.run;
+          run = subst (λ x. Run turns 1 start x g.outputs s.interpreter.responder) (sym (ap lines (sym (append-nil p.advance.done)) ∙ p.advance.split [] ∙ append-nil p.advance.seen)) g.run;
           text_is = refl;
           status_is = refl;
         };
         written = subst (λ x. Appends a b x) (sym (g.passed.split ∙ ap (λ x. g.passed.front ++ x) ready.sent ∙ append-nil g.passed.front)) g.passed.written;
       }
 
-  pub reading_served : {r l m h k a b c : Option (List ℕ)} {start end : M} {s : StreamState M} {less : ℕ} → ReadingPasses turns r l h k a b (fresh_stream start) s 16777216 less → Overruns l m b c less → end ≡ s.interpreter.machine → IsReady s less → Served turns start r m a c end
+  pub reading_served : {r l m h k a b c : Option (List ℕ)} {start end : M} {s : StreamState M} {less : ℕ} → ReadingPasses turns r l h k a b (fresh_stream start) s 16777216 less → Overruns l m b c less → end ≡ s.interpreter.responder → IsReady s less → Served turns start r m a c end
   reading_served {r} {l} {m} {h} {k} {a} {b} {c} {start} {end} {s} {less} p q same ready = record {
     taken = p.bytes;
     beyond = q.beyond;
     consumed = Consumes-trans r l m p.bytes q.beyond p.consumed q.consumed;
     bounded = elim q.bounded [ inl e ↦ inl e | inr more ↦ inr (omega (arith, more, p.fits, length-append p.bytes q.beyond)) ];
     answered = subst (λ x. Answered turns start p.bytes a c x) (sym same)
-        (subst (λ x. Answered turns start p.bytes a x s.interpreter.machine) (sym q.same) (reading_replied p ready));
+        (subst (λ x. Answered turns start p.bytes a x s.interpreter.responder) (sym q.same) (reading_replied p ready));
   }
 
   -- more may be heard, since all that ended was answered
   pub reading_due : {r l h k a b said : Option (List ℕ)} {start : M} {s : StreamState M} {room less : ℕ} (due : List ℕ → Option (List ℕ) → Type 0) → ReadingPasses turns r l h k a b (fresh_stream start) s room less → IsReady s less → IfSome h (λ x. x ≡ []) → said ≡ b → ((bytes : List ℕ) (spoken : Option (List ℕ)) (mid : M) → Answered turns start bytes a spoken mid → due bytes spoken) → IfSome k (λ bytes. due bytes said)
   reading_due {r} {l} {h} {k} {a} {b} {said} {start} {s} {room} {less} due p ready none sent allows =
-      heard_due h k (λ bytes. due bytes said) p.bytes none p.grown_by (allows p.bytes said s.interpreter.machine (subst (λ x. Answered turns start p.bytes a x s.interpreter.machine) (sym sent) (reading_replied p ready)))
+      heard_due h k (λ bytes. due bytes said) p.bytes none p.grown_by (allows p.bytes said s.interpreter.responder (subst (λ x. Answered turns start p.bytes a x s.interpreter.responder) (sym sent) (reading_replied p ready)))
 
 -- a read that failed took nothing
 pub overruns_none : {l m b : Option (List ℕ)} (room : ℕ) → Keeps l m → Overruns l m b b room

@@ -33,7 +33,7 @@ module _ {M : Type 0} {turns : Turns M} where
   }
 
   -- one line was answered
-  pub lines_pass_one : {a b : Option (List ℕ)} {line : List ℕ} {status worse : ℕ} {new : M} {rest : List ℕ} (d : InterpreterState M) → AnswerPasses turns d.number d.machine line status new a b d.pending rest → worse ≡ max d.status status → LinesPass turns d (record { number = d.number + 1; status = worse; machine = new; pending = rest }) a b (line ∷ [])
+  pub lines_pass_one : {a b : Option (List ℕ)} {line : List ℕ} {status worse : ℕ} {new : M} {rest : List ℕ} (d : InterpreterState M) → AnswerPasses turns d.number d.responder line status new a b d.pending rest → worse ≡ max d.status status → LinesPass turns d (record { number = d.number + 1; status = worse; responder = new; pending = rest }) a b (line ∷ [])
   lines_pass_one {a} {b} {line} {status} {worse} {new} {rest} d t greatest = record {
     outputs = record { text = t.text; status = status } ∷ [];
     run = (new, t.turn, refl);
@@ -43,7 +43,7 @@ module _ {M : Type 0} {turns : Turns M} where
   }
 
   -- a front of one line's text was written
-  pub lines_cut_one : {a b : Option (List ℕ)} {line : List ℕ} {new : M} (d : InterpreterState M) → AnswerCuts turns d.number d.machine line new a b d.pending → LinesCut turns d new a b (line ∷ [])
+  pub lines_cut_one : {a b : Option (List ℕ)} {line : List ℕ} {new : M} (d : InterpreterState M) → AnswerCuts turns d.number d.responder line new a b d.pending → LinesCut turns d new a b (line ∷ [])
   lines_cut_one {a} {b} {line} {new} d t = record {
     outputs = t.output ∷ [];
     run = (new, t.turn, refl);
@@ -54,7 +54,7 @@ module _ {M : Type 0} {turns : Turns M} where
   pub lines_pass_then : {a b : Option (List ℕ)} {d e f : InterpreterState M} {ls ms : List (List ℕ)} (c : Option (List ℕ)) → LinesPass turns d e a b ls → LinesPass turns e f b c ms → LinesPass turns d f a c (ls ++ ms)
   lines_pass_then {a} {b} {d} {e} {f} {ls} {ms} c p q = record {
     outputs = p.outputs ++ q.outputs;
-    run = Run-append turns d.number d.machine ls p.outputs e.machine ms q.outputs f.machine p.run (rw p.count at q.run);
+    run = Run-append turns d.number d.responder ls p.outputs e.responder ms q.outputs f.responder p.run (rw p.count at q.run);
     count = omega (arith, p.count, q.count, length-append ls ms);
     status_is = q.status_is ∙ ap (λ x. max x (worst q.outputs)) p.status_is ∙ max_assoc d.status (worst p.outputs) (worst q.outputs) ∙ ap (max d.status) (sym (worst-append p.outputs q.outputs));
     passed = rw (texts-append p.outputs q.outputs) (passes_then c (texts q.outputs) f.pending p.passed q.passed);
@@ -65,12 +65,12 @@ module _ {M : Type 0} {turns : Turns M} where
   lines_cut_then {a} {b} {d} {e} {end} {ls} {ms} c p q =
       let r = subst (λ x. Cuts a c d.pending (texts p.outputs ++ x)) (append-nil (texts q.outputs)) (cuts_then c (texts q.outputs) [] p.passed q.cut) in record {
         outputs = p.outputs ++ q.outputs;
-        run = Run-append turns d.number d.machine ls p.outputs e.machine ms q.outputs end p.run (rw p.count at q.run);
+        run = Run-append turns d.number d.responder ls p.outputs e.responder ms q.outputs end p.run (rw p.count at q.run);
         cut = rw (texts-append p.outputs q.outputs) r;
       }
 
   -- what goes on may halt
-  pub lines_cut_passed : {a b : Option (List ℕ)} {d e : InterpreterState M} {ls : List (List ℕ)} → LinesPass turns d e a b ls → LinesCut turns d e.machine a b ls
+  pub lines_cut_passed : {a b : Option (List ℕ)} {d e : InterpreterState M} {ls : List (List ℕ)} → LinesPass turns d e a b ls → LinesCut turns d e.responder a b ls
   lines_cut_passed {a} {b} {d} {e} {ls} p = record {
     outputs = p.outputs;
     run = p.run;
@@ -98,7 +98,7 @@ module _ {M : Type 0} {turns : Turns M} where
   }
 
   -- a front of what was pending was written
-  pub lines_cut_sent : {a b : Option (List ℕ)} (d : InterpreterState M) → Cuts a b [] d.pending → LinesCut turns d d.machine a b []
+  pub lines_cut_sent : {a b : Option (List ℕ)} (d : InterpreterState M) → Cuts a b [] d.pending → LinesCut turns d d.responder a b []
   lines_cut_sent {a} {b} d w = record {
     outputs = [];
     run = refl;
@@ -110,6 +110,6 @@ pub lines_pass_written : {M E T : Type 0} {a b : Option (List ℕ)} (turns : Tur
 lines_pass_written {M} {E} {T} {a} {b} turns (Ok x) d left empty w = lines_pass_sent a b d left empty w.is
 lines_pass_written turns (Err e) d left empty w = tt
 
-pub lines_cut_written : {M E T : Type 0} {a b : Option (List ℕ)} (turns : Turns M) (r : Result T E) (d : InterpreterState M) → Writes a b d.pending r → OnErr r (LinesCut turns d d.machine a b [])
+pub lines_cut_written : {M E T : Type 0} {a b : Option (List ℕ)} (turns : Turns M) (r : Result T E) (d : InterpreterState M) → Writes a b d.pending r → OnErr r (LinesCut turns d d.responder a b [])
 lines_cut_written turns (Ok x) d w = tt
 lines_cut_written turns (Err e) d w = lines_cut_sent d w.is

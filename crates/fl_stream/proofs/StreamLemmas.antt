@@ -72,7 +72,7 @@ module _ {M : Type 0} {turns : Turns M} where
   }
 
   -- what advanced may stop, before any further bytes
-  pub bytes_cut_passed : {a b : Option (List ℕ)} {s t : StreamState M} {xs : List ℕ} (zs : List ℕ) → BytesPass turns s t a b xs → BytesCut turns s t.interpreter.machine a b (xs ++ zs)
+  pub bytes_cut_passed : {a b : Option (List ℕ)} {s t : StreamState M} {xs : List ℕ} (zs : List ℕ) → BytesPass turns s t a b xs → BytesCut turns s t.interpreter.responder a b (xs ++ zs)
   bytes_cut_passed {a} {b} {s} {t} {xs} zs p = record {
     seen = p.seen;
     left = t.held ++ zs;
@@ -116,8 +116,8 @@ module _ {M : Type 0} {turns : Turns M} where
       subst (λ x. BytesCut turns s end a c x) whole (bytes_cut_then c after p.advance q)
 
   -- what was taken may stop
-  pub bytes_cut_front : {a b : Option (List ℕ)} {s t : StreamState M} {bytes rest : List ℕ} → FrontPasses turns s t a b bytes rest → BytesCut turns s t.interpreter.machine a b bytes
-  bytes_cut_front {a} {b} {s} {t} {bytes} {rest} p = subst (λ x. BytesCut turns s t.interpreter.machine a b x) (sym p.cut) (bytes_cut_passed rest p.advance)
+  pub bytes_cut_front : {a b : Option (List ℕ)} {s t : StreamState M} {bytes rest : List ℕ} → FrontPasses turns s t a b bytes rest → BytesCut turns s t.interpreter.responder a b bytes
+  bytes_cut_front {a} {b} {s} {t} {bytes} {rest} p = subst (λ x. BytesCut turns s t.interpreter.responder a b x) (sym p.cut) (bytes_cut_passed rest p.advance)
 
   -- the rest has no line feed, and there is some
   pub front_ends_mid_line : {a b : Option (List ℕ)} {s t : StreamState M} {bytes rest : List ℕ}
@@ -131,13 +131,13 @@ module _ {M : Type 0} {turns : Turns M} where
       subst (λ x. BytesPass turns s (record t { held = x }) a b bytes) (sym e) (subst (λ x. BytesPass turns s (record t { held = t.held ++ rest }) a b x) (sym p.cut) (bytes_pass_then b p.advance (bytes_pass_held b t rest)))
 
   -- all lines were answered, and all was written
-  pub end_passes : {a b : Option (List ℕ)} {s : StreamState M} {e f : InterpreterState M} (c : Option (List ℕ)) → LinesPass turns s.interpreter e a b (lines s.held) → LinesPass turns e f b c [] → f.pending ≡ [] → EndPasses turns s f.machine a c f.status
+  pub end_passes : {a b : Option (List ℕ)} {s : StreamState M} {e f : InterpreterState M} (c : Option (List ℕ)) → LinesPass turns s.interpreter e a b (lines s.held) → LinesPass turns e f b c [] → f.pending ≡ [] → EndPasses turns s f.responder a c f.status
   end_passes {a} {b} {s} {e} {f} c p q empty =
       let g = lines_pass_then c p q in
       let all : lines s.held ++ [] ≡ lines s.held = append-nil (lines s.held) in
       record {
         outputs = g.outputs;
-        run = subst (λ x. Run turns s.interpreter.number s.interpreter.machine x g.outputs f.machine) all g.run;
+        run = subst (λ x. Run turns s.interpreter.number s.interpreter.responder x g.outputs f.responder) all g.run;
         status_is = g.status_is;
         written = subst (λ x. Appends a c x) (sym (g.passed.split ∙ ap (λ x. g.passed.front ++ x) empty ∙ append-nil g.passed.front)) g.passed.written;
       }

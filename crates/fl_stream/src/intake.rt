@@ -9,7 +9,7 @@ ghost use Rattle.fl_stream.specs.parts.Intake.{CountsTo, IsReady, Overruns, Read
 
 use crate::conversation::Conversation;
 use crate::fault::RunFault;
-use crate::machine::Machine;
+use crate::responder::Responder;
 use crate::stream::Stream;
 use fl_sink::writer::Writer;
 use std::alloc::Global;
@@ -22,7 +22,7 @@ pub struct Intake<M> {
     pub room: usize,
 }
 
-impl<M: Machine> Intake<M> {
+impl<M: Responder> Intake<M> {
     /// Hears more once, answers the lines that have ended, and sends the answers. Says whether
     /// there was anything to hear.
     ///
@@ -65,11 +65,11 @@ impl<M: Machine> Intake<M> {
             HearsMidLine (C.remaining input.old) (C.remaining input.new)
             (C.heard input.old) (C.heard input.new)) }
         ensures same { IfErr result (λ e. e ≡ RunFault.Read →
-            self.new.stream.interpreter.machine ≡ self.old.stream.interpreter.machine) }
+            self.new.stream.interpreter.responder ≡ self.old.stream.interpreter.responder) }
         ensures err { OnErr result
             (ReadingCuts M.turns (C.remaining input.old) (C.remaining input.new)
             (W.contents output.old) (W.contents output.new)
-            self.old.stream self.new.stream.interpreter.machine) }
+            self.old.stream self.new.stream.interpreter.responder) }
     {
         let count = match input.hear(output, &mut self.chunk) {
             Ok(count) => count,
@@ -103,13 +103,13 @@ impl<M: Machine> Intake<M> {
     ) -> Result<u8, RunFault>
         requires { IsReady self.old.stream self.old.room }
         ensures ok { IfOk result (λ status. EndPasses M.turns
-            self.old.stream self.new.stream.interpreter.machine
+            self.old.stream self.new.stream.interpreter.responder
             (W.contents output.old) (W.contents output.new) status) }
         ensures said { OnOk result (C.said output.new ≡ W.contents output.new) }
         ensures kind { IfErr result (λ e. e ≡ RunFault.Write) }
         ensures cause { OnErr result (W.has_failed output.new) }
         ensures err { OnErr result (EndCuts M.turns
-            self.old.stream self.new.stream.interpreter.machine
+            self.old.stream self.new.stream.interpreter.responder
             (W.contents output.old) (W.contents output.new)) }
     {
         let status = self.stream.finish(alloc, output)?;
@@ -128,28 +128,28 @@ impl<M: Machine> Intake<M> {
         input: &mut C,
         output: &mut W,
     ) -> Result<u8, RunFault>
-        requires begun { self.old.stream ≡ fresh_stream self.old.stream.interpreter.machine }
+        requires begun { self.old.stream ≡ fresh_stream self.old.stream.interpreter.responder }
         requires room { self.old.room ≡ 16777216 }
         requires chunk { vec_len self.old.chunk ≡ 65536 }
         requires unheard { IfSome (C.heard input.old) (λ bytes. bytes ≡ []) }
         requires fresh { C.hearings input.old ≡ 0 }
         requires said { C.said output.old ≡ W.contents output.old }
         requires due { (heard : List ℕ) (said : Option (List ℕ)) (mid : M) →
-            Answered M.turns self.old.stream.interpreter.machine
+            Answered M.turns self.old.stream.interpreter.responder
             heard (W.contents output.old) said mid → C.may_hear heard said }
         ensures ok { IfOk result (λ status. IfSome (C.remaining input.old) (λ script.
-            WritesOutput M.turns self.old.stream.interpreter.machine
+            WritesOutput M.turns self.old.stream.interpreter.responder
             (W.contents output.old) (W.contents output.new) script status
-            self.new.stream.interpreter.machine)) }
+            self.new.stream.interpreter.responder)) }
         ensures whole { OnOk result (IsAtEnd (C.remaining input.new)) }
         ensures short { OnOk result
             (IfSome (C.remaining input.old) (λ script. length script ≤ 16777216)) }
         ensures said { OnOk result (C.said output.new ≡ W.contents output.new) }
         ensures served { IfErr result (λ e. e ≡ RunFault.Read →
-            Served M.turns self.old.stream.interpreter.machine
+            Served M.turns self.old.stream.interpreter.responder
             (C.remaining input.old) (C.remaining input.new)
             (W.contents output.old) (W.contents output.new)
-            self.new.stream.interpreter.machine) }
+            self.new.stream.interpreter.responder) }
         ensures cause { IfErr result (λ e. e ≡ RunFault.Read → C.is_deaf input.new
             ⊎ (Outgrows 16777216 (C.heard input.old) (C.heard input.new)
             × CountsPast 16777216 (C.counted input.old) (C.counted input.new))) }
@@ -158,24 +158,24 @@ impl<M: Machine> Intake<M> {
             HearsMidLine (C.remaining input.old) (C.remaining input.new)
             (C.heard input.old) (C.heard input.new)) }
         ensures err { OnErr result (IfSome (C.remaining input.old) (λ script.
-            WritesFirst M.turns self.old.stream.interpreter.machine
+            WritesFirst M.turns self.old.stream.interpreter.responder
             (W.contents output.old) (W.contents output.new) script
-            self.new.stream.interpreter.machine)) }
+            self.new.stream.interpreter.responder)) }
     {
         'hearing: while self.turn(alloc, input, output)? {}
         let status = self.close(alloc, input, output)?;
         Ok(status)
     }
 
-    /// Its machine.
-    pub fn into_machine(self) -> M
-        ensures { result ≡ self.stream.interpreter.machine }
+    /// Its responder.
+    pub fn into_responder(self) -> M
+        ensures { result ≡ self.stream.interpreter.responder }
     {
         let Intake {
             stream,
             chunk: _,
             room: _,
         } = self;
-        stream.into_machine()
+        stream.into_responder()
     }
 }

@@ -2,16 +2,16 @@
 ghost use Rattle.std.specs.Prelude.{◌≡◌, ◌≤◌, ◌∷◌, [], OnErr, OnOk};
 ghost use Rattle.fl_stream.specs.parts.Interpreter.{LinesCut, LinesPass, fresh};
 
-use crate::machine::Machine;
+use crate::responder::Responder;
 use fl_sink::sink::{Sink, WriteFault};
 use fl_sink::writer::Writer;
 use std::alloc::Global;
 use std::marker::Model;
 
-/// Answers the lines of a script by a machine, one after another.
+/// Answers the lines of a script by a responder, one after another.
 #[derive(Drop)]
 pub struct Interpreter<M> {
-    machine: M,
+    responder: M,
     number: u64,
     status: u8,
     sink: Sink,
@@ -27,18 +27,18 @@ impl<M> Model for Interpreter<M> {
     ghost view = { λ i. record {
       number = i.number;
       status = i.status;
-      machine = i.machine;
+      responder = i.responder;
       pending = i.sink;
     } };
 }
 
-impl<M: Machine> Interpreter<M> {
+impl<M: Responder> Interpreter<M> {
     /// An interpreter before the first line. Takes no memory.
-    pub fn new(alloc: Global, machine: M) -> Self
-        ensures { result ≡ fresh machine }
+    pub fn new(alloc: Global, responder: M) -> Self
+        ensures { result ≡ fresh responder }
     {
         Interpreter {
-            machine,
+            responder,
             number: 1,
             status: 0,
             sink: Sink::new(alloc),
@@ -67,12 +67,12 @@ impl<M: Machine> Interpreter<M> {
             LinesPass M.turns self.old self.new
             (W.contents output.old) (W.contents output.new) (line.now ∷ [])) }
         ensures err { OnErr result (
-            LinesCut M.turns self.old self.new.machine
+            LinesCut M.turns self.old self.new.responder
             (W.contents output.old) (W.contents output.new) (line.now ∷ [])) }
         ensures cause { OnErr result (W.has_failed output.new) }
     {
         let status = self
-            .machine
+            .responder
             .answer(alloc, self.number, line, &mut self.sink, output)?;
         self.status = self.status.max(status);
         self.number += 1;
@@ -86,23 +86,23 @@ impl<M: Machine> Interpreter<M> {
         ensures ok { OnOk result (LinesPass M.turns self.old self.new
             (W.contents output.old) (W.contents output.new) []) }
         ensures empty { OnOk result (self.new.pending ≡ []) }
-        ensures err { OnErr result (LinesCut M.turns self.old self.new.machine
+        ensures err { OnErr result (LinesCut M.turns self.old self.new.responder
             (W.contents output.old) (W.contents output.new) []) }
         ensures cause { OnErr result (W.has_failed output.new) }
     {
         self.sink.finish(output)
     }
 
-    /// Its machine. What waits is not written.
-    pub fn into_machine(self) -> M
-        ensures { result ≡ self.machine }
+    /// Its responder. What waits is not written.
+    pub fn into_responder(self) -> M
+        ensures { result ≡ self.responder }
     {
         let Interpreter {
-            machine,
+            responder,
             number: _,
             status: _,
             sink: _,
         } = self;
-        machine
+        responder
     }
 }

@@ -1,4 +1,4 @@
-//! Reads a script in pieces: each line is answered by a machine once it was read, before any more
+//! Reads a script in pieces: each line is answered by a responder once it was read, before any more
 //! is read.
 #![tactic(auto)]
 
@@ -6,7 +6,7 @@ pub mod conversation;
 pub mod fault;
 mod intake;
 mod interpreter;
-pub mod machine;
+pub mod responder;
 pub mod run;
 mod split;
 mod stream;

@@ -7,7 +7,7 @@ ghost use Rattle.fl_stream.specs.Output.{WritesFirst, WritesOutput};
 use crate::conversation::Conversation;
 use crate::fault::RunFault;
 use crate::intake::Intake;
-use crate::machine::Machine;
+use crate::responder::Responder;
 use crate::stream::{AT_ONCE, Stream};
 use fl_sink::writer::Writer;
 use std::alloc::{AllocGlobal, Global};
@@ -24,7 +24,7 @@ fn zeros(alloc: Global, count: usize) -> Result<Vec<u8>, RunFault>
     vec![in alloc; 0u8; count].map_err(|_| RunFault::Memory)
 }
 
-/// Hears a script of at most 16,777,216 bytes, and says what the machine answers to its lines.
+/// Hears a script of at most 16,777,216 bytes, and says what the responder answers to its lines.
 ///
 /// More is heard only where what was said is exactly the answers to all lines that have ended:
 /// [`Conversation::hear`] requires it. To hear no bytes is the end of the script. The status is the
@@ -35,11 +35,11 @@ fn zeros(alloc: Global, count: usize) -> Result<Vec<u8>, RunFault>
 /// `Memory` where there is no room for the 64 KiB that are heard at once, or for a line that has
 /// not ended.
 ///
-/// The machine is given back as it is after the lines that were begun: by these and no others it
+/// The responder is given back as it is after the lines that were begun: by these and no others it
 /// came from the one that was handed in.
-pub fn converse<M: Machine + Drop, C: Conversation<W>, W: Writer>(
+pub fn converse<M: Responder + Drop, C: Conversation<W>, W: Writer>(
     alloc: Global,
-    machine: M,
+    responder: M,
     input: &mut C,
     output: &mut W,
 ) -> (M, Result<u8, RunFault>)
@@ -47,15 +47,15 @@ pub fn converse<M: Machine + Drop, C: Conversation<W>, W: Writer>(
     requires fresh { C.hearings input.old ≡ 0 }
     requires said { C.said output.old ≡ W.contents output.old }
     requires due { (heard : List ℕ) (said : Option (List ℕ)) (mid : M) →
-        Answered M.turns machine heard (W.contents output.old) said mid → C.may_hear heard said }
+        Answered M.turns responder heard (W.contents output.old) said mid → C.may_hear heard said }
     ensures ok { IfOk result.1 (λ status. IfSome (C.remaining input.old) (λ script.
-        WritesOutput M.turns machine
+        WritesOutput M.turns responder
         (W.contents output.old) (W.contents output.new) script status result.0)) }
     ensures whole { OnOk result.1 (IsAtEnd (C.remaining input.new)) }
     ensures short { OnOk result.1
         (IfSome (C.remaining input.old) (λ script. length script ≤ 16777216)) }
     ensures said { OnOk result.1 (C.said output.new ≡ W.contents output.new) }
-    ensures served { IfErr result.1 (λ e. e ≡ RunFault.Read → Served M.turns machine
+    ensures served { IfErr result.1 (λ e. e ≡ RunFault.Read → Served M.turns responder
         (C.remaining input.old) (C.remaining input.new)
         (W.contents output.old) (W.contents output.new) result.0) }
     ensures cause { IfErr result.1 (λ e. e ≡ RunFault.Read → C.is_deaf input.new
@@ -66,24 +66,24 @@ pub fn converse<M: Machine + Drop, C: Conversation<W>, W: Writer>(
         MayLackRoom (C.remaining input.old) (C.remaining input.new)
         (C.heard input.old) (C.heard input.new)) }
     ensures err { OnErr result.1 (IfSome (C.remaining input.old) (λ script.
-        WritesFirst M.turns machine
+        WritesFirst M.turns responder
         (W.contents output.old) (W.contents output.new) script result.0)) }
 {
     let chunk = match zeros(alloc, AT_ONCE) {
         Ok(chunk) => chunk,
-        Err(fault) => return (machine, Err(fault)),
+        Err(fault) => return (responder, Err(fault)),
     };
     let mut intake = Intake {
-        stream: Stream::new(alloc, machine),
+        stream: Stream::new(alloc, responder),
         chunk,
         room: MOST_BYTES,
     };
     let result = intake.hear_all(alloc, input, output);
-    (intake.into_machine(), result)
+    (intake.into_responder(), result)
 }
 
 /// Reads a script of at most 16,777,216 bytes, by at most 16,777,217 reads, and writes what the
-/// machine answers to its lines.
+/// responder answers to its lines.
 ///
 /// It is [`converse`] with a reader and a writer: before each read but the first, all lines that
 /// have ended are answered, and the answers are written and flushed. A read of no bytes is the end
@@ -92,28 +92,28 @@ pub fn converse<M: Machine + Drop, C: Conversation<W>, W: Writer>(
 /// At a fault a front of the answers to the first lines is written: `Read` where a read fails or
 /// the script is longer; `Write` where a write fails or takes no bytes, or a flush fails; `Memory`
 /// where there is no room for the 64 KiB that a read fills, or for a line that has not ended.
-pub fn run<RT: AllocGlobal, M: Machine + Drop, R: Read, W: Write>(
+pub fn run<RT: AllocGlobal, M: Responder + Drop, R: Read, W: Write>(
     rt: &RT,
-    machine: M,
+    responder: M,
     input: &mut R,
     output: &mut W,
 ) -> (M, Result<u8, RunFault>)
     ensures ok { IfOk result.1 (λ status. IfSome (R.remaining input.old) (λ script.
-        WritesOutput M.turns machine
+        WritesOutput M.turns responder
         (W.contents output.old) (W.contents output.new) script status result.0)) }
     ensures whole { OnOk result.1 (IsAtEnd (R.remaining input.new)) }
     ensures short { OnOk result.1
         (IfSome (R.remaining input.old) (λ script. length script ≤ 16777216)) }
 
     // Any read may fail, so that all lines that have ended are answered before each.
-    ensures served { IfErr result.1 (λ e. e ≡ RunFault.Read → Served M.turns machine
+    ensures served { IfErr result.1 (λ e. e ≡ RunFault.Read → Served M.turns responder
         (R.remaining input.old) (R.remaining input.new)
         (W.contents output.old) (W.contents output.new) result.0) }
     ensures memory_cause { IfErr result.1 (λ e. e ≡ RunFault.Memory →
         MayLackRoom (R.remaining input.old) (R.remaining input.new) None None) }
     ensures err { OnErr result.1 (IfSome (R.remaining input.old) (λ script.
-        WritesFirst M.turns machine
+        WritesFirst M.turns responder
         (W.contents output.old) (W.contents output.new) script result.0)) }
 {
-    converse(rt.alloc(), machine, input, output)
+    converse(rt.alloc(), responder, input, output)
 }

@@ -7,7 +7,7 @@ ghost use Rattle.fl_stream.specs.parts.Stream.{BytesPass, EndPasses, BytesCut, E
 
 use crate::fault::RunFault;
 use crate::interpreter::Interpreter;
-use crate::machine::Machine;
+use crate::responder::Responder;
 use crate::split::{cut_line, without_return};
 use fl_sink::sink::WriteFault;
 use fl_sink::writer::Writer;
@@ -39,13 +39,13 @@ impl<M> Model for Stream<M> {
     ghost invariant = { λ s. 0 < vec_len s.held → vec_len s.held + 65536 ≤ vec_capacity s.held };
 }
 
-impl<M: Machine> Stream<M> {
+impl<M: Responder> Stream<M> {
     /// A stream before the first byte. Takes no memory.
-    pub fn new(alloc: Global, machine: M) -> Self
-        ensures { result ≡ fresh_stream machine }
+    pub fn new(alloc: Global, responder: M) -> Self
+        ensures { result ≡ fresh_stream responder }
     {
         Stream {
-            interpreter: Interpreter::new(alloc, machine),
+            interpreter: Interpreter::new(alloc, responder),
             held: Vec::new(alloc),
         }
     }
@@ -70,7 +70,7 @@ impl<M: Machine> Stream<M> {
         ensures part { OnOk result (self.new.held ≡ []) }
         ensures cause { OnErr result (W.has_failed output.new) }
         ensures err { OnErr result (
-            BytesCut M.turns self.old self.new.interpreter.machine
+            BytesCut M.turns self.old self.new.interpreter.responder
             (W.contents output.old) (W.contents output.new) (line.now ++ 10 ∷ [])) }
     {
         if self.held.is_empty() {
@@ -132,7 +132,7 @@ impl<M: Machine> Stream<M> {
         ensures write_cause { IfErr result (λ e. e ≡ RunFault.Write → W.has_failed output.new) }
         ensures memory_cause { IfErr result (λ e. e ≡ RunFault.Memory → EndsMidLine bytes.now) }
         ensures err { OnErr result (
-            BytesCut M.turns self.old self.new.interpreter.machine
+            BytesCut M.turns self.old self.new.interpreter.responder
             (W.contents output.old) (W.contents output.new) bytes.now) }
     {
         let mut rest = bytes;
@@ -151,7 +151,7 @@ impl<M: Machine> Stream<M> {
         ensures same { OnOk result (self.new.interpreter.number ≡ self.old.interpreter.number) }
         ensures held { self.new.held ≡ self.old.held }
         ensures empty { OnOk result (self.new.interpreter.pending ≡ []) }
-        ensures err { OnErr result (BytesCut M.turns self.old self.new.interpreter.machine
+        ensures err { OnErr result (BytesCut M.turns self.old self.new.interpreter.responder
             (W.contents output.old) (W.contents output.new) []) }
         ensures cause { OnErr result (W.has_failed output.new) }
     {
@@ -165,7 +165,7 @@ impl<M: Machine> Stream<M> {
         ensures ok { OnOk result (LinesPass M.turns self.old.interpreter self.new.interpreter
             (W.contents output.old) (W.contents output.new) (lines self.old.held)) }
         ensures err { OnErr result (LinesCut M.turns
-            self.old.interpreter self.new.interpreter.machine
+            self.old.interpreter self.new.interpreter.responder
             (W.contents output.old) (W.contents output.new) (lines self.old.held)) }
         ensures cause { OnErr result (W.has_failed output.new) }
     {
@@ -180,9 +180,9 @@ impl<M: Machine> Stream<M> {
     pub fn finish<W: Writer>(&mut self, alloc: Global, output: &mut W) -> Result<u8, WriteFault>
         requires number { self.old.interpreter.number ≤ 16777217 }
         requires part { HasNoFeed self.old.held }
-        ensures ok { IfOk result (λ status. EndPasses M.turns self.old self.new.interpreter.machine
+        ensures ok { IfOk result (λ status. EndPasses M.turns self.old self.new.interpreter.responder
             (W.contents output.old) (W.contents output.new) status) }
-        ensures err { OnErr result (EndCuts M.turns self.old self.new.interpreter.machine
+        ensures err { OnErr result (EndCuts M.turns self.old self.new.interpreter.responder
             (W.contents output.old) (W.contents output.new)) }
         ensures cause { OnErr result (W.has_failed output.new) }
     {
@@ -191,14 +191,14 @@ impl<M: Machine> Stream<M> {
         Ok(self.interpreter.status())
     }
 
-    /// Its machine. A line that has not ended is not answered, and what waits is not written.
-    pub fn into_machine(self) -> M
-        ensures { result ≡ self.interpreter.machine }
+    /// Its responder. A line that has not ended is not answered, and what waits is not written.
+    pub fn into_responder(self) -> M
+        ensures { result ≡ self.interpreter.responder }
     {
         let Stream {
             interpreter,
             held: _,
         } = self;
-        interpreter.into_machine()
+        interpreter.into_responder()
     }
 }

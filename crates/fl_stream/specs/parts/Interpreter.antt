@@ -10,19 +10,19 @@ pub record InterpreterState (M : Type 0) : Type 0 where
   pub number : ℕ
   -- the greatest of a line
   pub status : ℕ
-  pub machine : M
+  pub responder : M
   -- what waits to be written
   pub pending : List ℕ
 
 -- before the first line
 abbrev pub fresh : {M : Type 0} → M → InterpreterState M
-fresh machine = record { number = 1; status = 0; machine = machine; pending = [] }
+fresh responder = record { number = 1; status = 0; responder = responder; pending = [] }
 
 -- these lines were answered, and their text passed on
 pub record LinesPass {M : Type 0} (turns : Turns M) (old new : InterpreterState M)
     (before after : Option (List ℕ)) (lines : List (List ℕ)) : Type 0 where
   pub outputs : List LineOutput
-  pub run : Run turns old.number old.machine lines outputs new.machine
+  pub run : Run turns old.number old.responder lines outputs new.responder
   pub count : new.number ≡ old.number + length lines
   pub status_is : new.status ≡ max old.status (worst outputs)
   pub passed : Passes before after old.pending (texts outputs) new.pending
@@ -31,13 +31,13 @@ pub record LinesPass {M : Type 0} (turns : Turns M) (old new : InterpreterState 
 pub record LinesCut {M : Type 0} (turns : Turns M) (old : InterpreterState M) (end : M)
     (before after : Option (List ℕ)) (lines : List (List ℕ)) : Type 0 where
   pub outputs : List LineOutput
-  pub run : Run turns old.number old.machine lines outputs end
+  pub run : Run turns old.number old.responder lines outputs end
   pub cut : Cuts before after old.pending (texts outputs)
 
 -- a state is stored as the tuple of its fields
 abbrev pub coded_interpreter : {M : Type 0} → Coded M → Coded (InterpreterState M)
 coded_interpreter {M} code =
     code_by (ℕ × (ℕ × (M × List ℕ))) (coded× coded_ℕ (coded× coded_ℕ (coded× code (coded_list coded_ℕ))))
-    (λ i. (i.number, (i.status, (i.machine, i.pending))))
-    (λ t. record { number = t.0; status = t.1.0; machine = t.1.1.0; pending = t.1.1.1 })
+    (λ i. (i.number, (i.status, (i.responder, i.pending))))
+    (λ t. record { number = t.0; status = t.1.0; responder = t.1.1.0; pending = t.1.1.1 })
     (λ _. refl)

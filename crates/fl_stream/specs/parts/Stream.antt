@@ -14,7 +14,7 @@ pub record StreamState (M : Type 0) : Type 0 where
 
 -- before the first byte
 abbrev pub fresh_stream : {M : Type 0} → M → StreamState M
-fresh_stream machine = record { interpreter = fresh machine; held = [] }
+fresh_stream responder = record { interpreter = fresh responder; held = [] }
 
 -- the bytes were taken: the lines that ended in them were answered, whatever comes later
 pub record BytesPass {M : Type 0} (turns : Turns M) (old new : StreamState M)
@@ -38,7 +38,7 @@ pub record BytesCut {M : Type 0} (turns : Turns M) (old : StreamState M) (end : 
 pub record EndPasses {M : Type 0} (turns : Turns M) (old : StreamState M) (end : M)
     (before after : Option (List ℕ)) (status : ℕ) : Type 0 where
   pub outputs : List LineOutput
-  pub run : Run turns old.interpreter.number old.interpreter.machine (lines old.held) outputs end
+  pub run : Run turns old.interpreter.number old.interpreter.responder (lines old.held) outputs end
   pub status_is : status ≡ max old.interpreter.status (worst outputs)
   pub written : Appends before after (old.interpreter.pending ++ texts outputs)
 

@@ -7,14 +7,14 @@ use fl_sink::writer::Writer;
 use std::alloc::Global;
 
 /// What answers lines, one after another.
-pub trait Machine {
+pub trait Responder {
     // The line of this number is answered so at the first state, and leaves the second.
     ghost turns: { Turns Self };
 
     /// Answers the line of this number, given without its end. Its text is put into the sink, and
     /// the result is the line's status: 0 where there is nothing to be told of it.
     ///
-    /// At a fault a front of what waited and the text was written, and the machine is not used
+    /// At a fault a front of what waited and the text was written, and the responder is not used
     /// again.
     fn answer<W: Writer>(
         &mut self,

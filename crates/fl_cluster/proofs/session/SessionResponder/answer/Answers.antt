@@ -4,7 +4,7 @@ use Rattle.fl_script.specs.declared.reading.Reading.TheVariants as reading
 use Rattle.fl_cluster.specs.declared.response.Response.TheVariants as response
 use Rattle.fl_cluster.proofs.Failures.{no_three}
 use Rattle.fl_cluster.proofs.Turning.{turns_quiet, passes_answer, passes_nothing}
-use Rattle.fl_cluster.proofs.session.SessionMachine.answer.Goals as goal
+use Rattle.fl_cluster.proofs.session.SessionResponder.answer.Goals as goal
 
 pub returns-in-Ok-Quiet-clause-ok : goal.returns-in-Ok-Quiet-clause-ok
 returns-in-Ok-Quiet-clause-ok g c =
