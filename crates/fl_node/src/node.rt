@@ -17,6 +17,7 @@ ghost use Rattle.fl_system.specs.Publishes.{Publishes, Cancels};
 ghost use Rattle.fl_system.specs.Openings.{Opens, IsOf, OpensAgain, Reopens, Restarts, doubt_of};
 ghost use Rattle.fl_node.specs.Causes.{KeeperFails, LoadsBadRow};
 ghost use Rattle.fl_node.specs.Desks.{IsDeskOf};
+ghost use Rattle.fl_node.specs.Sound.{IsSoundOver};
 ghost use Rattle.fl_node.specs.parts.Ordering.{Orders};
 ghost use Rattle.fl_node.specs.parts.Working.{WorksAt};
 
@@ -161,6 +162,15 @@ impl<K: Keeper> Node<K> {
             state: State::Running(Pending::Nothing),
             benches,
         })
+    }
+
+    /// What is true of every node: its saved operations have each name once, what is published is
+    /// what is saved, but for what is due, and there is a bench for each desk. Where it runs, and
+    /// its keeper is honest, an opening finds just what it saved, under its number and its boot.
+    pub fn law_sound(&self)
+        ensures { IsSoundOver K.custody self.now }
+    {
+        let _state = &self.state;
     }
 
     /// The keeper, without the node: what is on its way and each process are forgotten.

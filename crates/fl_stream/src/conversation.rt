@@ -1,5 +1,6 @@
 //! The two ends of a conversation: what is heard, and what is said.
-ghost use Rattle.std.specs.Prelude.{◌≡◌, ◌+◌, ◌<◌, ◌≤◌, ℕ, List, Option, None, IfOk, IfSome, OnErr, OnOk, ⊤, length, take};
+ghost use Rattle.std.specs.Prelude.{◌≡◌, ◌+◌, ◌<◌, ◌≤◌, ℕ, List, Option, None, IfOk, IfSome, OnErr};
+ghost use Rattle.std.specs.Prelude.{OnOk, ⊤, length, take};
 ghost use Rattle.std.specs.Io.{ReadsAtMost};
 ghost use Rattle.std.specs.Io.KnownBytes.{Keeps, ReadConsumes, append_known};
 ghost use Rattle.fl_stream.specs.Served.{plus_known};

@@ -5,7 +5,8 @@ ghost use Rattle.std.specs.Io.KnownBytes.{IsAtEnd};
 ghost use Rattle.fl_stream.specs.Served.{Answered, CountsPast, HearsMidLine, Outgrows, Served};
 ghost use Rattle.fl_stream.specs.Output.{WritesFirst, WritesOutput};
 ghost use Rattle.fl_stream.specs.parts.Stream.{EndCuts, EndPasses, fresh_stream};
-ghost use Rattle.fl_stream.specs.parts.Intake.{CountsTo, IsReady, Overruns, ReadingPasses, ReadingCuts};
+ghost use Rattle.fl_stream.specs.parts.Intake.{CountsTo, IsReady, Overruns, ReadingPasses};
+ghost use Rattle.fl_stream.specs.parts.Intake.{ReadingCuts};
 
 use crate::conversation::Conversation;
 use crate::fault::RunFault;

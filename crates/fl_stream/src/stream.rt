@@ -1,9 +1,11 @@
 //! Bytes are taken as they come: each line is answered once it has ended.
-ghost use Rattle.std.specs.Prelude.{◌≡◌, ◌≢◌, ◌<◌, ◌≤◌, ◌+◌, ◌∷◌, ◌++◌, [], IfErr, IfOk, OnErr, OnOk, length};
+ghost use Rattle.std.specs.Prelude.{◌≡◌, ◌≢◌, ◌<◌, ◌≤◌, ◌+◌, ◌∷◌, ◌++◌, [], IfErr, IfOk, OnErr};
+ghost use Rattle.std.specs.Prelude.{OnOk, length};
 ghost use Rattle.std.specs.Str.Lines.{lines};
 ghost use Rattle.fl_stream.specs.Served.{EndsMidLine, HasNoFeed};
 ghost use Rattle.fl_stream.specs.parts.Interpreter.{LinesCut, LinesPass};
-ghost use Rattle.fl_stream.specs.parts.Stream.{BytesPass, EndPasses, BytesCut, EndCuts, fresh_stream};
+ghost use Rattle.fl_stream.specs.parts.Stream.{BytesPass, EndPasses, BytesCut, EndCuts};
+ghost use Rattle.fl_stream.specs.parts.Stream.{fresh_stream};
 
 use crate::fault::RunFault;
 use crate::interpreter::Interpreter;
@@ -180,7 +182,8 @@ impl<M: Responder> Stream<M> {
     pub fn finish<W: Writer>(&mut self, alloc: Global, output: &mut W) -> Result<u8, WriteFault>
         requires number { self.old.interpreter.number ≤ 16777217 }
         requires part { HasNoFeed self.old.held }
-        ensures ok { IfOk result (λ status. EndPasses M.turns self.old self.new.interpreter.responder
+        ensures ok { IfOk result (λ status.
+            EndPasses M.turns self.old self.new.interpreter.responder
             (W.contents output.old) (W.contents output.new) status) }
         ensures err { OnErr result (EndCuts M.turns self.old self.new.interpreter.responder
             (W.contents output.old) (W.contents output.new)) }

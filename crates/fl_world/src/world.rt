@@ -6,7 +6,7 @@ ghost use Rattle.std.specs.Option.{option_copied};
 ghost use Rattle.fl_system.specs.declared.event.Event.TheVariants as event;
 ghost use Rattle.fl_system.specs.declared.reply.Reply.TheVariants as replies;
 ghost use Rattle.fl_system.specs.Joins.{Joins};
-ghost use Rattle.fl_system.specs.Runs.{Run};
+ghost use Rattle.fl_system.specs.Runs.{IsReached, Run};
 ghost use Rattle.fl_system.specs.Waiting.{IsRunning};
 ghost use Rattle.fl_system.specs.WorldSteps.{Step};
 ghost use Rattle.fl_world_laws.specs.Places.{IsNameRefusal};
@@ -84,6 +84,14 @@ impl<K: Keeper> World<K> {
         }
     }
 
+    /// A run led to it, so each law of worlds that a run leads to holds of it: where its keepers
+    /// are honest, of each world that their next openings may find.
+    pub fn law_reached(&self)
+        ensures { InEach K.custody self.now IsReached }
+    {
+        let _nodes = &self.nodes;
+    }
+
     /// The headline, of any world that a run led to: names are unique, what is published is saved,
     /// and each open endpoint and each thing that was admitted is safe by all that is saved,
     /// whatever happens from then on.
@@ -95,8 +103,9 @@ impl<K: Keeper> World<K> {
     }
 
     /// What lasts, of any world that a run led to: no yes is withdrawn, what is published grows by
-    /// the node's own publications alone, what is noted is of its moment, a tag is confined, and no
-    /// event is refused for a name.
+    /// the node's own publications alone, what is noted is of its moment, a tag is confined, and
+    /// endorsed, what was answered as published is kept, each capability in effect was granted and
+    /// each tag claimed, and no event is refused for a name.
     pub fn law_lasting(&self)
         ensures { InEach K.custody self.now IsLastingWorld }
     {
