@@ -9,3 +9,4 @@ pub mod Frugal
 pub mod Said
 pub mod Weaving
 pub mod Serving
+mod Standing

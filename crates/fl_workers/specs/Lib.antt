@@ -7,3 +7,4 @@ pub mod Ended
 pub mod Frugal
 pub mod Batches
 pub mod Crews
+pub mod Standing

@@ -17,6 +17,7 @@ ghost use Rattle.fl_system.specs.declared.state.State.TheVariants.{Running};
 ghost use Rattle.fl_workers.specs.Batches.{IsStill, IsUnbegun, Serves, items_for};
 ghost use Rattle.fl_workers.specs.Crews.{crew_of, IsSized};
 ghost use Rattle.fl_workers.specs.Seats.{empty_of};
+ghost use Rattle.fl_workers.specs.Standing.{Stands};
 ghost use Rattle.fl_workers.specs.Seated.{seated_of, IsToldOf, NotOpened, OpensCrew, RestartsCrew};
 
 use crate::fault::CrewFault;
@@ -67,10 +68,11 @@ impl<K: Keeper, G> Model for Crew<K, G> {
     ghost coded = { coded_crew K.code };
 
     ghost use Rattle.fl_workers.specs.Crews.{crew_of, IsSized};
+    ghost use Rattle.fl_workers.specs.Standing.{Stands};
 
     ghost view = { λ a. crew_of a.seats };
 
-    ghost invariant = { λ a. IsSized a.seats };
+    ghost invariant = { λ a. IsSized a.seats × Stands K.custody (crew_of a.seats) };
 }
 
 // The seats of a node that was opened again, or not.
@@ -225,6 +227,15 @@ impl<K: Keeper, G: Gate + Send + Drop + 'static> Crew<K, G> {
             Seats::Manned(manned) => manned.registrar.node(),
             Seats::Empty(node, _) => node,
         }
+    }
+
+    /// What is true of every crew: as long as it is not stopped, and its keeper is honest, a node
+    /// stands for it, of which each batch that does not stop it is one run (`woven` of
+    /// [`Crew::batch`]).
+    pub fn law_stands(&self)
+        ensures { Stands K.custody self.now }
+    {
+        let _seats = &self.seats;
     }
 
     // That it is not stopped.

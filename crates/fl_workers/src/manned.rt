@@ -76,6 +76,7 @@ impl<K: Keeper> Manned<K> {
         ensures refused { (result ≡ Err CrewFault.Stopped) ↔ (self.old.stopped ≡ true) }
         ensures err { OnErr result (IsUnbegun self.old self.new) }
         ensures still { IsStill self.old self.new }
+        ensures seats { length self.new.benches ≡ self.new.size }
         ensures count { IfOk result (λ es.
             length es.items ≡ length jobs.items + length packets.items) }
         ensures places { IfOk result (λ es. StandFrom 0 es.items) }

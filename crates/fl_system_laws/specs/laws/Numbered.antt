@@ -1,5 +1,8 @@
 -- Lists whose items are numbered from 1 on, with an item changed, and made of their items.
-use Rattle.std.proofs.Common.{◌≡◌, ◌≢◌, ◌⊎◌, ◌<◌, ◌≤◌, ◌++◌, ◌∙◌, inl, inr, ℕ, zero, suc, List, [], ◌∷◌, length, Some, refl, sym, ap, arith, length-append}
+use Rattle.std.proofs.Common.{◌≡◌, ◌≢◌, ◌⊎◌, ◌<◌, ◌≤◌, ◌++◌, ◌∙◌, inl, inr, ℕ, zero, suc, List}
+use Rattle.std.proofs.Common.{[], ◌∷◌, length, Some, refl, sym, ap, arith, length-append}
+use Rattle.std.proofs.Common.{eqb, true, false}
+use Rattle.std.proofs.lemmas.Bool.Decides.{eqb_tells}
 use Rattle.fl_system.specs.Numbered.{item_at, change_item, with_item, items_to}
 
 module _ {A : Type 0} where
@@ -103,3 +106,40 @@ module _ {A : Type 0} where
             within = omega (arith, at, count);
             is = is ∙ ap item (ap suc (sym count) ∙ sym at);
           }
+
+  -- an item of a list with one more at the end
+  stays : (xs : List A) (x : A) (k : ℕ) (y : A) → item_at xs k ≡ Some y
+      → item_at (xs ++ x ∷ []) k ≡ Some y
+  stays [] x k y e = absurd (cc)
+  stays (z ∷ zs) x zero y e = absurd (cc)
+  stays (z ∷ zs) x (suc zero) y e = e
+  stays (z ∷ zs) x (suc (suc k)) y e = stays zs x (suc k) y e
+
+  last_is : (xs : List A) (x : A) → item_at (xs ++ x ∷ []) (suc (length xs)) ≡ Some x
+  last_is [] x = refl
+  last_is (y ∷ ys) x = last_is ys x
+
+  -- an item that a list is made of
+  pub item_at-items_to : (d : ℕ) (x : ℕ → A) (w : ℕ) → 1 ≤ w → w ≤ d
+      → item_at (items_to d x) w ≡ Some (x w)
+  item_at-items_to zero x w low high = absurd (omega arith)
+  item_at-items_to (suc d) x w low high = by (eqb_tells w (suc d)) (λ up. item_at-items_to d x w low up)
+    where
+      by : ((eqb w (suc d) ≡ true) × (w ≡ suc d)) ⊎ ((eqb w (suc d) ≡ false) × (w ≢ suc d))
+          → (w ≤ d → item_at (items_to d x) w ≡ Some (x w))
+          → item_at (items_to d x ++ x (suc d) ∷ []) w ≡ Some (x w)
+      by (inl same) again =
+          let at : w ≡ suc (length (items_to d x)) = same.1 ∙ ap suc (sym (length-items d x)) in
+          ap (item_at (items_to d x ++ x (suc d) ∷ [])) at
+          ∙ (last_is (items_to d x) (x (suc d)) ∙ ap (λ k. Some (x k)) (sym same.1))
+      by (inr other) again =
+          let ne = other.1 in stays (items_to d x) (x (suc d)) w (x w) (again (omega arith))
+
+  -- there is an item of each number up to the length
+  pub item_within : (xs : List A) (w : ℕ) → 1 ≤ w → w ≤ length xs
+      → (x : A) × (item_at xs w ≡ Some x)
+  item_within [] w low high = absurd (omega (arith, low, high))
+  item_within (x ∷ xs) zero low high = absurd (omega (arith, low))
+  item_within (x ∷ xs) (suc zero) low high = (x, refl)
+  item_within (x ∷ xs) (suc (suc w)) low high =
+      item_within xs (suc w) (omega arith) (omega (arith, high))
