@@ -1,12 +1,8 @@
-//! A script on a program's standard streams. Their bytes have no name in a contract, so no clause
-//! speaks of them: what holds of any reader and writer stands at [`converse`].
+//! What a program whose script ended says on standard error, and its status. The bytes of standard
+//! streams have no name in a contract, so no clause speaks of them.
 
 use crate::fault::RunFault;
-use crate::run::converse;
 use crate::watched::Watched;
-use fl_makers::maker::MakesKeepers;
-use std::io;
-use std::mem::forget;
 use std::process::ExitCode;
 
 /// The status where a read, a write or memory failed.
@@ -17,20 +13,6 @@ pub fn tell_length<R>(rt: &HostRuntime, input: &Watched<R>, ended: Result<u8, Ru
     if ended == Err(RunFault::Read) && !input.has_failed() {
         let _ = eprintln!(rt; "flume-tags: the script is longer than 16777216 bytes");
     }
-}
-
-/// Runs the script of standard input over these keepers, by one call after another, and writes the
-/// answers to standard output. It is [`converse`], with its statuses and its faults; a script that
-/// is too long is told on standard error. It is for a program that ends then: what the session
-/// holds is not let go block by block.
-pub fn answer<M: MakesKeepers + Drop>(rt: &HostRuntime, keepers: M) -> Result<u8, RunFault> {
-    let mut input = Watched::new(rt.reader());
-    let mut output = io::writer(rt);
-    let (session, result) = converse(rt, &mut input, &mut output, keepers);
-    tell_length(rt, &input, result);
-    // The program ends here, and all that the session holds goes with it.
-    forget(session);
-    result
 }
 
 /// The status of a program whose run ended so: 3 at a fault, which is told on standard error.

@@ -3,6 +3,7 @@
 
 #[cfg(test)]
 mod gossip;
+pub mod handed;
 #[cfg(test)]
 mod hiccup;
 #[cfg(test)]

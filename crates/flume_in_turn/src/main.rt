@@ -3,12 +3,27 @@
 #![tactic(auto)]
 
 use fl_cluster::fault::RunFault;
-use fl_cluster::standard::{answer, exit_code};
+use fl_cluster::run::converse;
+use fl_cluster::standard::{exit_code, tell_length};
+use fl_cluster::watched::Watched;
 use fl_dir_maker::maker::DirMaker;
+use fl_makers::maker::MakesKeepers;
 use fl_makers::mem::MemMaker;
 use fl_words::words::{BAD_WORDS, Place, Settings, read_words};
-use std::env;
+use std::mem::forget;
 use std::process::ExitCode;
+use std::{env, io};
+
+/// Answers the script of standard input over these keepers, by one call after another.
+fn answered_in_turn<M: MakesKeepers + Drop>(rt: &HostRuntime, keepers: M) -> Result<u8, RunFault> {
+    let mut input = Watched::new(rt.reader());
+    let mut output = io::writer(rt);
+    let (session, result) = converse(rt, &mut input, &mut output, keepers);
+    tell_length(rt, &input, result);
+    // The program ends here, and all that the session holds goes with it.
+    forget(session);
+    result
+}
 
 /// Runs the program, but where its words were refused, or its help or version was asked for.
 fn answered(rt: &HostRuntime) -> Result<u8, RunFault> {
@@ -22,8 +37,8 @@ fn answered(rt: &HostRuntime) -> Result<u8, RunFault> {
         return Ok(BAD_WORDS);
     }
     match place {
-        Place::Memory => answer(rt, MemMaker),
-        Place::Directory(dir) => answer(rt, DirMaker::new(rt, dir)),
+        Place::Memory => answered_in_turn(rt, MemMaker),
+        Place::Directory(dir) => answered_in_turn(rt, DirMaker::new(rt, dir)),
     }
 }
 

@@ -5,19 +5,32 @@
 ghost use Rattle.std.specs.Prelude.{◌≤◌};
 
 use fl_cluster::fault::RunFault;
-use fl_cluster::standard::{answer, exit_code, tell_length};
+use fl_cluster::run::converse;
+use fl_cluster::standard::{exit_code, tell_length};
 use fl_cluster::watched::Watched;
 use fl_dir_maker::maker::DirMaker;
 use fl_makers::maker::MakesKeepers;
 use fl_makers::mem::MemMaker;
 use fl_words::words::{BAD_WORDS, Place, Settings, read_words};
 use std::alloc::AllocGlobal;
+use std::mem::forget;
 use std::process::ExitCode;
 use std::sync::Wait;
 use std::thread::Threads;
 use std::{env, io};
 
-/// Runs the script of standard input over these keepers, by crews of so many workers.
+/// Answers the script of standard input over these keepers, by one call after another.
+fn answered_in_turn<M: MakesKeepers + Drop>(rt: &HostRuntime, keepers: M) -> Result<u8, RunFault> {
+    let mut input = Watched::new(rt.reader());
+    let mut output = io::writer(rt);
+    let (session, result) = converse(rt, &mut input, &mut output, keepers);
+    tell_length(rt, &input, result);
+    // The program ends here, and all that the session holds goes with it.
+    forget(session);
+    result
+}
+
+/// Answers the script of standard input over these keepers, by crews of so many workers.
 fn answered_by_crews<
     R: AllocGlobal + Threads + Wait + Sync + Send + Copy + Drop + 'static,
     M: MakesKeepers + Drop,
@@ -40,7 +53,7 @@ fn answered_over<
     requires { workers ≤ 16 }
 {
     match workers {
-        0 => answer(rt, keepers),
+        0 => answered_in_turn(rt, keepers),
         _ => answered_by_crews(rt, waits, workers, keepers),
     }
 }
