@@ -1,5 +1,5 @@
 //! A world, event by event.
-ghost use Rattle.std.specs.Prelude.{◌≡◌, ◌≢◌, ◌<◌, IfOk, IfErr, OnErr, None, Some};
+ghost use Rattle.std.specs.Prelude.{◌≡◌, ◌≢◌, ◌<◌, IfOk, IfErr, OnErr, None, Some, length};
 ghost use Rattle.std.specs.FinMap as map;
 ghost use Rattle.std.specs.Fn.{FnOnceReturnsAtMut};
 ghost use Rattle.std.specs.Option.{option_copied};
@@ -293,7 +293,7 @@ impl<K: Keeper> World<K> {
 
     /// Has the events happen one after another, and gives what each is answered. Room for the
     /// answers is taken first: an error says that there was not enough memory for them, and nothing
-    /// has happened then.
+    /// has happened then. It comes only where there is an event.
     ///
     /// All along the run no yes is withdrawn, nodes that published the same have one text, desks
     /// that see the same answer alike, and a tag is confined.
@@ -303,6 +303,7 @@ impl<K: Keeper> World<K> {
         ensures lasting { IfOk result (λ replies. Goes K.custody self.old self.new
             (λ w w'. LastingRun w events.items replies.items w')) }
         ensures err { OnErr result (self.new ≡ self.old) }
+        ensures wants { OnErr result (0 < length events.items) }
     {
         let _nodes = &self.nodes;
         law_run();
