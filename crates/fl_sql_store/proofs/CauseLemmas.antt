@@ -64,10 +64,6 @@ undone_after a b c same undone = record {
   committed_is = λ is_open. undone.committed_is is_open ∙ same.0.committed_is;
 }
 
--- what changes nothing commits nothing
-pub kept_if_same : (old new : State) → IsUnchanged old new → KeepsCommit old new
-kept_if_same old new h = record { was_open = λ _. h.0.was_open; committed = λ _. h.0.committed_is }
-
 -- a text that is not run commits nothing
 pub kept_if_not_run : (old new : State) (sql : List ℕ) (params : Row) (e : Error)
     → IsNotRun old new sql params e → KeepsCommit old new

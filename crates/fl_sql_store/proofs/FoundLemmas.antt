@@ -16,7 +16,7 @@ use Rattle.sqlite.specs.declared.error.ErrorCode.TheVariants.{OutOfMemory}
 use Rattle.fl_store.specs.declared.keeper.KeeperFault.{KeeperFault}
 use Rattle.fl_store.specs.declared.keeper.KeeperFault.TheVariants.{Memory, Broken}
 use Rattle.fl_sql_tables.specs.Tables.{select_whole_text}
-use Rattle.fl_sql_tables.specs.Failing.{FailsToFound}
+use Rattle.fl_sql_tables.specs.Failing.{FailsToFound, RunsOut}
 use Rattle.fl_sql_store.specs.Opening.{IsFailure, RefusesToServe}
 use Rattle.fl_store.specs.Kept.{Kept}
 use Rattle.fl_ops.specs.declared.format.Format.TheVariants.{Two}
@@ -102,8 +102,8 @@ not_shown number old new e fault has (inr is) wants fails h = subst (RefusesToSe
 -- the tables were not made
 pub not_made : (number : ℕ) (old new : State) (e : Error) (fault : KeeperFault) → old.now.schema ≡ no_schema → (fault ≡ Memory) ⊎ (fault ≡ Broken)
     → (fault ≡ Memory → e ≡ SqliteFailure OutOfMemory) → (fault ≡ Broken → IsFailure e) → (IsTrue old.is_open → FailsToFound number old new e)
-    → RefusesToServe number old new fault
-not_made number old new e fault none (inl is) wants fails h =
-    subst (RefusesToServe number old new) (sym is) (inr (none, λ is_open. subst (FailsToFound number old new) (wants is) (h is_open)))
-not_made number old new e fault none (inr is) wants fails h =
+    → (e ≡ SqliteFailure OutOfMemory → RunsOut old new) → RefusesToServe number old new fault
+not_made number old new e fault none (inl is) wants fails h out =
+    subst (RefusesToServe number old new) (sym is) (inr (none, out (wants is)))
+not_made number old new e fault none (inr is) wants fails h out =
     subst (RefusesToServe number old new) (sym is) (inr (inr (e, fails is, (none, h))))

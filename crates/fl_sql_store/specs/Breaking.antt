@@ -10,7 +10,7 @@ use Rattle.sqlite.specs.Store.{Ghosts}
 use Rattle.fl_store.specs.declared.keeper.KeeperFault.{KeeperFault}
 use Rattle.fl_store.specs.declared.keeper.KeeperFault.TheVariants.{Memory, Broken, WrongNode, BadRow, NamesSpent}
 use Rattle.fl_store.specs.Call.{Call, Load, Boot, Save}
-use Rattle.fl_sql_tables.specs.Stored.{HasSelf, HasBadRow, IsUndone}
+use Rattle.fl_sql_tables.specs.Stored.{HasSelf, HasBadRow, HasReadGood, IsUndone}
 use Rattle.fl_sql_tables.specs.Failing.{IsFault, FailsToRaise, FailsToLoad, FailsToSave}
 use Rattle.fl_sql_store.specs.Opening.{IsFailure}
 use Rattle.fl_sql_store.specs.SqlKeeping.{SqlKept}
@@ -52,10 +52,11 @@ abbrev pub FailsToBoot : ℕ → State → State → Error → Type 0
 FailsToBoot number old new e =
     IsFault old new e ⊎ ((was : ℕ) × (was < 4294967295) × HasSelf number was (old.now.trees 0) × FailsToRaise (was + 1) old new e)
 
--- why the operations were not loaded: a row is bad; there was not enough memory for them; or the database failed
+-- why the operations were not loaded: a row is bad; there was not enough memory for those that were read, none of which is bad; or the
+-- database failed
 abbrev pub RefusesToLoad : {S : Type 0} → Ghosts S → Held S → Held S → KeeperFault → Type 0
 RefusesToLoad g old new Memory =
-    ((0 < length ((state g old).now.trees 1)) × IsUnchanged (state g old) (state g new))
+    (HasReadGood ((state g old).now.trees 1) × IsUnchanged (state g old) (state g new))
     ⊎ IsTold g FailsToLoad old new Memory
 RefusesToLoad g old new Broken = IsTold g FailsToLoad old new Broken
 RefusesToLoad g old new WrongNode = ⊥

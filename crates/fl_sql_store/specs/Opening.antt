@@ -3,6 +3,7 @@ use Rattle.std.specs.Prelude.{◌≡◌, ◌≢◌, ◌⊎◌, ℕ, List, [], Is
 use Rattle.sqlite.specs.declared.error.Error.{Error}
 use Rattle.sqlite.specs.declared.error.Error.TheVariants.{SqliteFailure}
 use Rattle.sqlite.specs.declared.error.ErrorCode.TheVariants.{OutOfMemory}
+use Rattle.sqlite.specs.Tree.{Trees}
 use Rattle.sqlite.specs.State.{State, IsUnchanged, FailsToQuery}
 use Rattle.fl_store.specs.declared.keeper.KeeperFault.{KeeperFault}
 use Rattle.fl_store.specs.declared.keeper.KeeperFault.TheVariants.{Memory, Broken, WrongNode, BadRow, NamesSpent}
@@ -11,10 +12,10 @@ use Rattle.fl_labels.specs.SetBy as set
 use Rattle.fl_ops.specs.declared.format.Format.TheVariants.{One, Two}
 use Rattle.fl_ops.specs.declared.op.Op.{Op}
 use Rattle.fl_ops.specs.OpOrder.{op_cmp}
-use Rattle.fl_sql_tables.specs.Stored.{ops_in, HasBadRow}
-use Rattle.fl_sql_tables.specs.Founding.{Founds, IsOwn, IsOwnIn, IsOthers}
-use Rattle.fl_sql_tables.specs.Failing.{FailsToFound, FailsToLoad}
-use Rattle.fl_sql_tables.specs.Migrating.{Migrates, FailsToMigrate}
+use Rattle.fl_sql_tables.specs.Stored.{ops_in, HasBadRow, HasReadGood}
+use Rattle.fl_sql_tables.specs.Founding.{Founds, FoundsTo, IsOwn, IsOwnIn, IsOthers}
+use Rattle.fl_sql_tables.specs.Failing.{FailsToFound, FailsToLoad, RunsOut}
+use Rattle.fl_sql_tables.specs.Migrating.{Migrates, MigratesTo, FailsToMigrate}
 
 -- an error for another cause than want of memory
 abbrev pub IsFailure : Error → Type 0
@@ -64,7 +65,7 @@ CannotServe number old new =
 abbrev pub LacksMemory : ℕ → State → State → Type 0
 LacksMemory number old new =
     ((old.now.schema ≡ keeper_schema) × FailsToQuery select_whole_text [] old new (SqliteFailure OutOfMemory))
-    ⊎ FailsToMakeTables number old new (SqliteFailure OutOfMemory)
+    ⊎ ((old.now.schema ≡ no_schema) × RunsOut old new)
 
 -- why no keeper was opened over a database that is not rewritten
 abbrev pub RefusesToServe : ℕ → State → State → KeeperFault → Type 0
@@ -74,13 +75,23 @@ RefusesToServe number old new WrongNode = IsAnothers number old × IsUnchanged o
 RefusesToServe number old new BadRow = IsForeign number old
 RefusesToServe number old new NamesSpent = ⊥
 
+-- what a crash may find of a rewriting: it is whole in the second format, with the operations that it had
+abbrev pub RewritesTo : ℕ → State → Trees → Type 0
+RewritesTo number old db =
+    (ops : List Op) × (set.of_list {R = op_cmp} ops ≡ ops_in (old.now.trees 1)) × MigratesTo number ops old.now db
+
+-- what a crash may find of an opening, beside what was there: it is rewritten, or founded, as a whole
+abbrev pub OpensTo : ℕ → State → Trees → Type 0
+OpensTo number old db = RewritesTo number old db ⊎ FoundsTo number old db
+
 -- the database did not give its operations, or did not take them again
 abbrev pub FailsToRewrite : State → State → Error → Type 0
 FailsToRewrite old new e = FailsToLoad old new e ⊎ ((ops : List Op) × FailsToMigrate ops old new e)
 
--- why a database of the first format was not rewritten: a row is bad; there was not enough memory; or the database failed
+-- why a database of the first format was not rewritten: a row is bad; there was not enough memory for operations that were read,
+-- none of which is bad, or for the database; or that failed
 abbrev pub RefusesToRewrite : State → State → KeeperFault → Type 0
-RefusesToRewrite old new Memory = IsUnchanged old new ⊎ FailsToRewrite old new (SqliteFailure OutOfMemory)
+RefusesToRewrite old new Memory = (HasReadGood (old.now.trees 1) × IsUnchanged old new) ⊎ RunsOut old new
 RefusesToRewrite old new Broken = (e : Error) × IsFailure e × FailsToRewrite old new e
 RefusesToRewrite old new WrongNode = ⊥
 RefusesToRewrite old new BadRow = HasBadRow (old.now.trees 1)

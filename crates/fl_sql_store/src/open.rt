@@ -1,5 +1,7 @@
 //! Opening a keeper over a database.
-ghost use Rattle.std.specs.Prelude.{◌≡◌, ◌≤◌, ◌⊎◌, false, IfOk, IfErr, OnOk, Err};
+ghost use Rattle.std.specs.Prelude.{◌≡◌, ◌<◌, ◌≤◌, ◌⊎◌, false, IfOk, IfErr, OnOk, OnErr, Err};
+ghost use Rattle.fl_labels.specs.SetBy as set;
+ghost use Rattle.fl_store.specs.Kept.{HasNamesOnce};
 ghost use Rattle.sqlite.specs.Held.{state};
 ghost use Rattle.sqlite.specs.State.{HasCleanDisk, IsLive, IsUnchanged, Survives};
 ghost use Rattle.fl_sql_tables.specs.Tables.{keeper_schema, no_schema};
@@ -7,10 +9,10 @@ ghost use Rattle.fl_store.specs.Keeping.{Stays};
 ghost use Rattle.sqlite.specs.View.{doubt};
 ghost use Rattle.fl_sql_tables.specs.Stored.{HasBadRow, ops_in};
 ghost use Rattle.fl_sql_tables.specs.Serving.{IsReady, IsServing};
-ghost use Rattle.fl_sql_tables.specs.Founding.{Founds, IsOwnIn, IsOthers, IsSettled};
+ghost use Rattle.fl_sql_tables.specs.Founding.{Founds, FoundsTo, IsOwnIn, IsOthers, IsSettled};
 ghost use Rattle.fl_sql_tables.specs.Migrating.{IsFormer, Migrates, MigratesTo};
 ghost use Rattle.fl_sql_store.specs.SqlKeeping.{held_in};
-ghost use Rattle.fl_sql_store.specs.Opening.{IsFailure, FailsToShowItself, OpensAs, RefusesToServe, RefusesToRewrite, RefusesToOpen, Rewrites};
+ghost use Rattle.fl_sql_store.specs.Opening.{IsFailure, FailsToShowItself, OpensAs, OpensTo, RefusesToServe, RefusesToRewrite, RefusesToOpen, Rewrites, RewritesTo};
 
 use fl_labels::name::NodeNumber;
 use fl_ops::format::Format;
@@ -23,7 +25,7 @@ use fl_sql_tables::migrate::migrate;
 use fl_sql_tables::ours::{is_nothing, is_ours};
 use fl_store::keeper::KeeperFault;
 use sqlite::{Alter, Connection, Error, ErrorCode};
-use std::alloc::Global;
+use std::alloc::{AllocError, Global};
 
 // What an error comes to as a keeper is opened.
 fn refusal(error: Error) -> KeeperFault
@@ -55,6 +57,8 @@ fn found_on<S: Alter>(conn: &mut Connection<S>, number: NodeNumber) -> Result<()
     ensures held { HasCleanDisk (state S.Store conn.new)
         → Stays (held_in number (state S.Store conn.old))
         (held_in number (state S.Store conn.new)) }
+    ensures leaves { Survives (state S.Store conn.old) (state S.Store conn.new)
+        (FoundsTo number (state S.Store conn.old)) }
 {
     match found(conn, number) {
         Ok(()) => Ok(()),
@@ -96,6 +100,7 @@ fn former_ops<S: Alter>(
     requires idle { conn.old.in_transaction ≡ false }
     requires serving { IsServing number (state S.Store conn.old) }
     ensures idle { conn.new.in_transaction ≡ false }
+    ensures names { IfOk result HasNamesOnce }
     ensures ok { HasCleanDisk (state S.Store conn.new)
         → IfOk result (λ ops. ops ≡ ops_in ((state S.Store conn.old).now.trees 1)) }
     ensures good { HasCleanDisk (state S.Store conn.new)
@@ -112,6 +117,17 @@ fn former_ops<S: Alter>(
         Err(LoadFault::Memory) => Err(KeeperFault::Memory),
         Err(LoadFault::Failed(error)) => Err(refusal(error)),
     }
+}
+
+// The operations of a set in one piece. None take no memory.
+fn in_one_piece(alloc: Global, ops: &OpSet) -> Result<Vec<Op>, AllocError>
+    ensures ok { IfOk result (λ all. all.items ≡ set.members ops.now) }
+    ensures some { OnErr result (0 < set.len ops.now) }
+{
+    if ops.is_empty() {
+        return Ok(Vec::new(alloc));
+    }
+    ops.to_vec(alloc)
 }
 
 // Writes these operations, which the database has, in the second format.
@@ -158,10 +174,12 @@ fn migrate_on<S: Alter>(
     ensures held { HasCleanDisk (state S.Store conn.new)
         → Stays (held_in number (state S.Store conn.old))
         (held_in number (state S.Store conn.new)) }
+    ensures leaves { Survives (state S.Store conn.old) (state S.Store conn.new)
+        (RewritesTo number (state S.Store conn.old)) }
 {
     match former_ops(alloc, conn, number) {
         Ok(former) => {
-            let Ok(ops) = former.to_vec(alloc) else {
+            let Ok(ops) = in_one_piece(alloc, &former) else {
                 return Err(KeeperFault::Memory);
             };
             migrate_with(alloc, conn, number, &ops)
@@ -190,6 +208,8 @@ fn own_on<S: Alter>(
     ensures held { HasCleanDisk (state S.Store conn.new)
         → Stays (held_in number (state S.Store conn.old))
         (held_in number (state S.Store conn.new)) }
+    ensures leaves { Survives (state S.Store conn.old) (state S.Store conn.new)
+        (RewritesTo number (state S.Store conn.old)) }
 {
     match itself_on(conn, number) {
         Ok(Format::Two) => Ok(()),
@@ -216,6 +236,8 @@ pub fn check<S: Alter>(
     ensures held { HasCleanDisk (state S.Store conn.new)
         → Stays (held_in number (state S.Store conn.old))
         (held_in number (state S.Store conn.new)) }
+    ensures leaves { Survives (state S.Store conn.old) (state S.Store conn.new)
+        (OpensTo number (state S.Store conn.old)) }
 {
     if !conn.is_autocommit() {
         return Err(KeeperFault::Broken);

@@ -1,12 +1,12 @@
 //! A keeper over a database.
 ghost use Rattle.std.specs.Prelude.{◌≡◌, ◌<◌, true, false, not, IfOk, IfErr, OnOk, OnErr};
 ghost use Rattle.sqlite.specs.Held.{state};
-ghost use Rattle.sqlite.specs.State.{HasCleanDisk};
+ghost use Rattle.sqlite.specs.State.{HasCleanDisk, Survives};
 ghost use Rattle.std.proofs.Common.{ap, ◌∙◌};
 ghost use Rattle.fl_store.specs.Kept.{Kept};
 ghost use Rattle.fl_sql_tables.specs.Stored.{HasBadRow};
 ghost use Rattle.fl_sql_store.specs.SqlKeeping.{held_in, something_held, kept_number};
-ghost use Rattle.fl_sql_store.specs.Opening.{OpensAs, RefusesToOpen};
+ghost use Rattle.fl_sql_store.specs.Opening.{OpensAs, OpensTo, RefusesToOpen};
 ghost use Rattle.fl_sql_store.specs.Breaking.{SqlBreaks, SqlWants};
 
 use crate::calls::{boot_on, load_on, save_on};
@@ -109,6 +109,10 @@ impl<S: Alter> SqlKeeper<S> {
             → OpensAs number (state S.Store conn) (state S.Store k.conn)) }
         ensures held { IfOk result (λ k. HasCleanDisk (state S.Store k.conn)
             → Stays (held_in number (state S.Store conn)) (held_in number (state S.Store k.conn))) }
+        ensures leaves { IfOk result (λ k. Survives (state S.Store conn) (state S.Store k.conn)
+            (OpensTo number (state S.Store conn))) }
+        ensures leaves_refused { IfErr result (λ e. Survives (state S.Store conn)
+            (state S.Store e.1) (OpensTo number (state S.Store conn))) }
         ensures refuses { IfErr result (λ e. HasCleanDisk (state S.Store e.1)
             → RefusesToOpen number (state S.Store conn) (state S.Store e.1) e.0) }
         ensures stays { IfErr result (λ e. HasCleanDisk (state S.Store e.1)
@@ -142,6 +146,8 @@ impl<S: Alter> SqlKeeper<S> {
         ensures refuses { HasCleanDisk (state S.Store result.0.conn)
             → IfErr result.1 (RefusesToOpen number (state S.Store conn)
             (state S.Store result.0.conn)) }
+        ensures leaves { Survives (state S.Store conn) (state S.Store result.0.conn)
+            (OpensTo number (state S.Store conn)) }
         ensures held { HasCleanDisk (state S.Store result.0.conn)
             → Stays (held_in number (state S.Store conn))
             (held_in number (state S.Store result.0.conn)) }

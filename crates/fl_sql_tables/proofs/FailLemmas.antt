@@ -43,9 +43,10 @@ use Rattle.std.specs.List.Sorted.{IsPermutation}
 use Rattle.std.proofs.lemmas.List.Sorted.{IsPermutation-refl}
 use Rattle.std.proofs.lemmas.List.{take-append-drop}
 use Rattle.fl_sql_tables.proofs.StateLemmas.{zero_or}
+use Rattle.fl_sql_tables.proofs.QueryLemmas.{runs_out}
 use Rattle.fl_sql_tables.proofs.SetLemmas.{with_none}
 use Rattle.fl_sql_tables.specs.Spelling.{row_of}
-use Rattle.fl_sql_tables.specs.Failing.{IsFault, IsRefused, FailsToRaise, FailsToPut, FailsToSave}
+use Rattle.fl_sql_tables.specs.Failing.{IsFault, RunsOut, IsRefused, FailsToRaise, FailsToPut, FailsToSave}
 use Rattle.fl_sql_tables.proofs.BootLemmas.{shown_self, selects_self}
 use Rattle.fl_sql_tables.proofs.Texts.{self_query, ops_query, select_self_is, select_ops_is, plain_1, plain_3, plain_4, plain_5, unlisted_3, unlisted_5, raise_boot_is, insert_op_is}
 
@@ -134,26 +135,42 @@ module _ (schema : Schema) (sql : List ℕ) (params : Row) (old new : State) (ha
         | inr (inr timed) ↦ timed.0 bare.1
       ]
 
-  pub not_run_fault : (e : Error) → IsNotRun old new sql params e → IsFault old new e
+  not_run_fails : (e : Error) → IsNotRun old new sql params e → Fails old new ⊥ e
   unfolding IsNotRun
-  not_run_fault e (inl h) = absurd (is_statement e h.0)
-  not_run_fault e (inr h) = fails_alone old new e is_open h
+  not_run_fails e (inl h) = absurd (is_statement e h.0)
+  not_run_fails e (inr h) = h
 
-pub query_fault : (sql : List ℕ) (old new : State) → old.now.schema ≡ keeper_schema → IsTrue old.is_open → IsPlain (understood keeper_schema sql) → IsWhole sql 0 (understood keeper_schema sql)
-    → reads_listing keeper_schema sql ≡ false → IsReadAlways (command_of (understood keeper_schema sql)) → (e : Error) → FailsToQuery sql [] old new e → IsFault old new e
+  pub not_run_fault : (e : Error) → IsNotRun old new sql params e → IsFault old new e
+  not_run_fault e h = fails_alone old new e is_open (not_run_fails e h)
+
+-- why a query is not answered: the store failed, or the limit was met
+query_cause : (sql : List ℕ) (old new : State) → old.now.schema ≡ keeper_schema → IsTrue old.is_open → IsPlain (understood keeper_schema sql) → IsWhole sql 0 (understood keeper_schema sql)
+    → reads_listing keeper_schema sql ≡ false → IsReadAlways (command_of (understood keeper_schema sql)) → (e : Error) → FailsToQuery sql [] old new e
+    → Fails old new ⊥ e ⊎ ((e ≡ SqliteFailure code.OperationInterrupted) × IsSome old.step_limit)
 unfolding FailsToQuery
-query_fault sql old new has is_open plain whole unlisted always e (inl h) = not_run_fault keeper_schema sql [] old new has is_open plain whole e h
-query_fault sql old new has is_open plain whole unlisted always e (inr h) =
+query_cause sql old new has is_open plain whole unlisted always e (inl h) = inl (not_run_fails keeper_schema sql [] old new has is_open plain whole e h)
+query_cause sql old new has is_open plain whole unlisted always e (inr h) =
     let known = sym h.1.is ∙ ap (λ s. understood s sql) has in
     let bare = subst IsPlain (sym known) plain in
     let it = rw (bare.0, bare.1, append-nil []) at h.2 in
     let db : it.0 ≡ old.now = subst (λ b. IsSourceOf b old.now it.0) (ap (λ s. reads_listing s sql) has ∙ unlisted) it.1 in
     let here : it.0 ≡ record { schema = keeper_schema; trees = old.now.trees } = db ∙ ap (λ s. record { schema = s; trees = old.now.trees }) has in
-    inr (inr (always old.step_limit old.now.trees e (subst₂ (λ k d. RefusesToRead old.step_limit k d [] e) (ap command_of known) here it.2)))
+    inr (always old.step_limit old.now.trees e (subst₂ (λ k d. RefusesToRead old.step_limit k d [] e) (ap command_of known) here it.2))
 
--- the operations are not shown
-pub ops_fault : (old new : State) → old.now.schema ≡ keeper_schema → IsTrue old.is_open → (e : Error) → FailsToQuery select_ops_text [] old new e → IsFault old new e
-ops_fault old new has is_open = query_fault select_ops_text old new has is_open plain_3 whole_ops unlisted_3 read_ops
+pub query_fault : (sql : List ℕ) (old new : State) → old.now.schema ≡ keeper_schema → IsTrue old.is_open → IsPlain (understood keeper_schema sql) → IsWhole sql 0 (understood keeper_schema sql)
+    → reads_listing keeper_schema sql ≡ false → IsReadAlways (command_of (understood keeper_schema sql)) → (e : Error) → FailsToQuery sql [] old new e → IsFault old new e
+query_fault sql old new has is_open plain whole unlisted always e h = elim (query_cause sql old new has is_open plain whole unlisted always e h) [
+  | inl fails ↦ fails_alone old new e is_open fails
+  | inr limited ↦ inr (inr limited)
+]
+
+-- the operations are not shown, and for want of memory the transaction is undone
+pub ops_fails : (old new : State) → old.now.schema ≡ keeper_schema → IsTrue old.is_open → (e : Error) → FailsToQuery select_ops_text [] old new e
+    → IsFault old new e × (e ≡ SqliteFailure code.OutOfMemory → RunsOut old new)
+ops_fails old new has is_open e h = elim (query_cause select_ops_text old new has is_open plain_3 whole_ops unlisted_3 read_ops e h) [
+  | inl fails ↦ (fails_alone old new e is_open fails, λ _. runs_out old new fails.3)
+  | inr limited ↦ (inr (inr limited), λ is. absurd (let wrong : SqliteFailure code.OutOfMemory ≡ SqliteFailure code.OperationInterrupted = sym is ∙ limited.0 in cc))
+]
 
 more_before : (a b c : ℕ) → a ≤ b → MoreFaults b c → MoreFaults a c
 more_before a b c le h = omega (arith, h)

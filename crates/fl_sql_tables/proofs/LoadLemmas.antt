@@ -1,5 +1,5 @@
 -- Operations that are loaded row by row.
-use Rattle.std.proofs.Common.{◌≡◌, ◌≢◌, inl, inr, ◌∙◌, refl, sym, ap, subst, ℕ, ◌≤◌, ◌+◌, length-append, Bool, true, false, List, [], ◌∷◌, ◌++◌, map, length, Option, Some, None, arith, ◌||◌}
+use Rattle.std.proofs.Common.{◌≡◌, ◌≢◌, inl, inr, ◌∙◌, refl, sym, ap, subst, ℕ, ◌≤◌, ◌<◌, ◌+◌, length-append, Bool, true, false, List, [], ◌∷◌, ◌++◌, map, length, Option, Some, None, arith, ◌||◌}
 use Rattle.std.specs.List.Sorted.{IsPermutation}
 use Rattle.std.proofs.lemmas.List.{map-append, length-map, length_push}
 use Rattle.std.proofs.lemmas.Bool.{or_cases}
@@ -13,7 +13,8 @@ use Rattle.sqlite.specs.Given.{HasGiven, Advances, FailsToAdvance}
 use Rattle.sqlite.specs.State.{State, IsUnchanged, Survives}
 use Rattle.sqlite.specs.declared.error.Error.{Error}
 use Rattle.fl_sql_tables.specs.Failing.{FailsToLoad}
-use Rattle.fl_sql_tables.proofs.FailLemmas.{ops_fault, fault_within}
+use Rattle.fl_sql_tables.proofs.FailLemmas.{ops_fails, fault_within}
+use Rattle.fl_sql_tables.proofs.QueryLemmas.{runs_out_then, kept_if_same}
 use Rattle.fl_labels.specs.SetBy.{SetBy, In, empty, insert, of_list, contains, contains-insert, contains-of_list}
 use Rattle.fl_ops.specs.declared.op.Op.{Op}
 use Rattle.fl_ops.specs.OpOrder.{op_cmp}
@@ -21,7 +22,7 @@ use Rattle.fl_ops.specs.OpLaws.{op_total, op_exact, op_equivalence}
 use Rattle.fl_store.specs.Kept.{HasNamesOnce}
 use Rattle.fl_sql_tables.specs.Tables.{keeper_schema, select_ops_text}
 use Rattle.fl_sql_tables.specs.Spelling.{op_of}
-use Rattle.fl_sql_tables.specs.Stored.{op_in, ops_in, shown_op, HasBadRow}
+use Rattle.fl_sql_tables.specs.Stored.{op_in, ops_in, shown_op, HasBadRow, HasReadGood}
 use Rattle.fl_sql_tables.proofs.SetLemmas.{of_list_push, has}
 use Rattle.fl_sql_tables.proofs.OpLemmas.{AreRows, spells, contains_op, any_mapped, any_read, loaded}
 use Rattle.fl_sql_tables.proofs.Selects.{selects_ops}
@@ -186,6 +187,24 @@ module _ {S : Type 0} (g : Ghosts S) (old : State) (mid new : Held S) (ops : Set
       let within : length so_far.rows ≤ length ((state g mid).now.trees 1) = rows_within _ there.0 so_far.rows there.1 in
       subst (λ n. n ≤ length (old.now.trees 1)) so_far.counted (subst (λ d. length so_far.rows ≤ length (d.trees 1)) first.0.now_is within)
 
+  -- what was given is good, and some of it was given
+  pub has_read_good : HasNamesOnce ops → 0 < count → HasReadGood (old.now.trees 1)
+  has_read_good once some =
+      let there = stand_there g mid (ap (λ d. d.schema) first.0.now_is ∙ ours) (unchanged_still old (state g mid) first) so_far.rows so_far.given in
+      let many : length so_far.list ≡ length so_far.rows =
+      sym (length-map so_far.list Some) ∙ ap length (sym so_far.are) ∙ length-map so_far.rows op_of in
+      let counted : length so_far.rows ≡ count = so_far.counted in (
+        so_far.list,
+        omega (arith, many, counted, some),
+        record {
+          shown = so_far.rows;
+          rest = there.0;
+          among = subst (λ d. IsPermutation (map shown_op (d.trees 1)) (so_far.rows ++ there.0)) first.0.now_is there.1;
+          spelled = so_far.are;
+          once = subst HasNamesOnce so_far.ops_are once;
+        },
+      )
+
   -- at the end, the operations are those of the table, which has no bad row
   pub ends_whole : HasNamesOnce ops → Advances g mid new None → (ops ≡ ops_in (old.now.trees 1)) × ¬ HasBadRow (old.now.trees 1)
   ends_whole once step =
@@ -198,8 +217,10 @@ module _ {S : Type 0} (g : Ghosts S) (old : State) (mid new : Held S) (ops : Set
   pub step_fails : Survives old (state g mid) (λ _. ⊥) → (e : Error) → FailsToAdvance g mid new e → FailsToLoad old (state g new) e
   step_fails so e fails =
       let failed = fails select_ops_text [] so_far.rows so_far.given in
-      let here = ops_fault (state g mid) (state g new) (ap (λ d. d.schema) first.0.now_is ∙ ours) first.0.is_open e failed in
-      inl (fault_within old (state g mid) (state g new) (state g new) e so.counts (omega arith) so.limit here)
+      let here = ops_fails (state g mid) (state g new) (ap (λ d. d.schema) first.0.now_is ∙ ours) first.0.is_open e failed in (
+        inl (fault_within old (state g mid) (state g new) (state g new) e so.counts (omega arith) so.limit here.0),
+        λ is. runs_out_then old (state g mid) (state g new) (kept_if_same old (state g mid) first) (here.1 is),
+      )
 
   module _ (second : IsUnchanged (state g mid) (state g new)) where
     now_same : (state g new).now ≡ old.now

@@ -4,18 +4,38 @@ use Rattle.sqlite.specs.Order.{Row}
 use Rattle.sqlite.specs.declared.error.Error.{Error}
 use Rattle.sqlite.specs.Listing.{understood}
 use Rattle.sqlite.specs.Given.{IsPlain}
-use Rattle.sqlite.specs.State.{State, IsUnchanged, IsRolledBack, IsNotRun, FailsToQuery, QueriesRow, Shown, Survives, CommitsShowing}
+use Rattle.sqlite.specs.State.{State, IsUnchanged, IsRolledBack, IsNotRun, KeepsCommit, FailsToQuery, QueriesRow, Shown, Survives, CommitsShowing}
 use Rattle.sqlite.proofs.StateLemmas.{survives_weaker}
 use Rattle.sqlite.proofs.Callers.{never_commits}
 use Rattle.fl_sql_tables.specs.Tables.{keeper_schema}
 use Rattle.fl_sql_tables.specs.Stored.{IsUndone}
 use Rattle.fl_sql_tables.specs.Serving.{IsServing}
+use Rattle.fl_sql_tables.specs.Failing.{RunsOut}
 
 pub undone_same : (old new : State) → old.now ≡ old.committed → IsUnchanged old new → IsUndone old new
 undone_same old new settled h = record { was_open = λ _. h.0.was_open; now_is = λ _. h.0.now_is ∙ settled; committed_is = λ _. h.0.committed_is }
 
 pub undone_back : (old new : State) → IsRolledBack old new → IsUndone old new
 undone_back old new h = record { was_open = h.was_open; now_is = λ is_open. (h.undone is_open).0; committed_is = λ is_open. (h.undone is_open).1 }
+
+-- what the database leaves where it wants for memory
+pub runs_out : (old new : State) → IsRolledBack old new → RunsOut old new
+runs_out old new h = record { undone = undone_back old new h; idle = h.autocommit; unmarked = h.unmarked }
+
+-- before it, nothing was committed
+pub runs_out_then : (a b c : State) → KeepsCommit a b → RunsOut b c → RunsOut a c
+runs_out_then a b c kept h = record {
+  undone = record {
+    was_open = λ is_open. kept.was_open (h.undone.was_open is_open);
+    now_is = λ is_open. h.undone.now_is is_open ∙ kept.committed (h.undone.was_open is_open);
+    committed_is = λ is_open. h.undone.committed_is is_open ∙ kept.committed (h.undone.was_open is_open);
+  };
+  idle = h.idle;
+  unmarked = h.unmarked;
+}
+
+pub kept_if_same : (a b : State) → IsUnchanged a b → KeepsCommit a b
+kept_if_same a b h = record { was_open = λ _. h.0.was_open; committed = λ _. h.0.committed_is }
 
 pub undone_not_run : (old new : State) (sql : List ℕ) (params : Row) (e : Error) → old.now ≡ old.committed → IsNotRun old new sql params e → IsUndone old new
 unfolding IsNotRun

@@ -1,5 +1,5 @@
 -- Why a call over a keeper's database fails.
-use Rattle.std.specs.Prelude.{◌≡◌, ◌<◌, ◌≤◌, ◌⊎◌, ◌-◌, ◌^◌, ℕ, pos, List, [], ◌∷◌, ◌++◌, length, Option, None, Result, Ok, Err, IsTrue, IsSome}
+use Rattle.std.specs.Prelude.{◌≡◌, ◌<◌, ◌≤◌, ◌⊎◌, ◌-◌, ◌^◌, ℕ, pos, List, [], ◌∷◌, ◌++◌, length, Option, None, Result, Ok, Err, IsTrue, IsSome, false}
 use Rattle.sqlite.specs.Disk.{MoreFaults}
 use Rattle.sqlite.specs.declared.types.Value.TheVariants.{Int}
 use Rattle.sqlite.specs.Order.{Row}
@@ -17,7 +17,7 @@ use Rattle.fl_sql_tables.specs.Tables.{keeper_schema, raise_boot_text, insert_op
 use Rattle.fl_sql_tables.specs.Spelling.{row_of}
 use Rattle.fl_sql_tables.specs.declared.load.LoadFault.{LoadFault}
 use Rattle.fl_sql_tables.specs.declared.load.LoadFault.TheVariants.{Failed, Memory, BadRow}
-use Rattle.fl_sql_tables.specs.Stored.{AddsOps, HasBadRow, IsListed}
+use Rattle.fl_sql_tables.specs.Stored.{AddsOps, HasBadRow, HasReadGood, IsListed, IsUndone}
 
 -- there was not enough memory; the disk failed once more; or the limit on steps was met
 abbrev pub IsFault : State → State → Error → Type 0
@@ -25,6 +25,12 @@ IsFault old new e =
     (e ≡ SqliteFailure OutOfMemory)
     ⊎ ((IsTrue (is_disk_error e) × MoreFaults old.faults new.faults)
     ⊎ ((e ≡ SqliteFailure OperationInterrupted) × IsSome old.step_limit))
+
+-- the database wanted for memory: nothing was committed, and neither a transaction nor a savepoint is left
+pub record RunsOut (old new : State) : Type 0 where
+  pub undone : IsUndone old new
+  pub idle : new.in_transaction ≡ false
+  pub unmarked : new.marks ≡ []
 
 -- what a text means does not go over these tables
 abbrev pub IsRefused : State → Database → List ℕ → Row → Result Compiled CompileError → Type 0
@@ -66,12 +72,14 @@ FailsToSave ops old new e =
     ⊎ ((first : List Op) × (op : Op) × (rest : List Op) × (ops ≡ first ++ op ∷ rest) × (db : Database) × AddsOps first old.now db
     × IsRefused old db insert_op_text (row_of op) (understood keeper_schema insert_op_text))
 
--- why the database did not give its operations: a fault, or the table has as many rows as a `u64` counts
+-- why the database did not give its operations: a fault, or the table has as many rows as a `u64` counts; and what it leaves for want of memory
 abbrev pub FailsToLoad : State → State → Error → Type 0
-FailsToLoad old new e = IsFault old new e ⊎ ((e ≡ SqliteFailure TooBig) × (2 ^ 64 - 1 ≤ length (old.now.trees 1)))
+FailsToLoad old new e =
+    (IsFault old new e ⊎ ((e ≡ SqliteFailure TooBig) × (2 ^ 64 - 1 ≤ length (old.now.trees 1))))
+    × (e ≡ SqliteFailure OutOfMemory → RunsOut old new)
 
--- why no operations were loaded, and what stays: they want for memory only where there are some
+-- why no operations were loaded, and what stays: they want for memory only where some were read, and none of what was read is bad
 abbrev pub RefusesToLoad : State → State → LoadFault → Type 0
 RefusesToLoad old new (Failed e) = FailsToLoad old new e
-RefusesToLoad old new Memory = (0 < length (old.now.trees 1)) × IsUnchanged old new
+RefusesToLoad old new Memory = HasReadGood (old.now.trees 1) × IsUnchanged old new
 RefusesToLoad old new BadRow = HasBadRow (old.now.trees 1) × IsUnchanged old new

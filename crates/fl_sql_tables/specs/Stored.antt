@@ -7,7 +7,7 @@ use Rattle.sqlite.specs.Tree.{Trees, put_row}
 use Rattle.sqlite.specs.Edit.{is_taken}
 use Rattle.sqlite_trees.specs.Objects.{catalog_tree}
 use Rattle.sqlite.specs.Effect.{Database}
-use Rattle.std.specs.Prelude.{Option, IsTrue}
+use Rattle.std.specs.Prelude.{Option, Some, IsTrue, ◌<◌, length}
 use Rattle.std.specs.List.{filter_map, list_any}
 use Rattle.std.specs.List.Sorted.{IsPermutation}
 use Rattle.fl_labels.specs.SetBy as set
@@ -57,6 +57,18 @@ ops_in rows = set.of_list (filter_map op_in rows)
 -- a row spells no operation, or two operations have one name
 abbrev pub HasBadRow : List Row → Type 0
 HasBadRow rows = IsTrue (list_any (λ r. is_none (op_in r)) rows) ⊎ ¬ HasNamesOnce (ops_in rows)
+
+-- what SELECT shows of some rows of the table spells these operations, whose names differ
+pub record ReadsGood (table : List Row) (read : List Op) : Type 0 where
+  pub shown : List Row
+  pub rest : List Row
+  pub among : IsPermutation (map shown_op table) (shown ++ rest)
+  pub spelled : map op_of shown ≡ map Some read
+  pub once : HasNamesOnce (set.of_list read)
+
+-- some rows of the table were read, and none of them is bad
+abbrev pub HasReadGood : List Row → Type 0
+HasReadGood table = (read : List Op) × (0 < length read) × ReadsGood table read
 
 abbrev pub whole_at : Row → ℕ → ℕ
 whole_at r at = count_in (column r at)

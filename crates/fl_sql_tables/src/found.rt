@@ -1,15 +1,15 @@
 //! Making the tables.
-ghost use Rattle.std.specs.Prelude.{◌≡◌, ◌≤◌, [], false, IsTrue, OnOk, OnErr, IfErr};
+ghost use Rattle.std.specs.Prelude.{◌≡◌, ◌≤◌, [], false, IsTrue, OnOk, OnErr, IfErr, Err};
 ghost use Rattle.sqlite.specs.Held.{state};
 ghost use Rattle.sqlite.specs.View.{doubt};
 ghost use Rattle.sqlite.specs.State.{HasCleanDisk, KeepsCommit, Survives};
 ghost use Rattle.fl_sql_tables.specs.Tables.{no_schema, self_schema, keeper_schema};
 ghost use Rattle.fl_sql_tables.specs.Stored.{IsUndone};
 ghost use Rattle.fl_sql_tables.specs.Founding.{MakesSelf, MakesOps, StartsSelf, MakesTables, Founds, FoundsTo};
-ghost use Rattle.fl_sql_tables.specs.Failing.{IsFault, FailsToStart, FailsToFound};
+ghost use Rattle.fl_sql_tables.specs.Failing.{IsFault, FailsToStart, FailsToFound, RunsOut};
 
 use fl_labels::name::NodeNumber;
-use sqlite::{Alter, Connection, Error, Transaction, params};
+use sqlite::{Alter, Connection, Error, ErrorCode, Transaction, params};
 
 fn create_self<S: Alter>(tx: &mut Transaction<'_, S>) -> Result<(), Error>
     requires { (state S.Store tx.old.conn.now).now.schema ≡ no_schema }
@@ -117,6 +117,9 @@ pub fn found<S: Alter>(conn: &mut Connection<S>, number: NodeNumber) -> Result<(
         (state S.Store conn.old) (state S.Store conn.new)) }
     ensures fails { HasCleanDisk (state S.Store conn.new) → IsTrue (state S.Store conn.old).is_open
         → IfErr result (FailsToFound number (state S.Store conn.old) (state S.Store conn.new)) }
+    ensures wants { HasCleanDisk (state S.Store conn.new)
+        → result ≡ Err (Error.SqliteFailure ErrorCode.OutOfMemory)
+        → RunsOut (state S.Store conn.old) (state S.Store conn.new) }
     ensures survives { Survives (state S.Store conn.old) (state S.Store conn.new) (FoundsTo number
         (state S.Store conn.old)) }
 {

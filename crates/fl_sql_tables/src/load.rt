@@ -68,9 +68,10 @@ fn next_op<S: Alter>(rows: &mut Rows<'_, S>) -> Result<Step, Error>
 /// The operations of the table, read one row at a time.
 ///
 /// Refused with `BadRow` where a row spells no operation or two have one name, and with `Memory`
-/// where the operations do not fit; the database stays as it was. It is `Failed` only where memory
-/// is wanted by the database, or the disk fails, or the limit on steps is met, or the table has as
-/// many rows as a `u64` counts; no transaction is under way then.
+/// where the operations that were read do not fit, none of which is bad then; the database stays as
+/// it was. It is `Failed` only where memory is wanted by the database, or the disk fails, or the
+/// limit on steps is met, or the table has as many rows as a `u64` counts; no transaction is under
+/// way then.
 pub fn load_ops<S: Alter>(
     alloc: Global,
     conn: &mut Connection<S>,

@@ -1,18 +1,18 @@
 //! Rewriting a database of the first format in the second.
-ghost use Rattle.std.specs.Prelude.{◌≡◌, ◌⊎◌, [], false, IsTrue, OnOk, OnErr, IfErr};
+ghost use Rattle.std.specs.Prelude.{◌≡◌, ◌⊎◌, [], false, IsTrue, OnOk, OnErr, IfErr, Err};
 ghost use Rattle.sqlite.specs.Held.{state};
 ghost use Rattle.sqlite.specs.Listing.{understood};
 ghost use Rattle.sqlite.specs.State.{HasCleanDisk, KeepsCommit, Survives};
 ghost use Rattle.fl_sql_tables.specs.Tables.{keeper_schema, drop_ops_text, set_format_text};
 ghost use Rattle.fl_sql_tables.specs.Stored.{IsOurs, IsUndone, PutsIn};
-ghost use Rattle.fl_sql_tables.specs.Failing.{IsFault, IsRefused, FailsToSave};
+ghost use Rattle.fl_sql_tables.specs.Failing.{IsFault, IsRefused, FailsToSave, RunsOut};
 ghost use Rattle.fl_sql_tables.specs.Migrating.{DropsOps, IsFormer, SetsFormat, MigratesIn, Migrates, MigratesTo, FailsToMigrate};
 
 use crate::found::create_ops;
 use crate::put::put_ops;
 use fl_labels::name::NodeNumber;
 use fl_ops::op::Op;
-use sqlite::{Alter, Connection, Error, Transaction};
+use sqlite::{Alter, Connection, Error, ErrorCode, Transaction};
 use std::alloc::Global;
 
 fn drop_ops<S: Alter>(tx: &mut Transaction<'_, S>) -> Result<(), Error>
@@ -127,6 +127,9 @@ pub fn migrate<S: Alter>(
         (state S.Store conn.old) (state S.Store conn.new)) }
     ensures fails { HasCleanDisk (state S.Store conn.new) → IfErr result (FailsToMigrate ops.now
         (state S.Store conn.old) (state S.Store conn.new)) }
+    ensures wants { HasCleanDisk (state S.Store conn.new)
+        → result ≡ Err (Error.SqliteFailure ErrorCode.OutOfMemory)
+        → RunsOut (state S.Store conn.old) (state S.Store conn.new) }
     ensures survives { Survives (state S.Store conn.old)
         (state S.Store conn.new) (MigratesTo number ops.now (state S.Store conn.old).now) }
 {

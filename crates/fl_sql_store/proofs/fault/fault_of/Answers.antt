@@ -1,5 +1,6 @@
 use Rattle.std.proofs.Common.{[]}
-use Rattle.fl_sql_store.proofs.CauseLemmas.{kept_if_not_run, kept_if_same}
+use Rattle.fl_sql_tables.proofs.QueryLemmas.{kept_if_same}
+use Rattle.fl_sql_store.proofs.CauseLemmas.{kept_if_not_run}
 use Rattle.fl_sql_store.proofs.fault.fault_of.Goals as goal
 use Rattle.fl_sql_store.proofs.fault.fault_of.Goals.{in-Ok, in-Err}
 

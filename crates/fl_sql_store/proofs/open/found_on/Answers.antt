@@ -1,3 +1,4 @@
+use Rattle.std.proofs.Common.{ap, Err}
 use Rattle.sqlite.specs.Held.{state}
 use Rattle.fl_sql_store.proofs.FoundLemmas.{held_founded, held_or_founded, ready_founded, not_made}
 use Rattle.fl_sql_store.proofs.open.found_on.Goals as goal
@@ -18,4 +19,4 @@ returns-in-Ok-clause-ready g c clean = ready_founded c.args.number (state g.S.St
 pub returns-in-Err-clause-refuses : goal.returns-in-Err-clause-refuses
 returns-in-Err-clause-refuses g c clean =
     not_made c.args.number (state g.S.Store c.args.conn.now) (state g.S.Store c.found.new.conn) _ _ c.requires.blank c.refusal.ensures.either c.refusal.ensures.want c.refusal.ensures.failure
-    (c.in-Err.ensures.fails clean)
+    (c.in-Err.ensures.fails clean) (λ is. c.in-Err.ensures.wants clean (ap Err is))

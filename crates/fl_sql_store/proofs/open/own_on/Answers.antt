@@ -2,7 +2,7 @@ use Rattle.std.proofs.Common.{inl, inr, ap, ◌∙◌, arith}
 use Rattle.sqlite.specs.Held.{state}
 use Rattle.sqlite.specs.State.{HasCleanDisk}
 use Rattle.fl_sql_store.proofs.KeepLemmas.{stays_quiet}
-use Rattle.fl_sql_store.proofs.RewriteLemmas.{rewrites_after, stays_on, refuses_after, on_ok_then, if_err_then}
+use Rattle.fl_sql_store.proofs.RewriteLemmas.{rewrites_after, leaves_after, leaves_quiet, stays_on, refuses_after, on_ok_then, if_err_then}
 use Rattle.fl_sql_store.proofs.open.own_on.Goals as goal
 
 pub migrate_on-requires-clause-former : goal.migrate_on-requires-clause-former
@@ -54,3 +54,14 @@ returns-in-Err-clause-held g c clean = stays_quiet c.args.number (state g.S.Stor
 
 pub returns-in-Err-clause-refuses : goal.returns-in-Err-clause-refuses
 returns-in-Err-clause-refuses g c clean = inl (c.in-Err.ensures.refuses clean)
+
+pub returns-in-Ok-Two-clause-leaves : goal.returns-in-Ok-Two-clause-leaves
+returns-in-Ok-Two-clause-leaves g c = leaves_quiet (state g.S.Store c.args.conn.now) (state g.S.Store c.itself_on.new.conn) _ c.itself_on.ensures.survives
+
+pub returns-in-Ok-One-clause-leaves : goal.returns-in-Ok-One-clause-leaves
+returns-in-Ok-One-clause-leaves g c =
+    leaves_after c.args.number (state g.S.Store c.args.conn.now) (state g.S.Store c.itself_on.new.conn) (state g.S.Store c.migrate_on.new.conn)
+    c.itself_on.ensures.survives c.migrate_on.ensures.leaves c.in-Ok-One.ensures.same
+
+pub returns-in-Err-clause-leaves : goal.returns-in-Err-clause-leaves
+returns-in-Err-clause-leaves g c = leaves_quiet (state g.S.Store c.args.conn.now) (state g.S.Store c.itself_on.new.conn) _ c.itself_on.ensures.survives

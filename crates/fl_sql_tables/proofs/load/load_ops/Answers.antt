@@ -9,10 +9,10 @@ use Rattle.fl_sql_tables.proofs.StateLemmas.{clean_before, survives_on}
 use Rattle.fl_sql_tables.proofs.QueryLemmas.{quiet_query, undone_query, plain_here}
 use Rattle.fl_store.specs.Kept.{HasNamesOnce}
 use Rattle.fl_sql_tables.proofs.SetLemmas.{once-empty}
-use Rattle.fl_sql_tables.proofs.LoadLemmas.{given_none, given_more, once_with, none_then, some_then, ok_then, ends_whole, bad_step, clash_step, has_rows, step_fails}
+use Rattle.fl_sql_tables.proofs.LoadLemmas.{given_none, given_more, once_with, none_then, some_then, ok_then, ends_whole, bad_step, clash_step, has_rows, has_read_good, step_fails}
 use Rattle.fl_labels.specs.SetBy.{insert}
 use Rattle.fl_sql_tables.specs.Failing.{FailsToLoad}
-use Rattle.fl_sql_tables.proofs.FailLemmas.{ops_fault}
+use Rattle.fl_sql_tables.proofs.FailLemmas.{ops_fails}
 use Rattle.fl_sql_tables.proofs.load.load_ops.Goals as goal
 
 pub returns-in-Err-clause-survives : goal.returns-in-Err-clause-survives
@@ -98,7 +98,8 @@ returns-in-Err-clause-refuses g c clean =
     let ready = c.requires.serving (clean_before old new _ kept clean) in
     let refused : IsRefused g.S.Store select_ops_text [] c.args.conn.now c.query.result c.query.follows.lender-at-none = search rules in
     let failed : FailsToQuery select_ops_text [] old new c.in-Err.error = rw c.in-Err.is at (refused.err clean) in
-    inl (ops_fault old new ready.schema ready.is_open _ failed)
+    let fails = ops_fails old new ready.schema ready.is_open _ failed in
+    (inl fails.0, fails.1)
 
 pub returns-in-Err-next_op-clause-refuses : goal.returns-in-Err-next_op-clause-refuses
 returns-in-Err-next_op-clause-refuses g c clean =
@@ -150,9 +151,11 @@ returns-then-is_err-clause-refuses g c clean =
     let same : IsUnchanged old new = unchanged_then old mid new (c.rows.invariant.same before) (c.in-Ok-Found.ensures.same late) in
     let given = given_more g.S.Store c.rows.rows.conn.now c.next_op.new.rows.conn.now c.rows.ops (insert c.rows.ops c.in-Ok-Found.op)
     c.rows._count c.in-Ok-Found.op (c.rows.invariant.given before) (rw c.in-Ok-Found.field-0-is at (c.in-Ok-Found.ensures.ok late)) refl in
-    let many = has_rows g.S.Store old c.next_op.new.rows.conn.now c.next_op.new.rows.conn.now (insert c.rows.ops c.in-Ok-Found.op)
-    (c.rows._count + 1) ready.schema same given in
-    (omega (arith, many), (let same : IsUnchanged old new = same in search rules))
+    let once = once_with c.rows.ops (insert c.rows.ops c.in-Ok-Found.op) c.in-Ok-Found.op c.rows.invariant.names
+    (none_then c.clash.result _ (sym c.is_some.ensures ∙ c.if-is_some.false) c.clash.ensures.none) refl in
+    let good = has_read_good g.S.Store old c.next_op.new.rows.conn.now c.next_op.new.rows.conn.now (insert c.rows.ops c.in-Ok-Found.op)
+    (c.rows._count + 1) ready.schema same given once (omega arith) in
+    (good, (let same : IsUnchanged old new = same in search rules))
 
 pub returns-clause-refuses : goal.returns-clause-refuses
 returns-clause-refuses g c clean =
@@ -161,4 +164,4 @@ returns-clause-refuses g c clean =
     let late : HasCleanDisk mid = search rules in
     let ready = c.requires.serving (clean_before old mid _ c.rows.invariant.survives late) in
     let many = has_rows g.S.Store old c.rows.rows.conn.now c.rows.rows.conn.now c.rows.ops c.rows._count ready.schema (c.rows.invariant.same late) (c.rows.invariant.given late) in
-    inr (refl, omega (arith, many))
+    (inr (refl, omega (arith, many)), λ is. absurd cc)
