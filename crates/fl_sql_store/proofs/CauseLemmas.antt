@@ -1,6 +1,6 @@
 -- Why a call over the connection failed, and what it is told as.
 use Rattle.std.proofs.Common.{◌≡◌, ◌<◌, ◌≤◌, ◌+◌, ◌⊎◌, inl, inr, ℕ, pos, List, [], ◌∷◌, subst, sym, arith}
-use Rattle.std.proofs.Common.{◌∙◌, ◌≢◌}
+use Rattle.std.proofs.Common.{◌∙◌, ◌≢◌, Result, Err}
 use Rattle.sqlite.specs.Disk.{MoreFaults}
 use Rattle.sqlite.specs.Order.{Row}
 use Rattle.sqlite.specs.Held.{Held}
@@ -48,13 +48,13 @@ not_last number boot rows below is last =
     omega (arith, below, same)
 
 -- the database did not give the operations
-pub load_told : {S : Type 0} (g : Ghosts S) (old new : Held S) (fault : KeeperFault)
-    → (fault ≡ Memory) ⊎ (fault ≡ Broken) → IsTold g FailsToLoad old new fault
-    → RefusesToLoad g old new fault
-load_told g old new fault (inl is) told =
-    subst (RefusesToLoad g old new) (sym is) (inr (subst (IsTold g FailsToLoad old new) is told))
-load_told g old new fault (inr is) told =
-    subst (RefusesToLoad g old new) (sym is) (subst (IsTold g FailsToLoad old new) is told)
+pub load_told : {S : Type 0} (g : Ghosts S) (old new : Held S) (why : Option Error) (fault : KeeperFault)
+    → (fault ≡ Memory) ⊎ (fault ≡ Broken) → IsTold g FailsToLoad old new why fault
+    → RefusesToLoad g old new why fault
+load_told g old new why fault (inl is) told =
+    subst (RefusesToLoad g old new why) (sym is) (inr (subst (IsTold g FailsToLoad old new why) is told))
+load_told g old new why fault (inr is) told =
+    subst (RefusesToLoad g old new why) (sym is) (subst (IsTold g FailsToLoad old new why) is told)
 
 -- nothing changed before a call that committed nothing
 pub undone_after : (a b c : State) → IsUnchanged a b → IsUndone b c → IsUndone a c
@@ -91,16 +91,32 @@ module _ (e : KeeperFault) where
 pub memory_not_spent : Memory ≡ NamesSpent → ⊥
 memory_not_spent is = absurd (cc)
 
-module _ {S : Type 0} (g : Ghosts S) (Fails : State → State → Error → Type 0) (old new : Held S) (e : KeeperFault) where
-  pub told_memory : e ≡ Memory → IsTold g Fails old new e → IsTold g Fails old new Memory
-  told_memory is told = subst (IsTold g Fails old new) is told
+module _ {S : Type 0} (g : Ghosts S) (Fails : State → State → Error → Type 0) (old new : Held S) (why : Option Error) (e : KeeperFault) where
+  pub told_memory : e ≡ Memory → IsTold g Fails old new why e → IsTold g Fails old new why Memory
+  told_memory is told = subst (IsTold g Fails old new why) is told
 
-  pub told_broken : e ≡ Broken → IsTold g Fails old new e → IsTold g Fails old new Broken
-  told_broken is told = subst (IsTold g Fails old new) is told
+  pub told_broken : e ≡ Broken → IsTold g Fails old new why e → IsTold g Fails old new why Broken
+  told_broken is told = subst (IsTold g Fails old new why) is told
 
-pub load_broken : {S : Type 0} (g : Ghosts S) (old new : Held S) (e : KeeperFault)
-    → (e ≡ Memory) ⊎ ((e ≡ Broken) ⊎ (e ≡ BadRow)) → e ≢ Memory → e ≢ BadRow → RefusesToLoad g old new e
-    → IsTold g FailsToLoad old new Broken
-load_broken g old new e (inl is) not_memory not_bad h = absurd (not_memory is)
-load_broken g old new e (inr (inl is)) not_memory not_bad h = subst (RefusesToLoad g old new) is h
-load_broken g old new e (inr (inr is)) not_memory not_bad h = absurd (not_bad is)
+pub load_broken : {S : Type 0} (g : Ghosts S) (old new : Held S) (why : Option Error) (e : KeeperFault)
+    → (e ≡ Memory) ⊎ ((e ≡ Broken) ⊎ (e ≡ BadRow)) → e ≢ Memory → e ≢ BadRow → RefusesToLoad g old new why e
+    → IsTold g FailsToLoad old new why Broken
+load_broken g old new why e (inl is) not_memory not_bad h = absurd (not_memory is)
+load_broken g old new why e (inr (inl is)) not_memory not_bad h = subst (RefusesToLoad g old new why) is h
+load_broken g old new why e (inr (inr is)) not_memory not_bad h = absurd (not_bad is)
+
+-- a refusal that is told as this is no break
+err_is : {T : Type 0} (e f : KeeperFault) (r s : Result T KeeperFault) → r ≡ Err e → s ≡ Err f → r ≡ s → e ≡ f
+err_is e f r s r_is s_is same = cc
+
+pub not_broken : {T : Type 0} (e : KeeperFault) (r s : Result T KeeperFault) → r ≡ Err e → s ≡ Err Broken → e ≢ Broken → r ≢ s
+not_broken e r s r_is s_is differs same = differs (err_is e Broken r s r_is s_is same)
+
+pub memory_serves : (e : KeeperFault) → e ≡ Memory → e ≢ Broken
+memory_serves e is broken = absurd (let wrong : Memory ≡ Broken = sym is ∙ broken in cc)
+
+pub bad_row_serves : (e : KeeperFault) → e ≡ BadRow → e ≢ Broken
+bad_row_serves e is broken = absurd (let wrong : BadRow ≡ Broken = sym is ∙ broken in cc)
+
+pub spent_serves : (e : KeeperFault) → e ≡ NamesSpent → e ≢ Broken
+spent_serves e is broken = absurd (let wrong : NamesSpent ≡ Broken = sym is ∙ broken in cc)

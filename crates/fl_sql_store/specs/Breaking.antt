@@ -1,5 +1,5 @@
 -- What breaks a keeper over a database.
-use Rattle.std.specs.Prelude.{◌≡◌, ◌<◌, ◌+◌, ◌⊎◌, ℕ, List, codes, length}
+use Rattle.std.specs.Prelude.{◌≡◌, ◌<◌, ◌+◌, ◌⊎◌, ℕ, List, codes, length, Option, Some}
 use Rattle.sqlite.specs.Order.{Row}
 use Rattle.sqlite.specs.declared.error.Error.{Error}
 use Rattle.sqlite.specs.declared.error.Error.TheVariants.{SqliteFailure}
@@ -36,14 +36,15 @@ IsToldAs old new e BadRow = ⊥
 IsToldAs old new e NamesSpent = ⊥
 
 -- A call failed with an error that has this cause, and committed nothing; and what it left became
--- this with what the error was told as, where again nothing was committed.
+-- this with what the error was told as, where again nothing was committed. An error that breaks is kept.
 pub record IsTold {S : Type 0} (g : Ghosts S) (Fails : State → State → Error → Type 0)
-    (old new : Held S) (fault : KeeperFault) : Type 0 where
+    (old new : Held S) (why : Option Error) (fault : KeeperFault) : Type 0 where
   pub left : Held S
   pub error : Error
   pub cause : Fails (state g old) (state g left) error
   pub undone : IsUndone (state g old) (state g left)
   pub told : IsToldAs (state g left) (state g new) error fault
+  pub keeps : fault ≡ Broken → why ≡ Some error
   pub kept : KeepsCommit (state g left) (state g new)
   pub survives : Survives (state g left) (state g new) (λ _. ⊥)
 
@@ -54,26 +55,26 @@ FailsToBoot number old new e =
 
 -- why the operations were not loaded: a row is bad; there was not enough memory for those that were read, none of which is bad; or the
 -- database failed
-abbrev pub RefusesToLoad : {S : Type 0} → Ghosts S → Held S → Held S → KeeperFault → Type 0
-RefusesToLoad g old new Memory =
+abbrev pub RefusesToLoad : {S : Type 0} → Ghosts S → Held S → Held S → Option Error → KeeperFault → Type 0
+RefusesToLoad g old new why Memory =
     (HasReadGood ((state g old).now.trees 1) × IsUnchanged (state g old) (state g new))
-    ⊎ IsTold g FailsToLoad old new Memory
-RefusesToLoad g old new Broken = IsTold g FailsToLoad old new Broken
-RefusesToLoad g old new WrongNode = ⊥
-RefusesToLoad g old new BadRow = HasBadRow ((state g old).now.trees 1) × IsUnchanged (state g old) (state g new)
-RefusesToLoad g old new NamesSpent = ⊥
+    ⊎ IsTold g FailsToLoad old new why Memory
+RefusesToLoad g old new why Broken = IsTold g FailsToLoad old new why Broken
+RefusesToLoad g old new why WrongNode = ⊥
+RefusesToLoad g old new why BadRow = HasBadRow ((state g old).now.trees 1) × IsUnchanged (state g old) (state g new)
+RefusesToLoad g old new why NamesSpent = ⊥
 
 -- what breaks a keeper over a database: the call over its connection failed, and the error was told
 -- as a break
 abbrev pub SqlBreaks : {S : Type 0} → Ghosts S → Call → SqlKept S → SqlKept S → Type 0
-SqlBreaks g Load old new = IsTold g FailsToLoad old.conn new.conn Broken
-SqlBreaks g Boot old new = IsTold g (FailsToBoot old.number) old.conn new.conn Broken
+SqlBreaks g Load old new = IsTold g FailsToLoad old.conn new.conn new.why Broken
+SqlBreaks g Boot old new = IsTold g (FailsToBoot old.number) old.conn new.conn new.why Broken
 SqlBreaks g (Save ops) old new =
-    (0 < length ops) × IsTold g (FailsToSave ops) old.conn new.conn Broken
+    (0 < length ops) × IsTold g (FailsToSave ops) old.conn new.conn new.why Broken
 
 -- what wants for memory: the call over the connection did, or the operations that it read
 abbrev pub SqlWants : {S : Type 0} → Ghosts S → Call → SqlKept S → SqlKept S → Type 0
-SqlWants g Load old new = RefusesToLoad g old.conn new.conn Memory
-SqlWants g Boot old new = IsTold g (FailsToBoot old.number) old.conn new.conn Memory
+SqlWants g Load old new = RefusesToLoad g old.conn new.conn new.why Memory
+SqlWants g Boot old new = IsTold g (FailsToBoot old.number) old.conn new.conn new.why Memory
 SqlWants g (Save ops) old new =
-    (0 < length ops) × IsTold g (FailsToSave ops) old.conn new.conn Memory
+    (0 < length ops) × IsTold g (FailsToSave ops) old.conn new.conn new.why Memory

@@ -1,7 +1,9 @@
 -- What a keeper over a database keeps.
-use Rattle.std.specs.Prelude.{◌≡◌, ℕ, Bool, List, [], ◌∷◌, IsTrue, refl}
-use Rattle.std.specs.Coded.{Coded, code_by, coded×, coded_ℕ, coded_bool}
+use Rattle.std.specs.Prelude.{◌≡◌, ℕ, Bool, List, [], ◌∷◌, Option, IsTrue, refl}
+use Rattle.std.specs.Coded.{Coded, code_by, coded×, coded_ℕ, coded_bool, coded_option}
 use Rattle.sqlite.specs.Tree.{Trees}
+use Rattle.sqlite.specs.declared.error.Error.{Error}
+use Rattle.sqlite.specs.contracts.error.Error as error_row
 use Rattle.sqlite_trees.specs.Objects.{catalog_tree}
 use Rattle.sqlite.specs.State.{State}
 use Rattle.sqlite.specs.Held.{Held, held_code}
@@ -15,12 +17,15 @@ pub record SqlKept (S : Type 0) : Type 0 where
   pub number : ℕ
   pub failures : ℕ
   pub is_broken : Bool
+  -- the error at which a call broke it
+  pub why : Option Error
 
 abbrev pub sql_code : {S : Type 0} → Coded S → Coded (SqlKept S)
 sql_code {S} store =
-    code_by (Held S × (ℕ × (ℕ × Bool))) (coded× (held_code store) (coded× coded_ℕ (coded× coded_ℕ coded_bool)))
-    (λ k. (k.conn, (k.number, (k.failures, k.is_broken))))
-    (λ p. record { conn = p.0; number = p.1.0; failures = p.1.1.0; is_broken = p.1.1.1 }) (λ _. refl)
+    code_by (Held S × (ℕ × (ℕ × (Bool × Option Error))))
+    (coded× (held_code store) (coded× coded_ℕ (coded× coded_ℕ (coded× coded_bool (coded_option (error_row.the_row).coded)))))
+    (λ k. (k.conn, (k.number, (k.failures, (k.is_broken, k.why)))))
+    (λ p. record { conn = p.0; number = p.1.0; failures = p.1.1.0; is_broken = p.1.1.1.0; why = p.1.1.1.1 }) (λ _. refl)
 
 -- what an opening of the database may find, if a crash comes now
 abbrev pub held_in : ℕ → State → Kept → Type 0

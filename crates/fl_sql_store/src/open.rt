@@ -12,7 +12,9 @@ ghost use Rattle.fl_sql_tables.specs.Serving.{IsReady, IsServing};
 ghost use Rattle.fl_sql_tables.specs.Founding.{Founds, FoundsTo, IsOwnIn, IsOthers, IsSettled};
 ghost use Rattle.fl_sql_tables.specs.Migrating.{IsFormer, Migrates, MigratesTo};
 ghost use Rattle.fl_sql_store.specs.SqlKeeping.{held_in};
-ghost use Rattle.fl_sql_store.specs.Opening.{IsFailure, FailsToShowItself, OpensAs, OpensTo, RefusesToServe, RefusesToRewrite, RefusesToOpen, Rewrites, RewritesTo};
+ghost use Rattle.fl_sql_store.specs.Opening.{IsFailure, FailsToShowItself, OpensAs, OpensTo};
+ghost use Rattle.fl_sql_store.specs.Opening.{RefusesToServe, RefusesToRewrite, RefusesToOpen};
+ghost use Rattle.fl_sql_store.specs.Opening.{Rewrites, RewritesTo};
 
 use fl_labels::name::NodeNumber;
 use fl_ops::format::Format;

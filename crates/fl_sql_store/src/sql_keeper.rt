@@ -1,5 +1,5 @@
 //! A keeper over a database.
-ghost use Rattle.std.specs.Prelude.{◌≡◌, ◌<◌, true, false, not, IfOk, IfErr, OnOk, OnErr};
+ghost use Rattle.std.specs.Prelude.{◌≡◌, ◌<◌, true, false, not, None, IsTrue, IfOk, IfErr, OnOk, OnErr};
 ghost use Rattle.sqlite.specs.Held.{state};
 ghost use Rattle.sqlite.specs.State.{HasCleanDisk, Survives};
 ghost use Rattle.std.proofs.Common.{ap, ◌∙◌};
@@ -15,22 +15,23 @@ use fl_labels::name::NodeNumber;
 use fl_ops::op::Op;
 use fl_opset::set::OpSet;
 use fl_store::keeper::{Keeper, KeeperFault};
-use sqlite::{Alter, Connection};
+use sqlite::{Alter, Connection, Error};
 use std::alloc::Global;
 use std::marker::Model;
 
 /// A keeper over a database. Its calls are those of `calls` over its connection, up to the first
-/// that is `Broken`.
+/// that is `Broken`, whose error it keeps.
 pub struct SqlKeeper<S: Alter> {
     alloc: Global,
     conn: Connection<S>,
     number: NodeNumber,
     failures: u64,
     is_broken: bool,
+    why: Option<Error>,
 }
 
 impl<S: Alter> Model for SqlKeeper<S> {
-    ghost use Rattle.std.specs.Prelude.{◌≡◌, ◌<◌, false, IsTrue};
+    ghost use Rattle.std.specs.Prelude.{◌≡◌, ◌<◌, false, IsTrue, None};
     ghost use Rattle.sqlite.specs.Held.{state};
     ghost use Rattle.fl_sql_tables.specs.Serving.{IsServing};
     ghost use Rattle.fl_sql_store.specs.SqlKeeping.{SqlKept, sql_code};
@@ -44,12 +45,14 @@ impl<S: Alter> Model for SqlKeeper<S> {
       number = k.number;
       failures = k.failures;
       is_broken = k.is_broken;
+      why = k.why;
     } };
 
     ghost invariant = { λ k. (k.conn.in_transaction ≡ false)
         × (k.is_broken ≡ false → IsServing k.number (state S.Store k.conn))
         × (k.is_broken ≡ false → k.failures ≡ 0)
-        × (IsTrue k.is_broken → k.failures ≡ 1) };
+        × (IsTrue k.is_broken → k.failures ≡ 1)
+        × (k.is_broken ≡ false → k.why ≡ None) };
 }
 
 impl<S: Alter + Drop> Drop for SqlKeeper<S> {
@@ -60,6 +63,7 @@ impl<S: Alter + Drop> Drop for SqlKeeper<S> {
             number: _,
             failures: _,
             is_broken: _,
+            why: _,
         } = self;
     }
 }
@@ -74,7 +78,7 @@ impl<S: Alter> SqlKeeper<S> {
         requires idle { conn.in_transaction ≡ false }
         requires serving { IsServing number (state S.Store conn) }
         ensures { result
-            ≡ record { conn = conn; number = number; failures = 0; is_broken = false } }
+            ≡ record { conn = conn; number = number; failures = 0; is_broken = false; why = None } }
     {
         SqlKeeper {
             alloc,
@@ -82,6 +86,7 @@ impl<S: Alter> SqlKeeper<S> {
             number,
             failures: 0,
             is_broken: false,
+            why: None,
         }
     }
 
@@ -162,7 +167,8 @@ impl<S: Alter> SqlKeeper<S> {
     // A broken keeper over a database.
     fn broken(alloc: Global, conn: Connection<S>, number: NodeNumber) -> SqlKeeper<S>
         requires { conn.in_transaction ≡ false }
-        ensures { result ≡ record { conn = conn; number = number; failures = 1; is_broken = true } }
+        ensures { result
+            ≡ record { conn = conn; number = number; failures = 1; is_broken = true; why = None } }
     {
         SqlKeeper {
             alloc,
@@ -170,6 +176,7 @@ impl<S: Alter> SqlKeeper<S> {
             number,
             failures: 1,
             is_broken: true,
+            why: None,
         }
     }
 
@@ -188,6 +195,15 @@ impl<S: Alter> SqlKeeper<S> {
         self.is_broken
     }
 
+    /// The error at which a call broke it: none while it is not broken, and none where its opening
+    /// was refused.
+    pub fn why(&self) -> Option<Error>
+        ensures value { result ≡ self.now.why }
+        ensures none { self.now.is_broken ≡ false → result ≡ None }
+    {
+        self.why
+    }
+
     /// The connection, as the last call left it. No transaction is under way.
     pub fn into_connection(self) -> Connection<S>
         ensures same { result ≡ self.conn }
@@ -199,6 +215,7 @@ impl<S: Alter> SqlKeeper<S> {
             number: _,
             failures: _,
             is_broken: _,
+            why: _,
         } = self;
         connection
     }
@@ -214,7 +231,7 @@ impl<S: Alter> Keeper for SqlKeeper<S> {
       has_bad_row = λ k. HasBadRow ((state S.Store k.conn).now.trees 1);
       breaks = SqlBreaks S.Store;
       wants = SqlWants S.Store;
-      becomes = λ call old new. Unit {0};
+      becomes = λ call old new. IsTrue old.is_broken → new ≡ old;
     } };
 
     ghost holds = { λ k clean. something_held k.number
@@ -235,7 +252,7 @@ impl<S: Alter> Keeper for SqlKeeper<S> {
         if self.is_broken {
             return Err(KeeperFault::Broken);
         }
-        match load_on(alloc, &mut self.conn, self.number) {
+        match load_on(alloc, &mut self.conn, self.number, &mut self.why) {
             Ok(ops) => Ok(ops),
             Err(fault) => match fault {
                 KeeperFault::Memory => Err(KeeperFault::Memory),
@@ -253,7 +270,7 @@ impl<S: Alter> Keeper for SqlKeeper<S> {
         if self.is_broken {
             return Err(KeeperFault::Broken);
         }
-        match boot_on(&mut self.conn, self.number) {
+        match boot_on(&mut self.conn, self.number, &mut self.why) {
             Ok(boot) => Ok(boot),
             Err(fault) => match fault {
                 KeeperFault::Memory => Err(KeeperFault::Memory),
@@ -274,7 +291,7 @@ impl<S: Alter> Keeper for SqlKeeper<S> {
         if ops.is_empty() {
             return Ok(());
         }
-        match save_on(self.alloc, &mut self.conn, ops) {
+        match save_on(self.alloc, &mut self.conn, ops, &mut self.why) {
             Ok(()) => Ok(()),
             Err(fault) => match fault {
                 KeeperFault::Memory => Err(KeeperFault::Memory),

@@ -1,4 +1,4 @@
-use Rattle.std.proofs.Common.{◌<◌, inl, inr, arith}
+use Rattle.std.proofs.Common.{◌<◌, inl, inr, ap, Err, arith}
 use Rattle.sqlite.specs.Held.{state}
 use Rattle.sqlite.specs.State.{HasCleanDisk}
 use Rattle.fl_sql_store.proofs.KeepLemmas.{survives_raising, clean_before}
@@ -25,6 +25,7 @@ returns-in-Err-clause-fails g c clean differs =
       cause = inl (c.in-Err.ensures.fails late);
       undone = c.in-Err.ensures.err late;
       told = c.fault_of.ensures.told clean;
+      keeps = c.fault_of.ensures.keeps;
       kept = c.fault_of.ensures.kept clean;
       survives = c.fault_of.ensures.survives;
     }
@@ -46,6 +47,7 @@ returns-in-Err-raise_boot-clause-fails g c clean differs =
           undone_after old read left (c.in-Ok.ensures.same before)
           (c.in-Err-raise_boot.ensures.err late);
       told = c.fault_of-in-Err-raise_boot.ensures.told clean;
+      keeps = c.fault_of-in-Err-raise_boot.ensures.keeps;
       kept = c.fault_of-in-Err-raise_boot.ensures.kept clean;
       survives = c.fault_of-in-Err-raise_boot.ensures.survives;
     }
@@ -61,6 +63,7 @@ returns-in-Err-clause-last g c clean spent =
       cause = c.in-Err.ensures.fails late;
       undone = c.in-Err.ensures.err late;
       told = c.fault_of.ensures.told clean;
+      keeps = c.fault_of.ensures.keeps;
       kept = c.fault_of.ensures.kept clean;
       survives = c.fault_of.ensures.survives;
     })
@@ -82,3 +85,9 @@ returns-in-Err-raise_boot-clause-last g c clean spent =
     let before = clean_before read left _ c.raise_boot.ensures.survives late in
     let below : c.in-Ok.boot < 4294967295 = omega arith in
     absurd (not_last c.args.number c.in-Ok.boot _ below (c.in-Ok.ensures.ok before) spent)
+
+pub returns-in-Err-clause-spares : goal.returns-in-Err-clause-spares
+returns-in-Err-clause-spares g c differs = c.fault_of.ensures.spares (λ is. differs (ap Err is))
+
+pub returns-in-Err-raise_boot-clause-spares : goal.returns-in-Err-raise_boot-clause-spares
+returns-in-Err-raise_boot-clause-spares g c differs = c.fault_of-in-Err-raise_boot.ensures.spares (λ is. differs (ap Err is))

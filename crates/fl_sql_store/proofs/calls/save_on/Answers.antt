@@ -1,3 +1,4 @@
+use Rattle.std.proofs.Common.{ap, Err}
 use Rattle.sqlite.specs.Held.{state}
 use Rattle.fl_sql_store.proofs.KeepLemmas.{clean_before}
 use Rattle.fl_sql_store.proofs.calls.save_on.Goals as goal
@@ -13,6 +14,10 @@ returns-in-Err-clause-fails g c clean ours is_open =
       cause = c.in-Err.ensures.fails late ours is_open;
       undone = c.in-Err.ensures.err late ours;
       told = c.fault_of.ensures.told clean;
+      keeps = c.fault_of.ensures.keeps;
       kept = c.fault_of.ensures.kept clean;
       survives = c.fault_of.ensures.survives;
     }
+
+pub returns-in-Err-clause-spares : goal.returns-in-Err-clause-spares
+returns-in-Err-clause-spares g c differs = c.fault_of.ensures.spares (λ is. differs (ap Err is))

@@ -6,7 +6,7 @@ use Rattle.fl_store.specs.Keeping.{AfterBoot}
 use Rattle.fl_sql_store.specs.SqlKeeping.{SqlKept, held_in}
 use Rattle.fl_sql_store.proofs.KeepLemmas.{ready_as_committed, held_raised, held_spent, held_unchanged, held_or_raised}
 use Rattle.fl_sql_store.specs.Breaking.{IsTold, FailsToBoot}
-use Rattle.fl_sql_store.proofs.CauseLemmas.{told_memory, told_broken, boot_broken, memory_not_spent}
+use Rattle.fl_sql_store.proofs.CauseLemmas.{not_broken, memory_serves, told_memory, told_broken, boot_broken, memory_not_spent}
 use Rattle.fl_sql_store.proofs.sql_keeper.SqlKeeperKeeper.boot.Goals as goal
 
 pub returns-then-self-clause-held : goal.returns-then-self-clause-held
@@ -22,6 +22,7 @@ invariant_of-self-in-Memory g c = (
       ready_as_committed c.self.inside.number old new ready (c.in-Err.ensures.memory clean (ap Err c.in-Memory.is)),
   c.self.invariant.2,
   c.self.invariant.3,
+  λ whole. c.in-Err.ensures.spares (not_broken _ _ _ refl refl (memory_serves _ c.in-Memory.is)) ∙ c.self.invariant.4 whole,
 )
 
 pub returns-in-Ok-clause-held : goal.returns-in-Ok-clause-held
@@ -64,25 +65,25 @@ returns-in_default-clause-held g c clean =
 pub returns-in-Memory-clause-wanted : goal.returns-in-Memory-clause-wanted
 returns-in-Memory-clause-wanted g c clean _ =
     let is = c.in-Memory.is in
-    let told = told_memory g.S.Store (FailsToBoot c.self.inside.number) c.self.inside.conn c.boot_on.new.conn _ is
+    let told = told_memory g.S.Store (FailsToBoot c.self.inside.number) c.self.inside.conn c.boot_on.new.conn c.boot_on.new.why _ is
     (c.in-Err.ensures.fails clean (λ spent. memory_not_spent (sym is ∙ spent))) in
-    subst (λ (k : SqlKept _). IsTold g.S.Store (FailsToBoot k.number) k.conn c.boot_on.new.conn Memory)
+    subst (λ (k : SqlKept _). IsTold g.S.Store (FailsToBoot k.number) k.conn c.boot_on.new.conn c.boot_on.new.why Memory)
     c.self.view_is told
 
 pub returns-in_default-clause-broke : goal.returns-in_default-clause-broke
 returns-in_default-clause-broke g c clean _ =
-    let told = told_broken g.S.Store (FailsToBoot c.self.inside.number) c.self.inside.conn c.boot_on.new.conn _
+    let told = told_broken g.S.Store (FailsToBoot c.self.inside.number) c.self.inside.conn c.boot_on.new.conn c.boot_on.new.why _
     (boot_broken _ c.in-Err.ensures.either c.in_default.not-Memory c.in_default.not-NamesSpent)
     (c.in-Err.ensures.fails clean c.in_default.not-NamesSpent) in
-    inr (subst (λ (k : SqlKept _). IsTold g.S.Store (FailsToBoot k.number) k.conn c.boot_on.new.conn Broken)
+    inr (subst (λ (k : SqlKept _). IsTold g.S.Store (FailsToBoot k.number) k.conn c.boot_on.new.conn c.boot_on.new.why Broken)
     c.self.view_is told)
 
 pub returns-in_default-clause-counted : goal.returns-in_default-clause-counted
 returns-in_default-clause-counted g c clean =
-    let told = told_broken g.S.Store (FailsToBoot c.self.inside.number) c.self.inside.conn c.boot_on.new.conn _
+    let told = told_broken g.S.Store (FailsToBoot c.self.inside.number) c.self.inside.conn c.boot_on.new.conn c.boot_on.new.why _
     (boot_broken _ c.in-Err.ensures.either c.in_default.not-Memory c.in_default.not-NamesSpent)
     (c.in-Err.ensures.fails clean c.in_default.not-NamesSpent) in
     let none : c.self.inside.failures ≡ 0 = c.self.invariant.2 c.if-self.false in
     subst (λ (k : SqlKept _). (1 ≡ k.failures) ⊎ ((1 ≡ k.failures + 1)
-    × (IsTold g.S.Store (FailsToBoot k.number) k.conn c.boot_on.new.conn Broken)))
+    × (IsTold g.S.Store (FailsToBoot k.number) k.conn c.boot_on.new.conn c.boot_on.new.why Broken)))
     c.self.view_is (inr (omega (arith, none), told))

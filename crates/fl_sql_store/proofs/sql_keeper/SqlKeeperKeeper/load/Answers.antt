@@ -1,4 +1,4 @@
-use Rattle.std.proofs.Common.{◌≡◌, ap, subst, inr, arith, Ok, Err, ◌⊎◌, ◌+◌}
+use Rattle.std.proofs.Common.{◌≡◌, ap, subst, inr, arith, Ok, Err, ◌⊎◌, ◌+◌, refl, ◌∙◌}
 use Rattle.sqlite.specs.Held.{state}
 use Rattle.sqlite.specs.State.{HasCleanDisk}
 use Rattle.fl_store.specs.declared.keeper.KeeperFault.TheVariants.{Memory, Broken, BadRow}
@@ -8,7 +8,7 @@ use Rattle.fl_sql_tables.specs.Stored.{HasBadRow}
 use Rattle.fl_sql_store.proofs.KeepLemmas.{clean_before, ready_as_committed, ready_unchanged, after_load_ok, stays_quiet}
 use Rattle.fl_sql_tables.specs.Failing.{FailsToLoad}
 use Rattle.fl_sql_store.specs.Breaking.{IsTold, RefusesToLoad}
-use Rattle.fl_sql_store.proofs.CauseLemmas.{load_broken}
+use Rattle.fl_sql_store.proofs.CauseLemmas.{not_broken, memory_serves, bad_row_serves, load_broken}
 use Rattle.fl_sql_store.proofs.sql_keeper.SqlKeeperKeeper.load.Goals as goal
 
 pub invariant_of-self-in-Memory : goal.invariant_of-self-in-Memory
@@ -21,6 +21,7 @@ invariant_of-self-in-Memory g c = (
       ready_as_committed c.self.inside.number old new ready (c.in-Err.ensures.memory clean (ap Err c.in-Memory.is)),
   c.self.invariant.2,
   c.self.invariant.3,
+  λ whole. c.in-Err.ensures.spares (not_broken _ _ _ refl refl (memory_serves _ c.in-Memory.is)) ∙ c.self.invariant.4 whole,
 )
 
 pub invariant_of-self-in-BadRow : goal.invariant_of-self-in-BadRow
@@ -33,6 +34,7 @@ invariant_of-self-in-BadRow g c = (
       ready_unchanged c.self.inside.number old new ready (rw c.in-BadRow.is at (c.in-Err.ensures.refuses clean)).1,
   c.self.invariant.2,
   c.self.invariant.3,
+  λ whole. c.in-Err.ensures.spares (not_broken _ _ _ refl refl (bad_row_serves _ c.in-BadRow.is)) ∙ c.self.invariant.4 whole,
 )
 
 pub returns-in-Ok-clause-held : goal.returns-in-Ok-clause-held
@@ -79,23 +81,23 @@ returns-in-BadRow-clause-cause g c clean =
 
 pub returns-in-Memory-clause-wanted : goal.returns-in-Memory-clause-wanted
 returns-in-Memory-clause-wanted g c clean _ =
-    let told = subst (RefusesToLoad g.S.Store c.self.inside.conn c.load_on.new.conn) c.in-Memory.is
+    let told = subst (RefusesToLoad g.S.Store c.self.inside.conn c.load_on.new.conn c.load_on.new.why) c.in-Memory.is
     (c.in-Err.ensures.refuses clean) in
-    subst (λ (k : SqlKept _). RefusesToLoad g.S.Store k.conn c.load_on.new.conn Memory)
+    subst (λ (k : SqlKept _). RefusesToLoad g.S.Store k.conn c.load_on.new.conn c.load_on.new.why Memory)
     c.self.view_is told
 
 pub returns-in_default-clause-broke : goal.returns-in_default-clause-broke
 returns-in_default-clause-broke g c clean _ =
-    let told = load_broken g.S.Store c.self.inside.conn c.load_on.new.conn _ c.in-Err.ensures.either
+    let told = load_broken g.S.Store c.self.inside.conn c.load_on.new.conn c.load_on.new.why _ c.in-Err.ensures.either
     c.in_default.not-Memory c.in_default.not-BadRow (c.in-Err.ensures.refuses clean) in
-    inr (subst (λ (k : SqlKept _). IsTold g.S.Store FailsToLoad k.conn c.load_on.new.conn Broken)
+    inr (subst (λ (k : SqlKept _). IsTold g.S.Store FailsToLoad k.conn c.load_on.new.conn c.load_on.new.why Broken)
     c.self.view_is told)
 
 pub returns-in_default-clause-counted : goal.returns-in_default-clause-counted
 returns-in_default-clause-counted g c clean =
-    let told = load_broken g.S.Store c.self.inside.conn c.load_on.new.conn _ c.in-Err.ensures.either
+    let told = load_broken g.S.Store c.self.inside.conn c.load_on.new.conn c.load_on.new.why _ c.in-Err.ensures.either
     c.in_default.not-Memory c.in_default.not-BadRow (c.in-Err.ensures.refuses clean) in
     let none : c.self.inside.failures ≡ 0 = c.self.invariant.2 c.if-self.false in
     subst (λ (k : SqlKept _). (1 ≡ k.failures) ⊎ ((1 ≡ k.failures + 1)
-    × (IsTold g.S.Store FailsToLoad k.conn c.load_on.new.conn Broken)))
+    × (IsTold g.S.Store FailsToLoad k.conn c.load_on.new.conn c.load_on.new.why Broken)))
     c.self.view_is (inr (omega (arith, none), told))

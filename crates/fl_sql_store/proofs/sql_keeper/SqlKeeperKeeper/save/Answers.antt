@@ -1,4 +1,4 @@
-use Rattle.std.proofs.Common.{◌≡◌, ◌<◌, [], ◌∷◌, length, List, ap, subst, sym, inl, inr, refl, arith, Ok, Err, ◌⊎◌, ◌+◌}
+use Rattle.std.proofs.Common.{◌≡◌, ◌<◌, [], ◌∷◌, length, List, ap, subst, sym, inl, inr, refl, arith, Ok, Err, ◌⊎◌, ◌+◌, ◌∙◌}
 use Rattle.sqlite.specs.Held.{state}
 use Rattle.sqlite.specs.State.{HasCleanDisk}
 use Rattle.fl_ops.specs.declared.op.Op.{Op}
@@ -10,7 +10,7 @@ use Rattle.fl_sql_store.specs.SqlKeeping.{SqlKept, held_in}
 use Rattle.fl_sql_store.proofs.KeepLemmas.{ready_saved, ready_as_committed, held_saved, held_unchanged, held_either}
 use Rattle.fl_sql_tables.specs.Failing.{FailsToSave}
 use Rattle.fl_sql_store.specs.Breaking.{IsTold}
-use Rattle.fl_sql_store.proofs.CauseLemmas.{told_memory, told_broken, save_broken}
+use Rattle.fl_sql_store.proofs.CauseLemmas.{not_broken, memory_serves, told_memory, told_broken, save_broken}
 use Rattle.fl_sql_store.proofs.sql_keeper.SqlKeeperKeeper.save.Goals as goal
 
 pub returns-then-self-clause-held : goal.returns-then-self-clause-held
@@ -35,6 +35,7 @@ invariant_of-self g c = (
       ready_saved c.self.inside.number c.args.ops.now old new ready (c.in-Ok.ensures.ok clean (λ _. ready.schema)),
   c.self.invariant.2,
   c.self.invariant.3,
+  λ whole. c.in-Ok.ensures.spares (λ broken. absurd (let wrong = broken in cc)) ∙ c.self.invariant.4 whole,
 )
 
 pub invariant_of-self-in-Memory : goal.invariant_of-self-in-Memory
@@ -47,6 +48,7 @@ invariant_of-self-in-Memory g c = (
       ready_as_committed c.self.inside.number old new ready (c.in-Err.ensures.memory clean (λ _. ready.schema) (ap Err c.in-Memory.is)),
   c.self.invariant.2,
   c.self.invariant.3,
+  λ whole. c.in-Err.ensures.spares (not_broken _ _ _ refl refl (memory_serves _ c.in-Memory.is)) ∙ c.self.invariant.4 whole,
 )
 
 pub returns-in-Ok-clause-held : goal.returns-in-Ok-clause-held
@@ -86,8 +88,8 @@ returns-in-Memory-clause-wanted g c clean _ =
     let ready = c.self.invariant.1 c.if-self.false before in
     let some : 0 < length c.args.ops.now = grind arith in
     let fails = c.in-Err.ensures.fails clean (λ _. ready.schema) ready.is_open in
-    let told = told_memory g.S.Store (FailsToSave c.args.ops.now) c.self.inside.conn c.save_on.new.conn _ c.in-Memory.is fails in
-    subst (λ (k : SqlKept _). (0 < length c.args.ops.now) × IsTold g.S.Store (FailsToSave c.args.ops.now) k.conn c.save_on.new.conn Memory)
+    let told = told_memory g.S.Store (FailsToSave c.args.ops.now) c.self.inside.conn c.save_on.new.conn c.save_on.new.why _ c.in-Memory.is fails in
+    subst (λ (k : SqlKept _). (0 < length c.args.ops.now) × IsTold g.S.Store (FailsToSave c.args.ops.now) k.conn c.save_on.new.conn c.save_on.new.why Memory)
     c.self.view_is (some, told)
 
 pub returns-in_default-clause-broke : goal.returns-in_default-clause-broke
@@ -97,9 +99,9 @@ returns-in_default-clause-broke g c clean _ =
     let ready = c.self.invariant.1 c.if-self.false before in
     let some : 0 < length c.args.ops.now = grind arith in
     let fails = c.in-Err.ensures.fails clean (λ _. ready.schema) ready.is_open in
-    let told = told_broken g.S.Store (FailsToSave c.args.ops.now) c.self.inside.conn c.save_on.new.conn _
+    let told = told_broken g.S.Store (FailsToSave c.args.ops.now) c.self.inside.conn c.save_on.new.conn c.save_on.new.why _
     (save_broken _ c.in-Err.ensures.either c.in_default.not-Memory) fails in
-    inr (subst (λ (k : SqlKept _). (0 < length c.args.ops.now) × IsTold g.S.Store (FailsToSave c.args.ops.now) k.conn c.save_on.new.conn Broken)
+    inr (subst (λ (k : SqlKept _). (0 < length c.args.ops.now) × IsTold g.S.Store (FailsToSave c.args.ops.now) k.conn c.save_on.new.conn c.save_on.new.why Broken)
     c.self.view_is (some, told))
 
 pub returns-in_default-clause-counted : goal.returns-in_default-clause-counted
@@ -109,9 +111,9 @@ returns-in_default-clause-counted g c clean =
     let ready = c.self.invariant.1 c.if-self.false before in
     let some : 0 < length c.args.ops.now = grind arith in
     let fails = c.in-Err.ensures.fails clean (λ _. ready.schema) ready.is_open in
-    let told = told_broken g.S.Store (FailsToSave c.args.ops.now) c.self.inside.conn c.save_on.new.conn _
+    let told = told_broken g.S.Store (FailsToSave c.args.ops.now) c.self.inside.conn c.save_on.new.conn c.save_on.new.why _
     (save_broken _ c.in-Err.ensures.either c.in_default.not-Memory) fails in
     let none : c.self.inside.failures ≡ 0 = c.self.invariant.2 c.if-self.false in
     subst (λ (k : SqlKept _). (1 ≡ k.failures) ⊎ ((1 ≡ k.failures + 1)
-    × ((0 < length c.args.ops.now) × IsTold g.S.Store (FailsToSave c.args.ops.now) k.conn c.save_on.new.conn Broken)))
+    × ((0 < length c.args.ops.now) × IsTold g.S.Store (FailsToSave c.args.ops.now) k.conn c.save_on.new.conn c.save_on.new.why Broken)))
     c.self.view_is (inr (omega (arith, none), (some, told)))
