@@ -124,7 +124,7 @@ entered_still openings w number other result w' stands (is_there at) = stands
 entered_still openings w number other result w' stands (joins none found step) = joined_still w number other _ _ w' stands step
 entered_still openings w number other result w' stands (is_refused none why) = stands
 
-module _ {K M : Type 0} (custody : Custody K) (making : Making M) where
+module _ {K M : Type 0} (custody : Custody K) (making : Making M K) where
   -- the node was opened, or was there, and then this is told of it
   pub once_told : (old mid : ClusterOver K M) (number : ℕ) (result : Result (Unit {0}) Fault) (u : Unit {0})
       (does : World → Answer → World → Type 0) (answer : Answer) → result ≡ Ok u
@@ -144,6 +144,7 @@ module _ {K M : Type 0} (custody : Custody K) (making : Making M) where
                 (tells after stands.s is stands.at),
           );
     };
+    makes_less = enters.makes_less;
     finds_less = enters.finds_less;
     refuses_less = enters.refuses_less;
   }
@@ -170,11 +171,12 @@ module _ {K M : Type 0} (custody : Custody K) (making : Making M) where
             opened
                 (subst (λ r. Enters (openings_of custody making old.maker) before.0 first r between.0) ok before.2)
                 (opened (enters_more _ _ (opens_more custody making old.maker mid.maker
-                enters.finds_less enters.refuses_less) between.0 after second (Ok tt)
+                enters.makes_less enters.finds_less enters.refuses_less) between.0 after second (Ok tt)
                 (subst (λ r. Enters (openings_of custody making mid.maker) between.0 second r after) then_ok between.2))
                 (tells after here.s there.s is here.at there.at)),
           );
     };
+    makes_less = λ n keeper made. enters.makes_less n keeper (then_.makes_less n keeper made);
     finds_less = λ n k found. enters.finds_less n k (then_.finds_less n k found);
     refuses_less = λ n fault why. enters.refuses_less n fault (then_.refuses_less n fault why);
   }

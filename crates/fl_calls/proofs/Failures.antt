@@ -177,7 +177,7 @@ not_joined custody broken bad Refuses (Ok boot) result fails ok err cause failed
 not_joined custody broken bad Refuses (Err e) result fails ok err cause failed =
     fails e.1 (cause (same_error e.0 (sym err ∙ failed)))
 
-module _ {K M : Type 0} (custody : Custody K) (making : Making M) where
+module _ {K M : Type 0} (custody : Custody K) (making : Making M K) where
   -- the node was there, or was opened, and then this is why
   pub once_in : (old mid new : ClusterOver K M) (number : ℕ) (result : Result (Unit {0}) Fault) (u : Unit {0})
       (fails : ClusterOver K M → Type 0) → result ≡ Ok u

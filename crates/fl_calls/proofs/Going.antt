@@ -79,7 +79,7 @@ module _ {K : Type 0} (custody : Custody K) where
   there over w number n at is =
       stands n w number _ refl (subst (λ o. MayBeNode custody.may_hold o (map.get w.nodes number)) at (is.nodes number))
 
-  module _ {M : Type 0} (making : Making M) (maker : M) where
+  module _ {M : Type 0} (making : Making M K) (maker : M) where
     -- a node that is there is not opened
     pub entered : (over : WorldOver K) (number : ℕ) (n : NodeOver K) → map.get over.nodes number ≡ Some n
         → Goes custody over over (λ w w'. Enters (openings_of custody making maker) w number (Ok tt) w')
@@ -108,22 +108,25 @@ module _ {K : Type 0} (custody : Custody K) where
 
     -- a keeper was made that did not fail, and its node did not join
     pub not_taken : (old new : WorldOver K) (number : ℕ) (fault : Fault) (keeper given : K) → fault ≢ faults.KeeperFailed
-        → map.get old.nodes number ≡ None → (custody.is_honest keeper → (k : Kept) → custody.may_hold keeper k → making.finds maker number k)
+        → making.makes maker number keeper → map.get old.nodes number ≡ None → (custody.is_honest keeper → (k : Kept) → custody.may_hold keeper k → making.finds maker number k)
         → GivesBack custody old keeper new given (IsRefused number fault) → new ≡ old
         → Goes custody old new (λ w w'. Enters (openings_of custody making maker) w number (Err fault) w')
-    not_taken old new number fault keeper given other none made gives same =
+    not_taken old new number fault keeper given other makes none made gives same =
         subst (λ x. Goes custody old x (λ w w'. Enters (openings_of custody making maker) w number (Err fault) w')) (sym same)
         (record {
           honest = λ all. all;
           comes = λ all after is. (
             after,
             is,
-            is_refused (not_there old after number none is) (not_joined given other (λ trusted.
+            is_refused (not_there old after number none is) (not_joined makes other (λ trusted.
                 let all' = subst (AreHonest custody) (sym same) all in
                 let is' = subst (λ x. MayBe custody x after) (sym same) is in
+                let was_honest = (gives.honest all' trusted.honest).1 in
                 let before = gives.comes all' trusted.honest after trusted.kept is' trusted.held in (
+                  was_honest,
                   before.1,
-                  made (gives.honest all' trusted.honest).1 before.1 before.3,
+                  before.3,
+                  made was_honest before.1 before.3,
                   subst (λ x. Joins x number before.1 (Refused fault) x) (sym before.4.same) before.4.joins,
                 ))),
           );
@@ -139,6 +142,7 @@ module _ {K : Type 0} (custody : Custody K) where
 
     pub joins_or_not : (broken : K → Type 0) (bad : Type 0) (old new : WorldOver K) (number : ℕ) (keeper : K)
         (joined_ : Result ℕ (Fault × K)) (result : Result (Unit {0}) Fault) → map.get old.nodes number ≡ None
+        → making.makes maker number keeper
         → (custody.is_honest keeper → (k : Kept) → custody.may_hold keeper k → making.finds maker number k)
         → ((left : K) → broken left ⊎ (custody.is_honest left → bad) → making.refuses maker number faults.KeeperFailed)
         → IfOk joined_ (λ boot. result ≡ Ok tt) → IfErr joined_ (λ e. result ≡ Err e.0)
@@ -146,10 +150,10 @@ module _ {K : Type 0} (custody : Custody K) where
         → IfErr joined_ (λ e. GivesBack custody old keeper new e.1 (IsRefused number e.0))
         → IfErr joined_ (λ e. KeeperFails (broken e.1) (custody.is_honest e.1) bad e.0) → OnErr joined_ (new ≡ old)
         → Goes custody old new (λ w w'. Enters (openings_of custody making maker) w number result w')
-    joins_or_not broken bad old new number keeper (Ok boot) result none made fails ok err takes gives cause same =
+    joins_or_not broken bad old new number keeper (Ok boot) result none makes made fails ok err takes gives cause same =
         subst (λ r. Goes custody old new (λ w w'. Enters (openings_of custody making maker) w number r w')) (sym ok)
         (joined old new number boot keeper none made takes)
-    joins_or_not broken bad old new number keeper (Err e) result none made fails ok err takes gives cause same =
+    joins_or_not broken bad old new number keeper (Err e) result none makes made fails ok err takes gives cause same =
         subst (λ r. Goes custody old new (λ w w'. Enters (openings_of custody making maker) w number r w')) (sym err)
         (by_fault (failed_or_not e.0))
       where
@@ -158,4 +162,4 @@ module _ {K : Type 0} (custody : Custody K) where
         by_fault (inl is) =
             subst (λ f. Goes custody old new (λ w w'. Enters (openings_of custody making maker) w number (Err f) w')) (sym is)
             (failed old new number none (fails e.1 (cause is)) same)
-        by_fault (inr other) = not_taken old new number e.0 keeper e.1 other none made gives same
+        by_fault (inr other) = not_taken old new number e.0 keeper e.1 other makes none made gives same

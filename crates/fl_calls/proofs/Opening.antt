@@ -16,7 +16,7 @@ use Rattle.fl_calls.specs.Over.{ClusterOver, openings_of, GoesOn}
 use Rattle.fl_calls.specs.laws.Widening.{opens_more, once_open_more}
 use Rattle.fl_calls.proofs.Going.{goes_then, entered}
 
-module _ {K M : Type 0} (custody : Custody K) (making : Making M) where
+module _ {K M : Type 0} (custody : Custody K) (making : Making M K) where
   pub goes_on_as : (old new : ClusterOver K M) (s t : Openings → World → World → Type 0)
       → ((openings : Openings) (w w' : World) → MayBe custody old.world w → s openings w w' → t openings w w')
       → GoesOn custody making old new s → GoesOn custody making old new t
@@ -27,6 +27,7 @@ module _ {K M : Type 0} (custody : Custody K) (making : Making M) where
           let before = goes.goes.comes all after is in
           (before.0, before.1, leads _ before.0 after before.1 before.2);
     };
+    makes_less = goes.makes_less;
     finds_less = goes.finds_less;
     refuses_less = goes.refuses_less;
   }
@@ -37,6 +38,7 @@ module _ {K M : Type 0} (custody : Custody K) (making : Making M) where
       → GoesOn custody making old old s
   rests old s leads = record {
     goes = record { honest = λ all. all; comes = λ all after is. (after, is, leads _ after is) };
+    makes_less = λ number keeper made. made;
     finds_less = λ number k found. found;
     refuses_less = λ number fault why. why;
   }
@@ -57,6 +59,7 @@ module _ {K M : Type 0} (custody : Custody K) (making : Making M) where
             (λ w w'. does w answer w')
             (λ w w'. OnceOpen (openings_of custody making old.maker) w number does answer w')
             (λ w v w' entered done. opened (subst (λ r. Enters (openings_of custody making old.maker) w number r v) ok entered) done) first.goes goes;
+        makes_less = first.makes_less;
         finds_less = first.finds_less;
         refuses_less = first.refuses_less;
       }
@@ -72,7 +75,7 @@ module _ {K M : Type 0} (custody : Custody K) (making : Making M) where
       (λ openings w w'. OnceOpen openings w number does (replied (Refused fault)) w')
       (λ openings w w' is entered. shut (subst (λ r. Enters openings w number r w') err entered)) enters
 
-module _ {K M : Type 0} (custody : Custody K) (making : Making M) where
+module _ {K M : Type 0} (custody : Custody K) (making : Making M K) where
   -- once the first node is open, the second one is opened
   pub both_open : (old mid new : ClusterOver K M) (first second : ℕ) (result : Result (Unit {0}) Fault) (u : Unit {0})
       (does : World → Answer → World → Type 0) (answer : Answer) → result ≡ Ok u
@@ -88,7 +91,8 @@ module _ {K M : Type 0} (custody : Custody K) (making : Making M) where
         (λ v. OnceOpen (openings_of custody making old.maker) v second does) answer w')
         (λ w v w' entered done. opened (subst (λ r. Enters (openings_of custody making old.maker) w first r v) ok entered)
         (once_open_more _ _ (opens_more custody making old.maker mid.maker
-        enters.finds_less enters.refuses_less) v w' second does does answer (λ _ _ _ h. h) done)) enters.goes then_.goes;
+        enters.makes_less enters.finds_less enters.refuses_less) v w' second does does answer (λ _ _ _ h. h) done)) enters.goes then_.goes;
+    makes_less = λ n keeper made. enters.makes_less n keeper (then_.makes_less n keeper made);
     finds_less = λ n k found. enters.finds_less n k (then_.finds_less n k found);
     refuses_less = λ n fault why. enters.refuses_less n fault (then_.refuses_less n fault why);
   }
@@ -97,20 +101,22 @@ module _ {K M : Type 0} (custody : Custody K) (making : Making M) where
   pub opens_as : (old : ClusterOver K M) (here new : WorldOver K) (maker maker' : M) (number : ℕ)
       (result : Result (Unit {0}) Fault) → record { world = here; maker = maker } ≡ old
       → Goes custody here new (λ w w'. Enters (openings_of custody making maker) w number result w')
+      → ((n : ℕ) (keeper : K) → making.makes maker' n keeper → making.makes maker n keeper)
       → ((n : ℕ) (k : Kept) → making.finds maker' n k → making.finds maker n k)
       → ((n : ℕ) (fault : Fault) → making.refuses maker' n fault → making.refuses maker n fault)
       → GoesOn custody making old (record { world = new; maker = maker' })
       (λ openings w w'. Enters openings w number result w')
-  opens_as old here new maker maker' number result is goes same_finds same_refuses =
+  opens_as old here new maker maker' number result is goes same_makes same_finds same_refuses =
       subst (λ o. GoesOn custody making o (record { world = new; maker = maker' })
       (λ openings w w'. Enters openings w number result w')) is
-      (record { goes = goes; finds_less = same_finds; refuses_less = same_refuses })
+      (record { goes = goes; makes_less = same_makes; finds_less = same_finds; refuses_less = same_refuses })
 
   -- a node that is there is not opened
   pub entered_as : (old : ClusterOver K M) (number : ℕ) (n : NodeOver K) → map.get old.world.nodes number ≡ Some n
       → GoesOn custody making old old (λ openings w w'. Enters openings w number (Ok tt) w')
   entered_as old number n at = record {
     goes = entered custody making old.maker old.world number n at;
+    makes_less = λ q keeper made. made;
     finds_less = λ q k found. found;
     refuses_less = λ q fault why. why;
   }

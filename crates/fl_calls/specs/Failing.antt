@@ -25,7 +25,7 @@ pub data SaysFailed : Response → Type 0 where
 
 -- The node of this number is not there, and its maker refuses it since its keeper fails. Or it is
 -- there, and this is why, in the world now; or it is opened, and this is why, in the world then.
-pub data FailsOnceOpen {K M : Type 0} (custody : Custody K) (making : Making M)
+pub data FailsOnceOpen {K M : Type 0} (custody : Custody K) (making : Making M K)
     (old new : ClusterOver K M) (number : ℕ) (fails : ClusterOver K M → Type 0) : Type 0 where
   shut : map.get old.world.nodes number ≡ None → making.refuses old.maker number KeeperFailed
       → FailsOnceOpen custody making old new number fails

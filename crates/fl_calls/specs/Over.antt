@@ -36,27 +36,30 @@ pub record Trusts {K : Type 0} (custody : Custody K) (keeper : K) : Type 0 where
   pub held : custody.may_hold keeper kept
 
 -- Why a node is not opened: for its keeper's sake, since none was made, or the one that was failed; or
--- one was made that did not fail, and did not join, as it should if it may be trusted.
-pub data NotOpened {K M : Type 0} (custody : Custody K) (making : Making M) (maker : M)
+-- this one was made that did not fail, and did not join. Where what is left of it may be trusted it
+-- might have held something over which it should not.
+pub data NotOpened {K M : Type 0} (custody : Custody K) (making : Making M K) (maker : M)
     (w : World) (number : ℕ) (fault : Fault) : Type 0 where
   without_keeper : making.refuses maker number fault
       → NotOpened custody making maker w number fault
-  not_joined : (keeper : K) → fault ≢ KeeperFailed
-      → (Trusts custody keeper
-      → (k : Kept) × making.finds maker number k × Joins w number k (Refused fault) w)
+  not_joined : {keeper left : K} → making.makes maker number keeper → fault ≢ KeeperFailed
+      → (Trusts custody left → custody.is_honest keeper × ((k : Kept) × custody.may_hold keeper k
+      × making.finds maker number k × Joins w number k (Refused fault) w))
       → NotOpened custody making maker w number fault
 
 -- what a maker's keepers may hold, and why a node is not opened
-abbrev pub openings_of : {K M : Type 0} → Custody K → Making M → M → Openings
+abbrev pub openings_of : {K M : Type 0} → Custody K → Making M K → M → Openings
 openings_of custody making maker =
     record { finds = making.finds maker; refuses = NotOpened custody making maker }
 
 -- Where all keepers are honest they were before, and each world that it may be now comes by this step from one that it might
 -- have been before, with the openings of the maker before; and the maker makes nothing that it did not make before.
-pub record GoesOn {K M : Type 0} (custody : Custody K) (making : Making M)
+pub record GoesOn {K M : Type 0} (custody : Custody K) (making : Making M K)
     (old new : ClusterOver K M) (step : Openings → World → World → Type 0) : Type 0 where
   pub goes : Goes custody old.world new.world
       (step (openings_of custody making old.maker))
+  pub makes_less : (number : ℕ) (keeper : K) → making.makes new.maker number keeper
+      → making.makes old.maker number keeper
   pub finds_less : (number : ℕ) (k : Kept) → making.finds new.maker number k
       → making.finds old.maker number k
   pub refuses_less : (number : ℕ) (fault : Fault) → making.refuses new.maker number fault

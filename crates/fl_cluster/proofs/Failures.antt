@@ -55,7 +55,7 @@ says_failed other e = absurd (no_three e)
 abbrev IsNoRestart : Event → Type 0
 IsNoRestart e = (number : ℕ) (kept : Bool) → ¬ (e ≡ event.Restart number kept)
 
-module _ {K M : Type 0} (custody : Custody K) (making : Making M) (old new : ClusterOver K M) where
+module _ {K M : Type 0} (custody : Custody K) (making : Making M K) (old new : ClusterOver K M) where
   leads : (number : ℕ) (fails fails' : ClusterOver K M → Type 0) → ((between : ClusterOver K M) → fails between → fails' between)
       → FailsOnceOpen custody making old new number fails → FailsOnceOpen custody making old new number fails'
   leads number fails fails' to (shut absent refused) = shut absent refused

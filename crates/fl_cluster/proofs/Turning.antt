@@ -44,7 +44,7 @@ none_listed : {openings : Openings} {old : Session} {l : Line} {table : Table} {
     → AnswersLine openings old l (listed table) w → ⊥
 none_listed made lists = absurd (cc)
 
-module _ {K M : Type 0} (custody : Custody K) (making : Making M) where
+module _ {K M : Type 0} (custody : Custody K) (making : Making M K) where
   goes_on_as : (old new : ClusterOver K M) (s t : Openings → World → World → Type 0)
       → ((openings : Openings) (w w' : World) → s openings w w' → t openings w w')
       → GoesOn custody making old new s → GoesOn custody making old new t
@@ -55,6 +55,7 @@ module _ {K M : Type 0} (custody : Custody K) (making : Making M) where
           let before = on.goes.comes all after is in
           (before.0, before.1, leads _ before.0 after before.2);
     };
+    makes_less = on.makes_less;
     finds_less = on.finds_less;
     refuses_less = on.refuses_less;
   }
@@ -65,6 +66,7 @@ module _ {K M : Type 0} (custody : Custody K) (making : Making M) where
       → GoesOn custody making over over step
   stays over step h = record {
     goes = record { honest = λ all. all; comes = λ all after is. (after, is, h _ after is) };
+    makes_less = λ number keeper made. made;
     finds_less = λ number k found. found;
     refuses_less = λ number fault why. why;
   }

@@ -16,8 +16,10 @@ IsKeeperFault fault =
     (fault ≡ Refused Memory) ⊎ ((fault ≡ KeeperFailed) ⊎ (fault ≡ WrongNode))
 
 -- what is promised of a maker, in one word
-pub record Making (M : Type 0) : Type 1 where
-  -- what a keeper made for the node of this number may hold, from this maker on
+pub record Making (M K : Type 0) : Type 1 where
+  -- which keepers may be made for the node of this number, from this maker on
+  pub makes : M → ℕ → K → Type 0
+  -- what one of them may hold
   pub finds : M → ℕ → Kept → Type 0
   -- why none may be made for it
   pub unmade : M → ℕ → Fault → Type 0

@@ -12,14 +12,15 @@ use std::alloc::Global;
 
 /// Makes keepers for the nodes of a script.
 ///
-/// A contract knows what a keeper that is made from now on may hold, why none may be made, and why
-/// a node may not be opened for its keeper's sake: a call makes no more possible than was before.
+/// A contract knows which keepers may be made from now on and what they may hold, why none may be
+/// made, and why a node may not be opened for its keeper's sake: a call makes no more possible than
+/// was before.
 pub trait MakesKeepers {
     /// What it makes.
     type K: Keeper + Drop;
 
-    // what its keepers may hold, and why none is made or opened
-    ghost making: { Making Self };
+    // which keepers it makes, what they may hold, and why none is made or opened
+    ghost making: { Making Self Self.K };
 
     // where none is made, none is opened
     ghost told: { (maker : Self) (number : ℕ) (fault : Fault) → making.unmade maker number fault
@@ -29,6 +30,7 @@ pub trait MakesKeepers {
     /// where a line opens a node, and not at a restart.
     fn make(&mut self, alloc: Global, number: NodeNumber) -> Result<Self::K, Fault>
         requires { 0 < number }
+        ensures makes { IfOk result (λ keeper. making.makes self.old number keeper) }
         ensures made { IfOk result (λ keeper. Self.K.custody.is_honest keeper
             → (k : Kept) → Self.K.custody.may_hold keeper k → making.finds self.old number k) }
         ensures fresh { IfOk result (λ keeper. ¬ IsTrue (Self.K.custody.is_broken keeper)) }
@@ -37,6 +39,8 @@ pub trait MakesKeepers {
             ⊎ (Self.K.custody.is_honest left → Self.K.custody.has_bad_row keeper)
             → making.refuses self.old number Fault.KeeperFailed) }
         ensures why { IfErr result (λ fault. making.unmade self.old number fault) }
+        ensures same_makes { (n : ℕ) (keeper : Self.K) → making.makes self.new n keeper
+            → making.makes self.old n keeper }
         ensures same_finds { (n : ℕ) (k : Kept) → making.finds self.new n k
             → making.finds self.old n k }
         ensures same_unmade { (n : ℕ) (fault : Fault) → making.unmade self.new n fault

@@ -22,6 +22,7 @@ impl MakesKeepers for RefusingMaker<'_> {
     type K = MemKeeper;
 
     ghost making = { record {
+      makes = λ _ number keeper. keeper.kept ≡ nothing_kept number;
       finds = λ _ number k. k ≡ nothing_kept number;
       unmade = λ maker number fault. Contains maker.refusals.now (number, fault);
       refuses = λ maker number fault. Contains maker.refusals.now (number, fault);
@@ -50,6 +51,7 @@ impl MakesKeepers for OneNodeMaker {
     type K = MemKeeper;
 
     ghost making = { record {
+      makes = λ maker _ keeper. keeper.kept ≡ nothing_kept maker.node;
       finds = λ maker _ k. k ≡ nothing_kept maker.node;
       unmade = λ _ _ _. ⊥;
       refuses = λ _ _ _. ⊥;
@@ -72,6 +74,7 @@ impl MakesKeepers for BreakingMaker {
     type K = MemKeeper;
 
     ghost making = { record {
+      makes = λ _ number keeper. keeper.kept ≡ nothing_kept number;
       finds = λ _ number k. k ≡ nothing_kept number;
       unmade = λ _ _ _. ⊥;
       refuses = λ _ _ _. ⊥;
@@ -98,6 +101,8 @@ impl MakesKeepers for BootedMaker {
     type K = MemKeeper;
 
     ghost making = { record {
+      makes = λ maker number keeper.
+          keeper.kept ≡ record (nothing_kept number) { boot = maker.boot };
       finds = λ maker number k. k ≡ record (nothing_kept number) { boot = maker.boot };
       unmade = λ _ _ fault. fault ≡ Refused Memory;
       refuses = λ _ _ fault. fault ≡ Refused Memory;

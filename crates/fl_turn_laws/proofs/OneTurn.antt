@@ -306,7 +306,7 @@ module _ (one_spelling : (f g : Format) (a b : Packet) → HasPacket f a → Has
 
   -- ---- lines
 
-  module _ {K M : Type 0} (custody : Custody K) (making : Making M) (maker : M) (certain : OpenOneWay custody making maker) where
+  module _ {K M : Type 0} (custody : Custody K) (making : Making M K) (maker : M) (certain : OpenOneWay custody making maker) where
     o : Openings
     o = openings_of custody making maker
 
@@ -330,9 +330,9 @@ module _ (one_spelling : (f g : Format) (a b : Packet) → HasPacket f a → Has
     refusal : (w : World) (number : ℕ) (fault : Fault) → NotOpened custody making maker w number fault
         → IsAmple (Refused fault) → IsOthers number fault ⊎ WouldNotJoin w number fault
     refusal w number fault (without_keeper why) sure = inl (of_cause number fault why (certain.fails number fault why) sure)
-    refusal w number fault (not_joined keeper other over) sure =
-        let k = over (certain.trusted keeper) in
-        inr (record { kept = k.0; found = k.1; refused = k.2 })
+    refusal w number fault (not_joined {left} made other over) sure =
+        let (honest, k, held, found, refused) = over (certain.trusted left) in
+        inr (record { kept = k; found = found; refused = refused })
 
     -- how a node is opened is sure
     SureEntry : Result (Unit {0}) Fault → Type 0

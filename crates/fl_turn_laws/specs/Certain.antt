@@ -20,7 +20,7 @@ IsSure answer = Unit {0}
 -- All keepers may be trusted, those that are made for a node hold one thing, and none is made only where memory is wanted, it
 -- fails, or what is there is another node's; and then no keeper that is made holds anything.
 pub record OpenOneWay {K M : Type 0} (custody : Custody K)
-    (making : Making M) (maker : M) : Type 0 where
+    (making : Making M K) (maker : M) : Type 0 where
   pub trusted : (keeper : K) → Trusts custody keeper
   pub one_kept : (number : ℕ) (k other : Kept) → making.finds maker number k → making.finds maker number other → k ≡ other
   pub fails : (number : ℕ) (fault : Fault) → making.refuses maker number fault → IsKeeperFault fault

@@ -23,7 +23,7 @@ pub data FailsAsked {K : Type 0} (custody : Custody K) (old new : WorldOver K) (
       → FailsAsked custody old new number (Restart kept)
 
 -- a node that the line names was not opened for its keeper's sake, or what it asks of it failed
-abbrev pub FailsSaid : {K M : Type 0} → Custody K → Making M → ClusterOver K M → ClusterOver K M
+abbrev pub FailsSaid : {K M : Type 0} → Custody K → Making M K → ClusterOver K M → ClusterOver K M
     → Line → Type 0
 FailsSaid custody making old new (lines.Node number request) =
     FailsOnceOpen custody making old new number
@@ -35,7 +35,7 @@ FailsSaid custody making old new lines.Audit = ⊥
 FailsSaid custody making old new lines.Aliases = ⊥
 
 -- the line of these bytes is read so, with these aliases, and what it says failed
-pub record FailsRead {K M : Type 0} (custody : Custody K) (making : Making M) (aliases : Table)
+pub record FailsRead {K M : Type 0} (custody : Custody K) (making : Making M K) (aliases : Table)
     (old new : ClusterOver K M) (bytes : List ℕ) : Type 0 where
   pub line : Line
   pub alias : Option (List ℕ)

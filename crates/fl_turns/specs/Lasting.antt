@@ -123,7 +123,7 @@ pub record IsLastingRun (openings : Openings) (lines : List (List ℕ)) (text : 
 
 -- known bytes grow by a text: where the keepers at this end are honest, by that of one run of the
 -- script, along which all lasts
-pub record LastsScript {K M : Type 0} (custody : Custody K) (making : Making M) (maker : M)
+pub record LastsScript {K M : Type 0} (custody : Custody K) (making : Making M K) (maker : M)
     (old new : Option (List ℕ)) (script : List ℕ) (status : ℕ) (end : SessionOver K M)
     : Type 0 where
   pub text : List ℕ

@@ -35,7 +35,7 @@ coded_session_over {K} {M} keeper maker =
 
 -- The line is answered so, with the openings of the maker before: in each world that there may be now, from one that there might
 -- have been before.
-abbrev pub TurnOver : {K M : Type 0} → Custody K → Making M → SessionOver K M → List ℕ → Answer → SessionOver K M → Type 0
+abbrev pub TurnOver : {K M : Type 0} → Custody K → Making M K → SessionOver K M → List ℕ → Answer → SessionOver K M → Type 0
 TurnOver custody making old line answer new =
     GoesOn custody making old.cluster new.cluster
     (λ openings w w'. Turn openings (record { world = w; aliases = old.aliases }) line answer
@@ -44,7 +44,7 @@ TurnOver custody making old line answer new =
 -- The line of this number has an answer, with this text and status. Where it says that a keeper
 -- failed, one did.
 pub record TurnsOver {K M : Type 0} (custody : Custody K)
-    (making : Making M) (number : ℕ)
+    (making : Making M K) (number : ℕ)
     (old : SessionOver K M) (line : List ℕ) (output : LineOutput) (new : SessionOver K M)
     : Type 0 where
   pub answer : Answer

@@ -22,7 +22,7 @@ pub record IsOneRun (openings : Openings) (lines : List (List ℕ)) (text : List
 
 -- Where the keepers of this session are honest, in each world that its nodes may be, the text and the
 -- status are those of one run of the lines, with what the maker's keepers may hold from the start.
-abbrev pub IsOneRunIfHonest : {K M : Type 0} → Custody K → Making M → M → List (List ℕ) → List ℕ → ℕ
+abbrev pub IsOneRunIfHonest : {K M : Type 0} → Custody K → Making M K → M → List (List ℕ) → List ℕ → ℕ
     → SessionOver K M → Type 0
 IsOneRunIfHonest custody making maker lines text status end =
     InEach custody end.cluster.world (λ w. IsOneRun
@@ -31,7 +31,7 @@ IsOneRunIfHonest custody making maker lines text status end =
 
 -- known bytes grow by a text: where the keepers at this end are honest, by that of one run of the script
 pub record RunsScript {K M : Type 0} (custody : Custody K)
-    (making : Making M) (maker : M)
+    (making : Making M K) (maker : M)
     (old new : Option (List ℕ)) (script : List ℕ) (status : ℕ) (end : SessionOver K M)
     : Type 0 where
   pub text : List ℕ
@@ -41,7 +41,7 @@ pub record RunsScript {K M : Type 0} (custody : Custody K)
 -- known bytes grow by a front of a text: where the keepers at this end are honest, of that of one run of
 -- the script's first lines
 pub record RunsFirst {K M : Type 0} (custody : Custody K)
-    (making : Making M) (maker : M)
+    (making : Making M K) (maker : M)
     (old new : Option (List ℕ)) (script : List ℕ) (end : SessionOver K M) : Type 0 where
   pub first : List (List ℕ)
   pub later : List (List ℕ)

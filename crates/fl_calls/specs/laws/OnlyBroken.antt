@@ -35,7 +35,7 @@ module _ {K : Type 0} (custody : Custody K) (sound : AreSound custody) (old new 
   fails_completing e (inr broken) = broken
 
 -- where no maker refuses a node for its keeper's sake
-pub once_open : {K M : Type 0} (custody : Custody K) (making : Making M)
+pub once_open : {K M : Type 0} (custody : Custody K) (making : Making M K)
     → ((maker : M) (number : ℕ) → ¬ making.refuses maker number KeeperFailed)
     → (old new : ClusterOver K M) (number : ℕ) (fails : ClusterOver K M → Type 0) (so : Type 0)
     → ((between : ClusterOver K M) → fails between → so)

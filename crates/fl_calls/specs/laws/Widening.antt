@@ -17,19 +17,21 @@ pub record OpensMore (less more : Openings) : Type 0 where
       → more.refuses w number fault
 
 -- those of a maker that makes no more than another
-pub opens_more : {K M : Type 0} (custody : Custody K) (making : Making M) (maker maker' : M)
+pub opens_more : {K M : Type 0} (custody : Custody K) (making : Making M K) (maker maker' : M)
+    → ((n : ℕ) (keeper : K) → making.makes maker' n keeper → making.makes maker n keeper)
     → ((n : ℕ) (k : Kept) → making.finds maker' n k → making.finds maker n k)
     → ((n : ℕ) (fault : Fault) → making.refuses maker' n fault → making.refuses maker n fault)
     → OpensMore (openings_of custody making maker') (openings_of custody making maker)
-opens_more {K} {M} custody making maker maker' f r =
+opens_more {K} {M} custody making maker maker' m f r =
     record { finds = f; refuses = refuses_more }
   where
     refuses_more : (w : World) (number : ℕ) (fault : Fault)
         → (openings_of custody making maker').refuses w number fault
         → (openings_of custody making maker).refuses w number fault
     refuses_more w number fault (without_keeper why) = without_keeper (r number fault why)
-    refuses_more w number fault (not_joined keeper other over) =
-        not_joined keeper other (λ trusted. let k = over trusted in (k.0, f number k.0 k.1, k.2))
+    refuses_more w number fault (not_joined {keeper} made other over) =
+        not_joined (m number keeper made) other (λ trusted. let (honest, k, held, found, refused) = over trusted in
+        (honest, k, held, f number k found, refused))
 
 module _ (less more : Openings) (wider : OpensMore less more) where
   pub enters_more : (w w' : World) (number : ℕ) (result : Result (Unit {0}) Fault)

@@ -12,14 +12,14 @@ use Rattle.fl_cluster.specs.Shown.{shown}
 use Rattle.fl_cluster.specs.declared.response.Response.{Response}
 
 -- the response answers the line, whatever the aliases are
-abbrev pub RespondsTo : {K M : Type 0} → Custody K → Making M → ClusterOver K M → Line → Response → ClusterOver K M → Type 0
+abbrev pub RespondsTo : {K M : Type 0} → Custody K → Making M K → ClusterOver K M → Line → Response → ClusterOver K M → Type 0
 RespondsTo custody making old line response new =
     GoesOn custody making old new (λ openings w w'. (aliases : Table)
     → AnswersLine openings (record { world = w; aliases = aliases }) line
     (shown (record { cluster = new; aliases = aliases }) response) w')
 
 -- the response answers the line, and its alias stands for what it made
-abbrev pub Names : {K M : Type 0} → Custody K → Making M → SessionOver K M → Line → Option (List ℕ) → Response
+abbrev pub Names : {K M : Type 0} → Custody K → Making M K → SessionOver K M → Line → Option (List ℕ) → Response
     → SessionOver K M → Type 0
 Names custody making old line alias response new =
     GoesOn custody making old.cluster new.cluster (λ openings w w'.
@@ -27,7 +27,7 @@ Names custody making old line alias response new =
     (shown new response) (record { world = w'; aliases = new.aliases }))
 
 -- the same, or there was no memory for the alias, and nothing changed
-abbrev pub NamesOrStarves : {K M : Type 0} → Custody K → Making M → SessionOver K M → Line → Option (List ℕ) → Response
+abbrev pub NamesOrStarves : {K M : Type 0} → Custody K → Making M K → SessionOver K M → Line → Option (List ℕ) → Response
     → SessionOver K M → Type 0
 NamesOrStarves custody making old line alias response new =
     Names custody making old line alias response new

@@ -18,7 +18,7 @@ use Rattle.fl_turns.specs.Session.{Session, begun}
 use Rattle.fl_world.specs.Reached.{InEach}
 use Rattle.fl_turns.specs.laws.Widening.{turn_too}
 
-module _ {K M : Type 0} (custody : Custody K) (making : Making M) (start : M) where
+module _ {K M : Type 0} (custody : Custody K) (making : Making M K) (start : M) where
   -- the openings of this maker
   from : M → Openings
   from maker = openings_of custody making maker
@@ -29,13 +29,14 @@ module _ {K M : Type 0} (custody : Custody K) (making : Making M) (start : M) wh
 
   -- a maker that makes no more than the first one
   record IsLess (maker : M) : Type 0 where
+    pub makes_less : (number : ℕ) (keeper : K) → making.makes maker number keeper → making.makes start number keeper
     pub finds_less : (number : ℕ) (k : Kept) → making.finds maker number k → making.finds start number k
     pub refuses_less : (number : ℕ) (fault : Fault) → making.refuses maker number fault → making.refuses start number fault
 
   wider : (maker : M) → IsLess maker → OpensMore (from maker) (from start)
   unfolding from
   wider maker less =
-      opens_more custody making start maker less.finds_less less.refuses_less
+      opens_more custody making start maker less.makes_less less.finds_less less.refuses_less
 
   -- the lines are answered so in each world that the nodes may be
   Answers : ℕ → SessionOver K M → List (List ℕ) → List LineOutput → SessionOver K M → Type 0
@@ -79,6 +80,7 @@ module _ {K M : Type 0} (custody : Custody K) (making : Making M) (start : M) wh
   less_after : (number : ℕ) (old mid : SessionOver K M) (line : List ℕ) (output : LineOutput) → IsLess old.cluster.maker
       → TurnsOver custody making number old line output mid → IsLess mid.cluster.maker
   less_after number old mid line output less turns = record {
+    makes_less = λ n keeper made. less.makes_less n keeper (turns.turn.makes_less n keeper made);
     finds_less = λ n k found. less.finds_less n k (turns.turn.finds_less n k found);
     refuses_less = λ n fault why. less.refuses_less n fault (turns.turn.refuses_less n fault why);
   }
@@ -101,7 +103,7 @@ module _ {K M : Type 0} (custody : Custody K) (making : Making M) (start : M) wh
       (record { world = w; aliases = new.aliases }))
   unfolding Answers from seen
   script_answered lines outputs new h =
-      let less : IsLess start = record { finds_less = λ n k found. found; refuses_less = λ n fault why. why } in
+      let less : IsLess start = record { makes_less = λ n keeper made. made; finds_less = λ n k found. found; refuses_less = λ n fault why. why } in
       let all = chained 1 (begun_over start) new lines outputs less h in
       record {
         each = λ honest w is.

@@ -526,7 +526,7 @@ module _ (safe : (w : World) → IsReached w → IsSafeWorld w)
 
 -- ---- so it is of what is written over keepers
 
-module _ {K M : Type 0} (custody : Custody K) (making : Making M) (start : M)
+module _ {K M : Type 0} (custody : Custody K) (making : Making M K) (start : M)
     (safe : (w : World) → IsReached w → IsSafeWorld w)
     (lasting : (w : World) → IsReached w → IsLastingWorld w) where
   pub lasts_script : (old new : Option (List ℕ)) (script : List ℕ) (status : ℕ) (end : SessionOver K M)

@@ -7,7 +7,7 @@ use Rattle.fl_turns.specs.Over.{SessionOver, begun_over, TurnsOver}
 use Rattle.fl_turns.specs.Script.{IsOneRunIfHonest, RunsScript, RunsFirst}
 use Rattle.fl_turns.specs.laws.Chains.{script_answered}
 
-module _ {K M : Type 0} (custody : Custody K) (making : Making M) (start : M) where
+module _ {K M : Type 0} (custody : Custody K) (making : Making M K) (start : M) where
   pub one_run : (ls : List (List ℕ)) (text : List ℕ) (status : ℕ) (end : SessionOver K M)
       → Writes (TurnsOver custody making) (begun_over start) ls text status end
       → IsOneRunIfHonest custody making start ls text status end

@@ -9,10 +9,11 @@ returns-in-Ok-clause-goes g c =
     opens_as g.M.K.Keeper.custody g.M.MakesKeepers.making _ _ _ _ _ _ _
     c.self.view_is
     (joins_or_not g.M.K.Keeper.custody _ _ (λ left. IsLeftBroken g.M.K.Keeper.custody c.in-Ok.keeper left) _ _ _ _ c.in-Ok.keeper _ _
-    (rw (← c.self.view_is) at c.requires.absent) (rw c.in-Ok.is at c.make.ensures.made) (rw c.in-Ok.is at c.make.ensures.fails)
+    (rw (← c.self.view_is) at c.requires.absent) (rw c.in-Ok.is at c.make.ensures.makes)
+    (rw c.in-Ok.is at c.make.ensures.made) (rw c.in-Ok.is at c.make.ensures.fails)
     c.outcome.ensures.ok c.outcome.ensures.err c.join.ensures.joins c.join.ensures.refused c.join.ensures.cause
     c.join.ensures.same)
-    c.make.ensures.same_finds c.make.ensures.same_refuses
+    c.make.ensures.same_makes c.make.ensures.same_finds c.make.ensures.same_refuses
 
 pub returns-in-Err-clause-goes : goal.returns-in-Err-clause-goes
 returns-in-Err-clause-goes g c =
@@ -20,7 +21,7 @@ returns-in-Err-clause-goes g c =
     c.self.view_is
     (unmade g.M.K.Keeper.custody _ _ _ _ _ (rw (← c.self.view_is) at c.requires.absent)
     (g.M.MakesKeepers.told _ _ _ (rw c.in-Err.is at c.make.ensures.why)))
-    c.make.ensures.same_finds c.make.ensures.same_refuses
+    c.make.ensures.same_makes c.make.ensures.same_finds c.make.ensures.same_refuses
 
 pub returns-in-Ok-clause-cause : goal.returns-in-Ok-clause-cause
 returns-in-Ok-clause-cause g c =
