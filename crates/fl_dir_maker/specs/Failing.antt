@@ -1,4 +1,10 @@
 -- What a node is answered where no keeper was opened.
+use Rattle.std.specs.IoError.{error_kind}
+use Rattle.std.specs.declared.io.Error as io
+use Rattle.std.specs.declared.io.ErrorKind.{ErrorKind}
+use Rattle.std.specs.declared.io.ErrorKind.TheVariants as kinds
+use Rattle.sqlite_std_file.specs.declared.pair.OpenError.{OpenError}
+use Rattle.sqlite_std_file.specs.declared.pair.OpenError.TheVariants as opening
 use Rattle.fl_dir_maker.specs.declared.fault.Cause.{Cause}
 use Rattle.fl_dir_maker.specs.declared.fault.Cause.TheVariants as causes
 use Rattle.fl_jobs.specs.declared.answer.Refusal.TheVariants.{Memory}
@@ -22,6 +28,30 @@ cause_of kept.NamesSpent = causes.Broken
 abbrev pub database_cause : Error → Cause
 database_cause (SqliteFailure OutOfMemory) = causes.Memory
 database_cause e = causes.Database e
+
+-- what is told of the system's refusal: want of memory is no failure
+abbrev pub system_cause : io.Error → Cause
+system_cause e = by_kind (error_kind e)
+  where
+    by_kind : ErrorKind → Cause
+    by_kind kinds.OutOfMemory = causes.Memory
+    by_kind kind = causes.System e
+
+-- what is told of files that were not opened: the same
+abbrev pub files_cause : OpenError → Cause
+files_cause opening.OutOfMemory = causes.Memory
+files_cause (opening.Io e) = system_cause e
+files_cause e = causes.Files e
+
+-- it is told of files that were not opened
+abbrev pub IsOfFiles : Cause → Type 0
+IsOfFiles causes.Memory = Unit {0}
+IsOfFiles (causes.System error) = Unit {0}
+IsOfFiles (causes.Files error) = Unit {0}
+IsOfFiles (causes.Database error) = ⊥
+IsOfFiles causes.WrongNode = ⊥
+IsOfFiles causes.BadRow = ⊥
+IsOfFiles causes.Broken = ⊥
 
 abbrev pub fault_of : Cause → Fault
 fault_of causes.Memory = Refused Memory

@@ -1,2 +1,5 @@
 pub mod NodeFile
 pub mod Failing
+pub mod Reach
+pub mod Keeping
+pub mod DirMaking

@@ -1,6 +1,7 @@
 //! Why no keeper was opened.
 ghost use Rattle.std.specs.Prelude.{◌≡◌};
 ghost use Rattle.fl_dir_maker.specs.Failing.{fault_of, cause_of, database_cause};
+ghost use Rattle.fl_dir_maker.specs.Failing.{IsOfFiles, system_cause, files_cause};
 
 use fl_jobs::answer::Refusal;
 use fl_store::keeper::KeeperFault;
@@ -54,7 +55,10 @@ impl Cause {
 }
 
 /// What the system's refusal comes to.
-pub fn of_system(error: io::Error) -> Cause {
+pub fn of_system(error: io::Error) -> Cause
+    ensures cause { result ≡ system_cause error }
+    ensures files { IsOfFiles result }
+{
     match error.kind() {
         ErrorKind::OutOfMemory => Cause::Memory,
         _ => Cause::System(error),
@@ -62,7 +66,10 @@ pub fn of_system(error: io::Error) -> Cause {
 }
 
 /// What a refusal to open the file or its log comes to.
-pub fn of_files(error: OpenError) -> Cause {
+pub fn of_files(error: OpenError) -> Cause
+    ensures cause { result ≡ files_cause error }
+    ensures files { IsOfFiles result }
+{
     match error {
         OpenError::OutOfMemory => Cause::Memory,
         OpenError::Io(error) => of_system(error),

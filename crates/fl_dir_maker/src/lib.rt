@@ -1,7 +1,9 @@
 //! A maker of keepers over the database files of a directory.
 #![tactic(auto)]
 
-mod fault;
+pub mod fault;
 mod file;
+pub mod host;
 pub mod maker;
+pub mod opener;
 mod opening;

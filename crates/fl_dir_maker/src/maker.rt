@@ -1,41 +1,49 @@
 //! A maker of keepers over files.
 ghost use Rattle.std.specs.Prelude.{◌≡◌, false};
-ghost use Rattle.fl_makers.specs.Making.{IsKeeperFault};
+ghost use Rattle.std.proofs.Common.{inl};
+ghost use Rattle.fl_dir_maker.specs.DirMaking.{dir_making};
 
 use crate::fault::Cause;
 use crate::file::file_of;
+use crate::opener::OpensFiles;
 use crate::opening::open;
 use fl_jobs::answer::Refusal;
 use fl_labels::name::NodeNumber;
 use fl_makers::maker::MakesKeepers;
 use fl_sql_store::sql_keeper::SqlKeeper;
+use fl_store::keeper::Keeper;
 use fl_system::answer::Fault;
-use sqlite::{File, FileStore};
+use sqlite::FileStore;
 use std::alloc::Global;
 
 /// Makes keepers over the files of a directory: node 3 is kept in its `node-3.db`.
 #[derive(Drop)]
-pub struct DirMaker<'a> {
+pub struct DirMaker<'a, O> {
     rt: &'a HostRuntime,
+    opener: O,
     dir: &'a str,
     told: bool,
 }
 
-impl<'a> DirMaker<'a> {
-    /// A maker over the directory of this path, which is not opened yet.
-    pub fn new(rt: &'a HostRuntime, dir: &'a str) -> DirMaker<'a>
+impl<'a, O> DirMaker<'a, O> {
+    /// A maker over the directory of this path, whose files this opens, which is not opened yet.
+    pub fn new(rt: &'a HostRuntime, opener: O, dir: &'a str) -> DirMaker<'a, O>
+        ensures opener { result.opener ≡ opener }
         ensures dir { result.dir.now ≡ dir.entry.now }
         ensures told { result.told ≡ false }
     {
         DirMaker {
             rt,
+            opener,
             dir,
             told: false,
         }
     }
 
     // Writes to standard error why a keeper failed, but once only.
-    fn tell(&mut self, path: &str, cause: &Cause) {
+    fn tell(&mut self, path: &str, cause: &Cause)
+        ensures { self.new ≡ record self.old { told = self.new.told } }
+    {
         if self.told || cause.fault() != Fault::KeeperFailed {
             return;
         }
@@ -44,17 +52,13 @@ impl<'a> DirMaker<'a> {
     }
 }
 
-impl<'a> MakesKeepers for DirMaker<'a> {
-    type K = SqlKeeper<FileStore<File>>;
+impl<'a, O: OpensFiles> MakesKeepers for DirMaker<'a, O> {
+    type K = SqlKeeper<FileStore<O::D>>;
 
-    // what is on a disk is not known, but for whose it is
-    ghost making = { record {
-      finds = λ maker number k. k.number ≡ number;
-      unmade = λ maker number fault. IsKeeperFault fault;
-      refuses = λ maker number fault. IsKeeperFault fault;
-    } };
+    ghost making = { dir_making ⟦<SqlKeeper<FileStore<O::D>> as Keeper>⟧.custody O.reach
+        (λ maker. maker.opener) (λ maker. maker.dir.now) };
 
-    ghost told = { λ _ _ _ why. why };
+    ghost told = { λ _ _ _ why. inl why };
 
     /// The keeper over the node's file, which is made if it is missing.
     ///
@@ -65,11 +69,11 @@ impl<'a> MakesKeepers for DirMaker<'a> {
         &mut self,
         alloc: Global,
         number: NodeNumber,
-    ) -> Result<SqlKeeper<FileStore<File>>, Fault> {
+    ) -> Result<SqlKeeper<FileStore<O::D>>, Fault> {
         let Ok(path) = file_of(alloc, self.dir, number) else {
             return Err(Fault::Refused(Refusal::Memory));
         };
-        match open(self.rt, path.as_str(), number) {
+        match open(&mut self.opener, alloc, path.as_str(), number) {
             Ok(keeper) => Ok(keeper),
             Err(cause) => {
                 self.tell(path.as_str(), &cause);

@@ -1,43 +1,73 @@
-//! Opening a keeper over a file.
-ghost use Rattle.std.specs.Prelude.{◌≡◌, false, ℕ, List, IfOk};
-ghost use Rattle.fl_dir_maker.specs.NodeFile.{node_file};
+//! Opening a keeper over files.
+ghost use Rattle.std.specs.Prelude.{ℕ, List, IfOk, IfErr};
+ghost use Rattle.sqlite_wal.specs.Recovery.{Image};
+ghost use Rattle.fl_dir_maker.specs.Keeping.{Connects, IsKeeperOver, IsUnopened};
+ghost use Rattle.fl_dir_maker.specs.declared.fault.Cause.{Cause};
 
-use crate::fault::{Cause, of_database, of_files, of_keeper, of_system};
+use crate::fault::{Cause, of_database, of_keeper};
+use crate::opener::OpensFiles;
 use fl_labels::name::NodeNumber;
 use fl_sql_store::sql_keeper::SqlKeeper;
-use sqlite::{Connection, File, FileStore, Options, Unknown};
-use std::hash::{BuildHasher, RandomState};
+use sqlite::{Connection, FileStore, Options};
+use std::alloc::Global;
 
 // How many pages of a file are kept in memory. A node reads all of it once, and then adds to it.
 const CACHE_PAGES: usize = 64;
 
-// The database of a file, which is made if it is missing.
-fn connect(rt: &HostRuntime, path: &str) -> Result<Connection<FileStore<File>>, Cause> {
-    let files = sqlite_std_file::open(rt, path, Unknown).map_err(of_files)?;
-    let seed = RandomState::new(rt).map_err(of_system)?.hash_one(&0u8);
+// The database of the files at a path, which are made if they are missing.
+fn connect<O: OpensFiles>(
+    opener: &mut O,
+    alloc: Global,
+    path: &str,
+) -> Result<Connection<FileStore<O::D>>, Cause>
+    ensures connects { IfOk result (Connects (O.reach.holds opener.old path.now)) }
+    ensures unopened { IfErr result (λ cause. (number : ℕ) → IsUnopened O.D.Disk
+        (O.reach.holds opener.old path.now) (O.reach.fails opener.old path.now) number cause) }
+    ensures same_holds { (at : List ℕ) (image : Image) → O.reach.holds opener.new at image
+        → O.reach.holds opener.old at image }
+    ensures same_fails { (at : List ℕ) (cause : Cause) → O.reach.fails opener.new at cause
+        → O.reach.fails opener.old at cause }
+{
+    let (files, seed) = match opener.open(path) {
+        Ok(opened) => opened,
+        Err(cause) => return Err(cause),
+    };
     let options = Options {
         cache_pages: CACHE_PAGES,
         ..Options::new(seed)
     };
-    match Connection::open_files(rt.alloc(), files, options) {
+    match Connection::open_files(alloc, files, options) {
         Ok(conn) => Ok(conn),
         Err((error, _left)) => Err(of_database(error)),
     }
 }
 
-/// The keeper of this node over its file in some directory, which is made if it is missing. It is
-/// not broken.
-pub fn open(
-    rt: &HostRuntime,
+/// The keeper of this node over the files at a path, which are made if they are missing. It is not
+/// broken.
+///
+/// Refused with the cause that the opener gives; with `Database` where the files are no database;
+/// with `WrongNode` where they are another node's; with `BadRow` where they have other tables or
+/// rows than a keeper's; with `Memory`; and with `Broken` where the database fails.
+pub fn open<O: OpensFiles>(
+    opener: &mut O,
+    alloc: Global,
     path: &str,
     number: NodeNumber,
-) -> Result<SqlKeeper<FileStore<File>>, Cause>
-    requires { (dir : List ℕ) × (path.now ≡ node_file dir number) }
-    ensures number { IfOk result (λ keeper. keeper.number ≡ number) }
-    ensures fresh { IfOk result (λ keeper. keeper.is_broken ≡ false) }
+) -> Result<SqlKeeper<FileStore<O::D>>, Cause>
+    ensures keeper { IfOk result (IsKeeperOver
+        (O.reach.holds opener.old path.now) number) }
+    ensures unopened { IfErr result (IsUnopened O.D.Disk
+        (O.reach.holds opener.old path.now) (O.reach.fails opener.old path.now) number) }
+    ensures same_holds { (at : List ℕ) (image : Image) → O.reach.holds opener.new at image
+        → O.reach.holds opener.old at image }
+    ensures same_fails { (at : List ℕ) (cause : Cause) → O.reach.fails opener.new at cause
+        → O.reach.fails opener.old at cause }
 {
-    let conn = connect(rt, path)?;
-    match SqlKeeper::open(rt.alloc(), conn, number) {
+    let conn = match connect(opener, alloc, path) {
+        Ok(conn) => conn,
+        Err(cause) => return Err(cause),
+    };
+    match SqlKeeper::open(alloc, conn, number) {
         Ok(keeper) => Ok(keeper),
         Err((fault, _conn)) => Err(of_keeper(fault)),
     }

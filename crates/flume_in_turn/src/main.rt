@@ -6,6 +6,7 @@ use fl_cluster::fault::RunFault;
 use fl_cluster::run::converse;
 use fl_cluster::standard::{exit_code, tell_length};
 use fl_cluster::watched::Watched;
+use fl_dir_maker::host::HostFiles;
 use fl_dir_maker::maker::DirMaker;
 use fl_makers::maker::MakesKeepers;
 use fl_makers::mem::MemMaker;
@@ -38,7 +39,9 @@ fn answered(rt: &HostRuntime) -> Result<u8, RunFault> {
     }
     match place {
         Place::Memory => answered_in_turn(rt, MemMaker),
-        Place::Directory(dir) => answered_in_turn(rt, DirMaker::new(rt, dir)),
+        Place::Directory(dir) => {
+            answered_in_turn(rt, DirMaker::new(rt, HostFiles::new(rt), dir))
+        }
     }
 }
 

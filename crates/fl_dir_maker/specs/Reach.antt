@@ -1,0 +1,11 @@
+-- What is said of who opens the files of databases.
+use Rattle.std.specs.Prelude.{ℕ, List}
+use Rattle.sqlite_wal.specs.Recovery.{Image}
+use Rattle.fl_dir_maker.specs.declared.fault.Cause.{Cause}
+
+-- in one word
+pub record Reach (O : Type 0) : Type 1 where
+  -- how the files at a path may read once they are opened, from this opener on
+  pub holds : O → List ℕ → Image → Type 0
+  -- why they may not be opened
+  pub fails : O → List ℕ → Cause → Type 0
