@@ -138,6 +138,13 @@ module _ (w : Intervals) where
   lacking_walked ns mid i taken own is done h =
       h ∙ ap (λ l. filter (is_lacking w) (all_ops l)) (take_all i mid done ∙ is) ∙ lacking_between ns (recursion_from_All AreOfNode ns own)
 
+  -- what the nodes of the window lack is lacking of all
+  pub some_between : (ns mid : List NodeOps) → All AreOfNode ns → mid ≡ filter (is_between w.from.node w.to.node) ns
+      → 0 < length (filter (is_lacking w) (all_ops mid)) → 0 < length (filter (is_lacking w) (all_ops ns))
+  some_between ns mid own is some =
+      let same = ap (λ l. length (filter (is_lacking w) (all_ops l))) is ∙ ap length (lacking_between ns (recursion_from_All AreOfNode ns own)) in
+      omega (arith, some, same)
+
 pub ranks_of_entry : (ns : List NodeOps) (i : ℕ) (it : NodeOps) (ops : List Op) → All AreOfNode ns → i < length ns → it ≡ get_or ns i it → ops ≡ it.ops.items → IsNonDecreasingBy op_rank ops
 ranks_of_entry ns i it ops own inside is same =
     let here : AreOfNode it = subst AreOfNode (sym is) (own i it inside) in

@@ -15,6 +15,7 @@ pub mod Lacks
 pub mod Cuts
 pub mod CutSteps
 pub mod Walk
+pub mod Wants
 pub mod Changes
 pub mod Places
 pub mod Ends

@@ -1,5 +1,5 @@
 //! What a window lacks, among operations that rise.
-ghost use Rattle.std.specs.Prelude.{◌≡◌, ◌<◌, ◌≤◌, ◌++◌, OnOk, length, drop};
+ghost use Rattle.std.specs.Prelude.{◌≡◌, ◌<◌, ◌≤◌, ◌++◌, OnOk, OnErr, length, drop};
 ghost use Rattle.std.specs.List.{All, filter};
 ghost use Rattle.std.specs.List.Sorted.{IsNonDecreasingBy};
 ghost use Rattle.fl_opset.specs.Rank.{op_rank};
@@ -45,11 +45,13 @@ fn cut(ops: &[Op], low: u64) -> (&[Op], &[Op])
 /// Adds those of the operations that the window lacks to the end of a list. A binary search finds
 /// the first span that may have one of them; from there on two searches a span, each in steps that
 /// double from where the one before ended, until none is left, and then linear in what is lacking.
-/// An error says that there was no memory for it, and may leave some of it added.
+/// An error says that there was no memory for it, comes only where something is lacking, and may
+/// leave some of it added.
 pub fn add_lacking(ops: &[Op], window: &Intervals, lacking: &mut Vec<Op>) -> Result<(), AllocError>
     requires { IsNonDecreasingBy op_rank ops.now }
-    ensures { OnOk result
+    ensures ok { OnOk result
         (lacking.new.items ≡ lacking.old.items ++ filter (is_lacking window.now) ops.now) }
+    ensures wants { OnErr result (0 < length (filter (is_lacking window.now) ops.now)) }
 {
     let (_, above) = cut(ops, rank(window.from));
     let (mut rest, _) = cut(above, rank(window.to) + 1);

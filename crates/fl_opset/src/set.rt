@@ -84,10 +84,14 @@ impl OpSet {
         }
     }
 
-    /// The same set again. Fails only where there is not enough memory.
+    /// The same set again. Fails only where it has a member, and there is not enough memory.
     pub fn copy(&self, alloc: Global) -> Result<Self, AllocError>
-        ensures { IfOk result (λ made. made ≡ self.now) }
+        ensures ok { IfOk result (λ made. made ≡ self.now) }
+        ensures wants { OnErr result (0 < set.len self.now) }
     {
+        if self.count == 0 {
+            return Ok(OpSet::new(alloc));
+        }
         let nodes = copy_of(alloc, &self.nodes)?;
         let spans = Vec::from_slice(alloc, &self.spans)?;
         Ok(OpSet {
@@ -121,9 +125,10 @@ impl OpSet {
     }
 
     /// The members, rising, in one piece. Copies them. An error says that there was no memory for
-    /// them.
+    /// them, and comes only where there is a member.
     pub fn to_vec(&self, alloc: Global) -> Result<Vec<Op>, AllocError>
-        ensures { IfOk result (λ ops. ops.items ≡ set.members self.now) }
+        ensures ok { IfOk result (λ ops. ops.items ≡ set.members self.now) }
+        ensures wants { OnErr result (0 < set.len self.now) }
     {
         let mut ops = Vec::with_capacity(alloc, self.count)?;
         append_to(&self.nodes, &mut ops)?;
@@ -343,8 +348,8 @@ impl OpSet {
 
     /// What names the members have, as windows that cover all names: each with at most 512 spans,
     /// all but the last with just so many. Copies the spans, and walks no member; where there was
-    /// no memory to keep the spans, it walks all of them, once. An error says that there was no
-    /// memory for the windows.
+    /// no memory to keep the spans, it walks all of them, once. Always takes memory, of a set of
+    /// nothing too, whose one window has no span; an error says that there was none for the windows.
     pub fn have(&self, alloc: Global) -> Result<Vec<Intervals>, AllocError>
         ensures { IfOk result (λ windows. AreWindows (In self.now) windows.items) }
     {
@@ -359,9 +364,10 @@ impl OpSet {
     /// searches find the nodes of the window, and of no other is a member looked at. Of each it
     /// finds the window by searches in steps that double, walks no further than it, searches twice
     /// for each span, by the logarithm of the members in it, and is then linear in what is lacking.
-    /// An error says that there was no memory for it.
+    /// An error says that there was no memory for it, and comes only where something is lacking.
     pub fn lacking(&self, alloc: Global, window: &Intervals) -> Result<Vec<Op>, AllocError>
-        ensures { IfOk result (λ ops. ops.items ≡ lacking self.now window.now) }
+        ensures ok { IfOk result (λ ops. ops.items ≡ lacking self.now window.now) }
+        ensures wants { OnErr result (0 < length (lacking self.now window.now)) }
     {
         lacking_of(alloc, &self.nodes, window)
     }

@@ -1,5 +1,5 @@
 //! Walks over the operations of each node.
-ghost use Rattle.std.specs.Prelude.{◌≡◌, ◌++◌, ◌&&◌, [], true, OnOk, OnErr, IfOk, nat_le};
+ghost use Rattle.std.specs.Prelude.{◌≡◌, ◌<◌, ◌≤◌, ◌++◌, ◌&&◌, [], true, OnOk, OnErr, IfOk, length, nat_le};
 ghost use Rattle.std.specs.List.{flat_map, filter};
 ghost use Rattle.std.specs.List.Sorted.{IsStrictlySortedBy};
 ghost use Rattle.fl_labels.specs.Found.{Tells, Within};
@@ -41,9 +41,10 @@ pub fn copy_of(alloc: Global, nodes: &[NodeOps]) -> Result<Vec<NodeOps>, AllocEr
 }
 
 /// Copies the operations of all nodes to the end of a list. An error says that there was no memory
-/// for them, and may leave some of them copied.
+/// for them, comes only where there are some, and may leave some of them copied.
 pub fn append_to(nodes: &[NodeOps], list: &mut Vec<Op>) -> Result<(), AllocError>
-    ensures { OnOk result (list.new.items ≡ list.old.items ++ all_ops nodes.now) }
+    ensures ok { OnOk result (list.new.items ≡ list.old.items ++ all_ops nodes.now) }
+    ensures wants { OnErr result (0 < length (all_ops nodes.now)) }
 {
     for it in nodes {
         list.extend_from_slice(&it.ops)?;
@@ -127,15 +128,16 @@ fn nodes_between(nodes: &[NodeOps], first: NodeNumber, last: NodeNumber) -> &[No
 
 /// The operations that the window lacks, rising. Two binary searches find its nodes, and no other
 /// one is looked at; for each of them it costs what [`add_lacking`] does. An error says that there
-/// was no memory for them.
+/// was no memory for them, and comes only where something is lacking.
 pub fn lacking_of(
     alloc: Global,
     nodes: &[NodeOps],
     window: &Intervals,
 ) -> Result<Vec<Op>, AllocError>
     requires { AreByNode nodes.now }
-    ensures { IfOk result
+    ensures ok { IfOk result
         (λ lacking. lacking.items ≡ filter (is_lacking window.now) (all_ops nodes.now)) }
+    ensures wants { OnErr result (0 < length (filter (is_lacking window.now) (all_ops nodes.now))) }
 {
     let mut lacking = Vec::new(alloc);
     for it in nodes_between(nodes, window.from.node, window.to.node) {

@@ -1,12 +1,15 @@
+use Rattle.std.proofs.lemmas.Result.{on_err_weaker}
 use Rattle.std.proofs.Common.{◌≡◌, ◌++◌, arith, sym, ap, subst, ◌∙◌, refl, true, []}
 use Rattle.fl_opset.specs.Rank.{name_rank}
 use Rattle.fl_opset.specs.Spans.{fit}
 use Rattle.fl_opset.proofs.Lacks.{window_kept, gap_taken}
+use Rattle.fl_opset.proofs.MergeLemmas.{on_error}
 use Rattle.fl_opset.proofs.Passed.{window_fits, left, left_fits, passed_same, no_length, none_left, rest_added}
+use Rattle.fl_opset.proofs.Wants.{more_taken, gap_wanted, rest_wanted}
 use Rattle.fl_opset.proofs.lacking.add_lacking.Goals as goal
 
-pub returns-in_default : goal.returns-in_default
-returns-in_default c =
+pub returns-in_default-clause-ok : goal.returns-in_default-clause-ok
+returns-in_default-clause-ok c =
     let w = c.args.window.now in
     let kept = window_kept w _ _ _ _ _ w.spans [] _ _ c.cut.ensures.whole c.cut-2.ensures.whole refl refl c.rank.ensures c.rank-2.ensures
     c.cut.ensures.below c.cut.ensures.above c.cut-2.ensures.below c.cut-2.ensures.above in
@@ -24,11 +27,12 @@ loop-span-init c =
     c.in-Some.ensures.item.3.0 (c.in-Some.ensures.item.3.1 c.in-Some.first.now) c.rank-3.ensures c.count_below-passed.ensures.below in
     record {
       rises = c.cut-2.ensures.first;
+      grown = omega arith;
       taken = ap (λ l. c.args.lacking.now.items ++ l) (same ∙ kept);
     }
 
-pub returns-then-is_empty : goal.returns-then-is_empty
-returns-then-is_empty c = none_left _ c.loop-span.rest.now c.loop-span.lacking.items _ (no_length _ (sym c.is_empty.ensures ∙ c.if-is_empty.true)) c.loop-span.invariant.taken
+pub returns-then-is_empty-clause-ok : goal.returns-then-is_empty-clause-ok
+returns-then-is_empty-clause-ok c = none_left _ c.loop-span.rest.now c.loop-span.lacking.items _ (no_length _ (sym c.is_empty.ensures ∙ c.if-is_empty.true)) c.loop-span.invariant.taken
 
 pub cut-requires-in-loop-span : goal.cut-requires-in-loop-span
 cut-requires-in-loop-span c = c.loop-span.invariant.rises
@@ -42,13 +46,34 @@ loop-span-preserved c =
     let later = left_fits spans.result.now passed (name_rank w.from) (name_rank w.to) fits in
     record {
       rises = c.cut-in-loop-span-2.ensures.second;
+      grown = more_taken _ _ _ _ c.in_ok-extend_from_slice.ensures.items c.loop-span.invariant.grown;
       taken = gap_taken later.0 (name_rank w.to) (left spans.result.now passed) c.loop-span.span-index c.span-item.result _ c.loop-span.rest.now _ _ _ _ _ _ _ _ later.1 c.loop-span-test.true c.span-item.is
           c.cut-in-loop-span.ensures.whole c.cut-in-loop-span-2.ensures.whole c.rank-in-loop-span.ensures c.last_rank_of.ensures
           c.cut-in-loop-span.ensures.below c.cut-in-loop-span.ensures.above c.cut-in-loop-span-2.ensures.below c.cut-in-loop-span-2.ensures.above
           c.in_ok-extend_from_slice.ensures.items c.loop-span.invariant.taken;
     }
 
-pub returns : goal.returns
-returns c =
+pub returns-clause-ok : goal.returns-clause-ok
+returns-clause-ok c =
     rest_added (left c.as_slice-spans.result.now c.count_below-passed.result) c.loop-span.span-index _ c.loop-span.rest.now c.loop-span.lacking.items _ c.extend_from_slice-2.result
     c.loop-span-test.false c.extend_from_slice-2.ensures.items c.loop-span.invariant.taken
+
+pub returns-in_err-extend_from_slice-clause-wants : goal.returns-in_err-extend_from_slice-clause-wants
+returns-in_err-extend_from_slice-clause-wants c =
+    let w = c.args.window.now in
+    let spans = c.as_slice-spans in
+    let passed = c.count_below-passed.result in
+    let fits : fit (name_rank w.from) (name_rank w.to) spans.result.now ≡ true = subst (λ l. fit (name_rank w.from) (name_rank w.to) l ≡ true) (sym spans.ensures) w.fitting in
+    let later = left_fits spans.result.now passed (name_rank w.from) (name_rank w.to) fits in
+    let wanted = gap_taken later.0 (name_rank w.to) (left spans.result.now passed) c.loop-span.span-index c.span-item.result _ c.loop-span.rest.now _ _ _ _ _ _ _ _ later.1 c.loop-span-test.true c.span-item.is
+    c.cut-in-loop-span.ensures.whole c.cut-in-loop-span-2.ensures.whole c.rank-in-loop-span.ensures c.last_rank_of.ensures
+    c.cut-in-loop-span.ensures.below c.cut-in-loop-span.ensures.above c.cut-in-loop-span-2.ensures.below c.cut-in-loop-span-2.ensures.above
+    refl c.loop-span.invariant.taken in
+    on_error c.from_residual.result (gap_wanted _ c.loop-span.lacking.items _ _ _ (omega (arith, c.in_err-extend_from_slice.ensures.full, c.loop-span.lacking.ok, c.loop-span.lacking.small)) c.loop-span.invariant.grown wanted)
+
+pub returns-clause-wants : goal.returns-clause-wants
+returns-clause-wants c =
+    on_err_weaker c.extend_from_slice-2.result (λ full.
+    let all = left c.as_slice-spans.result.now c.count_below-passed.result in
+    rest_wanted all c.loop-span.span-index _ c.loop-span.lacking.items c.loop-span.rest.now _ c.loop-span-test.false (omega (arith, full, c.loop-span.lacking.ok, c.loop-span.lacking.small)) c.loop-span.invariant.grown c.loop-span.invariant.taken)
+    c.extend_from_slice-2.ensures.full

@@ -1,4 +1,4 @@
-use Rattle.std.proofs.Common.{◌≡◌, ◌++◌, drop}
+use Rattle.std.proofs.Common.{◌≡◌, ◌≤◌, ◌++◌, length, drop}
 use Rattle.std.specs.List.{filter}
 use Rattle.std.specs.List.Sorted.{IsNonDecreasingBy}
 use Rattle.fl_opset.specs.Rank.{op_rank}
@@ -10,5 +10,6 @@ use Rattle.fl_opset.proofs.lacking.add_lacking.Given as goal
 abbrev pub invariant-loop-span : goal.invariant-loop-span
 invariant-loop-span l = record {
   rises : IsNonDecreasingBy op_rank l.rest;
+  grown : length l.fn.lacking.items ≤ length l.lacking.items;
   taken : l.lacking.items ++ filter (outside (drop l.span-index l.span-items)) l.rest ≡ l.fn.lacking.items ++ filter (is_lacking l.window) l.fn.ops;
 }
