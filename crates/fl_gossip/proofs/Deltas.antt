@@ -1,5 +1,5 @@
 -- Operations cut into deltas.
-use Rattle.std.proofs.Common.{◌≡◌, ◌<◌, ◌≤◌, ◌+◌, ◌-◌, ℕ, get_or, nat_le, ◌&&◌, not, Bool, true, false, cond, List, [], ◌∷◌, ◌++◌, length, take, drop, refl, sym, ap, subst, ◌∙◌, arith, append_assoc, append-nil, Ordering, Less, Equal, Greater}
+use Rattle.std.proofs.Common.{◌≡◌, ◌<◌, ◌≤◌, ◌+◌, ◌-◌, ℕ, get_or, nat_le, ◌&&◌, not, Bool, true, false, cond, List, [], ◌∷◌, ◌++◌, length, take, drop, refl, sym, ap, subst, ◌∙◌, arith, append_assoc, append-nil, Result, Ok, Err, OnErr, Ordering, Less, Equal, Greater}
 use Rattle.std.specs.Cmp.{tied_itself}
 use Rattle.std.specs.List.{Contains, filter, flat_map, list_any, AllByRecursion}
 use Rattle.std.specs.List.Sorted.{IsStrictlySortedBy}
@@ -186,6 +186,11 @@ no_last_delta deltas waiting f none = record {
   whole = sym (append-nil (flat_map ops_of deltas)) ∙ ap (λ l. flat_map ops_of deltas ++ l) (sym (nil_from_length waiting none));
 }
 
+-- an error, where something is wanted
+pub wanted : {T E P : Type 0} (r : Result T E) → P → OnErr r P
+wanted (Ok x) h = tt
+wanted (Err e) h = h
+
 -- ---- the operations of each node in turn
 
 -- those of the first nodes are filled in
@@ -211,6 +216,14 @@ module _ (nodes : List NodeOps) (i : ℕ) (x : NodeOps) (inside : i < length nod
       let split : all_ops (take (i + 1) nodes) ++ all_ops (drop (i + 1) nodes) ≡ all_ops nodes =
       sym (flat_map-append (λ (it : NodeOps). it.ops.items) (take (i + 1) nodes) (drop (i + 1) nodes)) ∙ ap all_ops (take-append-drop (i + 1) nodes) in
       subst (IsStrictlySortedBy by_name) (sym one_node_more) (front_rises by_name (all_ops (take (i + 1) nodes)) (all_ops (drop (i + 1) nodes)) (subst (IsStrictlySortedBy by_name) (sym split) up))
+
+  -- where it wanted memory, something is lacking
+  pub node_lacks : (all : List Op) → all_ops nodes ≡ all → 0 < length (filled deltas waiting ++ ops) → 0 < length all
+  node_lacks all same some =
+      let rest = all_ops (drop (i + 1) nodes) in
+      let split : all_ops (take (i + 1) nodes) ++ rest ≡ all_ops nodes =
+      sym (flat_map-append (λ (it : NodeOps). it.ops.items) (take (i + 1) nodes) (drop (i + 1) nodes)) ∙ ap all_ops (take-append-drop (i + 1) nodes) in
+      omega (arith, some, ap length one_node_more, length-append (all_ops (take (i + 1) nodes)) rest, ap length (split ∙ same))
 
   pub with_node : (more : List Packet) (now : List Op) → AreFilled more now → filled more now ≡ filled deltas waiting ++ ops → FilledOf nodes (i + 1) more now
   with_node more now state all = record { state = state; whole = all ∙ one_node_more }

@@ -15,6 +15,7 @@ use Rattle.fl_wire.specs.NameOrder.{by_name, by_name_total}
 use Rattle.fl_gossip.specs.declared.fault.GossipFault.{GossipFault}
 use Rattle.fl_gossip.specs.declared.fault.GossipFault.TheVariants.{Impostor, Clash, Memory}
 use Rattle.fl_gossip.specs.Taking.{Offends, AreTaken, BringsNew, IsLeastOffence, Refuses}
+use Rattle.fl_gossip.specs.parts.Starving.{HasNew, Stops}
 
 -- what `!` says of a test
 pub is_there : (b : Bool) → not b ≡ false → b ≡ true
@@ -59,8 +60,8 @@ module _ (me : ℕ) (saved : SetBy op_cmp) (ops : List Op) where
     taken_new ys may there more = record { each = each_more may; lacked = more ∙ sym (filtered true (ap not there)) }
 
     -- one that is new, for which there is no memory
-    pub brings_new : contains saved x ≡ false → BringsNew (In saved) ops
-    brings_new lacking = record { op = x; there = (i, inside, sym at); new = λ there. absurd (false≢true (sym lacking ∙ there)) }
+    pub has_new : contains saved x ≡ false → HasNew (In saved) ops
+    has_new lacking = record { op = x; there = (i, inside, sym at); new = λ there. absurd (false≢true (sym lacking ∙ there)) }
 
     module _ (up : IsStrictlySortedBy by_name ops) where
       not_less : (y : Op) → by_name y y ≡ Less → ⊥
@@ -90,7 +91,43 @@ module _ (me : ℕ) (saved : SetBy op_cmp) (ops : List Op) where
       refused (Clash n) h = offence (Clash n) h
       refused Memory h = absurd h
 
+      pub stopped : (f : GossipFault) → Offends me (In saved) x f → Stops me (In saved) ops f
+      stopped (Impostor n) h = offence (Impostor n) h
+      stopped (Clash n) h = offence (Clash n) h
+      stopped Memory h = absurd h
+
   pub all_taken : (i : ℕ) (new all : List Op) → length ops ≤ i → all ≡ ops → TakenTo me saved ops i new → AreTaken me saved all new
   all_taken i new all done same t =
       let whole = take_all i ops done ∙ sym same in
       record { each = λ op c. t.each op (subst (λ l. Contains l op) (sym whole) c); lacked = t.lacked ∙ ap (filter lacks) whole }
+
+  -- so far each may be taken
+  abbrev pub MayTo : ℕ → Type 0
+  MayTo i = (op : Op) → Contains (take i ops) op → MayTake me (In saved) op
+
+  pub may_none : MayTo 0
+  may_none op c = absurd (omega (arith, c.1))
+
+  may_taken : (i : ℕ) → MayTo i → TakenTo me saved ops i (filter lacks (take i ops))
+  may_taken i h = record { each = h; lacked = refl }
+
+  pub may_more : (i : ℕ) (x : Op) → i < length ops → x ≡ get_or ops i x → MayTo i → MayTake me (In saved) x → MayTo (i + 1)
+  may_more i x inside at h may = each_more i x inside at (filter lacks (take i ops)) (may_taken i h) may
+
+  pub may_refused : (i : ℕ) (x : Op) → i < length ops → x ≡ get_or ops i x → MayTo i → IsStrictlySortedBy by_name ops → (f : GossipFault) → Offends me (In saved) x f → Refuses me (In saved) ops f
+  may_refused i x inside at h up = refused i x inside at (filter lacks (take i ops)) (may_taken i h) up
+
+  -- each may be taken, but there is no memory
+  pub may_all_starved : (i : ℕ) → length ops ≤ i → MayTo i → HasNew (In saved) ops → BringsNew me (In saved) ops
+  may_all_starved i done h has = record {
+    each = λ op c. h op (subst (λ l. Contains l op) (sym (take_all i ops done)) c);
+    op = has.op;
+    there = has.there;
+    new = has.new;
+  }
+
+-- but for want of memory, why it stopped is why they are refused
+pub stopped_refused : (me : ℕ) (U : Op → Type 0) (ops : List Op) (f : GossipFault) → (f ≡ Memory → ⊥) → Stops me U ops f → Refuses me U ops f
+stopped_refused me U ops (Impostor n) other h = h
+stopped_refused me U ops (Clash n) other h = h
+stopped_refused me U ops Memory other h = absurd (other refl)

@@ -39,8 +39,9 @@ pub record IsLeastOffence (me : ℕ) (U : Registry) (ops : List Op) (f : GossipF
   pub offends : Offends me U op f
   pub least : (other : Op) → Contains ops other → by_name other op ≡ Less → MayTake me U other
 
--- one of them is new
-pub record BringsNew (U : Registry) (ops : List Op) : Type 0 where
+-- each of them may be taken, and one is new
+pub record BringsNew (me : ℕ) (U : Registry) (ops : List Op) : Type 0 where
+  pub each : (op : Op) → Contains ops op → MayTake me U op
   pub op : Op
   pub there : Contains ops op
   pub new : ¬ U op
@@ -49,4 +50,4 @@ pub record BringsNew (U : Registry) (ops : List Op) : Type 0 where
 abbrev pub Refuses : ℕ → Registry → List Op → GossipFault → Type 0
 Refuses me U ops (Impostor name) = IsLeastOffence me U ops (Impostor name)
 Refuses me U ops (Clash name) = IsLeastOffence me U ops (Clash name)
-Refuses me U ops Memory = BringsNew U ops
+Refuses me U ops Memory = BringsNew me U ops

@@ -2,3 +2,4 @@
 pub mod Ahead
 pub mod Filling
 pub mod Nothing
+pub mod Starving

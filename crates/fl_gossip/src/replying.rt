@@ -1,5 +1,5 @@
 //! What is answered to a window.
-ghost use Rattle.std.specs.Prelude.{◌≡◌, ◌<◌, ◌≤◌, ◌++◌, vec_len, IfOk, OnOk};
+ghost use Rattle.std.specs.Prelude.{◌≡◌, ◌<◌, ◌≤◌, ◌++◌, length, vec_len, IfOk, OnOk, OnErr};
 ghost use Rattle.std.specs.List.Sorted.{IsStrictlySortedBy};
 ghost use Rattle.fl_labels.specs.Found.{Tells};
 ghost use Rattle.fl_labels.specs.SetBy.{In};
@@ -37,7 +37,7 @@ fn delta_of(ops: Vec<Op>) -> Packet
 }
 
 // Copies operations behind those that wait, fewer than 64, and makes a delta of each 64. An error
-// says that there was no memory for it.
+// says that there was no memory for it, and comes only where there are operations.
 fn fill(deltas: &mut Vec<Packet>, waiting: &mut Vec<Op>, ops: &[Op]) -> Result<(), AllocError>
     requires full { AreFilled deltas.old.items waiting.old.items }
     requires rise { IsStrictlySortedBy by_name
@@ -45,6 +45,8 @@ fn fill(deltas: &mut Vec<Packet>, waiting: &mut Vec<Op>, ops: &[Op]) -> Result<(
     ensures full { OnOk result (AreFilled deltas.new.items waiting.new.items) }
     ensures whole { OnOk result (filled deltas.new.items waiting.new.items
         ≡ filled deltas.old.items waiting.old.items ++ ops.now) }
+    ensures wants { OnErr result
+        (0 < length (filled deltas.old.items waiting.old.items ++ ops.now)) }
 {
     let mut rest = ops;
     while rest.len() >= MOST_OPS - waiting.len() {
@@ -57,13 +59,14 @@ fn fill(deltas: &mut Vec<Packet>, waiting: &mut Vec<Op>, ops: &[Op]) -> Result<(
     waiting.extend_from_slice(rest)
 }
 
-// With one more delta of what waits, if something does. An error says that there was no memory for
-// it.
+// With one more delta of what waits, if something does; without that it takes no memory. An error
+// says that there was none.
 fn finished(deltas: Vec<Packet>, waiting: Vec<Op>) -> Result<Vec<Packet>, AllocError>
     requires full { AreFilled deltas.items waiting.items }
     requires rise { IsStrictlySortedBy by_name (filled deltas.items waiting.items) }
-    ensures { IfOk result (λ packets.
+    ensures ok { IfOk result (λ packets.
         AreInDeltas (filled deltas.items waiting.items) packets.items) }
+    ensures wants { OnErr result (0 < length (filled deltas.items waiting.items)) }
 {
     let mut packets = deltas;
     if waiting.is_empty() {
@@ -85,10 +88,11 @@ fn is_of_nothing(window: &Intervals) -> bool
 /// What the window lacks of the set, which has each name once: deltas of 64 operations, the last
 /// one shorter, rising. Linear in what is lacking, which is copied once where the window has
 /// nothing, and else twice, after two searches a span. An error says that there was no memory for
-/// it.
+/// it, and comes only where something is lacking.
 pub fn reply(alloc: Global, saved: &OpSet, window: &Intervals) -> Result<Vec<Packet>, AllocError>
     requires { HaveNoClash (In saved.now) (In saved.now) }
-    ensures { IfOk result (λ packets. AreInDeltas (lacking saved.now window.now) packets.items) }
+    ensures ok { IfOk result (λ packets. AreInDeltas (lacking saved.now window.now) packets.items) }
+    ensures wants { OnErr result (0 < length (lacking saved.now window.now)) }
 {
     let mut deltas = Vec::new(alloc);
     let mut waiting = Vec::new(alloc);

@@ -8,6 +8,7 @@ ghost use Rattle.fl_ops.specs.Registry.{Listed};
 ghost use Rattle.fl_wire.specs.NameOrder.{by_name};
 ghost use Rattle.fl_gossip.specs.Taking.{ops_of, Offends, AreTaken, Refuses};
 ghost use Rattle.fl_gossip.specs.parts.Ahead.{NotBelow, IsAhead, IsNewAmong};
+ghost use Rattle.fl_gossip.specs.parts.Starving.{HasNew, Stops};
 
 use crate::ahead::{begins_with, from_name, has_other};
 use crate::fault::GossipFault;
@@ -61,16 +62,55 @@ fn ahead<'a>(saved: &'a OpSet, node: Option<NodeNumber>, left: &'a [Op], name: N
     from_name(saved.of_node(name.node), name)
 }
 
+// Those of the operations that the set lacks, or the first reason to stop: an operation that may not
+// be taken, or no memory for one that is new.
+fn gather(alloc: Global, saved: &OpSet, me: NodeNumber, ops: &[Op]) -> Result<Vec<Op>, GossipFault>
+    requires { IsStrictlySortedBy by_name ops.now }
+    ensures { MatchResult result (λ new. AreTaken me saved.now ops.now new.items)
+        (Stops me (In saved.now) ops.now) }
+{
+    let mut new = Vec::new(alloc);
+    let mut node = None;
+    let mut rest: &[Op] = &[];
+    for op in ops {
+        rest = ahead(saved, node, rest, op.name);
+        node = Some(op.name.node);
+        if is_new(rest, me, op)? {
+            new.push(*op)?;
+        }
+    }
+    Ok(new)
+}
+
+// Why operations, of which one is new, are not taken where there is no memory for it: the least that
+// may not be taken, if there is one. Takes no memory.
+fn refusal(saved: &OpSet, me: NodeNumber, ops: &[Op]) -> GossipFault
+    requires rise { IsStrictlySortedBy by_name ops.now }
+    requires new { HasNew (In saved.now) ops.now }
+    ensures { Refuses me (In saved.now) ops.now result }
+{
+    let mut node = None;
+    let mut rest: &[Op] = &[];
+    for op in ops {
+        rest = ahead(saved, node, rest, op.name);
+        node = Some(op.name.node);
+        if let Err(fault) = is_new(rest, me, op) {
+            return fault;
+        }
+    }
+    GossipFault::Memory
+}
+
 /// The operations of a packet that the set lacks, rising; of a packet without operations, none.
 ///
 /// For the least name of an operation that may not be taken: `Impostor` where its node is `me` and
 /// the set has no operation of that name, and `Clash` where the set has another operation of that
-/// name. `Memory` only where there was not enough for an operation that the set lacks: where it
-/// lacks none of the packet's, nothing is allocated.
+/// name. `Memory` only where each may be taken, and there was not enough for one that the set lacks:
+/// where it lacks none of the packet's, nothing is allocated.
 ///
 /// Looks up the members of a node where the packet's operations come to another one, and goes
 /// through them with the packet, by a search for each operation, in steps that double from where
-/// the one before ended.
+/// the one before ended. Where there is no memory it does so once more, and then takes none.
 pub fn take(
     alloc: Global,
     saved: &OpSet,
@@ -80,16 +120,9 @@ pub fn take(
     ensures { MatchResult result (λ new. AreTaken me saved.now (ops_of packet.now) new.items)
         (Refuses me (In saved.now) (ops_of packet.now)) }
 {
-    let mut new = Vec::new(alloc);
-    let mut node = None;
-    let mut rest: &[Op] = &[];
     let ops = operations(packet);
-    for op in ops {
-        rest = ahead(saved, node, rest, op.name);
-        node = Some(op.name.node);
-        if is_new(rest, me, op)? {
-            new.push(*op)?;
-        }
+    match gather(alloc, saved, me, ops) {
+        Err(GossipFault::Memory) => Err(refusal(saved, me, ops)),
+        gathered => gathered,
     }
-    Ok(new)
 }

@@ -1,12 +1,9 @@
-use Rattle.std.proofs.Common.{List, Some, arith, refl, sym, subst, ◌∙◌}
+use Rattle.std.proofs.Common.{Some, arith, refl, sym, ◌∙◌}
 use Rattle.std.proofs.lemmas.Result.{err_from_is_err_and}
-use Rattle.fl_labels.specs.SetBy.{In}
-use Rattle.fl_ops.specs.declared.op.Op.{Op}
-use Rattle.fl_gossip.specs.Taking.{BringsNew, Refuses}
-use Rattle.fl_gossip.proofs.Take.{is_there, is_lacking, taken_none, taken_old, taken_new, brings_new, refused, all_taken}
+use Rattle.fl_gossip.proofs.Take.{is_there, is_lacking, taken_none, taken_old, taken_new, has_new, stopped, all_taken}
 use Rattle.fl_gossip.proofs.Fronts.{AtNode, left_none, left_ahead, left_member, member_left, left_more, may_all, offends_all}
-use Rattle.fl_gossip.proofs.taking.take.Goals as goal
-use Rattle.fl_gossip.proofs.taking.take.Goals.{then-branch+in_ok-push, else-branch}
+use Rattle.fl_gossip.proofs.taking.gather.Goals as goal
+use Rattle.fl_gossip.proofs.taking.gather.Goals.{then-branch+in_ok-push, else-branch}
 
 pub loop-op-init : goal.loop-op-init
 loop-op-init c = record {
@@ -17,12 +14,12 @@ loop-op-init c = record {
 pub loop-op-preserved : goal.loop-op-preserved
 loop-op-preserved c =
     let s = c.args.saved.now in
-    let ops = c.operations-ops.result.now in
+    let ops = c.args.ops.now in
     let x = c.op-item.result in
     let i = c.loop-op.op-index in
-    let left = left_ahead s ops i x (omega arith) c.op-item.is c.operations-ops.ensures.rise _ _ _ c.loop-op.invariant.left c.ahead-rest.ensures in
-    let of = left_member s ops i x (omega arith) c.op-item.is c.operations-ops.ensures.rise _ left in
-    let same = member_left s ops i x (omega arith) c.op-item.is c.operations-ops.ensures.rise _ left in
+    let left = left_ahead s ops i x (omega arith) c.op-item.is c.requires _ _ _ c.loop-op.invariant.left c.ahead-rest.ensures in
+    let of = left_member s ops i x (omega arith) c.op-item.is c.requires _ left in
+    let same = member_left s ops i x (omega arith) c.op-item.is c.requires _ left in
     let e = may_all c.args.me s _ x of same _ c.in_ok-is_new.ensures in
     elim c.if-branch.branch [
       | then-branch+in_ok-push w ↦ record {
@@ -38,30 +35,28 @@ loop-op-preserved c =
 pub returns-in_err-is_new : goal.returns-in_err-is_new
 returns-in_err-is_new c =
     let s = c.args.saved.now in
-    let ops = c.operations-ops.result.now in
+    let ops = c.args.ops.now in
     let x = c.op-item.result in
     let i = c.loop-op.op-index in
-    let left = left_ahead s ops i x (omega arith) c.op-item.is c.operations-ops.ensures.rise _ _ _ c.loop-op.invariant.left c.ahead-rest.ensures in
-    let of = left_member s ops i x (omega arith) c.op-item.is c.operations-ops.ensures.rise _ left in
-    let same = member_left s ops i x (omega arith) c.op-item.is c.operations-ops.ensures.rise _ left in
+    let left = left_ahead s ops i x (omega arith) c.op-item.is c.requires _ _ _ c.loop-op.invariant.left c.ahead-rest.ensures in
+    let of = left_member s ops i x (omega arith) c.op-item.is c.requires _ left in
+    let same = member_left s ops i x (omega arith) c.op-item.is c.requires _ left in
     let p = err_from_is_err_and c.from_residual.result c.from_residual.ensures.1 in
-    rw (p.1, p.2) (subst (λ (l : List Op). Refuses c.args.me (In s) l c.in_err-is_new.field-0.0) c.operations-ops.ensures.ops
-    (refused _ _ _ _ x (omega arith) c.op-item.is _ c.loop-op.invariant.taken c.operations-ops.ensures.rise c.in_err-is_new.field-0.0
-    (offends_all c.args.me s _ x of same c.in_err-is_new.field-0.0 c.in_err-is_new.ensures)))
+    rw (p.1, p.2) (stopped _ _ _ _ x (omega arith) c.op-item.is _ c.loop-op.invariant.taken c.requires c.in_err-is_new.field-0.0
+    (offends_all c.args.me s _ x of same c.in_err-is_new.field-0.0 c.in_err-is_new.ensures))
 
 pub returns-in_err-push : goal.returns-in_err-push
 returns-in_err-push c =
     let s = c.args.saved.now in
-    let ops = c.operations-ops.result.now in
+    let ops = c.args.ops.now in
     let x = c.op-item.result in
     let i = c.loop-op.op-index in
-    let left = left_ahead s ops i x (omega arith) c.op-item.is c.operations-ops.ensures.rise _ _ _ c.loop-op.invariant.left c.ahead-rest.ensures in
-    let of = left_member s ops i x (omega arith) c.op-item.is c.operations-ops.ensures.rise _ left in
-    let same = member_left s ops i x (omega arith) c.op-item.is c.operations-ops.ensures.rise _ left in
+    let left = left_ahead s ops i x (omega arith) c.op-item.is c.requires _ _ _ c.loop-op.invariant.left c.ahead-rest.ensures in
+    let of = left_member s ops i x (omega arith) c.op-item.is c.requires _ left in
+    let same = member_left s ops i x (omega arith) c.op-item.is c.requires _ left in
     let e = may_all c.args.me s _ x of same _ c.in_ok-is_new.ensures in
     let p = err_from_is_err_and c.from_residual-in_err-push.result c.from_residual-in_err-push.ensures.1 in
-    rw (p.1, p.2) (subst (BringsNew (In s)) c.operations-ops.ensures.ops
-    (brings_new _ _ _ _ x (omega arith) c.op-item.is _ c.loop-op.invariant.taken (is_lacking _ (sym e.1 ∙ c.if-branch.true))))
+    rw (p.1, p.2) (has_new _ _ _ _ x (omega arith) c.op-item.is _ c.loop-op.invariant.taken (is_lacking _ (sym e.1 ∙ c.if-branch.true)))
 
 pub returns : goal.returns
-returns c = all_taken _ _ _ c.loop-op.op-index _ _ (omega arith) (sym c.operations-ops.ensures.ops) c.loop-op.invariant.taken
+returns c = all_taken _ _ _ c.loop-op.op-index _ _ (omega arith) refl c.loop-op.invariant.taken
