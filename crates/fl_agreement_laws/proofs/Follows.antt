@@ -126,7 +126,7 @@ arrives_follow (Arrives.arrives at) = unseen _ _ refl refl refl
 receives_follow : {n : NodeState} {ops : SetBy op_cmp} {result : Result ℕ Fault} {n' : NodeState}
     → Receives n ops result n' → Follows n n'
 receives_follow (Receives.stopped why) = unseen _ _ refl refl refl
-receives_follow (Receives.no_room is) = unseen _ _ refl refl refl
+receives_follow (Receives.no_room is some) = unseen _ _ refl refl refl
 receives_follow (Receives.impostor is least fault) = unseen _ _ refl refl refl
 receives_follow (Receives.clash is least fault) = unseen _ _ refl refl refl
 receives_follow (Receives.nothing_new is can all) = unseen _ _ refl refl refl

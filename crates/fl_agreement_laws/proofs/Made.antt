@@ -166,7 +166,7 @@ module _ (w : World) (k : ℕ) (s : KeptNode) (at : IsAt w k s) (n : ℕ) where
     window_turns : {window : Intervals} {reply : Reply} {w' : World} → WindowAt w k s window reply w'
         → TurnsAt w w' n [] B
     window_turns (WindowAt.stopped why) = unmoved n refl
-    window_turns (WindowAt.no_room running) = unmoved n refl
+    window_turns (WindowAt.no_room running some) = unmoved n refl
     window_turns (WindowAt.answers running answer) = unmoved n refl
 
     message_turns : {sent : Sent} {d : Data} {reply : Reply} {w' : World} → MessageAt w k s sent d reply w'

@@ -186,7 +186,7 @@ HasSome (Err fault) = ⊥
 pub receives_turn : {n : NodeState} {ops : SetBy op_cmp} {result : Result ℕ Fault} {n' : NodeState}
     → Receives n ops result n' → Turns n n' [] (λ op. HasSome result × In ops op)
 receives_turn (Receives.stopped why) = rests _ _ refl refl
-receives_turn (Receives.no_room is) = rests _ _ refl refl
+receives_turn (Receives.no_room is some) = rests _ _ refl refl
 receives_turn (Receives.impostor is least fault) = rests _ _ refl refl
 receives_turn (Receives.clash is least fault) = rests _ _ refl refl
 receives_turn (Receives.nothing_new is can all) = rests _ _ refl refl

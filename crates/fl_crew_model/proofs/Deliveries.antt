@@ -17,7 +17,7 @@ use Rattle.fl_system.specs.State.{NodeState}
 use Rattle.fl_system.specs.Waiting.{IsRunning, IsTaken}
 use Rattle.fl_system.specs.Begins.{pending_with}
 use Rattle.fl_system.specs.Receives.{Receives, IsImpostor, IsClash, IsFirstRefused, CanTake}
-use Rattle.fl_system.specs.Receives.{AreLacking}
+use Rattle.fl_system.specs.Receives.{AreLacking, HasNew}
 use Rattle.fl_system.specs.Saves.{Saves, stored}
 use Rattle.fl_system.specs.Publishes.{Publishes, published_with}
 use Rattle.fl_crew_model.specs.declared.record.Verdict.{Verdict}
@@ -112,10 +112,18 @@ module _ (number : ℕ) (n : NodeState) (b : Books) (p : Delivery) (numbered : n
   idle_here : b.due ≡ None → n.state ≡ Running Nothing
   idle_here idle = subst (IsAt n.state) idle holds.state
 
+  new_here : (ops : SetBy op_cmp) → HasNew (page number b.saved) ops → HasNew n ops
+  new_here ops some = record {
+    may = can_here ops some.may;
+    op = some.op;
+    there = some.there;
+    new = λ m. some.new (subst (λ (s : SetBy op_cmp). In s some.op) holds.saved m);
+  }
+
   declines_here : (ops : SetBy op_cmp) (answer : Result ℕ Fault) → Declines number b ops answer
       → Receives n ops answer n
-  declines_here ops answer (Declines.no_room is) =
-      subst (λ r. Receives n ops r n) (sym is) (Receives.no_room runs_here)
+  declines_here ops answer (Declines.no_room is some) =
+      subst (λ r. Receives n ops r n) (sym is) (Receives.no_room runs_here (new_here ops some))
   declines_here ops answer (Declines.impostor o is first bad) =
       subst (λ r. Receives n ops r n) (sym is)
       (Receives.impostor runs_here (first_here ops o first)

@@ -23,7 +23,7 @@ use Rattle.fl_system.specs.Waiting.{NotRunning, IsTaken as IsTakenBy}
 use Rattle.fl_system.specs.Naming.{IsLast, IsNextAfter}
 use Rattle.fl_system.specs.Begins.{Begins}
 use Rattle.fl_system.specs.Receives.{Receives, IsImpostor, IsClash, IsFirstRefused, CanTake}
-use Rattle.fl_system.specs.Receives.{AreLacking}
+use Rattle.fl_system.specs.Receives.{AreLacking, HasNew}
 use Rattle.fl_system.specs.Saves.{Saves}
 use Rattle.fl_crew_model.specs.declared.record.Reason.{Reason}
 use Rattle.fl_crew_model.specs.declared.record.Reason.TheVariants.{Busy, NamesSpent}
@@ -175,11 +175,20 @@ module _ (number : ℕ) (r : NodeState) (b : Books) (registrar : IsRegistrar num
       (λ m. new (subst (λ (s : SetBy op_cmp). In s op) (sym registrar.saved) m)) due.1
   taken_by ops op fault (Stopped doubt) h due may there new = absurd due
 
+  some_in_books : (ops : SetBy op_cmp) → HasNew r ops → HasNew (page number b.saved) ops
+  some_in_books ops some = record {
+    may = can_books ops some.may;
+    op = some.op;
+    there = some.there;
+    new = λ m. some.new (subst (λ (s : SetBy op_cmp). In s some.op) (sym registrar.saved) m);
+  }
+
   pub declined_of : (ops : SetBy op_cmp) (fault : Fault) (after : NodeState)
       → Receives r ops (Err fault) after → Declines number b ops (Err fault) × (after ≡ r)
   declined_of ops fault after (Receives.stopped why) =
       absurd (stopped_never r.state fault why registrar.reflects)
-  declined_of ops fault after (Receives.no_room on) = (Declines.no_room refl, refl)
+  declined_of ops fault after (Receives.no_room on some) =
+      (Declines.no_room refl (some_in_books ops some), refl)
   declined_of ops fault after (Receives.impostor {op} on first bad) = (
     Declines.impostor op refl
         (subst (λ (m : NodeState). IsFirstRefused m ops op) same_page (first_out r ops op first))

@@ -61,7 +61,7 @@ arrives_kept (Arrives.arrives at) = refl
 receives_kept : {n : NodeState} {ops : SetBy op_cmp} {r : Result ℕ Fault} {n' : NodeState}
     → Receives n ops r n' → kept_of n' ≡ kept_of n
 receives_kept (Receives.stopped why) = refl
-receives_kept (Receives.no_room on) = refl
+receives_kept (Receives.no_room on some) = refl
 receives_kept (Receives.impostor on first bad) = refl
 receives_kept (Receives.clash on first bad) = refl
 receives_kept (Receives.nothing_new on may all) = refl

@@ -21,7 +21,7 @@ use Rattle.fl_system.specs.declared.state.State.{State}
 use Rattle.fl_system.specs.declared.state.State.TheVariants.{Running}
 use Rattle.fl_system.specs.State.{NodeState}
 use Rattle.fl_system.specs.Naming.{IsLast, IsNextAfter}
-use Rattle.fl_system.specs.Receives.{IsImpostor, IsClash, IsFirstRefused, CanTake, AreLacking}
+use Rattle.fl_system.specs.Receives.{IsImpostor, IsClash, IsFirstRefused, CanTake, AreLacking, HasNew}
 use Rattle.fl_crew_model.specs.declared.record.Reason.{Reason}
 use Rattle.fl_crew_model.specs.declared.record.Reason.TheVariants.{Busy, NamesSpent, Memory}
 use Rattle.fl_crew_model.specs.declared.record.Ruling.{Ruling}
@@ -112,7 +112,8 @@ page number saved =
 -- why nothing of a packet is taken
 pub data Declines (number : ℕ) (b : Books) (ops : SetBy op_cmp) (answer : Result ℕ Fault)
     : Type 0 where
-  no_room : answer ≡ Err (faults.Refused refusals.Memory) → Declines number b ops answer
+  no_room : answer ≡ Err (faults.Refused refusals.Memory) → HasNew (page number b.saved) ops
+      → Declines number b ops answer
   impostor : (op : Op) → answer ≡ Err (faults.Impostor op.name)
       → IsFirstRefused (page number b.saved) ops op
       → IsImpostor (page number b.saved) op → Declines number b ops answer

@@ -136,11 +136,16 @@ module _ (n : NodeState) (ops : List Op) where
   not_taken (gossip.Clash name) o =
       subst (λ x. AreRefused n (of_list ops) (Clash x)) (sym o.offends.0)
       (AreRefused.clash (first_refused _ o) (record { other = o.offends.1.0; there = o.offends.1.1; same_name = o.offends.1.2; differs = o.offends.1.3 }))
-  not_taken gossip.Memory o = AreRefused.no_room
+  not_taken gossip.Memory o = AreRefused.no_room (record {
+    may = λ op h. may_take op (o.each op (in_list ops op h));
+    op = o.op;
+    there = in_set ops o.op o.there;
+    new = o.new;
+  })
 
 -- and then nothing is received
 pub refused_as : (n : NodeState) (ops : SetBy op_cmp) (fault : Fault) → IsRunning n.state → AreRefused n ops fault → Receives n ops (Err fault) n
-refused_as n ops fault running AreRefused.no_room = Receives.no_room running
+refused_as n ops fault running (AreRefused.no_room some) = Receives.no_room running some
 refused_as n ops fault running (AreRefused.impostor first own) = Receives.impostor running first own
 refused_as n ops fault running (AreRefused.clash first other) = Receives.clash running first other
 
@@ -180,8 +185,8 @@ module _ (n : NodeState) (p : Packet) (running : IsRunning n.state) where
   pub window_checks : (w : Intervals) (k : ℕ) → p ≡ packets.Have w → k ≡ length (lacking n.saved w) → Checks n p (Ok k)
   window_checks w k is count = subst (λ q. Checks n q (Ok k)) (sym is) (subst (λ x. Checks n (packets.Have w) (Ok x)) (sym count) (Checks.window running))
 
-  pub no_room_checks : (w : Intervals) → p ≡ packets.Have w → Checks n p (Err (Refused Memory))
-  no_room_checks w is = subst (λ q. Checks n q (Err (Refused Memory))) (sym is) (Checks.no_room running)
+  pub no_room_checks : (w : Intervals) → p ≡ packets.Have w → 0 < length (lacking n.saved w) → Checks n p (Err (Refused Memory))
+  no_room_checks w is some = subst (λ q. Checks n q (Err (Refused Memory))) (sym is) (Checks.no_room running some)
 
   pub message_checks : (d : Data) → p ≡ packets.Data d → Checks n p (Ok 0)
   message_checks d is = subst (λ q. Checks n q (Ok 0)) (sym is) (Checks.message running)

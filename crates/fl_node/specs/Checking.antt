@@ -1,5 +1,5 @@
 -- What a packet would bring to a node, were it to come now.
-use Rattle.std.specs.Prelude.{ℕ, length}
+use Rattle.std.specs.Prelude.{◌<◌, ℕ, length}
 use Rattle.std.specs.declared.result.Result.{Result}
 use Rattle.std.specs.declared.result.Result.TheVariants.{Ok, Err}
 use Rattle.fl_labels.specs.SetBy as set
@@ -17,11 +17,11 @@ use Rattle.fl_system.specs.declared.answer.Fault.{Fault}
 use Rattle.fl_system.specs.declared.answer.Fault.TheVariants.{Refused, Clash, Impostor}
 use Rattle.fl_system.specs.State.{NodeState}
 use Rattle.fl_system.specs.Waiting.{IsRunning, NotRunning}
-use Rattle.fl_system.specs.Receives.{IsImpostor, IsClash, IsFirstRefused, CanTake, AreLacking}
+use Rattle.fl_system.specs.Receives.{IsImpostor, IsClash, IsFirstRefused, CanTake, AreLacking, HasNew}
 
 -- why these operations are not taken
 pub data AreRefused (n : NodeState) (ops : SetBy op_cmp) : Fault → Type 0 where
-  no_room : AreRefused n ops (Refused Memory)
+  no_room : HasNew n ops → AreRefused n ops (Refused Memory)
   impostor : {op : Op} → IsFirstRefused n ops op → IsImpostor n op → AreRefused n ops (Impostor op.name)
   clash : {op : Op} → IsFirstRefused n ops op → IsClash n op → AreRefused n ops (Clash op.name)
 
@@ -39,5 +39,6 @@ pub data Checks (n : NodeState) : Packet → Result ℕ Fault → Type 0 where
       → Counts n (set.of_list batch.ops) result → Checks n (packets.Delta batch) result
   window : {window : Intervals} → IsRunning n.state
       → Checks n (packets.Have window) (Ok (length (lacking n.saved window)))
-  no_room : {window : Intervals} → IsRunning n.state → Checks n (packets.Have window) (Err (Refused Memory))
+  no_room : {window : Intervals} → IsRunning n.state → 0 < length (lacking n.saved window)
+      → Checks n (packets.Have window) (Err (Refused Memory))
   message : {d : Data} → IsRunning n.state → Checks n (packets.Data d) (Ok 0)

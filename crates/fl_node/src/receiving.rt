@@ -55,7 +55,7 @@ impl<K: Keeper> Node<K> {
     ///   the node's own number, and none of that name is saved; another operation of that name is
     ///   saved.
     /// - `Busy`: there is something new, and something else is on its way.
-    /// - `Memory`: there was not enough.
+    /// - `Memory`: each may be taken, something is new, and there was not enough for that.
     ///
     /// A search for each operation, and one copy of what is new.
     pub fn receive(&mut self, alloc: Global, packet: &Packet) -> Result<u64, Fault>
@@ -91,7 +91,8 @@ impl<K: Keeper> Node<K> {
 
     /// What a packet would bring, were it to come now: how many operations that are not saved, of a
     /// window how many that it lacks, and 0 of a message. Refuses as [`Node::receive`] does, but
-    /// never with `Busy`, and costs the same; of a window as [`Node::reply`].
+    /// never with `Busy`, and costs the same; of a window as [`Node::reply`], with `Memory` only
+    /// where it lacks something.
     pub fn check(&self, alloc: Global, packet: &Packet) -> Result<u64, Fault>
         ensures { Checks self.now.node packet.now result }
     {

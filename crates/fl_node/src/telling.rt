@@ -3,7 +3,7 @@ ghost use Rattle.std.specs.Prelude.{◌≡◌, IfOk, IfErr, map};
 ghost use Rattle.fl_wire.specs.declared.packet.Packet.TheVariants.{Have};
 ghost use Rattle.fl_system.specs.Gossip.{IsSummary, IsAnswer};
 ghost use Rattle.fl_system.specs.Waiting.{IsRunning};
-ghost use Rattle.fl_node.specs.Telling.{TellsNothing};
+ghost use Rattle.fl_node.specs.Telling.{TellsNothing, AnswersNothing};
 
 use crate::node::Node;
 use crate::state::running;
@@ -28,8 +28,8 @@ fn packets_of(alloc: Global, windows: Vec<Intervals>) -> Result<Vec<Packet>, All
 
 impl<K: Keeper> Node<K> {
     /// What the node has saved, as a packet for each window of its names, to be answered by who has
-    /// more. A stopped node answers `Stopped`, and one with no memory for the packets `Memory`.
-    /// Costs what `OpSet::have` does.
+    /// more. A stopped node answers `Stopped`, and one with no memory for the packets `Memory`:
+    /// there is one at least, also where nothing is saved. Costs what `OpSet::have` does.
     pub fn summary(&self, alloc: Global) -> Result<Vec<Packet>, Fault>
         ensures running { IfOk result (λ told. IsRunning self.now.node.state) }
         ensures ok { IfOk result (λ told. IsSummary self.now.node.saved told.items) }
@@ -47,11 +47,12 @@ impl<K: Keeper> Node<K> {
 
     /// What is answered to a window: the saved operations that it lacks, rising, as deltas of 64,
     /// the last one shorter. A stopped node answers `Stopped`, and one with no memory for the
-    /// packets `Memory`. Costs what `fl_gossip::replying::reply` does.
+    /// packets `Memory`, which comes only where something is lacking. Costs what
+    /// `fl_gossip::replying::reply` does.
     pub fn reply(&self, alloc: Global, window: &Intervals) -> Result<Vec<Packet>, Fault>
         ensures running { IfOk result (λ told. IsRunning self.now.node.state) }
         ensures ok { IfOk result (λ told. IsAnswer self.now.node.saved window.now told.items) }
-        ensures err { IfErr result (TellsNothing self.now.node.state) }
+        ensures err { IfErr result (AnswersNothing self.now.node window.now) }
     {
         running(&self.state)?;
         match reply(alloc, &self.saved, window) {

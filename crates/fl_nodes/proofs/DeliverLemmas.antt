@@ -36,14 +36,14 @@ use Rattle.fl_system.specs.Waiting.{IsRunning}
 use Rattle.fl_system.specs.World.{World, went}
 use Rattle.fl_system.specs.WorldSteps.{Step, IsAt}
 use Rattle.fl_node.specs.Over.{NodeOver}
-use Rattle.fl_node.specs.Telling.{TellsNothing}
+use Rattle.fl_node.specs.Telling.{AnswersNothing}
 use Rattle.fl_nodes.specs.Over.{WorldOver}
 use Rattle.fl_nodes.specs.Goes.{MayBe, Goes}
 use Rattle.fl_notes.specs.Bringing.{Brings, Brought, Takes}
 use Rattle.fl_nodes.specs.parts.Delivering.{Sends, packet_of}
 use Rattle.fl_nodes.proofs.Lifting.{lifts_kept, over_went, stays, with_kept}
 use Rattle.fl_nodes.proofs.Entries.{changed, held, of_entries}
-use Rattle.fl_nodes.proofs.TellLemmas.{tells, tells_nothing}
+use Rattle.fl_nodes.proofs.TellLemmas.{tells, kept_so, lacks_some}
 
 -- ---- packets by their numbers
 
@@ -157,12 +157,15 @@ module _ {K : Type 0} (custody : Custody K) {desks : ℕ} (es fs : List (ℕ × 
     delivers_window window told result packets_after kind same running answer h =
         tells custody old number x at_old (event.Deliver k number) (of_entries desks fs packets_after audit) told packets packets_after result same_packets
         (ap (λ (w : WorldOver K). record w { packets = packets_after }) (put_back same)) h
-        (λ w kept at may_be. Step.deliver (found w may_be) at (DeliverAt.have kind (WindowAt.no_room running)))
+        (λ some w kept at may_be. Step.deliver (found w may_be) at (DeliverAt.have kind (WindowAt.no_room running (lacks_some x.node.saved window told answer some))))
         (λ w kept at may_be. Step.deliver (found w may_be) at (DeliverAt.have kind (WindowAt.answers running answer)))
 
-    pub window_refused : (window : Intervals) (fault : Fault) → s.packet ≡ packet.Have window → y ≡ x → TellsNothing x.node.state fault
+    pub window_refused : (window : Intervals) (fault : Fault) → s.packet ≡ packet.Have window → y ≡ x → AnswersNothing x.node window fault
         → Goes custody old (of_entries desks fs packets audit) (λ w w'. Step w (event.Deliver k number) (reply.Refused fault) w')
-    window_refused window fault kind same h =
-        tells_nothing custody old number x at_old (event.Deliver k number) (of_entries desks fs packets audit) fault (put_back same) h
-        (λ stopped w kept at may_be. Step.deliver (found w may_be) at (DeliverAt.have kind (WindowAt.stopped stopped)))
-        (λ running w kept at may_be. Step.deliver (found w may_be) at (DeliverAt.have kind (WindowAt.no_room running)))
+    window_refused window fault kind same (inl stopped) =
+        kept_so custody old number x at_old (of_entries desks fs packets audit) _ (put_back same)
+        (λ w kept at may_be. Step.deliver (found w may_be) at (DeliverAt.have kind (WindowAt.stopped stopped)))
+    window_refused window fault kind same (inr (running, memory, some)) =
+        subst (λ f. Goes custody old (of_entries desks fs packets audit) (λ w w'. Step w (event.Deliver k number) (reply.Refused f) w')) (sym memory)
+        (kept_so custody old number x at_old (of_entries desks fs packets audit) _ (put_back same)
+        (λ w kept at may_be. Step.deliver (found w may_be) at (DeliverAt.have kind (WindowAt.no_room running some))))

@@ -24,9 +24,10 @@ use Rattle.fl_system.specs.Begins.{Begins}
 use Rattle.fl_system.specs.Jobs.{Jobs}
 use Rattle.fl_system.specs.Publishes.{Publishes, Cancels}
 use Rattle.fl_system.specs.Receives.{Receives}
+use Rattle.fl_opset.specs.declared.intervals.Intervals.{Intervals}
 use Rattle.fl_system.specs.State.{NodeState}
 use Rattle.fl_system.specs.Waiting.{NotRunning, IsTaken, NoneUnsaved, NoneDue}
-use Rattle.fl_node.specs.Telling.{TellsNothing}
+use Rattle.fl_node.specs.Telling.{TellsNothing, AnswersNothing}
 use Rattle.fl_notes.specs.Bringing.{Brings, Brought, Takes}
 use Rattle.fl_notes.specs.Working.{Works, Worked}
 use Rattle.fl_nodes.specs.parts.Delivering.{Sends}
@@ -66,6 +67,10 @@ none_due (Stopped doubt) h = no_stop h
 tells_nothing : (s : State) → TellsNothing s faults.KeeperFailed → ⊥
 tells_nothing s (inl stopped) = not_running s stopped
 tells_nothing s (inr starved) = no_refusal _ starved.1
+
+answers_nothing : (n : NodeState) (window : Intervals) → AnswersNothing n window faults.KeeperFailed → ⊥
+answers_nothing n window (inl stopped) = not_running n.state stopped
+answers_nothing n window (inr starved) = no_refusal _ starved.1
 
 -- ---- by what is asked of a node
 
@@ -125,6 +130,10 @@ publish_refused n n' = refused_so (λ fault. Publishes n (Err fault) n') (publis
 pub tell_refused : (s : State) (fault : Fault) → TellsNothing s fault
     → reply.Refused fault ≢ reply.Refused faults.KeeperFailed
 tell_refused s = refused_so (TellsNothing s) (tells_nothing s)
+
+pub window_refused : (n : NodeState) (window : Intervals) (fault : Fault) → AnswersNothing n window fault
+    → reply.Refused fault ≢ reply.Refused faults.KeeperFailed
+window_refused n window = refused_so (AnswersNothing n window) (answers_nothing n window)
 
 pub publish_replied : (s : State) → published_reply s ≢ reply.Refused faults.KeeperFailed
 publish_replied (Running (Due (Ordered op maker desk))) e = cc

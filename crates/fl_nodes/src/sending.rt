@@ -1,5 +1,5 @@
 //! Packets that a node sends.
-ghost use Rattle.std.specs.Prelude.{◌≡◌, IfOk};
+ghost use Rattle.std.specs.Prelude.{◌≡◌, ◌<◌, IfOk, OnErr, length};
 ghost use Rattle.fl_system.specs.Gossip.{told_by};
 ghost use Rattle.fl_nodes.specs.parts.Delivering.{Sends};
 
@@ -11,9 +11,11 @@ use fl_system::sent::Sent;
 use fl_wire::packet::Packet;
 use std::alloc::{AllocError, Global};
 
-// The packets, as the node of this number sends them.
+// The packets, as the node of this number sends them. An error says that there was no memory, and
+// comes only where there is a packet.
 fn packets_by(alloc: Global, number: NodeNumber, told: Vec<Packet>) -> Result<Vec<Sent>, AllocError>
-    ensures { IfOk result (λ made. made.items ≡ told_by number told.items) }
+    ensures ok { IfOk result (λ made. made.items ≡ told_by number told.items) }
+    ensures wants { OnErr result (0 < length told.items) }
 {
     let mut made = Vec::new(alloc);
     for packet in told {

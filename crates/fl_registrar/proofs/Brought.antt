@@ -23,7 +23,7 @@ use Rattle.fl_system.specs.declared.state.State.TheVariants.{Running}
 use Rattle.fl_system.specs.State.{NodeState}
 use Rattle.fl_system.specs.Begins.{pending_with}
 use Rattle.fl_system.specs.Publishes.{Cancels, cancelled_with}
-use Rattle.fl_system.specs.Receives.{Receives, CanTake, AreLacking}
+use Rattle.fl_system.specs.Receives.{Receives, CanTake, AreLacking, HasNew}
 use Rattle.fl_crew_model.specs.Books.{Books, Declines, page}
 use Rattle.fl_crew_model.specs.Registering.{Reflects, IsRegistrar}
 use Rattle.fl_registrar.specs.declared.waiting.Stage.{Stage}
@@ -39,7 +39,7 @@ use Rattle.fl_registrar.proofs.Nodes.{cancelled_as}
 pub not_received : (n n' : NodeState) (ops : SetBy op_cmp) (fault : Fault)
     → Receives n ops (Err fault) n' → n' ≡ n
 not_received n n' ops fault (Receives.stopped why) = refl
-not_received n n' ops fault (Receives.no_room on) = refl
+not_received n n' ops fault (Receives.no_room on some) = refl
 not_received n n' ops fault (Receives.impostor on first bad) = refl
 not_received n n' ops fault (Receives.clash on first bad) = refl
 not_received n n' ops fault (Receives.taken op on may there new why) = refl
@@ -141,7 +141,7 @@ books_at n list due = record { saved = n.saved; list = list; due = due }
 any_due : (n : NodeState) (list : List Op) (due : Option Batch) (ops : SetBy op_cmp)
     (answer : Result ℕ Fault) → Declines n.number (books_at n list None) ops answer
     → Declines n.number (books_at n list due) ops answer
-any_due n list due ops answer (Declines.no_room is) = Declines.no_room is
+any_due n list due ops answer (Declines.no_room is some) = Declines.no_room is some
 any_due n list due ops answer (Declines.impostor op is first bad) = Declines.impostor op is first
     bad
 any_due n list due ops answer (Declines.clash op is first bad) = Declines.clash op is first bad
@@ -186,6 +186,14 @@ on_page n ops may op m = (
     differs = c.differs;
   }),
 )
+
+-- one of what it brings is new
+pub brought_new : (n mid : NodeState) (ops : SetBy op_cmp) (count : ℕ) → Brings n ops count mid
+    → HasNew (page n.number n.saved) ops
+brought_new n mid ops count b =
+    let it = some_member b.new b.some in
+    let l = (b.lacking it.0).0 it.1 in
+    record { may = on_page n ops b.may; op = it.0; there = l.0; new = l.1 }
 
 busy_by : (n mid : NodeState) (list : List Op) (ops : SetBy op_cmp) (count : ℕ) (waiting : Waiting)
     → Brings n ops count mid

@@ -19,7 +19,7 @@ use Rattle.fl_system.specs.declared.state.State.TheVariants.{Running}
 use Rattle.fl_system.specs.State.{NodeState, kept_of, ops_of}
 use Rattle.fl_system.specs.Begins.{pending_with}
 use Rattle.fl_system.specs.Publishes.{cancelled_with}
-use Rattle.fl_system.specs.Receives.{Receives}
+use Rattle.fl_system.specs.Receives.{Receives, HasNew}
 use Rattle.fl_system.specs.Saves.{Saves}
 use Rattle.fl_node.specs.Over.{NodeOver}
 use Rattle.fl_crew_model.specs.declared.record.Verdict.TheVariants.{Taken, TakenLate, Declined}
@@ -27,7 +27,7 @@ use Rattle.fl_crew_model.specs.declared.record.Delivery.{Delivery}
 use Rattle.fl_crew_model.specs.declared.record.Deed.{Deed}
 use Rattle.fl_crew_model.specs.declared.record.Deed.TheVariants.{Decided, Delivered}
 use Rattle.fl_crew_model.specs.Answered.{AreOwn}
-use Rattle.fl_crew_model.specs.Books.{Books, Declines, IsNew, IsDelivery, Recorded}
+use Rattle.fl_crew_model.specs.Books.{Books, Declines, IsNew, IsDelivery, Recorded, page}
 use Rattle.fl_crew_model.specs.Registering.{Reflects, IsRegistrar, IsTaken}
 use Rattle.fl_registrar.specs.declared.awaited.Awaited.{Awaited}
 use Rattle.fl_registrar.specs.declared.parcel.Receipt.{Receipt}
@@ -85,13 +85,14 @@ module _ {K : Type 0} (custody : Custody K) where
 
   module _ (old new : RegistrarOver K) (ops : List Op) (batch : Batch) where
     pub no_room_takes : (receipt : Receipt)
+        → HasNew (page old.node.node.number old.node.node.saved) (set.of_list ops)
         → receipt ≡ record { verdict = Declined; answer = Err (faults.Refused refusals.Memory) }
         → cancelled_with (pending_with old.node.node batch) batch ≡ old.node.node
         → new.press.list ≡ old.press.list → new.due ≡ old.due
         → Passes custody (λ k k'. BecomesOf (pending_with old.node.node batch)
         batch k savings.NoMemory new.node.node k') old.node.keeper new.node.keeper
         → Passes custody (Takes old ops (Ok receipt) new) old.node.keeper new.node.keeper
-    no_room_takes receipt is back list due =
+    no_room_takes receipt some is back list due =
         weaker custody _ _ old.node.keeper new.node.keeper (λ honest k k' held h.
         let node : new.node.node ≡ old.node.node = h.0 ∙ back in
         subst (λ (r : Receipt). Takes old ops (Ok r) new k k') (sym is) (record {
@@ -99,7 +100,7 @@ module _ {K : Type 0} (custody : Custody K) where
             before = refl;
             after = refl;
             takes = record {
-              why = Declines.no_room refl;
+              why = Declines.no_room refl some;
               same = same_books (books_of old) (books_of new) (ap (λ (n : NodeState). n.saved) node)
                   list due;
             };

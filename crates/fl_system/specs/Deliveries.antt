@@ -4,6 +4,7 @@ use Rattle.std.specs.declared.result.Result.TheVariants.{Ok, Err}
 use Rattle.fl_labels.specs.SetBy as set
 use Rattle.fl_ops.specs.declared.op.Op.{Op}
 use Rattle.fl_opset.specs.declared.intervals.Intervals.{Intervals}
+use Rattle.fl_opset.specs.Windows.{lacking}
 use Rattle.fl_wire.specs.declared.batch.Batch.{Batch}
 use Rattle.fl_message.specs.declared.message.Data.{Data}
 use Rattle.fl_wire.specs.declared.packet.Packet.{Packet}
@@ -42,7 +43,9 @@ pub data WindowAt (w : World) (number : ℕ) (s : KeptNode) (window : Intervals)
     : Reply → World → Type 0 where
   stopped : {fault : Fault} → NotRunning s.node.state fault
       → WindowAt w number s window (Refused fault) w
-  no_room : IsRunning s.node.state → WindowAt w number s window (Refused (faults.Refused Memory)) w
+  -- there is no room for what it lacks
+  no_room : IsRunning s.node.state → 0 < length (lacking s.node.saved window)
+      → WindowAt w number s window (Refused (faults.Refused Memory)) w
   answers : {told : List Packet} → IsRunning s.node.state → IsAnswer s.node.saved window told
       → WindowAt w number s window (HasSent (next_packet w) (length told)) (has_told w number told)
 

@@ -44,11 +44,18 @@ CanTake n ops = (op : Op) → In ops op → (¬ IsImpostor n op) × (¬ IsClash 
 abbrev pub AreLacking : NodeState → SetBy op_cmp → SetBy op_cmp → Type 0
 AreLacking n ops new = (op : Op) → In new op ↔ (In ops op × (¬ In n.saved op))
 
+-- each of them may be taken, and one is not saved
+pub record HasNew (n : NodeState) (ops : SetBy op_cmp) : Type 0 where
+  pub may : CanTake n ops
+  pub op : Op
+  pub there : In ops op
+  pub new : ¬ In n.saved op
+
 -- Those of these operations that are not saved are to be saved, or none; the answer is how many. Nothing changes but
 -- what is on its way.
 pub data Receives (n : NodeState) (ops : SetBy op_cmp) : Result ℕ Fault → NodeState → Type 0 where
   stopped : {fault : Fault} → NotRunning n.state fault → Receives n ops (Err fault) n
-  no_room : IsRunning n.state → Receives n ops (Err (Refused Memory)) n
+  no_room : IsRunning n.state → HasNew n ops → Receives n ops (Err (Refused Memory)) n
   impostor : {op : Op} → IsRunning n.state → IsFirstRefused n ops op → IsImpostor n op
       → Receives n ops (Err (Impostor op.name)) n
   clash : {op : Op} → IsRunning n.state → IsFirstRefused n ops op → IsClash n op

@@ -23,13 +23,13 @@ Fed r = r ≢ Err (Refused Memory)
 module _ (n : NodeState) (ops : SetBy op_cmp) (runs : IsRunning n.state) where
   -- they are refused as they would be if they came
   received : (fault : Fault) → AreRefused n ops fault → Receives n ops (Err fault) n
-  received fault AreRefused.no_room = Receives.no_room runs
+  received fault (AreRefused.no_room some) = Receives.no_room runs some
   received fault (AreRefused.impostor first bad) = Receives.impostor runs first bad
   received fault (AreRefused.clash first bad) = Receives.clash runs first bad
 
   none_refused : (fault : Fault) → CanTake n ops → AreRefused n ops fault → Fed (Err fault) → ⊥
   unfolding Fed
-  none_refused fault can AreRefused.no_room fed = fed refl
+  none_refused fault can (AreRefused.no_room some) fed = fed refl
   none_refused fault can (AreRefused.impostor {op} first bad) fed = (can op first.member).0 bad
   none_refused fault can (AreRefused.clash {op} first bad) fed = (can op first.member).1 bad
 
@@ -53,18 +53,18 @@ one_check n packet r s (Checks.stopped {fault} why) (Checks.stopped {fault = oth
 one_check n packet r s (Checks.stopped {fault} why) (Checks.full runs counts) p q = absurd (not_both n.state fault runs why)
 one_check n packet r s (Checks.stopped {fault} why) (Checks.delta runs counts) p q = absurd (not_both n.state fault runs why)
 one_check n packet r s (Checks.stopped {fault} why) (Checks.window runs) p q = absurd (not_both n.state fault runs why)
-one_check n packet r s (Checks.stopped {fault} why) (Checks.no_room runs) p q = absurd (not_both n.state fault runs why)
+one_check n packet r s (Checks.stopped {fault} why) (Checks.no_room runs some) p q = absurd (not_both n.state fault runs why)
 one_check n packet r s (Checks.stopped {fault} why) (Checks.message runs) p q = absurd (not_both n.state fault runs why)
 one_check n packet r s (Checks.full runs counts) (Checks.stopped {fault} why) p q = absurd (not_both n.state fault runs why)
 one_check n packet r s (Checks.delta runs counts) (Checks.stopped {fault} why) p q = absurd (not_both n.state fault runs why)
 one_check n packet r s (Checks.window runs) (Checks.stopped {fault} why) p q = absurd (not_both n.state fault runs why)
-one_check n packet r s (Checks.no_room runs) (Checks.stopped {fault} why) p q = absurd (not_both n.state fault runs why)
+one_check n packet r s (Checks.no_room runs some) (Checks.stopped {fault} why) p q = absurd (not_both n.state fault runs why)
 one_check n packet r s (Checks.message runs) (Checks.stopped {fault} why) p q = absurd (not_both n.state fault runs why)
 one_check n packet r s (Checks.full {batch} runs counts) (Checks.full runs' counts') p q =
     one_count n (set.of_list batch.ops) runs r s counts counts' p q
 one_check n packet r s (Checks.delta {batch} runs counts) (Checks.delta runs' counts') p q =
     one_count n (set.of_list batch.ops) runs r s counts counts' p q
 one_check n packet r s (Checks.window runs) (Checks.window runs') p q = refl
-one_check n packet r s (Checks.window runs) (Checks.no_room runs') p q = absurd (q refl)
-one_check n packet r s (Checks.no_room runs) k p q = absurd (p refl)
+one_check n packet r s (Checks.window runs) (Checks.no_room runs' some) p q = absurd (q refl)
+one_check n packet r s (Checks.no_room runs some) k p q = absurd (p refl)
 one_check n packet r s (Checks.message runs) (Checks.message runs') p q = refl

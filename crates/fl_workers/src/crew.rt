@@ -5,7 +5,7 @@ ghost use Rattle.fl_labels.specs.SetBy as set;
 ghost use Rattle.fl_dealing.specs.Dealt.{procs_behind};
 ghost use Rattle.fl_dealing.specs.Gathered.{StandFrom};
 ghost use Rattle.fl_node.specs.Causes.{KeeperFails, LoadsBadRow};
-ghost use Rattle.fl_node.specs.Telling.{TellsNothing};
+ghost use Rattle.fl_node.specs.Telling.{TellsNothing, AnswersNothing};
 ghost use Rattle.fl_opset.specs.RegistryText.{registry_text};
 ghost use Rattle.fl_registrar.specs.Passing.{Passes};
 ghost use Rattle.fl_sink.specs.Sink.{Writes};
@@ -269,7 +269,7 @@ impl<K: Keeper, G: Gate + Send + Drop + 'static> Crew<K, G> {
             (λ told. IsAnswer self.now.node.node.saved window.now told.items) }
         ensures stopped { self.now.stopped ≡ true → result ≡ Err Fault.Stopped }
         ensures err { self.now.stopped ≡ false
-            → IfErr result (TellsNothing self.now.node.node.state) }
+            → IfErr result (AnswersNothing self.now.node.node window.now) }
     {
         self.runs()?;
         self.node().reply(alloc, window)

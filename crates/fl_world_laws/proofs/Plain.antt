@@ -128,7 +128,7 @@ module _ (w : World) (named : IsNamed w) (number : ℕ) (s : KeptNode) (at : IsA
   receives_plain : {ops : SetBy op_cmp} {f : Fault} {n' : NodeState} → Within (In ops) (Union w)
       → Receives s.node ops (Err f) n' → ¬ IsNameFault f
   receives_plain from (Receives.stopped why) = not_running s.node.state _ why
-  receives_plain from (Receives.no_room is) = λ h. h
+  receives_plain from (Receives.no_room is some) = λ h. h
   receives_plain from (Receives.impostor {op = op} is least fault) =
       absurd (no_impostor w named number s at op (from op least.member) fault)
   receives_plain from (Receives.clash {op = op} is least fault) =
@@ -144,7 +144,7 @@ module _ (w : World) (named : IsNamed w) (number : ℕ) (s : KeptNode) (at : IsA
   window_plain : {window : Intervals} {reply : Reply} {w' : World} → WindowAt w number s window reply w'
       → ¬ IsNameRefusal reply
   window_plain (WindowAt.stopped why) = not_running s.node.state _ why
-  window_plain (WindowAt.no_room running) = λ h. h
+  window_plain (WindowAt.no_room running some) = λ h. h
   window_plain (WindowAt.answers running told) = λ h. h
 
   message_plain : {sent : Sent} {d : Data} {reply : Reply} {w' : World} → MessageAt w number s sent d reply w'

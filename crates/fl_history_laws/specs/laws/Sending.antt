@@ -185,7 +185,7 @@ module _ (w : World) (named : IsNamed w) (tidy : AllTidy w) where
   window_outgo : (number : ℕ) {s : KeptNode} {window : Intervals} {move : Move} {reply : Reply} {after : World}
       → WindowAt w number s window reply after → Outgo w move reply after
   window_outgo number (WindowAt.stopped why) = nothing refl
-  window_outgo number (WindowAt.no_room running) = nothing refl
+  window_outgo number (WindowAt.no_room running some) = nothing refl
   window_outgo number (WindowAt.answers {told} running answer) =
       telling number told refl (λ p h. deltas_none told answer.deltas p h)
 

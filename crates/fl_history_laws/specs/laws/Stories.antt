@@ -320,7 +320,7 @@ module _ (w : World) (tidy : AllTidy w) (pid : Pid) where
     received_benches : {ops : SetBy op_cmp} {result : Result ℕ Fault} {n : NodeState} → Receives s.node ops result n
         → n.benches ≡ s.node.benches
     received_benches (Receives.stopped why) = refl
-    received_benches (Receives.no_room running) = refl
+    received_benches (Receives.no_room running some) = refl
     received_benches (Receives.impostor running first is) = refl
     received_benches (Receives.clash running first is) = refl
     received_benches (Receives.nothing_new running can all) = refl
@@ -336,7 +336,7 @@ module _ (w : World) (tidy : AllTidy w) (pid : Pid) where
     window_story : {window : Intervals} {reply : Reply} {after : World} → WindowAt w number s window reply after
         → Story w Brought reply pid (living w pid) (living after pid)
     window_story (WindowAt.stopped why) = rests refl
-    window_story (WindowAt.no_room running) = rests refl
+    window_story (WindowAt.no_room running some) = rests refl
     window_story (WindowAt.answers running answer) = rests refl
 
     pub deliver_story : {reply : Reply} {after : World} → DeliverAt w number s sent reply after

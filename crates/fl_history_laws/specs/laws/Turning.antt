@@ -148,7 +148,7 @@ arrives_turn {n} {d} (Arrives.arrives {left = left} at) =
 receives_turn : {n : NodeState} {ops : SetBy op_cmp} {result : Result ℕ Fault} {n' : NodeState}
     → Receives n ops result n' → SeatsTurn (seats n) (seats n')
 receives_turn {n} (Receives.stopped why) = rests (seats n)
-receives_turn {n} (Receives.no_room is) = rests (seats n)
+receives_turn {n} (Receives.no_room is some) = rests (seats n)
 receives_turn {n} (Receives.impostor is least fault) = rests (seats n)
 receives_turn {n} (Receives.clash is least fault) = rests (seats n)
 receives_turn {n} (Receives.nothing_new is can all) = rests (seats n)

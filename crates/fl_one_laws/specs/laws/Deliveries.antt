@@ -93,8 +93,8 @@ module _ (n : NodeState) (ops : SetBy op_cmp) where
 
   pub one_receiving : {r s : Result ℕ Fault} {a b : NodeState} → Receives n ops r a → Receives n ops s b
       → r ≢ Err (Refused Memory) → s ≢ Err (Refused Memory) → (r ≡ s) × (a ≡ b)
-  one_receiving (Receives.no_room runs) k p q = absurd (p refl)
-  one_receiving h (Receives.no_room runs) p q = absurd (q refl)
+  one_receiving (Receives.no_room runs some) k p q = absurd (p refl)
+  one_receiving h (Receives.no_room runs some) p q = absurd (q refl)
   one_receiving (Receives.stopped {fault} why) (Receives.stopped {fault = other} because) p q =
       (ap Err (one_stop n.state fault other why because), refl)
   one_receiving (Receives.stopped {fault} why) (Receives.impostor runs first bad) p q = absurd (not_both n.state fault runs why)
@@ -161,8 +161,8 @@ module _ (w : World) (number : ℕ) (s : KeptNode) where
 
   one_window : (window : Intervals) {r r' : Reply} {a b : World} → WindowAt w number s window r a
       → WindowAt w number s window r' b → IsAmple r → IsAmple r' → (r ≡ r') × (a ≡ b)
-  one_window window (WindowAt.no_room runs) k p q = absurd (p.memory refl)
-  one_window window h (WindowAt.no_room runs) p q = absurd (q.memory refl)
+  one_window window (WindowAt.no_room runs some) k p q = absurd (p.memory refl)
+  one_window window h (WindowAt.no_room runs some) p q = absurd (q.memory refl)
   one_window window (WindowAt.stopped {fault} why) (WindowAt.stopped {fault = other} because) p q =
       (ap replies.Refused (one_stop s.node.state fault other why because), refl)
   one_window window (WindowAt.stopped {fault} why) (WindowAt.answers runs are) p q = absurd (not_both s.node.state fault runs why)

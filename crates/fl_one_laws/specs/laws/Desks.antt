@@ -69,7 +69,7 @@ jobs_keeps {n} {desk} (Jobs.not_begun {v} look decides start) = length-with n.vi
 
 receives_keeps : {n : NodeState} {ops : SetBy op_cmp} {r : Result ℕ Fault} {a : NodeState} → Receives n ops r a → Keeps n a
 receives_keeps (Receives.stopped why) = refl
-receives_keeps (Receives.no_room runs) = refl
+receives_keeps (Receives.no_room runs some) = refl
 receives_keeps (Receives.impostor runs first bad) = refl
 receives_keeps (Receives.clash runs first bad) = refl
 receives_keeps (Receives.nothing_new runs can all) = refl

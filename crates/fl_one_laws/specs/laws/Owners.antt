@@ -79,7 +79,7 @@ jobs_owned h (Jobs.not_begun look decides start) =
 receives_owned : {n : NodeState} {ops : SetBy op_cmp} {result : Result ℕ Fault} {n' : NodeState} {k : Kept}
     → IsOwnKept n k → Receives n ops result n' → IsOwnKept n' k
 receives_owned h (Receives.stopped why) = h
-receives_owned h (Receives.no_room running) = h
+receives_owned h (Receives.no_room running some) = h
 receives_owned h (Receives.impostor running first bad) = h
 receives_owned h (Receives.clash running first bad) = h
 receives_owned h (Receives.nothing_new running can all) = h
@@ -235,7 +235,7 @@ module _ {w : World} {number : ℕ} {s : KeptNode} (h : HaveOwn w) (at : IsAt w 
 
   window_owned : {window : Intervals} {r : Reply} {a : World} → WindowAt w number s window r a → HaveOwn a
   window_owned (WindowAt.stopped why) = h
-  window_owned (WindowAt.no_room running) = h
+  window_owned (WindowAt.no_room running some) = h
   window_owned (WindowAt.answers running are) = record { each = h.each }
 
   batch_owned : {ops : List Op} {r : Reply} {a : World} → BatchAt w number s ops r a → HaveOwn a

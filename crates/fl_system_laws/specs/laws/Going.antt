@@ -145,7 +145,7 @@ module _ (w : World) where
   window_goes : (number : ℕ) {s : KeptNode} {window : Intervals} {reply : Reply} {w' : World} → IsAt w number s
       → WindowAt w number s window reply w' → Goes w w'
   window_goes number at (WindowAt.stopped why) = Goes.stays
-  window_goes number at (WindowAt.no_room running) = Goes.stays
+  window_goes number at (WindowAt.no_room running some) = Goes.stays
   window_goes number {s = s} {window = window} at (WindowAt.answers {told = told} running answer) =
       Goes.tells number _ at (λ p h op i. lacking_member s.node.saved window op
       (subst (λ l. Contains l op) answer.whole (in_joined gossip.ops_of told p op h i)))

@@ -63,7 +63,7 @@ arrives_own h (Arrives.arrives at) = runs_on at.running refl h
 pub receives_own : {n : NodeState} {ops : SetBy op_cmp} {result : Result ℕ Fault} {n' : NodeState} {k : Kept}
     → IsKeptOwn n k → Receives n ops result n' → IsKeptOwn n' k
 receives_own h (Receives.stopped why) = h
-receives_own h (Receives.no_room is) = h
+receives_own h (Receives.no_room is some) = h
 receives_own h (Receives.impostor is least fault) = h
 receives_own h (Receives.clash is least fault) = h
 receives_own h (Receives.nothing_new is can all) = h

@@ -228,7 +228,7 @@ module _ {known : Op → Type 0} where
       → NamesOnce known → Within (In ops) known → IsSound known (holding n) → Receives n ops result n'
       → IsStep known (holding n) (holding n')
   receives_step names from s (Receives.stopped why) = stays s
-  receives_step names from s (Receives.no_room is) = stays s
+  receives_step names from s (Receives.no_room is some) = stays s
   receives_step names from s (Receives.impostor is least fault) = stays s
   receives_step names from s (Receives.clash is least fault) = stays s
   receives_step names from s (Receives.nothing_new is can all) = stays s

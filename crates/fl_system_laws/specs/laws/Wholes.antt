@@ -95,7 +95,7 @@ arrives_whole h (Arrives.arrives at) = same_whole refl refl refl h
 pub receives_whole : {n : NodeState} {ops : SetBy op_cmp} {result : Result ℕ Fault} {n' : NodeState}
     → IsWhole n → Receives n ops result n' → IsWhole n'
 receives_whole h (Receives.stopped why) = h
-receives_whole h (Receives.no_room is) = h
+receives_whole h (Receives.no_room is some) = h
 receives_whole h (Receives.impostor is least fault) = h
 receives_whole h (Receives.clash is least fault) = h
 receives_whole h (Receives.nothing_new is can all) = h

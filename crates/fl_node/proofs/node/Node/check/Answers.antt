@@ -21,10 +21,10 @@ returns-in-Delta g c =
     delta_checks _ _ running _ _ c.in-Delta.is c.count-in-Delta.ensures
 
 pub returns-in-Ok : goal.returns-in-Ok
-returns-in-Ok g c = rw (← c.self.view_is) (window_checks _ _ c.in_ok-running.ensures.ok _ _ c.in-Have.is (c.len.ensures ∙ c.in-Ok.lacking.ok.0 ∙ ap length c.in-Ok.ensures))
+returns-in-Ok g c = rw (← c.self.view_is) (window_checks _ _ c.in_ok-running.ensures.ok _ _ c.in-Have.is (c.len.ensures ∙ c.in-Ok.lacking.ok.0 ∙ ap length c.in-Ok.ensures.ok))
 
 pub returns-in-Err : goal.returns-in-Err
-returns-in-Err g c = rw (← c.self.view_is) (no_room_checks _ _ c.in_ok-running.ensures.ok _ c.in-Have.is)
+returns-in-Err g c = rw (← c.self.view_is) (no_room_checks _ _ c.in_ok-running.ensures.ok _ c.in-Have.is c.in-Err.ensures.wants)
 
 pub returns-in-Data : goal.returns-in-Data
 returns-in-Data g c = rw (← c.self.view_is) (message_checks _ _ c.in_ok-running.ensures.ok _ c.in-Data.is)

@@ -6,7 +6,7 @@ use Rattle.fl_nodes.specs.parts.Delivering.{packet_of}
 use Rattle.fl_nodes.proofs.Entries.{held, unchanged}
 use Rattle.fl_nodes.proofs.CallLemmas.{no_such_left}
 use Rattle.fl_nodes.proofs.FailLemmas.{no_refusal_missing}
-use Rattle.fl_nodes.proofs.Unfailing.{tell_refused, bringing_replied, sending_replied, taking_replied}
+use Rattle.fl_nodes.proofs.Unfailing.{window_refused as not_failed, bringing_replied, sending_replied, taking_replied}
 use Rattle.fl_nodes.proofs.DeliverLemmas.{delivers_message, delivers_ops, delivers_window, no_packet, window_refused}
 use Rattle.fl_nodes.specs.parts.Highest.{IsUpTo}
 use Rattle.fl_nodes.proofs.Highs.{changed_up, looked_up, left_up, desked}
@@ -65,7 +65,7 @@ returns-clause-cause g c = elim c.match-sent.branch [
   | in-Full w ↦ rw w.answer-is (taking_replied _ _ _ _ w.receive-answer.ensures.takes)
   | in-Delta w ↦ rw w.answer-is (taking_replied _ _ _ _ w.receive-answer-in-Delta.ensures.takes)
   | in-Have+in-Ok w ↦ rw w.answer-is (sending_replied _ _ _ _ _ w.send_all.ensures)
-  | in-Have+in-Err w ↦ rw w.answer-is (tell_refused _ _ w.in-Err.ensures.err)
+  | in-Have+in-Err w ↦ rw w.answer-is (not_failed c.in-Some.node.now.node w.in-Have.window _ w.in-Err.ensures.err)
   | in-Data w ↦ rw w.answer-is (bringing_replied _ _ _ _ _ _ _ w.bring-answer.ensures.brings)
 ]
 

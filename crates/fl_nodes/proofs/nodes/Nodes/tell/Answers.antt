@@ -21,7 +21,7 @@ returns-in-Ok-clause-goes g c =
     (sym (held c.self.inside.all.entries c.self.inside.all.entries c.self.inside.sent.items c.self.inside.audit.items c.args.self.now c.self.view_is c.args.number) ∙ sym c.in-Some.ensures.value)
     (event.Tell c.args.number) _ c.in-Ok.told.items c.self.inside.sent.items c.send_all.new.sent.items c.send_all.result (ap (λ (w : WorldOver g.row.K.Denot). w.packets) c.self.view_is)
     (ap (λ (w : WorldOver g.row.K.Denot). record w { packets = c.send_all.new.sent.items }) c.self.view_is) c.send_all.ensures
-    (λ w k at is. Step.tell at (TellAt.no_room c.in-Ok.ensures.running))
+    (λ some w k at is. Step.tell at (TellAt.no_room c.in-Ok.ensures.running))
     (λ w k at is. Step.tell at (TellAt.tells c.in-Ok.ensures.running c.in-Ok.ensures.ok))
 
 pub returns-in_default-clause-cause : goal.returns-in_default-clause-cause

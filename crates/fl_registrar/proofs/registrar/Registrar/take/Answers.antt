@@ -178,7 +178,8 @@ returns-in_default-clause-takes g c =
     (seen c.cancel-in_default.new.self i.press i.due i.orders.items i.deeds.items
     (vec_capacity i.deeds) i.is_stopped) ops c.declined-in_default.result
     (Err (faults.Refused refusals.Memory)) c.declined-in_default.ensures node keeper refl refl
-    (λ honest k held. Declines.no_room refl))
+    (λ honest k held. Declines.no_room refl (brought_new i.node.node c.receive.new.self.node
+    (set.of_list ops) c.in-Ok.count b)))
 
 pub invariant_of-self-in-NoMemory : goal.invariant_of-self-in-NoMemory
 invariant_of-self-in-NoMemory g c =
@@ -212,6 +213,7 @@ returns-in-NoMemory-clause-takes g c =
     (seen i.node i.press i.due i.orders.items i.deeds.items (vec_capacity i.deeds) i.is_stopped)
     (seen c.save.new.node i.press i.due i.orders.items i.deeds.items (vec_capacity i.deeds)
     i.is_stopped) ops (Received b.new) c.declined-in-NoMemory.result
+    (brought_new i.node.node c.receive.new.self.node (set.of_list ops) c.in-Ok.count b)
     c.declined-in-NoMemory.ensures (packet_back i.node.node b.new b.idle) refl refl passes)
 
 pub returns-in-Broken-clause-takes : goal.returns-in-Broken-clause-takes
