@@ -1,5 +1,5 @@
 // What an opening finds at a keeper, and makes of it.
-ghost use Rattle.std.specs.Prelude.{◌≡◌, ◌⊎◌, ◌<◌, IsTrue, Err, IfOk, IfErr};
+ghost use Rattle.std.specs.Prelude.{◌≡◌, ◌≢◌, ◌⊎◌, ◌<◌, IsTrue, Err, IfOk, IfErr};
 ghost use Rattle.fl_store.specs.Breaking.{IsLeftBroken};
 ghost use Rattle.fl_store.specs.Call.{Load, Boot};
 ghost use Rattle.fl_store.specs.Kept.{HasNamesOnce};
@@ -37,6 +37,7 @@ pub fn find<K: Keeper>(alloc: Global, keeper: &mut K, number: NodeNumber) -> Res
         → K.custody.becomes Load keeper.old keeper.new) }
     ensures broken { IsTrue (K.custody.is_broken keeper.old) → K.custody.number keeper.old ≡ number
         → result ≡ Err Fault.KeeperFailed }
+    ensures other { K.custody.number keeper.old ≢ number → result ≡ Err Fault.WrongNode }
     ensures whole { IfOk result (λ saved. K.custody.is_honest keeper.new
         → ¬ K.custody.has_bad_row keeper.old) }
     ensures names { IfOk result HasNamesOnce }

@@ -1,5 +1,5 @@
 //! A node, call by call.
-ghost use Rattle.std.specs.Prelude.{◌≡◌, ◌⊎◌, ◌<◌, IsTrue, IfOk, IfErr, IsSome, OnErr, Ok, Err, Some, None, length};
+ghost use Rattle.std.specs.Prelude.{◌≡◌, ◌≢◌, ◌⊎◌, ◌<◌, IsTrue, IfOk, IfErr, IsSome, OnErr, Ok, Err, Some, None, length};
 ghost use Rattle.std.specs.Fn.{FnOnceReturnsAtMut};
 ghost use Rattle.std.specs.Option.{option_copied};
 ghost use Rattle.fl_labels.specs.SetBy as set;
@@ -132,6 +132,8 @@ impl<K: Keeper> Node<K> {
         ensures broken { IfErr result (λ e. IsTrue (K.custody.is_broken keeper)
             → K.custody.number keeper ≡ number
             → e.0 ≡ Fault.KeeperFailed) }
+        ensures other { IfErr result (λ e. K.custody.number keeper ≢ number
+            → e.0 ≡ Fault.WrongNode) }
         ensures sound { IfOk result (λ node. ¬ IsTrue (K.custody.is_broken keeper)) }
         ensures whole { IfOk result (λ node. K.custody.is_honest node.keeper
             → ¬ K.custody.has_bad_row keeper) }
@@ -389,6 +391,8 @@ impl<K: Keeper> Node<K> {
         ensures broken { IsTrue (K.custody.is_broken self.old.keeper)
             → K.custody.number self.old.keeper ≡ self.old.node.number
             → result ≡ Err Fault.KeeperFailed }
+        ensures other { K.custody.number self.old.keeper ≢ self.old.node.number
+            → result ≡ Err Fault.WrongNode }
         ensures whole { IfOk result
             (λ boot. K.custody.is_honest self.new.keeper
             → ¬ K.custody.has_bad_row self.old.keeper) }
@@ -442,6 +446,9 @@ impl<K: Keeper> Node<K> {
             → IsTrue (K.custody.is_broken self.old.keeper)
             → K.custody.number self.old.keeper ≡ self.old.node.number
             → result ≡ Err Fault.KeeperFailed }
+        ensures other { (¬ IsRunning self.old.node.state)
+            → K.custody.number self.old.keeper ≢ self.old.node.number
+            → result ≡ Err Fault.WrongNode }
         ensures desks { length self.new.node.views ≡ length self.old.node.views }
         ensures restarts { K.custody.is_honest self.new.keeper → K.custody.is_honest self.old.keeper
             × Follows (λ k k'. Restarts self.old.node k keeps result self.new.node k')
@@ -468,6 +475,8 @@ impl<K: Keeper> Node<K> {
             (K.custody.is_honest left) bad) }
         ensures broken { (¬ IsRunning self.node.state) → IsTrue (K.custody.is_broken self.keeper)
             → K.custody.number self.keeper ≡ self.node.number → result.1 ≡ Err Fault.KeeperFailed }
+        ensures other { (¬ IsRunning self.node.state)
+            → K.custody.number self.keeper ≢ self.node.number → result.1 ≡ Err Fault.WrongNode }
         ensures desks { length result.0.node.views ≡ length self.node.views }
         ensures restarts { K.custody.is_honest result.0.keeper → K.custody.is_honest self.keeper
             × Follows (λ k k'. Restarts self.node k keeps result.1 result.0.node k')
@@ -496,6 +505,8 @@ impl<K: Keeper> Node<K> {
             (K.custody.is_honest left) bad) }
         ensures broken { (¬ IsRunning self.old.node.state) → IsTrue (K.custody.is_broken keeper)
             → K.custody.number keeper ≡ self.old.node.number → result.0 ≡ Err Fault.KeeperFailed }
+        ensures other { (¬ IsRunning self.old.node.state)
+            → K.custody.number keeper ≢ self.old.node.number → result.0 ≡ Err Fault.WrongNode }
     {
         let Err(_) = running(&self.state) else {
             return (Err(Fault::Refused(Refusal::Busy)), keeper);
@@ -528,6 +539,9 @@ impl<K: Keeper> Node<K> {
             → (made : K) × FnOnceReturnsAtMut F.FnOnce make self.old.keeper tt made
             × (IsTrue (K.custody.is_broken made) → K.custody.number made ≡ self.old.node.number
             → result ≡ Err Fault.KeeperFailed) }
+        ensures other { (¬ IsRunning self.old.node.state)
+            → (made : K) × FnOnceReturnsAtMut F.FnOnce make self.old.keeper tt made
+            × (K.custody.number made ≢ self.old.node.number → result ≡ Err Fault.WrongNode) }
     {
         let Err(_) = running(&self.state) else {
             return Err(Fault::Refused(Refusal::Busy));
@@ -557,6 +571,8 @@ impl<K: Keeper> Node<K> {
         ensures broken { (¬ IsRunning self.node.state) → (made : K) × F.post make self.keeper made
             × (IsTrue (K.custody.is_broken made) → K.custody.number made ≡ self.node.number
             → result.1 ≡ Err Fault.KeeperFailed) }
+        ensures other { (¬ IsRunning self.node.state) → (made : K) × F.post make self.keeper made
+            × (K.custody.number made ≢ self.node.number → result.1 ≡ Err Fault.WrongNode) }
     {
         let Err(_) = running(&self.state) else {
             return (self, Err(Fault::Refused(Refusal::Busy)));

@@ -1,5 +1,5 @@
 // What a stopped or restarted node gets back from its keeper.
-ghost use Rattle.std.specs.Prelude.{◌≡◌, ◌⊎◌, ◌<◌, length, IsTrue, IfOk, IfErr, Ok, Err};
+ghost use Rattle.std.specs.Prelude.{◌≡◌, ◌≢◌, ◌⊎◌, ◌<◌, length, IsTrue, IfOk, IfErr, Ok, Err};
 ghost use Rattle.std.specs.Option.{option_copied};
 ghost use Rattle.fl_labels.specs.Found.{Tells};
 ghost use Rattle.fl_labels.specs.SetBy as set;
@@ -107,6 +107,7 @@ pub fn recover<K: Keeper>(
     ensures broken { IsTrue (K.custody.is_broken keeper.old)
         → K.custody.number keeper.old ≡ had.number
         → result ≡ Err Fault.KeeperFailed }
+    ensures other { K.custody.number keeper.old ≢ had.number → result ≡ Err Fault.WrongNode }
     ensures whole { IfOk result (λ r. K.custody.is_honest keeper.new
         → ¬ K.custody.has_bad_row keeper.old) }
 {

@@ -1,5 +1,5 @@
 -- Why a call says that a keeper failed, from the node to the nodes.
-use Rattle.std.proofs.Common.{◌≡◌, ◌⊎◌, inl, inr, ℕ, sym, subst, [], Some, Result, Ok, Err}
+use Rattle.std.proofs.Common.{◌≡◌, ◌⊎◌, ◌∙◌, inl, inr, ℕ, sym, ap, subst, [], Option, Some, Result, Ok, Err}
 use Rattle.std.specs.Prelude.{IfErr, IsTrue}
 use Rattle.std.specs.FinMap as map
 use Rattle.fl_jobs.specs.declared.answer.Refusal.TheVariants.{Memory}
@@ -74,3 +74,20 @@ not_failed fault other failed = absurd (other failed)
 
 pub no_room : (fault : Fault) → fault ≡ faults.Refused Memory → fault ≡ faults.KeeperFailed → ⊥
 no_room fault is e = absurd (cc)
+
+-- ---- what is always told
+
+-- one node has the number
+pub same_there : {X : Type 0} (found : Option X) (n x : X) → found ≡ Some n → found ≡ Some x → x ≡ n
+same_there found n x p q = cc
+
+pub told_so : (outcome : Result ℕ Fault) (r : Reply) (fault : Fault) → r ≡ opened_reply outcome → outcome ≡ Err fault
+    → r ≡ reply.Refused fault
+told_so outcome r fault is e = is ∙ ap opened_reply e
+
+pub never_booted : (outcome : Result ℕ Fault) (boot : ℕ) (fault : Fault) → outcome ≡ Ok boot → outcome ≡ Err fault → ⊥
+never_booted outcome boot fault p q = cc
+
+pub refused_so : (outcome : Result ℕ Fault) (told fault : Fault) → outcome ≡ Err told → outcome ≡ Err fault
+    → reply.Refused told ≡ reply.Refused fault
+refused_so outcome told fault p q = cc

@@ -1,5 +1,5 @@
 //! Nodes that join the others, and stopped ones that are opened over another keeper.
-ghost use Rattle.std.specs.Prelude.{◌≡◌, ◌<◌, length, is_some, IfOk, IfErr, OnErr, OnOk};
+ghost use Rattle.std.specs.Prelude.{◌≡◌, ◌≢◌, ◌<◌, length, is_some, IsTrue, IfOk, IfErr, OnErr, OnOk};
 ghost use Rattle.std.specs.Prelude.{None, Some, Err};
 ghost use Rattle.std.specs.FinMap as map;
 ghost use Rattle.std.specs.Fn.{FnOnceReturnsAtMut};
@@ -159,6 +159,13 @@ impl<K: Keeper> Nodes<K> {
         ensures given { result.1 ≡ spare (map.get self.old.nodes number) keeper }
         ensures cause { result.0 ≡ Reply.Refused Fault.KeeperFailed
             → FailsAt K.custody (λ n. K.custody.has_bad_row keeper) self.old self.new number }
+        ensures broken { (n : NodeOver K) → map.get self.old.nodes number ≡ Some n
+            → (¬ IsRunning n.node.state) → IsTrue (K.custody.is_broken keeper)
+            → K.custody.number keeper ≡ n.node.number
+            → result.0 ≡ replies.Refused Fault.KeeperFailed }
+        ensures other { (n : NodeOver K) → map.get self.old.nodes number ≡ Some n
+            → (¬ IsRunning n.node.state) → K.custody.number keeper ≢ n.node.number
+            → result.0 ≡ replies.Refused Fault.WrongNode }
     {
         let Some(node) = self.all.get_mut(&number) else {
             return (Reply::NoSuch, keeper);
@@ -198,6 +205,16 @@ impl<K: Keeper> Nodes<K> {
             → FailsAt K.custody (λ n. (made : K)
             × FnOnceReturnsAtMut F.FnOnce make n.keeper tt made × K.custody.has_bad_row made)
             self.old self.new number }
+        ensures broken { (n : NodeOver K) → map.get self.old.nodes number ≡ Some n
+            → (¬ IsRunning n.node.state)
+            → (made : K) × FnOnceReturnsAtMut F.FnOnce make n.keeper tt made
+            × (IsTrue (K.custody.is_broken made) → K.custody.number made ≡ n.node.number
+            → result ≡ replies.Refused Fault.KeeperFailed) }
+        ensures other { (n : NodeOver K) → map.get self.old.nodes number ≡ Some n
+            → (¬ IsRunning n.node.state)
+            → (made : K) × FnOnceReturnsAtMut F.FnOnce make n.keeper tt made
+            × (K.custody.number made ≢ n.node.number
+            → result ≡ replies.Refused Fault.WrongNode) }
     {
         let Some(node) = self.all.get_mut(&number) else {
             return Reply::NoSuch;

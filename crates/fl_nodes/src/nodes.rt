@@ -1,9 +1,11 @@
 //! The nodes of a world, call by call.
-ghost use Rattle.std.specs.Prelude.{◌≡◌, ◌≢◌, ◌<◌, None, true, false};
+ghost use Rattle.std.specs.Prelude.{◌≡◌, ◌≢◌, ◌<◌, IsTrue, None, Some, true, false};
 ghost use Rattle.std.specs.FinMap as map;
 ghost use Rattle.std.specs.Option.{option_copied};
 ghost use Rattle.fl_system.specs.declared.event.Event.TheVariants as event;
+ghost use Rattle.fl_system.specs.Waiting.{IsRunning};
 ghost use Rattle.fl_system.specs.WorldSteps.{Step};
+ghost use Rattle.fl_node.specs.Over.{NodeOver};
 ghost use Rattle.fl_nodes.specs.Over.{empty_over};
 ghost use Rattle.fl_nodes.specs.Goes.{Goes};
 ghost use Rattle.fl_nodes.specs.Failing.{FailsAt, IsBrokenAt, LoadsBadRowOf};
@@ -191,13 +193,21 @@ impl<K: Keeper> Nodes<K> {
     }
 
     /// Restarts the node, as `Node::restart` has it, and answers its boot, or why not:
-    /// `KeeperFailed` only where its keeper is broken then, or loads a bad row.
+    /// `KeeperFailed` only where its keeper is broken then, or loads a bad row, and always where it
+    /// is stopped over a keeper of its own that is broken; over another node's, `WrongNode`.
     pub fn restart(&mut self, alloc: Global, number: NodeNumber, keeps: bool) -> Reply
         ensures goes { Goes K.custody self.old self.new
             (λ w w'. Step w (event.Restart number keeps) result w') }
         ensures cause { let bad = LoadsBadRowOf K.custody in
             result ≡ Reply.Refused Fault.KeeperFailed
             → FailsAt K.custody bad self.old self.new number }
+        ensures broken { (n : NodeOver K) → map.get self.old.nodes number ≡ Some n
+            → (¬ IsRunning n.node.state) → IsTrue (K.custody.is_broken n.keeper)
+            → K.custody.number n.keeper ≡ n.node.number
+            → result ≡ Reply.Refused Fault.KeeperFailed }
+        ensures other { (n : NodeOver K) → map.get self.old.nodes number ≡ Some n
+            → (¬ IsRunning n.node.state) → K.custody.number n.keeper ≢ n.node.number
+            → result ≡ Reply.Refused Fault.WrongNode }
     {
         let Some(node) = self.all.get_mut(&number) else {
             return Reply::NoSuch;

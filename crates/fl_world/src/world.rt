@@ -1,5 +1,5 @@
 //! A world, event by event.
-ghost use Rattle.std.specs.Prelude.{◌≡◌, ◌≢◌, ◌<◌, IfOk, IfErr, OnErr, None, Some, length};
+ghost use Rattle.std.specs.Prelude.{◌≡◌, ◌≢◌, ◌<◌, IsTrue, IfOk, IfErr, OnErr, Err, None, Some, length};
 ghost use Rattle.std.specs.FinMap as map;
 ghost use Rattle.std.specs.Fn.{FnOnceReturnsAtMut};
 ghost use Rattle.std.specs.Option.{option_copied};
@@ -145,6 +145,8 @@ impl<K: Keeper> World<K> {
             (λ w k w'. Joins w number k (replies.Booted boot) w')) }
         ensures refused { IfErr result (λ e. GivesBack K.custody self.old keeper self.new e.1
             (IsRefused number e.0)) }
+        ensures there { (n : NodeOver K) → map.get self.old.nodes number ≡ Some n
+            → result ≡ Err (Fault.WrongNode, keeper) }
         ensures cause { let bad = K.custody.has_bad_row keeper in IfErr result (λ e.
             KeeperFails (IsLeftBroken K.custody keeper e.1) (K.custody.is_honest e.1) bad e.0) }
         ensures same { OnErr result (self.new ≡ self.old) }
@@ -180,6 +182,16 @@ impl<K: Keeper> World<K> {
             → FailsAt K.custody (λ n. (made : K)
             × FnOnceReturnsAtMut F.FnOnce make n.keeper tt made × K.custody.has_bad_row made)
             self.old self.new number }
+        ensures broken { (n : NodeOver K) → map.get self.old.nodes number ≡ Some n
+            → (¬ IsRunning n.node.state)
+            → (made : K) × FnOnceReturnsAtMut F.FnOnce make n.keeper tt made
+            × (IsTrue (K.custody.is_broken made) → K.custody.number made ≡ n.node.number
+            → result ≡ replies.Refused Fault.KeeperFailed) }
+        ensures other { (n : NodeOver K) → map.get self.old.nodes number ≡ Some n
+            → (¬ IsRunning n.node.state)
+            → (made : K) × FnOnceReturnsAtMut F.FnOnce make n.keeper tt made
+            × (K.custody.number made ≢ n.node.number
+            → result ≡ replies.Refused Fault.WrongNode) }
     {
         self.nodes.reopen_with(alloc, number, make)
     }
@@ -231,6 +243,13 @@ impl<K: Keeper> World<K> {
         ensures cause { let bad = LoadsBadRowOf K.custody in
             result ≡ replies.Refused Fault.KeeperFailed
             → FailsAt K.custody bad self.old self.new number }
+        ensures broken { (n : NodeOver K) → map.get self.old.nodes number ≡ Some n
+            → (¬ IsRunning n.node.state) → IsTrue (K.custody.is_broken n.keeper)
+            → K.custody.number n.keeper ≡ n.node.number
+            → result ≡ replies.Refused Fault.KeeperFailed }
+        ensures other { (n : NodeOver K) → map.get self.old.nodes number ≡ Some n
+            → (¬ IsRunning n.node.state) → K.custody.number n.keeper ≢ n.node.number
+            → result ≡ replies.Refused Fault.WrongNode }
     {
         self.nodes.restart(alloc, number, keeps)
     }

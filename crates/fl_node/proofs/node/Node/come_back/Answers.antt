@@ -61,3 +61,13 @@ pub returns-clause-broken : goal.returns-clause-broken
 returns-clause-broken g c stopped =
     let pending = subst (λ x. x.node.state ≡ Running (Unsaved c.in-Ok.field-0.now)) c.self.view_is c.in-Ok.ensures.ok in
     absurd (stopped (subst IsRunning (sym pending) tt))
+
+pub returns-in-Err-clause-other : goal.returns-in-Err-clause-other
+returns-in-Err-clause-other g c stopped =
+    let pending = subst (λ x. x.node.state ≡ Running (Unsaved c.in-Ok.field-0.now)) c.self.view_is c.in-Ok.ensures.ok in
+    absurd (stopped (subst IsRunning (sym pending) tt))
+
+pub returns-clause-other : goal.returns-clause-other
+returns-clause-other g c stopped =
+    let pending = subst (λ x. x.node.state ≡ Running (Unsaved c.in-Ok.field-0.now)) c.self.view_is c.in-Ok.ensures.ok in
+    absurd (stopped (subst IsRunning (sym pending) tt))

@@ -17,3 +17,6 @@ returns-clause-cause g c = rw (← c.self.view_is) (with_made _ _ _ _ _ c.make.r
 
 pub returns-clause-broken : goal.returns-clause-broken
 returns-clause-broken g c _ = rw (← c.self.view_is) (c.make.result, c.make.ensures, c.open_again-result.ensures.broken)
+
+pub returns-clause-other : goal.returns-clause-other
+returns-clause-other g c _ = rw (← c.self.view_is) (c.make.result, c.make.ensures, c.open_again-result.ensures.other)

@@ -25,3 +25,10 @@ returns-clause-broken g c _ = rw (← c.self.view_is) (
   record { shown = _; shows = refl; left = _; met = c.make.ensures; leaves = refl },
   c.open_again.ensures.broken,
 )
+
+pub returns-clause-other : goal.returns-clause-other
+returns-clause-other g c _ = rw (← c.self.view_is) (
+  c.make.new.arg2,
+  record { shown = _; shows = refl; left = _; met = c.make.ensures; leaves = refl },
+  c.open_again.ensures.other,
+)

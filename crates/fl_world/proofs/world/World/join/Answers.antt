@@ -24,3 +24,6 @@ returns-clause-refused g c =
     (IsRefused c.args.number e.0)))
     c.self.view_is
     (refused_known g.K.Keeper.custody _ _ c.args.number _ (no_stray c.law_names.ensures.owned) c.self.invariant c.join.result c.join.ensures.refused)
+
+pub returns-clause-there : goal.returns-clause-there
+returns-clause-there g c = rw (← c.self.view_is) c.join.ensures.there

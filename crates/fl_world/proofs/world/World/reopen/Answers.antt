@@ -20,3 +20,9 @@ returns-clause-stopped g c = rw (← c.self.view_is) c.reopen_with.ensures.stopp
 
 pub returns-clause-cause : goal.returns-clause-cause
 returns-clause-cause g c = rw (← c.self.view_is) c.reopen_with.ensures.cause
+
+pub returns-clause-broken : goal.returns-clause-broken
+returns-clause-broken g c = rw (← c.self.view_is) c.reopen_with.ensures.broken
+
+pub returns-clause-other : goal.returns-clause-other
+returns-clause-other g c = rw (← c.self.view_is) c.reopen_with.ensures.other

@@ -17,3 +17,9 @@ returns-clause-goes g c =
 
 pub returns-clause-cause : goal.returns-clause-cause
 returns-clause-cause g c = rw (← c.self.view_is) c.restart.ensures.cause
+
+pub returns-clause-broken : goal.returns-clause-broken
+returns-clause-broken g c = rw (← c.self.view_is) c.restart.ensures.broken
+
+pub returns-clause-other : goal.returns-clause-other
+returns-clause-other g c = rw (← c.self.view_is) c.restart.ensures.other
