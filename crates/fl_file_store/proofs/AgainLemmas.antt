@@ -28,13 +28,13 @@ use Rattle.sqlite_store.specs.Laws.{settled_at, survives_at}
 use Rattle.sqlite_store.specs.Listing.{IsOurs}
 use Rattle.sqlite.specs.Files.{HoldsDatabase, file_state}
 use Rattle.sqlite.specs.Held.{Held, AreDatabases}
-use Rattle.sqlite.specs.State.{HasCleanDisk}
+use Rattle.sqlite.specs.State.{HasCleanDisk, Survives}
 use Rattle.fl_store.specs.Kept.{Kept}
 use Rattle.fl_store.specs.Keeping.{Stays}
 use Rattle.fl_sql_tables.specs.Stored.{kept_in}
 use Rattle.fl_store.specs.declared.keeper.KeeperFault.{KeeperFault}
 use Rattle.fl_sql_store.specs.SqlKeeping.{SqlKept, held_in}
-use Rattle.fl_sql_store.specs.Opening.{OpensAs, RefusesToOpen}
+use Rattle.fl_sql_store.specs.Opening.{OpensAs, OpensTo, RefusesToOpen}
 use Rattle.fl_file_store.specs.FileKeeping.{number_of, OpensAgain, StaysShut, Reopens, Mends}
 use Rattle.fl_file_store.specs.declared.unmended.Unmended.{Unmended}
 use Rattle.fl_file_store.specs.declared.unmended.Unmended.TheVariants.{Unusable, Unopened, Refused, GivenUp}
@@ -141,8 +141,11 @@ module _ {D : Type 0} {g : Ghosts D} (old new : SqlKept (FileStore D g)) (again 
             (subst (λ m. Stays (held_in m (file_state old.conn)) (held_in n (file_state new.conn))) was all),
       )
 
-  pub is_mended : new.is_broken ≡ false → (HasCleanDisk (file_state new.conn) → OpensAs n (file_state again) (file_state new.conn)) → Reopens old (Open new) (Ok tt)
-  is_mended sound opens = (
+  abbrev Leaves : ℕ → Type 0
+  Leaves m = Survives (file_state again) (file_state new.conn) (OpensTo m (file_state again))
+
+  pub is_mended : new.is_broken ≡ false → Leaves n → (HasCleanDisk (file_state new.conn) → OpensAs n (file_state again) (file_state new.conn)) → Reopens old (Open new) (Ok tt)
+  is_mended sound leaves opens = (
     new,
     refl,
     record {
@@ -150,13 +153,14 @@ module _ {D : Type 0} {g : Ghosts D} (old new : SqlKept (FileStore D g)) (again 
       found = it;
       number = is ∙ was;
       sound = sound;
+      leaves = subst Leaves was leaves;
       opens = subst (λ m. HasCleanDisk (file_state new.conn) → OpensAs m (file_state again) (file_state new.conn)) was opens;
     },
   )
 
-  pub is_refused : (fault : KeeperFault) → new.is_broken ≡ true → (HasCleanDisk (file_state new.conn) → RefusesToOpen n (file_state again) (file_state new.conn) fault)
+  pub is_refused : (fault : KeeperFault) → new.is_broken ≡ true → Leaves n → (HasCleanDisk (file_state new.conn) → RefusesToOpen n (file_state again) (file_state new.conn) fault)
       → Reopens old (Open new) (Err (Refused fault))
-  is_refused fault broken refuses = (
+  is_refused fault broken leaves refuses = (
     new,
     refl,
     record {
@@ -164,6 +168,7 @@ module _ {D : Type 0} {g : Ghosts D} (old new : SqlKept (FileStore D g)) (again 
       found = it;
       number = is ∙ was;
       broken = broken;
+      leaves = subst Leaves was leaves;
       refuses = subst (λ m. HasCleanDisk (file_state new.conn) → RefusesToOpen m (file_state again) (file_state new.conn) fault) was refuses;
     },
   )

@@ -11,7 +11,7 @@ use Rattle.sqlite_store.specs.FileStore as store
 use Rattle.sqlite_store.specs.Laws.{survives_at}
 use Rattle.sqlite.specs.declared.file.Leftover.{Leftover}
 use Rattle.sqlite.specs.Held.{Held, AreDatabases}
-use Rattle.sqlite.specs.State.{HasCleanDisk}
+use Rattle.sqlite.specs.State.{HasCleanDisk, Survives}
 use Rattle.sqlite.specs.Files.{file_state, over_files, IsOpened, Finds, IsCleanLeft}
 use Rattle.sqlite.specs.Files.{FailsToOpenFiles}
 use Rattle.fl_store.specs.Custody.{Custody}
@@ -20,7 +20,7 @@ use Rattle.fl_store.specs.Call.{Call}
 use Rattle.fl_store.specs.declared.keeper.KeeperFault.{KeeperFault}
 use Rattle.fl_sql_tables.specs.Stored.{HasBadRow}
 use Rattle.fl_sql_store.specs.SqlKeeping.{SqlKept, held_in, something_held, kept_number}
-use Rattle.fl_sql_store.specs.Opening.{OpensAs, RefusesToOpen}
+use Rattle.fl_sql_store.specs.Opening.{OpensAs, OpensTo, RefusesToOpen}
 use Rattle.fl_sql_store.specs.Breaking.{SqlBreaks, SqlWants}
 use Rattle.fl_file_store.specs.declared.unmended.Unmended.{Unmended}
 use Rattle.fl_file_store.specs.declared.unmended.Unmended.TheVariants.{Unusable, Unopened}
@@ -125,6 +125,7 @@ module _ {D : Type 0} {g : Ghosts D} where
     pub found : OpensAgain old.conn again
     pub number : new.number ≡ old.number
     pub sound : new.is_broken ≡ false
+    pub leaves : Survives (file_state again) (file_state new.conn) (OpensTo old.number (file_state again))
     pub opens : HasCleanDisk (file_state new.conn)
         → OpensAs old.number (file_state again) (file_state new.conn)
 
@@ -134,6 +135,7 @@ module _ {D : Type 0} {g : Ghosts D} where
     pub found : OpensAgain old.conn again
     pub number : new.number ≡ old.number
     pub broken : IsTrue new.is_broken
+    pub leaves : Survives (file_state again) (file_state new.conn) (OpensTo old.number (file_state again))
     pub refuses : HasCleanDisk (file_state new.conn)
         → RefusesToOpen old.number (file_state again) (file_state new.conn) fault
 

@@ -8,7 +8,7 @@ returns-in-Ok-outcome-clause-reopens g c =
     let it = subst (λ x. OpensAgain x c.in-Ok.conn) c.into_connection.ensures.same c.in-Ok.ensures.opens in
     let made = c.open_or_broken-keeper.ensures in
     is_mended c.args.broken c.open_or_broken-keeper.result.0 c.in-Ok.conn c.args.number c.requires made.number it
-    (rw c.in-Ok-outcome.is at made.sound) (λ clean. rw c.in-Ok-outcome.is at (made.opens clean))
+    (rw c.in-Ok-outcome.is at made.sound) made.leaves (λ clean. rw c.in-Ok-outcome.is at (made.opens clean))
 
 pub returns-in-Ok-outcome-clause-honest : goal.returns-in-Ok-outcome-clause-honest
 returns-in-Ok-outcome-clause-honest g c clean =
@@ -27,7 +27,7 @@ returns-in-Err-outcome-clause-reopens g c =
     let it = subst (λ x. OpensAgain x c.in-Ok.conn) c.into_connection.ensures.same c.in-Ok.ensures.opens in
     let made = c.open_or_broken-keeper.ensures in
     is_refused c.args.broken c.open_or_broken-keeper.result.0 c.in-Ok.conn c.args.number c.requires made.number it
-    c.in-Err-outcome.fault (rw c.in-Err-outcome.is at made.broken) (λ clean. rw c.in-Err-outcome.is at (made.refuses clean))
+    c.in-Err-outcome.fault (rw c.in-Err-outcome.is at made.broken) made.leaves (λ clean. rw c.in-Err-outcome.is at (made.refuses clean))
 
 pub returns-in-Err-outcome-clause-honest : goal.returns-in-Err-outcome-clause-honest
 returns-in-Err-outcome-clause-honest g c clean =
