@@ -1,5 +1,6 @@
 //! A file in memory that is stored again once it is let go.
-ghost use Rattle.std.specs.Prelude.{◌≡◌};
+ghost use Rattle.std.specs.Prelude.{◌≡◌, refl};
+ghost use Rattle.std.proofs.Common.{inl};
 ghost use Rattle.sqlite_disk.specs.Memory.{memory_bytes, memory_is_usable};
 
 use crate::stored::Stored;
@@ -63,9 +64,9 @@ impl Disk for Lent<'_> {
 
     ghost is_fair = { λ f. ⟦<Memory as Disk>⟧.is_fair f.file };
 
-    ghost fair_if_clean = { λ f. ⟦<Memory as Disk>⟧.fair_if_clean f.file };
+    ghost fair_if_clean = { λ _ _ _. refl };
 
-    ghost seen_may_stay = { λ f. ⟦<Memory as Disk>⟧.seen_may_stay f.file };
+    ghost seen_may_stay = { λ _. inl refl };
 
     fn mixes(&self) -> bool {
         self.file.mixes()
