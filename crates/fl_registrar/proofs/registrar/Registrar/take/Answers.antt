@@ -24,7 +24,7 @@ use Rattle.fl_registrar.specs.parts.Sound.{IsSound, due_of, staged_of}
 use Rattle.fl_registrar.proofs.Passed.{become}
 use Rattle.fl_registrar.proofs.Ruled.{seen, in_ok, in_err, no_waiting, same_over}
 use Rattle.fl_registrar.proofs.Brought.{not_received, none_received, brings, packet_back, undone}
-use Rattle.fl_registrar.proofs.Brought.{declines_by, busy_waiting}
+use Rattle.fl_registrar.proofs.Brought.{declines_by, brought_new, busy_waiting}
 use Rattle.fl_registrar.proofs.Taken.{declined_takes, no_room_takes, broken_takes, taken_takes}
 use Rattle.fl_registrar.proofs.Taken.{late_takes, given_up_stands, due_stands}
 use Rattle.fl_registrar.proofs.registrar.Registrar.take.Goals as goal
