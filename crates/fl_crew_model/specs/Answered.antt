@@ -75,13 +75,13 @@ abbrev pub IsOrderFor : Option Job → Body → Type 0
 IsOrderFor (Some (By pid (Order order))) body = body ≡ body_of order
 IsOrderFor other body = ⊥
 
--- a ruling with an operation is on an order for it
+-- a ruling is on an order, and one with an operation on an order for it
 abbrev pub IsOwn : Option Job → Ruling → Type 0
 IsOwn job (Made op) = IsOrderFor job op.body
 IsOwn job (Late op pid) = IsOrderFor job op.body
-IsOwn job (GivenUp reason) = Unit {0}
+IsOwn job (GivenUp reason) = (body : Body) × IsOrderFor job body
 
--- each operation of the record is of the order that the worker has at that place
+-- each decision of the record is on the order that the worker has at that place
 abbrev pub AreOwn : (ℕ → ℕ → Option Job) → List Deed → Type 0
 AreOwn jobs [] = Unit {0}
 AreOwn jobs (Decided d ∷ rs) = IsOwn (jobs d.worker d.place) d.ruling × AreOwn jobs rs

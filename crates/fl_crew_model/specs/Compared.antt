@@ -56,6 +56,12 @@ abbrev pub Rise : List Decision → Type 0
 Rise [] = Unit {0}
 Rise (d ∷ ds) = IsLater d.place ds × Rise ds
 
+-- the last of them, if there is one, is on an earlier place
+abbrev pub EndBefore : List Decision → ℕ → Type 0
+EndBefore [] place = Unit {0}
+EndBefore (d ∷ []) place = d.place < place
+EndBefore (d ∷ e ∷ ds) place = EndBefore (e ∷ ds) place
+
 -- the decisions on the orders of one worker
 abbrev pub decisions_of : ℕ → List Deed → List Decision
 decisions_of w [] = []

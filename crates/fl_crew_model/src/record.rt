@@ -85,6 +85,14 @@ pub struct Entry {
     pub ruling: Option<Ruling>,
 }
 
+/// An order that was not ruled on, since the keeper broke as its operation was to be saved: whose
+/// it is, and its place.
+#[derive(Clone, Copy, Debug)]
+pub struct FailedOrder {
+    pub worker: u8,
+    pub place: usize,
+}
+
 /// One ruling: on whose order, at which place, and how long the list was before and after.
 #[derive(Clone, Copy, Debug)]
 pub struct Decision {

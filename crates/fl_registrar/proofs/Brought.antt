@@ -1,6 +1,6 @@
 -- What a packet brings to a node, and to the books.
 use Rattle.std.proofs.Common.{◌≡◌, ◌<◌, ℕ, Option, Some, None, Result, Ok, Err, List, [], ◌∷◌, Bool}
-use Rattle.std.proofs.Common.{true, false, not, length, refl, sym, ap, ◌∙◌, subst, arith}
+use Rattle.std.proofs.Common.{true, false, not, ◌≢◌, length, refl, sym, ap, ◌∙◌, subst, arith}
 use Rattle.std.specs.List.{Contains, filter}
 use Rattle.std.specs.Option.{is_some}
 use Rattle.std.proofs.lemmas.Bool.{false≢true}
@@ -17,13 +17,14 @@ use Rattle.fl_system.specs.declared.answer.Fault.{Fault}
 use Rattle.fl_system.specs.declared.answer.Fault.TheVariants as faults
 use Rattle.fl_system.specs.declared.state.Batch.{Batch}
 use Rattle.fl_system.specs.declared.state.Batch.TheVariants.{Received}
-use Rattle.fl_system.specs.declared.state.Pending.TheVariants.{Nothing}
+use Rattle.fl_system.specs.declared.state.Pending.TheVariants.{Due, Nothing, Unsaved}
 use Rattle.fl_system.specs.declared.state.State.{State}
-use Rattle.fl_system.specs.declared.state.State.TheVariants.{Running}
+use Rattle.fl_system.specs.declared.state.State.TheVariants.{Running, Stopped}
 use Rattle.fl_system.specs.State.{NodeState}
 use Rattle.fl_system.specs.Begins.{pending_with}
 use Rattle.fl_system.specs.Publishes.{Cancels, cancelled_with}
 use Rattle.fl_system.specs.Receives.{Receives, CanTake, AreLacking, HasNew}
+use Rattle.fl_system.specs.Waiting.{IsTaken, NotRunning}
 use Rattle.fl_crew_model.specs.Books.{Books, Declines, page}
 use Rattle.fl_crew_model.specs.Registering.{Reflects, IsRegistrar}
 use Rattle.fl_registrar.specs.declared.waiting.Stage.{Stage}
@@ -43,6 +44,25 @@ not_received n n' ops fault (Receives.no_room on some) = refl
 not_received n n' ops fault (Receives.impostor on first bad) = refl
 not_received n n' ops fault (Receives.clash on first bad) = refl
 not_received n n' ops fault (Receives.taken op on may there new why) = refl
+
+not_running : (s : State) (fault : Fault) → NotRunning s fault → fault ≢ faults.KeeperFailed
+not_running (Running pending) fault why = absurd why
+not_running (Stopped doubt) fault why = λ is. (let e = sym why ∙ is in cc)
+
+not_taken : (s : State) (fault : Fault) → IsTaken s fault → fault ≢ faults.KeeperFailed
+not_taken (Running Nothing) fault why = absurd why
+not_taken (Running (Unsaved batch)) fault why = λ is. (let e = sym why ∙ is in cc)
+not_taken (Running (Due batch)) fault why = λ is. (let e = sym why ∙ is in cc)
+not_taken (Stopped doubt) fault why = λ is. (let e = sym why ∙ is in cc)
+
+-- by which no packet is told that the keeper broke
+pub not_broken : (n n' : NodeState) (ops : SetBy op_cmp) (fault : Fault)
+    → Receives n ops (Err fault) n' → fault ≢ faults.KeeperFailed
+not_broken n n' ops fault (Receives.stopped why) = not_running n.state fault why
+not_broken n n' ops fault (Receives.no_room on some) = λ is. cc
+not_broken n n' ops fault (Receives.impostor on first bad) = λ is. cc
+not_broken n n' ops fault (Receives.clash on first bad) = λ is. cc
+not_broken n n' ops fault (Receives.taken op on may there new why) = not_taken n.state fault why
 
 pub none_received : (n n' : NodeState) (ops : SetBy op_cmp) (count : ℕ) → count ≡ 0
     → Receives n ops (Ok count) n' → n' ≡ n

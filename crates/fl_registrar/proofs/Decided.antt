@@ -9,6 +9,7 @@ use Rattle.fl_system.specs.declared.answer.Fault.{Fault}
 use Rattle.fl_crew_model.specs.declared.record.Ruling.{Ruling}
 use Rattle.fl_crew_model.specs.declared.record.Ruling.TheVariants.{Made, Late, GivenUp}
 use Rattle.fl_crew_model.specs.declared.record.Decision.{Decision}
+use Rattle.fl_crew_model.specs.declared.record.FailedOrder.{FailedOrder}
 use Rattle.fl_crew_model.specs.declared.record.Deed.{Deed}
 use Rattle.fl_crew_model.specs.declared.record.Deed.TheVariants.{Decided, Delivered}
 use Rattle.fl_crew_model.specs.Answered.{AreOwn, IsOwn, IsOrderFor}
@@ -44,7 +45,7 @@ own_ruling : (job : Option Job) (body : Body) (pid : Pid) (ruling : Ruling) → 
     → IsOf body pid ruling → IsOwn job ruling
 own_ruling job body pid (Made op) h is = subst (IsOrderFor job) (sym is) h
 own_ruling job body pid (Late op maker) h is = subst (IsOrderFor job) (sym is.0) h
-own_ruling job body pid (GivenUp reason) h is = tt
+own_ruling job body pid (GivenUp reason) h is = (body, h)
 
 pub own_more : (jobs : ℕ → ℕ → Option Job) (deeds : List Deed) (d : Decision)
     → IsOwn (jobs d.worker d.place) d.ruling → AreOwn jobs deeds
@@ -124,10 +125,10 @@ module _ {K : Type 0} (custody : Custody K) where
       })
 
   pub failed_goes : (old new : RegistrarOver K) (worker : ℕ) (fault : Fault)
-      → new.deeds ≡ old.deeds
+      (failed : Option FailedOrder) → new.deeds ≡ old.deeds
       → Passes custody (Rules old worker (Err fault) new) old.node.keeper new.node.keeper
-      → Passes custody (GoesOn old new) old.node.keeper new.node.keeper
-  failed_goes old new worker fault deeds =
+      → Passes custody (GoesOn old (record new { failed = failed })) old.node.keeper new.node.keeper
+  failed_goes old new worker fault failed deeds =
       weaker custody _ _ old.node.keeper new.node.keeper (λ honest k k' held rules. record {
         recorded = λ first h. subst (λ (rs : List Deed). Recorded old.node.node.number first rs
             (books_of new)) (sym deeds)

@@ -4,3 +4,4 @@ pub mod Ruled
 pub mod Decided
 pub mod Brought
 pub mod Taken
+mod Rising

@@ -23,6 +23,7 @@ use Rattle.fl_node.specs.Over.{NodeOver}
 use Rattle.fl_crew_model.specs.declared.record.Ruling.TheVariants.{Made, Late, GivenUp}
 use Rattle.fl_crew_model.specs.declared.record.Reason.TheVariants.{Busy, NamesSpent, Memory}
 use Rattle.fl_crew_model.specs.declared.record.Deed.{Deed}
+use Rattle.fl_crew_model.specs.declared.record.FailedOrder.{FailedOrder}
 use Rattle.fl_crew_model.specs.Books.{Books, MakesOne, SavesOne}
 use Rattle.fl_replica.specs.Boards.{Pressed}
 use Rattle.fl_registrar.specs.declared.awaited.Awaited.{Awaited}
@@ -86,9 +87,9 @@ in_err (Err x) e h = h
 
 -- the fields of a registrar, as contracts see them
 abbrev pub seen : {K : Type 0} → NodeOver K → Pressed → Option Waiting → List (Option Awaited)
-    → List Deed → ℕ → Bool
+    → List Deed → ℕ → Option FailedOrder → Bool
     → RegistrarOver K
-seen node press waiting orders deeds rows stopped =
+seen node press waiting orders deeds rows failed stopped =
     record {
       node = node;
       press = press;
@@ -96,6 +97,7 @@ seen node press waiting orders deeds rows stopped =
       orders = orders;
       deeds = deeds;
       rows = rows;
+      failed = failed;
       stopped = stopped;
     }
 

@@ -10,6 +10,7 @@ use Rattle.fl_system.specs.declared.state.Batch.TheVariants.{Ordered}
 use Rattle.fl_crew_model.specs.declared.record.Decision.{Decision}
 use Rattle.fl_crew_model.specs.declared.record.Ruling.{Ruling}
 use Rattle.fl_crew_model.specs.declared.record.Ruling.TheVariants.{Made, Late, GivenUp}
+use Rattle.fl_crew_model.specs.Compared.{EndBefore, decisions_of}
 use Rattle.fl_registrar.specs.Over.{RegistrarOver}
 
 -- the registrar runs, and its record has a row left
@@ -17,11 +18,13 @@ pub record HasRoom {K : Type 0} (r : RegistrarOver K) : Type 0 where
   pub runs : r.stopped ≡ false
   pub room : length r.deeds < r.rows
 
--- so it is, and at this place it awaits an order of this worker for this body
+-- so it is, and at this place, which is behind that of the last decision on an order of this
+-- worker, it awaits one for this body
 pub record Awaits {K : Type 0} (r : RegistrarOver K) (worker place : ℕ) (body : Body)
     : Type 0 where
   pub has_room : HasRoom r
   pub awaited : slice_get r.orders place ≡ Some (Some (record { worker = worker; body = body }))
+  pub later : EndBefore (decisions_of worker r.deeds) place
 
 -- what the ruling publishes
 abbrev pub published_by : Ruling → List Op

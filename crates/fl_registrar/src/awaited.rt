@@ -1,6 +1,8 @@
 //! The orders of a batch that are still awaited.
 ghost use Rattle.std.specs.Prelude.{◌≡◌, ◌↔◌, Some, IsTrue, slice_get};
+ghost use Rattle.fl_crew_model.specs.Compared.{EndBefore, decisions_of};
 
+use fl_crew_model::record::Deed;
 use fl_labels::name::Name;
 use fl_ops::op::{Body, Op};
 
@@ -35,4 +37,21 @@ pub(crate) fn is_awaited(orders: &[Option<Awaited>], worker: u8, place: usize, b
         return false;
     };
     awaited.worker == worker && is_body(awaited.body, body)
+}
+
+// Whether the last of the decisions on the orders of this worker, if there is one, is on an earlier
+// place. Takes as long as there are deeds behind it.
+pub(crate) fn ends_before(worker: u8, place: usize, deeds: &[Deed]) -> bool
+    ensures { IsTrue result ↔ EndBefore (decisions_of worker deeds.now) place }
+{
+    let mut rest = deeds;
+    while let Some((deed, front)) = rest.split_last() {
+        if let Deed::Decided(decision) = deed {
+            if decision.worker == worker {
+                return decision.place < place;
+            }
+        }
+        rest = front;
+    }
+    true
 }

@@ -1,5 +1,5 @@
 //! A registrar, call by call.
-ghost use Rattle.std.specs.Prelude.{◌≡◌, ◌↔◌, ◌++◌, ◌∷◌, ℕ, [], Option, None, Some, Ok, Err};
+ghost use Rattle.std.specs.Prelude.{◌≡◌, ◌≢◌, ◌↔◌, ◌++◌, ◌∷◌, ℕ, [], Option, None, Some, Ok, Err};
 ghost use Rattle.std.specs.Prelude.{false, IsTrue, IsSome, IfOk, IfErr, OnOk, OnErr};
 ghost use Rattle.std.specs.Prelude.{set as put_at};
 ghost use Rattle.fl_labels.specs.declared.name.Name.{Name};
@@ -11,6 +11,7 @@ ghost use Rattle.fl_system.specs.declared.state.Pending.TheVariants.{Nothing};
 ghost use Rattle.fl_system.specs.Naming.{IsNextAfter};
 ghost use Rattle.fl_jobs.specs.declared.job.Job.{Job};
 ghost use Rattle.fl_crew_model.specs.Answered.{AreOwn};
+ghost use Rattle.fl_crew_model.specs.Compared.{Rise, decisions_of};
 ghost use Rattle.fl_crew_model.specs.declared.record.Deed.TheVariants.{Decided, Delivered};
 ghost use Rattle.fl_crew_model.specs.declared.record.Ruling.TheVariants.{GivenUp};
 ghost use Rattle.fl_crew_model.specs.declared.record.Reason.TheVariants.{Busy};
@@ -22,15 +23,15 @@ ghost use Rattle.fl_registrar.specs.Ruling.{HasRoom, Awaits, decision_of, publis
 ghost use Rattle.fl_registrar.specs.Ruling.{due_after, IsOf};
 ghost use Rattle.fl_registrar.specs.Going.{GoesOn};
 ghost use Rattle.fl_registrar.specs.Apart.{AreAwaited, AreApart};
-ghost use Rattle.fl_registrar.specs.Stopping.{stopped_after, IsHalt, HasFailed};
+ghost use Rattle.fl_registrar.specs.Stopping.{failed_after, stopped_after, IsHalt, HasFailed};
 ghost use Rattle.fl_registrar.specs.parts.Rules.{Rules};
 
-use crate::awaited::{Awaited, is_awaited};
+use crate::awaited::{Awaited, ends_before, is_awaited};
 use crate::parcel::{Parcel, Receipt, declined, late, taken};
 use crate::saving::{Saving, news, save};
 use crate::waiting::{Stage, Waiting, publish};
 use fl_crew_model::laws::law_registrar;
-use fl_crew_model::record::{Decision, Deed, Delivery, Reason, Ruling};
+use fl_crew_model::record::{Decision, Deed, Delivery, FailedOrder, Reason, Ruling};
 use fl_jobs::answer::Refusal;
 use fl_labels::pid::Pid;
 use fl_node::node::Node;
@@ -54,6 +55,7 @@ pub struct Registrar<K: Keeper> {
     due: Option<Waiting>,
     orders: Vec<Option<Awaited>>,
     deeds: Vec<Deed>,
+    failed: Option<FailedOrder>,
     is_stopped: bool,
 }
 
@@ -73,6 +75,7 @@ impl<K: Keeper> Model for Registrar<K> {
       orders = a.orders.items;
       deeds = a.deeds.items;
       rows = vec_capacity a.deeds;
+      failed = a.failed;
       stopped = a.is_stopped;
     } };
 
@@ -95,6 +98,7 @@ impl<K: Keeper> Registrar<K> {
           orders = [];
           deeds = [];
           rows = 0;
+          failed = None;
           stopped = false;
         } }
     {
@@ -104,6 +108,7 @@ impl<K: Keeper> Registrar<K> {
             due: None,
             orders: Vec::new(alloc),
             deeds: Vec::new(alloc),
+            failed: None,
             is_stopped: false,
         }
     }
@@ -119,6 +124,7 @@ impl<K: Keeper> Registrar<K> {
             due: _,
             orders: _,
             deeds: _,
+            failed: _,
             is_stopped: _,
         } = self;
         (node, press)
@@ -145,6 +151,14 @@ impl<K: Keeper> Registrar<K> {
         self.is_stopped
     }
 
+    /// The order at which its keeper broke, or none where it did at none: it may have broken at a
+    /// packet.
+    pub fn failed(&self) -> Option<FailedOrder>
+        ensures { result ≡ self.now.failed }
+    {
+        self.failed
+    }
+
     /// Whether it is not stopped, and its record has a row left.
     pub fn has_room(&self) -> bool
         ensures { IsTrue result ↔ HasRoom self.now }
@@ -153,11 +167,15 @@ impl<K: Keeper> Registrar<K> {
     }
 
     /// Whether an order of this worker for this body is ruled on, where it is given for this place
-    /// now: one is awaited there, the registrar runs, and its record has a row left.
+    /// now: one is awaited there, no order of the worker for that place or a later one was ruled
+    /// on, the registrar runs, and its record has a row left. Takes as long as there are rows
+    /// behind the last ruling on an order of the worker.
     pub fn awaits(&self, worker: u8, place: usize, body: Body) -> bool
         ensures { IsTrue result ↔ Awaits self.now worker place body }
     {
-        self.has_room() && is_awaited(&self.orders, worker, place, body)
+        self.has_room()
+            && is_awaited(&self.orders, worker, place, body)
+            && ends_before(worker, place, &self.deeds)
     }
 
     /// Publishes what is due, first in the node where it is due there, then on the press, and gives
@@ -178,6 +196,7 @@ impl<K: Keeper> Registrar<K> {
         ensures orders { self.new.orders ≡ self.old.orders }
         ensures deeds { self.new.deeds ≡ self.old.deeds }
         ensures rows { self.new.rows ≡ self.old.rows }
+        ensures at { self.new.failed ≡ self.old.failed }
         ensures stopped { self.new.stopped ≡ self.old.stopped }
     {
         let Some(mut waiting) = self.due.take() else {
@@ -222,6 +241,7 @@ impl<K: Keeper> Registrar<K> {
         ensures orders { self.new.orders ≡ self.old.orders }
         ensures deeds { self.new.deeds ≡ self.old.deeds }
         ensures rows { self.new.rows ≡ self.old.rows }
+        ensures at { self.new.failed ≡ self.old.failed }
         ensures rules { Passes K.custody (Rules self.old worker result self.new)
             self.old.node.keeper self.new.node.keeper }
     {
@@ -264,7 +284,8 @@ impl<K: Keeper> Registrar<K> {
     /// - `KeeperFailed`: the keeper broke. The registrar is stopped, with its list and its record
     ///   as before, and nothing due.
     ///
-    /// Costs what `Node::save`, `Node::publish` and `Press::publish` do of one operation.
+    /// Costs what [`Registrar::awaits`] does, and what `Node::save`, `Node::publish` and
+    /// `Press::publish` do of one operation.
     pub fn decide<R: Wait>(
         &mut self,
         rt: &R,
@@ -286,6 +307,11 @@ impl<K: Keeper> Registrar<K> {
         ensures busy { Awaits self.old worker place body
             → (result ≡ Ok (GivenUp Busy)) ↔ IsSome self.old.due }
         ensures awaited { (result ≡ Err Fault.Stopped) ↔ (¬ Awaits self.old worker place body) }
+        ensures ruled { result ≢ Err Fault.Stopped → Awaits self.old worker place body }
+        // The places of the decisions on each worker's orders rise.
+        ensures rises { (w : ℕ) → Rise (decisions_of w self.old.deeds)
+            → Rise (decisions_of w self.new.deeds) }
+        ensures at { self.new.failed ≡ failed_after self.old.failed worker place result }
         ensures fault { IfErr result IsHalt }
         ensures same { result ≡ Err Fault.Stopped → self.new ≡ self.old }
         ensures broken { result ≡ Err Fault.KeeperFailed
@@ -313,7 +339,13 @@ impl<K: Keeper> Registrar<K> {
         }
         law_registrar();
         let before = self.press.list().len() as u64;
-        let ruling = self.rule(rt, alloc, worker, body, pid)?;
+        let ruling = match self.rule(rt, alloc, worker, body, pid) {
+            Ok(ruling) => ruling,
+            Err(fault) => {
+                self.failed = Some(FailedOrder { worker, place });
+                return Err(fault);
+            }
+        };
         let after = self.press.list().len() as u64;
         self.orders[place] = None;
         self.deeds.push_reserved(Deed::Decided(Decision {
@@ -334,6 +366,7 @@ impl<K: Keeper> Registrar<K> {
             ≡ self.old.press.list ++ gained receipt.verdict new) }
         ensures due { let new = news_of self.old.node.node.saved (brought_by parcel.now.packet) in
             IfOk result (λ receipt. self.new.due ≡ due_once self.old.due receipt.verdict new) }
+        ensures answer { IfOk result (λ receipt. receipt.answer ≢ Err Fault.KeeperFailed) }
         ensures fault { IfErr result (λ fault. fault ≡ Fault.KeeperFailed) }
         ensures broken { OnErr result (IsTrue (K.custody.is_broken self.new.node.keeper)) }
         ensures failed { OnErr result (HasFailed self.old self.new) }
@@ -345,6 +378,7 @@ impl<K: Keeper> Registrar<K> {
         ensures orders { self.new.orders ≡ self.old.orders }
         ensures deeds { self.new.deeds ≡ self.old.deeds }
         ensures rows { self.new.rows ≡ self.old.rows }
+        ensures at { self.new.failed ≡ self.old.failed }
         ensures takes { Passes K.custody
             (Takes self.old (brought_by parcel.now.packet) result self.new)
             self.old.node.keeper self.new.node.keeper }
@@ -412,6 +446,8 @@ impl<K: Keeper> Registrar<K> {
         ensures due { let new = news_of self.old.node.node.saved (brought_by parcel.packet) in
             IfOk result (λ receipt. self.new.due ≡ due_once self.old.due receipt.verdict new) }
         ensures room { (result ≡ Err Fault.Stopped) ↔ (¬ HasRoom self.old) }
+        ensures runs { result ≢ Err Fault.Stopped → HasRoom self.old }
+        ensures answer { IfOk result (λ receipt. receipt.answer ≢ Err Fault.KeeperFailed) }
         ensures fault { IfErr result IsHalt }
         ensures same { result ≡ Err Fault.Stopped → self.new ≡ self.old }
         ensures broken { result ≡ Err Fault.KeeperFailed
@@ -424,6 +460,9 @@ impl<K: Keeper> Registrar<K> {
         ensures board { self.new.press.board ≡ self.old.press.board }
         ensures orders { self.new.orders ≡ self.old.orders }
         ensures rows { self.new.rows ≡ self.old.rows }
+        ensures at { self.new.failed ≡ self.old.failed }
+        ensures rises { (w : ℕ) → Rise (decisions_of w self.old.deeds)
+            → Rise (decisions_of w self.new.deeds) }
         ensures own { (jobs : ℕ → ℕ → Option Job) → AreOwn jobs self.old.deeds
             → AreOwn jobs self.new.deeds }
         ensures apart { AreApart self.old.orders self.old.deeds
@@ -449,8 +488,9 @@ impl<K: Keeper> Registrar<K> {
         Ok(receipt)
     }
 
-    /// Begins a batch: these orders are awaited, and the record is empty, with room for so many
-    /// rows. It needs one for each order that is awaited and each packet.
+    /// Begins a batch: these orders are awaited, the keeper broke at none of them, and the record
+    /// is empty, with room for so many rows. It needs one for each order that is awaited and each
+    /// packet.
     ///
     /// Fails only where there was no memory for the rows. Nothing has changed then.
     pub fn begin_batch(
@@ -463,11 +503,13 @@ impl<K: Keeper> Registrar<K> {
           orders = orders.items;
           deeds = [];
           rows = rows;
+          failed = None;
         }) }
         ensures err { OnErr result (self.new ≡ self.old) }
     {
         self.deeds = Vec::with_capacity(alloc, rows)?;
         self.orders = orders;
+        self.failed = None;
         Ok(())
     }
 

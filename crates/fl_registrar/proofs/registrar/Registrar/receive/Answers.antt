@@ -12,6 +12,7 @@ use Rattle.fl_registrar.specs.Apart.{AreApart}
 use Rattle.fl_registrar.proofs.Ruled.{seen}
 use Rattle.fl_registrar.proofs.Taken.{own_delivered, apart_delivered, delivered_goes}
 use Rattle.fl_registrar.proofs.Taken.{undelivered_goes}
+use Rattle.fl_registrar.proofs.Rising.{delivered_rises}
 use Rattle.fl_registrar.proofs.registrar.Registrar.receive.Goals as goal
 
 pub returns-in_err-receipt-clause-goes : goal.returns-in_err-receipt-clause-goes
@@ -76,7 +77,7 @@ returns-clause-goes g c =
     c.self.view_is) in
     let after = ap length c.list-2.ensures in
     delivered_goes g.K.Keeper.custody c.law_registrar.ensures.more c.args.self.now
-    (seen i.node i.press i.due i.orders.items i.deeds.items (vec_capacity i.deeds) i.is_stopped)
+    (seen i.node i.press i.due i.orders.items i.deeds.items (vec_capacity i.deeds) i.failed i.is_stopped)
     (ops_of c.args.parcel.packet) c.in_ok-receipt.receipt p
     c.push_reserved.new.self.items (vec_capacity c.push_reserved.new.self) more
     (λ j. record {
@@ -88,3 +89,18 @@ returns-clause-goes g c =
       after = after j;
     })
     (rw (← c.self-2.view_is) at c.in_ok-receipt.ensures.takes)
+
+pub returns-clause-rises : goal.returns-clause-rises
+returns-clause-rises g c =
+    let p : Delivery = record {
+      place = c.args.place;
+      ops = c.into_ops.result;
+      verdict = c.in_ok-receipt.receipt.verdict;
+      answer = c.in_ok-receipt.receipt.answer;
+      before = length c.list.result.now;
+      after = length c.list-2.result.now;
+    } in
+    let was : ◌≡◌ {A = List Deed} c.self-2.inside.deeds.items c.args.self.now.deeds = ap
+    (λ (r : RegistrarOver g.row.K.Denot). r.deeds) c.self-2.view_is ∙ c.take.ensures.deeds in
+    delivered_rises c.args.self.now.deeds c.push_reserved.new.self.items p
+    (c.push_reserved.ensures.items ∙ ap (λ (deeds : List Deed). deeds ++ Delivered p ∷ []) was)

@@ -44,9 +44,9 @@ returns-in_default-clause-rules g c =
     let waiting = no_waiting c.self.inside.due (sym c.is_some.ensures ∙ c.if-is_some.false) in
     rw (← c.self.view_is) (spent_rules custody (seen c.self.inside.node c.self.inside.press
     c.self.inside.due c.self.inside.orders.items c.self.inside.deeds.items
-    (vec_capacity c.self.inside.deeds) c.self.inside.is_stopped)
+    (vec_capacity c.self.inside.deeds) c.self.inside.failed c.self.inside.is_stopped)
     (seen c.begin.new.self c.self.inside.press c.self.inside.due c.self.inside.orders.items
-    c.self.inside.deeds.items (vec_capacity c.self.inside.deeds) c.self.inside.is_stopped)
+    c.self.inside.deeds.items (vec_capacity c.self.inside.deeds) c.self.inside.failed c.self.inside.is_stopped)
     c.args.worker c.args.body c.in_default.field-0 (ap due_of waiting) refl refl
     (λ honest k held. idle_state c.self.inside.is_stopped c.self.inside.due node.node.state
     (ap (λ (r : RegistrarOver g.row.K.Denot). r.stopped) c.self.view_is ∙ c.requires) waiting
@@ -83,9 +83,9 @@ returns-in-NoMemory-clause-rules g c =
     c.in-NoMemory.ensures.becomes in
     rw (← c.self.view_is) (memory_rules custody (seen c.self.inside.node c.self.inside.press
     c.self.inside.due c.self.inside.orders.items c.self.inside.deeds.items
-    (vec_capacity c.self.inside.deeds) c.self.inside.is_stopped)
+    (vec_capacity c.self.inside.deeds) c.self.inside.failed c.self.inside.is_stopped)
     (seen c.save.new.node c.self.inside.press c.self.inside.due c.self.inside.orders.items
-    c.self.inside.deeds.items (vec_capacity c.self.inside.deeds) c.self.inside.is_stopped)
+    c.self.inside.deeds.items (vec_capacity c.self.inside.deeds) c.self.inside.failed c.self.inside.is_stopped)
     c.args.worker c.args.body c.in-Ok.name begun.idle refl refl passes)
 
 pub returns-in-Broken-clause-next : goal.returns-in-Broken-clause-next
@@ -104,9 +104,9 @@ returns-in-Broken-clause-rules g c =
     c.in-Broken.ensures.becomes in
     rw (← c.self.view_is) (broken_rules custody (seen c.self.inside.node c.self.inside.press
     c.self.inside.due c.self.inside.orders.items c.self.inside.deeds.items
-    (vec_capacity c.self.inside.deeds) c.self.inside.is_stopped)
+    (vec_capacity c.self.inside.deeds) c.self.inside.failed c.self.inside.is_stopped)
     (seen c.save.new.node c.self.inside.press c.self.inside.due c.self.inside.orders.items
-    c.self.inside.deeds.items (vec_capacity c.self.inside.deeds) true)
+    c.self.inside.deeds.items (vec_capacity c.self.inside.deeds) c.self.inside.failed true)
     c.args.worker c.args.body c.in-Ok.name begun.idle refl refl refl passes)
 
 pub invariant_of-self-2 : goal.invariant_of-self-2
@@ -144,7 +144,7 @@ returns-then-is_err-clause-rules g c =
     node.keeper keeper) (sym same.keeper) passes in
     rw (← c.self.view_is) (late_rules custody (seen c.self.inside.node c.self.inside.press
     c.self.inside.due c.self.inside.orders.items c.self.inside.deeds.items
-    (vec_capacity c.self.inside.deeds) c.self.inside.is_stopped)
+    (vec_capacity c.self.inside.deeds) c.self.inside.failed c.self.inside.is_stopped)
     c.clear.new.self c.args.worker c.args.body c.in-Ok.name begun.idle
     c.law_registrar.ensures.ordered begun.next c.save.new.node (ap due_of waiting)
     same c.args.pid (in_err c.clear.result (sym c.is_err.ensures.value ∙ c.if-is_err.true)
@@ -168,7 +168,7 @@ returns-clause-rules g c =
     node.keeper keeper) (sym same.keeper) passes in
     rw (← c.self.view_is) (made_rules custody (seen c.self.inside.node c.self.inside.press
     c.self.inside.due c.self.inside.orders.items c.self.inside.deeds.items
-    (vec_capacity c.self.inside.deeds) c.self.inside.is_stopped)
+    (vec_capacity c.self.inside.deeds) c.self.inside.failed c.self.inside.is_stopped)
     c.clear.new.self c.args.worker c.args.body c.in-Ok.name begun.idle
     c.law_registrar.ensures.ordered begun.next c.save.new.node (ap due_of waiting) same
     (in_ok c.clear.result (sym c.is_err.ensures.value ∙ c.if-is_err.false) c.clear.ensures.none)

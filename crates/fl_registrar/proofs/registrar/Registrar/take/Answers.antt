@@ -23,7 +23,8 @@ use Rattle.fl_registrar.specs.parts.Saving.{BecomesOf}
 use Rattle.fl_registrar.specs.parts.Sound.{IsSound, due_of, staged_of}
 use Rattle.fl_registrar.proofs.Passed.{become}
 use Rattle.fl_registrar.proofs.Ruled.{seen, in_ok, in_err, no_waiting, same_over}
-use Rattle.fl_registrar.proofs.Brought.{not_received, none_received, brings, packet_back, undone}
+use Rattle.fl_registrar.proofs.Brought.{not_broken, not_received, none_received, brings}
+use Rattle.fl_registrar.proofs.Brought.{packet_back, undone}
 use Rattle.fl_registrar.proofs.Brought.{declines_by, brought_new, busy_waiting}
 use Rattle.fl_registrar.proofs.Taken.{declined_takes, no_room_takes, broken_takes, taken_takes}
 use Rattle.fl_registrar.proofs.Taken.{late_takes, given_up_stands, due_stands}
@@ -61,8 +62,8 @@ returns-in-Err-clause-takes g c =
     let node = not_received i.node.node c.receive.new.self.node (set.of_list ops)
     c.in-Err.fault c.in-Err.ensures.receives in
     rw (← c.self.view_is) (declined_takes g.K.Keeper.custody
-    (seen i.node i.press i.due i.orders.items i.deeds.items (vec_capacity i.deeds) i.is_stopped)
-    (seen c.receive.new.self i.press i.due i.orders.items i.deeds.items (vec_capacity i.deeds)
+    (seen i.node i.press i.due i.orders.items i.deeds.items (vec_capacity i.deeds) i.failed i.is_stopped)
+    (seen c.receive.new.self i.press i.due i.orders.items i.deeds.items (vec_capacity i.deeds) i.failed
     i.is_stopped) ops c.declined.result (Err c.in-Err.fault)
     c.declined.ensures node c.in-Err.ensures.keeper refl refl
     (λ honest k held. declines_by i.node.node i.press.list (set.of_list ops) (Err c.in-Err.fault)
@@ -81,8 +82,8 @@ returns-then-count-eq0-clause-takes g c =
     let receives = subst (λ (count : ℕ). Receives i.node.node (set.of_list ops) (Ok count)
     c.receive.new.self.node) c.if-count-eq0.true c.in-Ok.ensures.receives in
     rw (← c.self.view_is) (declined_takes g.K.Keeper.custody
-    (seen i.node i.press i.due i.orders.items i.deeds.items (vec_capacity i.deeds) i.is_stopped)
-    (seen c.receive.new.self i.press i.due i.orders.items i.deeds.items (vec_capacity i.deeds)
+    (seen i.node i.press i.due i.orders.items i.deeds.items (vec_capacity i.deeds) i.failed i.is_stopped)
+    (seen c.receive.new.self i.press i.due i.orders.items i.deeds.items (vec_capacity i.deeds) i.failed
     i.is_stopped) ops c.declined-then-count-eq0.result (Ok 0)
     c.declined-then-count-eq0.ensures node c.in-Ok.ensures.keeper refl refl
     (λ honest k held. declines_by i.node.node i.press.list (set.of_list ops) (Ok 0)
@@ -127,8 +128,8 @@ returns-then-is_some-clause-takes g c =
     c.in-Ok.count c.cancel.result b c.cancel.ensures.cancels in
     let keeper = c.cancel.ensures.keeper ∙ c.in-Ok.ensures.keeper in
     rw (← c.self.view_is) (declined_takes g.K.Keeper.custody
-    (seen i.node i.press i.due i.orders.items i.deeds.items (vec_capacity i.deeds) i.is_stopped)
-    (seen c.cancel.new.self i.press i.due i.orders.items i.deeds.items (vec_capacity i.deeds)
+    (seen i.node i.press i.due i.orders.items i.deeds.items (vec_capacity i.deeds) i.failed i.is_stopped)
+    (seen c.cancel.new.self i.press i.due i.orders.items i.deeds.items (vec_capacity i.deeds) i.failed
     i.is_stopped) ops c.declined-then-is_some.result (Err (faults.Refused refusals.Busy))
     c.declined-then-is_some.ensures node keeper refl refl
     (λ honest k held. busy_waiting i.node.node c.receive.new.self.node i.press.list
@@ -174,9 +175,9 @@ returns-in_default-clause-takes g c =
     c.cancel-in_default.ensures.cancels in
     let keeper = c.cancel-in_default.ensures.keeper ∙ c.in-Ok.ensures.keeper in
     rw (← c.self.view_is) (declined_takes g.K.Keeper.custody
-    (seen i.node i.press i.due i.orders.items i.deeds.items (vec_capacity i.deeds) i.is_stopped)
+    (seen i.node i.press i.due i.orders.items i.deeds.items (vec_capacity i.deeds) i.failed i.is_stopped)
     (seen c.cancel-in_default.new.self i.press i.due i.orders.items i.deeds.items
-    (vec_capacity i.deeds) i.is_stopped) ops c.declined-in_default.result
+    (vec_capacity i.deeds) i.failed i.is_stopped) ops c.declined-in_default.result
     (Err (faults.Refused refusals.Memory)) c.declined-in_default.ensures node keeper refl refl
     (λ honest k held. Declines.no_room refl (brought_new i.node.node c.receive.new.self.node
     (set.of_list ops) c.in-Ok.count b)))
@@ -210,8 +211,8 @@ returns-in-NoMemory-clause-takes g c =
     (Received b.new) savings.NoMemory b.is c.in-Ok.ensures.keeper c.in-NoMemory.ensures.becomes
     in
     rw (← c.self.view_is) (no_room_takes g.K.Keeper.custody
-    (seen i.node i.press i.due i.orders.items i.deeds.items (vec_capacity i.deeds) i.is_stopped)
-    (seen c.save.new.node i.press i.due i.orders.items i.deeds.items (vec_capacity i.deeds)
+    (seen i.node i.press i.due i.orders.items i.deeds.items (vec_capacity i.deeds) i.failed i.is_stopped)
+    (seen c.save.new.node i.press i.due i.orders.items i.deeds.items (vec_capacity i.deeds) i.failed
     i.is_stopped) ops (Received b.new) c.declined-in-NoMemory.result
     (brought_new i.node.node c.receive.new.self.node (set.of_list ops) c.in-Ok.count b)
     c.declined-in-NoMemory.ensures (packet_back i.node.node b.new b.idle) refl refl passes)
@@ -226,8 +227,8 @@ returns-in-Broken-clause-takes g c =
     let passes = become g.K.Keeper.custody i.node c.receive.new.self c.save.new.node
     (Received b.new) savings.Broken b.is c.in-Ok.ensures.keeper c.in-Broken.ensures.becomes in
     rw (← c.self.view_is) (broken_takes g.K.Keeper.custody
-    (seen i.node i.press i.due i.orders.items i.deeds.items (vec_capacity i.deeds) i.is_stopped)
-    (seen c.save.new.node i.press i.due i.orders.items i.deeds.items (vec_capacity i.deeds)
+    (seen i.node i.press i.due i.orders.items i.deeds.items (vec_capacity i.deeds) i.failed i.is_stopped)
+    (seen c.save.new.node i.press i.due i.orders.items i.deeds.items (vec_capacity i.deeds) i.failed
     true) ops (Received b.new) faults.KeeperFailed refl refl refl passes)
 
 pub invariant_of-self-2 : goal.invariant_of-self-2
@@ -267,7 +268,7 @@ returns-then-is_err-clause-takes g c =
     k savings.Saved c.save.new.node.node k') i.node.keeper keeper) (sym same.keeper) passes in
     let failed = sym c.is_err.ensures.value ∙ c.if-is_err.true in
     rw (← c.self.view_is) (late_takes g.K.Keeper.custody
-    (seen i.node i.press i.due i.orders.items i.deeds.items (vec_capacity i.deeds) i.is_stopped)
+    (seen i.node i.press i.due i.orders.items i.deeds.items (vec_capacity i.deeds) i.failed i.is_stopped)
     c.clear.new.self ops (Received b.new) c.law_registrar.ensures.taken c.receive.new.self.node
     c.in-Ok.count b.idle c.in-Ok.ensures.receives some b.is c.save.new.node (ap due_of none)
     same c.late.result c.late.ensures
@@ -294,9 +295,17 @@ returns-clause-takes g c =
     k savings.Saved c.save.new.node.node k') i.node.keeper keeper) (sym same.keeper) passes in
     let done = sym c.is_err.ensures.value ∙ c.if-is_err.false in
     rw (← c.self.view_is) (taken_takes g.K.Keeper.custody
-    (seen i.node i.press i.due i.orders.items i.deeds.items (vec_capacity i.deeds) i.is_stopped)
+    (seen i.node i.press i.due i.orders.items i.deeds.items (vec_capacity i.deeds) i.failed i.is_stopped)
     c.clear.new.self ops (Received b.new) c.law_registrar.ensures.taken c.receive.new.self.node
     c.in-Ok.count b.idle c.in-Ok.ensures.receives some b.is c.save.new.node (ap due_of none)
     same c.taken.result c.taken.ensures
     (in_ok c.clear.result done c.clear.ensures.ok ∙ ap (λ (s : SetBy op_cmp). i.press.list ++
     set.members s) it) (in_ok c.clear.result done c.clear.ensures.none) left)
+
+pub returns-in-Err-clause-answer : goal.returns-in-Err-clause-answer
+returns-in-Err-clause-answer g c =
+    let i = c.self.inside in
+    let ops = ops_of c.args.parcel.now.packet in
+    let other = not_broken i.node.node c.receive.new.self.node (set.of_list ops) c.in-Err.fault
+    c.in-Err.ensures.receives in
+    rw c.declined.ensures (λ is. other (let e = is in cc))
