@@ -118,7 +118,7 @@ module _ {K : Type 0} (custody : Custody K) where
           comes = λ all after is. (
             after,
             is,
-            is_refused (not_there old after number none is) (not_joined makes other (λ trusted.
+            is_refused (not_there old after number none is) (not_joined keeper given makes other (λ trusted.
                 let all' = subst (AreHonest custody) (sym same) all in
                 let is' = subst (λ x. MayBe custody x after) (sym same) is in
                 let was_honest = (gives.honest all' trusted.honest).1 in

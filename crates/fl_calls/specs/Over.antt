@@ -42,9 +42,9 @@ pub data NotOpened {K M : Type 0} (custody : Custody K) (making : Making M K) (m
     (w : World) (number : ℕ) (fault : Fault) : Type 0 where
   without_keeper : making.refuses maker number fault
       → NotOpened custody making maker w number fault
-  not_joined : {keeper left : K} → making.makes maker number keeper → fault ≢ KeeperFailed
-      → (Trusts custody left → custody.is_honest keeper × ((k : Kept) × custody.may_hold keeper k
-      × making.finds maker number k × Joins w number k (Refused fault) w))
+  not_joined : (keeper left : K) → making.makes maker number keeper → fault ≢ KeeperFailed
+      → (Trusts custody left → custody.is_honest keeper × (k : Kept) × custody.may_hold keeper k
+      × making.finds maker number k × Joins w number k (Refused fault) w)
       → NotOpened custody making maker w number fault
 
 -- what a maker's keepers may hold, and why a node is not opened

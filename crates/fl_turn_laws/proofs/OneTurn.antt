@@ -330,7 +330,7 @@ module _ (one_spelling : (f g : Format) (a b : Packet) → HasPacket f a → Has
     refusal : (w : World) (number : ℕ) (fault : Fault) → NotOpened custody making maker w number fault
         → IsAmple (Refused fault) → IsOthers number fault ⊎ WouldNotJoin w number fault
     refusal w number fault (without_keeper why) sure = inl (of_cause number fault why (certain.fails number fault why) sure)
-    refusal w number fault (not_joined {left} made other over) sure =
+    refusal w number fault (not_joined keeper left made other over) sure =
         let (honest, k, held, found, refused) = over (certain.trusted left) in
         inr (record { kept = k; found = found; refused = refused })
 

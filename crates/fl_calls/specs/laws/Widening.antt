@@ -29,8 +29,8 @@ opens_more {K} {M} custody making maker maker' m f r =
         → (openings_of custody making maker').refuses w number fault
         → (openings_of custody making maker).refuses w number fault
     refuses_more w number fault (without_keeper why) = without_keeper (r number fault why)
-    refuses_more w number fault (not_joined {keeper} made other over) =
-        not_joined (m number keeper made) other (λ trusted. let (honest, k, held, found, refused) = over trusted in
+    refuses_more w number fault (not_joined keeper left made other over) =
+        not_joined keeper left (m number keeper made) other (λ trusted. let (honest, k, held, found, refused) = over trusted in
         (honest, k, held, f number k found, refused))
 
 module _ (less more : Openings) (wider : OpensMore less more) where
