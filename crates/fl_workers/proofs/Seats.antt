@@ -54,6 +54,7 @@ pub seated_is : {K : Type 0} (node : NodeOver K) (size number boot : ℕ) (ws : 
       orders = [];
       deeds = [];
       rows = 0;
+      failed = None;
       stopped = false;
     } → press.list ≡ node.node.published → length ws ≡ size → number ≡ node.node.number
     → boot ≡ node.node.boot
@@ -85,6 +86,7 @@ pub seats_are : {K : Type 0} (node : NodeOver K) (size lines : ℕ) (ws : List W
       orders = [];
       deeds = [];
       rows = 0;
+      failed = None;
       stopped = false;
     } → 1 ≤ size → size ≤ 16 → lines ≡ size → length ws ≡ size → AreNumbered ws
     → All (IsAtBoard press.board) ws → IsManned ws r lines 0 false

@@ -13,7 +13,6 @@ use Rattle.fl_system.specs.Numbered.{item_at}
 use Rattle.fl_system_laws.specs.laws.Numbered.{item_at-items_to, item_within, length-items}
 use Rattle.fl_crew_model.specs.Books.{IsAt}
 use Rattle.fl_crew_model.specs.Crews.{IsDueHome}
-use Rattle.fl_workers.specs.declared.fault.CrewFault.{CrewFault}
 use Rattle.fl_workers.specs.Batches.{IsStill, IsUnbegun, Serves}
 use Rattle.fl_workers.specs.Over.{CrewOver, bench_at, bench_in}
 use Rattle.fl_workers.specs.Seated.{seated_of}
@@ -94,3 +93,10 @@ module _ {K : Type 0} where
         crew_node new sized
         (subst (λ (size : ℕ). IsDueHome size new.due) (sym same.size)
         (subst (λ (due : Option Batch). IsDueHome old.size due) (sym same.due) was.due))
+
+    pub batch_stands : {A E : Type 0} (items : A → List Entry) (is : List Item) (r : Result A E)
+        → IsStill old new → length new.benches ≡ new.size → OnErr r (IsUnbegun old new)
+        → IfOk r (λ es. Passes custody (Serves old new is (items es)) old.node.keeper
+        new.node.keeper) → Stands custody new
+    batch_stands items is (Ok es) still sized err ok = served_stands is (items es) still sized ok
+    batch_stands items is (Err e) still sized err ok = unbegun_stands err sized

@@ -26,6 +26,11 @@ fn answered_in_turn<M: MakesKeepers + Drop>(rt: &HostRuntime, keepers: M) -> Res
     result
 }
 
+/// Answers it over the files of this directory.
+fn answered_over_files(rt: &HostRuntime, dir: &str) -> Result<u8, RunFault> {
+    answered_in_turn(rt, DirMaker::new(rt, HostFiles::new(rt), dir))
+}
+
 /// Runs the program, but where its words were refused, or its help or version was asked for.
 fn answered(rt: &HostRuntime) -> Result<u8, RunFault> {
     let words = env::args(rt).map_err(|_| RunFault::Memory)?;
@@ -39,9 +44,7 @@ fn answered(rt: &HostRuntime) -> Result<u8, RunFault> {
     }
     match place {
         Place::Memory => answered_in_turn(rt, MemMaker),
-        Place::Directory(dir) => {
-            answered_in_turn(rt, DirMaker::new(rt, HostFiles::new(rt), dir))
-        }
+        Place::Directory(dir) => answered_over_files(rt, dir),
     }
 }
 
