@@ -1,9 +1,19 @@
-//! The files of the host.
+//! The files of the host, and keepers over them.
 ghost use Rattle.std.specs.Prelude.{refl};
+ghost use Rattle.std.proofs.Common.{inl};
+ghost use Rattle.fl_dir_maker.specs.DirMaking.{dir_making};
+ghost use Rattle.fl_dir_maker.specs.Reach.{unknown};
 
 use crate::fault::{Cause, of_files, of_system};
+use crate::maker::DirMaker;
 use crate::opener::OpensFiles;
-use sqlite::{File, Files, Unknown};
+use fl_labels::name::NodeNumber;
+use fl_makers::maker::MakesKeepers;
+use fl_sql_store::sql_keeper::SqlKeeper;
+use fl_store::keeper::Keeper;
+use fl_system::answer::Fault;
+use sqlite::{File, FileStore, Files, Unknown};
+use std::alloc::Global;
 use std::hash::{BuildHasher, RandomState};
 
 /// Opens files of the host's file system.
@@ -23,7 +33,7 @@ impl<'a> OpensFiles for HostFiles<'a> {
     type D = File;
 
     // what is on a disk is not known
-    ghost reach = { record { holds = λ _ _ _. Unit {0}; fails = λ _ _ _. Unit {0} } };
+    ghost reach = { unknown };
 
     /// The files at this path, which this process alone has open.
     ///
@@ -38,5 +48,39 @@ impl<'a> OpensFiles for HostFiles<'a> {
             Ok(state) => Ok((files, state.hash_one(&0u8))),
             Err(error) => Err(of_system(error)),
         }
+    }
+}
+
+/// Makes keepers over the files of a directory of the host, as [`DirMaker`] does over [`HostFiles`].
+/// A program calls what is generic over makers at this type, whose keepers it can name.
+#[derive(Drop)]
+pub struct HostMaker<'a> {
+    maker: DirMaker<'a, HostFiles<'a>>,
+}
+
+impl<'a> HostMaker<'a> {
+    /// A maker over the directory of this path, which is not opened yet.
+    pub fn new(rt: &'a HostRuntime, dir: &'a str) -> HostMaker<'a> {
+        HostMaker {
+            maker: DirMaker::new(rt, HostFiles::new(rt), dir),
+        }
+    }
+}
+
+impl<'a> MakesKeepers for HostMaker<'a> {
+    type K = SqlKeeper<FileStore<File>>;
+
+    ghost making = { dir_making ⟦<SqlKeeper<FileStore<File>> as Keeper>⟧.custody unknown
+        (λ host. host.maker.opener) (λ host. host.maker.dir.now) };
+
+    ghost told = { λ _ _ _ why. inl why };
+
+    /// The keeper over the node's file, as [`DirMaker`] makes it.
+    fn make(
+        &mut self,
+        alloc: Global,
+        number: NodeNumber,
+    ) -> Result<SqlKeeper<FileStore<File>>, Fault> {
+        self.maker.make(alloc, number)
     }
 }

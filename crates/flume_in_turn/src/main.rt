@@ -6,8 +6,7 @@ use fl_cluster::fault::RunFault;
 use fl_cluster::run::converse;
 use fl_cluster::standard::{exit_code, tell_length};
 use fl_cluster::watched::Watched;
-use fl_dir_maker::host::HostFiles;
-use fl_dir_maker::maker::DirMaker;
+use fl_dir_maker::host::HostMaker;
 use fl_makers::maker::MakesKeepers;
 use fl_makers::mem::MemMaker;
 use fl_words::words::{BAD_WORDS, Place, Settings, read_words};
@@ -26,11 +25,6 @@ fn answered_in_turn<M: MakesKeepers + Drop>(rt: &HostRuntime, keepers: M) -> Res
     result
 }
 
-/// Answers it over the files of this directory.
-fn answered_over_files(rt: &HostRuntime, dir: &str) -> Result<u8, RunFault> {
-    answered_in_turn(rt, DirMaker::new(rt, HostFiles::new(rt), dir))
-}
-
 /// Runs the program, but where its words were refused, or its help or version was asked for.
 fn answered(rt: &HostRuntime) -> Result<u8, RunFault> {
     let words = env::args(rt).map_err(|_| RunFault::Memory)?;
@@ -44,7 +38,7 @@ fn answered(rt: &HostRuntime) -> Result<u8, RunFault> {
     }
     match place {
         Place::Memory => answered_in_turn(rt, MemMaker),
-        Place::Directory(dir) => answered_over_files(rt, dir),
+        Place::Directory(dir) => answered_in_turn(rt, HostMaker::new(rt, dir)),
     }
 }
 

@@ -8,8 +8,7 @@ use fl_cluster::fault::RunFault;
 use fl_cluster::run::converse;
 use fl_cluster::standard::{exit_code, tell_length};
 use fl_cluster::watched::Watched;
-use fl_dir_maker::host::HostFiles;
-use fl_dir_maker::maker::DirMaker;
+use fl_dir_maker::host::HostMaker;
 use fl_makers::maker::MakesKeepers;
 use fl_makers::mem::MemMaker;
 use fl_words::words::{BAD_WORDS, Place, Settings, read_words};
@@ -71,12 +70,7 @@ fn answered<R: AllocGlobal + Threads + Wait + Sync + Send + Copy + Drop + 'stati
     };
     match place {
         Place::Memory => answered_over(rt, waits, workers, MemMaker),
-        Place::Directory(dir) => answered_over(
-            rt,
-            waits,
-            workers,
-            DirMaker::new(rt, HostFiles::new(rt), dir),
-        ),
+        Place::Directory(dir) => answered_over(rt, waits, workers, HostMaker::new(rt, dir)),
     }
 }
 
