@@ -274,6 +274,40 @@ own_among jobs w (Decided x ∷ rs) d all h =
         again
         (subst (λ t. IsAmong (cond t (x ∷ decisions_of w rs) (decisions_of w rs)) d) other.0 h)
 
+-- and it is in the record
+has_among : (w : ℕ) (rs : List Deed) (d : Decision) → IsAmong (decisions_of w rs) d
+    → HasDecision rs d × (d.worker ≡ w)
+has_among w [] d h = absurd h
+has_among w (Delivered p ∷ rs) d h = has_among w rs d h
+has_among w (Decided x ∷ rs) d h =
+    by (eqb_tells x.worker w) (λ g. let it = has_among w rs d g in (inr it.0, it.1))
+  where
+    here : x.worker ≡ w → (x ≡ d) ⊎ IsAmong (decisions_of w rs) d
+        → (IsAmong (decisions_of w rs) d → HasDecision (Decided x ∷ rs) d × (d.worker ≡ w))
+        → HasDecision (Decided x ∷ rs) d × (d.worker ≡ w)
+    here at (inl is) again = (inl is, ap (λ (q : Decision). q.worker) (sym is) ∙ at)
+    here at (inr g) again = again g
+
+    by : ((eqb x.worker w ≡ true) × (x.worker ≡ w)) ⊎ ((eqb x.worker w ≡ false) × (x.worker ≢ w))
+        → (IsAmong (decisions_of w rs) d → HasDecision (Decided x ∷ rs) d × (d.worker ≡ w))
+        → HasDecision (Decided x ∷ rs) d × (d.worker ≡ w)
+    by (inl same) again =
+        here same.1
+        (subst (λ t. IsAmong (cond t (x ∷ decisions_of w rs) (decisions_of w rs)) d) same.0 h)
+        again
+    by (inr other) again =
+        again
+        (subst (λ t. IsAmong (cond t (x ∷ decisions_of w rs) (decisions_of w rs)) d) other.0 h)
+
+pub there_of : (number workers : ℕ) (b b' : Books) (rs : List Deed) (old new : ℕ → BenchState)
+    (es : ℕ → List Entry) (last : ℕ → ℕ) (left : ℕ → List Decision)
+    → IsFront number workers b b' rs old new es last left → (w : ℕ) (d : Decision)
+    → IsWorker workers w → IsAmong (left w) d → HasDecision rs d × (d.worker ≡ w)
+there_of number workers b b' rs old new es last left batch w d its h =
+    has_among w rs d
+    (left_among (length b.list) (last w) (decisions_of w rs) (es w) (left w) d
+    (batch.promises w its).agrees h)
+
 pub own_of : (number workers : ℕ) (b b' : Books) (rs : List Deed) (old new : ℕ → BenchState)
     (es : ℕ → List Entry) (last : ℕ → ℕ) (left : ℕ → List Decision)
     → IsFront number workers b b' rs old new es last left → (jobs : ℕ → ℕ → Option Job)

@@ -1,8 +1,6 @@
 -- A node that was opened is a crew's; and one more deed of the registrar.
-use Rattle.std.proofs.Common.{◌≡◌, ◌≢◌, ◌⊎◌, inl, inr, ℕ, zero, suc, ◌+◌, ◌≤◌, true, false, List}
-use Rattle.std.proofs.Common.{[], ◌∷◌, ◌++◌, length, Some, None, refl, sym, ap, ◌∙◌, subst, arith}
-use Rattle.std.proofs.Common.{eqb}
-use Rattle.std.proofs.lemmas.Bool.Decides.{eqb_tells}
+use Rattle.std.proofs.Common.{ℕ, ◌+◌, List}
+use Rattle.std.proofs.Common.{[], ◌∷◌, ◌++◌, length, None, refl, subst, arith}
 use Rattle.fl_labels.specs.SetBy as set
 use Rattle.fl_bench.specs.Bench.{new_bench}
 use Rattle.fl_store.specs.Kept.{Kept}

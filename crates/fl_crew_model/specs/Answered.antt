@@ -87,6 +87,10 @@ AreOwn jobs [] = Unit {0}
 AreOwn jobs (Decided d ∷ rs) = IsOwn (jobs d.worker d.place) d.ruling × AreOwn jobs rs
 AreOwn jobs (Delivered p ∷ rs) = AreOwn jobs rs
 
+-- the decisions on the orders of each worker are on later and later places
+abbrev pub AllRise : ℕ → List Deed → Type 0
+AllRise workers rs = (w : ℕ) → IsWorker workers w → Rise (decisions_of w rs)
+
 -- ---- what a batch says of the entries of each worker, up to where it stopped, if it did
 
 pub record AreTold (workers : ℕ) (b b' : Books) (rs : List Deed) (es : ℕ → List Entry)
@@ -118,13 +122,14 @@ pub record AreTold (workers : ℕ) (b b' : Books) (rs : List Deed) (es : ℕ →
       → c.ruling ≡ Made op → d.ruling ≡ Made other → op.name ≡ other.name → c ≡ d
   -- no other operation is gained
   pub gained : (op : Op) → Contains b'.list op → Contains b.list op ⊎ IsGained workers rs es left op
-  -- Where the places of the decisions on a worker's orders rise, one that is left is on a later
-  -- place than each of its entries,
+  -- A decision that is left is of the record, on an order of that worker,
+  pub there : (w : ℕ) (d : Decision) → IsWorker workers w → IsAmong (left w) d
+      → HasDecision rs d × (d.worker ≡ w)
+  -- and on a later place than each of its entries,
   pub untold : (w i : ℕ) (e : Entry) (d : Decision) → IsWorker workers w
-      → slice_get (es w) i ≡ Some e → IsAmong (left w) d → Rise (decisions_of w rs)
-      → e.place < d.place
+      → slice_get (es w) i ≡ Some e → IsAmong (left w) d → e.place < d.place
   -- and on each place there is one at most.
-  pub once : (w : ℕ) → IsWorker workers w → Rise (decisions_of w rs) → Rise (left w)
+  pub once : (w : ℕ) → IsWorker workers w → Rise (left w)
   -- Its operation is of the order at that place, where the record's are.
   pub own : (jobs : ℕ → ℕ → Option Job) → AreOwn jobs rs → (w : ℕ) (d : Decision) (op : Op)
       → IsWorker workers w → IsAmong (left w) d → d.ruling ≡ Made op

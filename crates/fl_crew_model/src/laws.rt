@@ -23,7 +23,7 @@ ghost use Rattle.fl_crew_model.specs.declared.record.Decision.{Decision};
 ghost use Rattle.fl_crew_model.specs.declared.record.Deed.{Deed};
 ghost use Rattle.fl_crew_model.specs.declared.record.Reason.{Reason};
 ghost use Rattle.fl_crew_model.specs.Reasons.{refusal_of};
-ghost use Rattle.fl_crew_model.specs.Answered.{AreTold};
+ghost use Rattle.fl_crew_model.specs.Answered.{AllRise, AreTold};
 ghost use Rattle.fl_crew_model.specs.Books.{Books, Recorded, IsDeed, GivesUp, Declines};
 ghost use Rattle.fl_crew_model.specs.Compared.{decisions_of};
 ghost use Rattle.fl_crew_model.specs.Registering.{IsRegistrar, IsOrdered, IsTaken};
@@ -58,11 +58,12 @@ pub fn law_weave()
 {}
 
 /// What a batch says of its entries, and of the operations that its list gains, whether or not a
-/// worker stopped.
+/// worker stopped. The premise is what the registrar says of its record (`Registrar::decide`).
 pub fn law_answered()
     ensures { (number workers : ℕ) (b b' : Books) (rs : List Deed) (old new : ℕ → BenchState)
         (es : ℕ → List Entry) (last : ℕ → ℕ) (left : ℕ → List Decision) →
-        IsFront number workers b b' rs old new es last left → AreTold workers b b' rs es left }
+        IsFront number workers b b' rs old new es last left → AllRise workers rs →
+        AreTold workers b b' rs es left }
 {}
 
 /// What the calls of the registrar's node answer is what its record says, a deed after the others.

@@ -53,6 +53,13 @@ failed_as n n' k k' batch is (Saves.failed {batch = other} {left = left} there k
     )
 failed_as n n' k k' batch is (Saves.none why) = absurd (none_unsaved n batch KeeperFailed is why)
 
+-- what could not be saved leaves what is saved
+pub err_saved : (n n' : NodeState) (k k' : Kept) (fault : Fault) → Saves n k (Err fault) n' k'
+    → n'.saved ≡ n.saved
+err_saved n n' k k' fault (Saves.no_room there) = refl
+err_saved n n' k k' fault (Saves.failed there kept) = refl
+err_saved n n' k k' fault (Saves.none why) = refl
+
 pub cancelled_as : (n n' : NodeState) (batch : Batch) (result : Result (Unit {0}) Fault)
     → n.state ≡ Running (Unsaved batch) → Cancels n result n' → n' ≡ cancelled_with n batch
 cancelled_as n n' batch result is (Cancels.given_up {batch = other} there) =

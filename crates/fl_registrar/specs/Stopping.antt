@@ -29,6 +29,7 @@ IsHalt fault = (fault ≡ faults.Stopped) ⊎ (fault ≡ faults.KeeperFailed)
 
 -- where its keeper failed: what is saved, the list and the record are as before, and nothing is due
 pub record HasFailed {K : Type 0} (old new : RegistrarOver K) : Type 0 where
+  pub saved : new.node.node.saved ≡ old.node.node.saved
   pub idle : old.due ≡ None
   pub none : new.due ≡ None
   pub list : new.press.list ≡ old.press.list

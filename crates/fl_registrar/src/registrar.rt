@@ -233,6 +233,7 @@ impl<K: Keeper> Registrar<K> {
             × IsNextAfter self.old.node.node.saved self.old.node.node.number name) }
         ensures err { OnErr result (self.new.press.list ≡ self.old.press.list) }
         ensures idle { OnErr result ((self.old.due ≡ None) × (self.new.due ≡ None)) }
+        ensures saved { OnErr result (self.new.node.node.saved ≡ self.old.node.node.saved) }
         ensures stopped { self.new.stopped ≡ stopped_after self.old.stopped result }
         ensures number { self.new.node.node.number ≡ self.old.node.node.number }
         ensures keeper { K.custody.number self.new.node.keeper

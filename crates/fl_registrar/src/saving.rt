@@ -40,6 +40,7 @@ pub fn save<K: Keeper>(node: &mut Node<K>) -> Saving
     ensures number { node.new.node.number ≡ node.old.node.number }
     ensures keeper { K.custody.number node.new.keeper ≡ K.custody.number node.old.keeper }
     ensures broken { result ≡ Saving.Broken → IsTrue (K.custody.is_broken node.new.keeper) }
+    ensures saved { result ≡ Saving.Broken → node.new.node.saved ≡ node.old.node.saved }
     ensures becomes { Passes K.custody
         (λ k k'. Becomes node.old.node k result node.new.node k') node.old.keeper node.new.keeper }
 {

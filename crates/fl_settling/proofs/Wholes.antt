@@ -1,18 +1,20 @@
 -- What is left of the decisions on a worker's orders, where its entries are the record's.
-use Rattle.std.proofs.Common.{◌≡◌, ◌∙◌, ◌⊎◌, inl, inr, ◌≤◌, ℕ, List, [], length, take, subst, sym}
-use Rattle.std.proofs.Common.{ap, arith}
-use Rattle.std.proofs.lemmas.List.{take_all, take-take, length-take}
-use Rattle.std.proofs.Math.Seq.{take-length}
-use Rattle.fl_ops.specs.declared.op.Op.{Op}
-use Rattle.fl_replica.specs.Boards.{Front, StartsWith}
+use Rattle.std.proofs.Common.{◌≡◌, ◌∙◌, ◌≤◌, ℕ, List, [], Option, None, Some, length, take, drop}
+use Rattle.std.proofs.Common.{subst, sym, ap, arith}
+use Rattle.std.proofs.lemmas.List.{take_all, drop_all, take-take, length-take}
 use Rattle.fl_crew_model.specs.declared.record.Decision.{Decision}
 use Rattle.fl_crew_model.specs.declared.record.Deed.{Deed}
 use Rattle.fl_crew_model.specs.declared.record.Entry.{Entry}
-use Rattle.fl_crew_model.specs.Compared.{AgreesUpTo, Agrees}
+use Rattle.fl_crew_model.specs.declared.record.FailedOrder.{FailedOrder}
+use Rattle.fl_crew_model.specs.Compared.{AgreesUpTo, Agrees, Rise, decisions_of}
 use Rattle.fl_crew_model.proofs.Fronts.{agree_once}
+use Rattle.fl_ops.specs.declared.op.Op.{Op}
+use Rattle.fl_replica.specs.Boards.{Front}
 use Rattle.fl_worker.specs.declared.worker.Worker.{Worker}
-use Rattle.fl_settling.specs.Settled.{Stands, IsCut, IsAhead, IsSettled}
-use Rattle.fl_settling.specs.parts.Compared.{IsSame, IsShort, IsCompared}
+use Rattle.fl_settling.specs.Cut.{given_up_from}
+use Rattle.fl_settling.specs.Settled.{IsElsewhere, IsFine, IsFront, Meets}
+use Rattle.fl_settling.specs.parts.Compared.{IsWhole}
+use Rattle.fl_settling.proofs.Entries.{none_cut}
 
 pub none_left : (need good n last : ℕ) (ds left : List Decision) (es read : List Entry) → read ≡ es
     → good ≡ length es → good ≤ n → AgreesUpTo need ds (take n (take good read)) last left
@@ -36,35 +38,74 @@ module _ (n good : ℕ) (read es : List Entry) (same : read ≡ es) (fits : n �
       let count = ap length same in
       omega (arith, count, length-take good read)
 
--- with a desk that has caught up, what was compared is settled
-pub compared_settled : (first : ℕ) (list : List Op) (deeds : List Deed) (old : Worker) (d : Front)
-    (new : Worker)
-    → d.board ≡ old.desk.board → StartsWith d.list old.desk.list → d.list ≡ list
-    → IsCompared first deeds (record old { desk = d }) new → IsSettled first list deeds old new
-compared_settled first list deeds old d new board later is c = record {
-  number = c.number;
-  bench = c.bench;
-  ends = c.ends;
-  tasks = c.tasks;
-  board = ap (λ (x : Front). x.board) c.desk ∙ board;
-  later = subst (λ (x : Front). StartsWith x.list old.desk.list) (sym c.desk) later;
-  learns = subst (λ (l : List Op). StartsWith l list) (sym whole) (take-length list);
-  entries = by_entries c.entries;
-  good = by_count c.entries;
-  recorded = c.recorded;
-  most = λ caught. c.most;
-}
-  where
-    whole : new.desk.list ≡ list
-    whole = ap (λ (x : Front). x.list) c.desk ∙ is
+-- ---- a worker of which all stands
 
-    by_entries : IsSame (record old { desk = d }) new ⊎ IsShort (record old { desk = d }) new
-        → Stands list old new ⊎ (IsCut list old new ⊎ IsAhead list old new)
-    by_entries (inl same) = inl (record { desk = whole; good = same.good; entries = same.entries })
-    by_entries (inr short) =
-        inr (inl (record { desk = whole; good = short.good; entries = short.entries }))
+meets_none : (failed : Option FailedOrder) (w last : ℕ) → Meets failed w last []
+    → IsElsewhere failed w
+meets_none None w last meets = tt
+meets_none (Some order) w last meets = meets
 
-    by_count : IsSame (record old { desk = d }) new ⊎ IsShort (record old { desk = d }) new
-        → new.good ≤ old.good
-    by_count (inl same) = omega (arith, same.good)
-    by_count (inr short) = omega (arith, short.good)
+module _ (first last front : ℕ) (deeds : List Deed) (w : Worker)
+    (is_front : IsFront first deeds w front last) where
+  -- what agrees with the record are all of its entries
+  pub whole_front : IsWhole first deeds w → front ≡ w.good
+  whole_front whole =
+      let (end, agrees) = whole.agrees in
+      let all : length w.entries.items ≤ w.good = omega (arith, whole.all) in
+      let up =
+      is_front.most w.good (omega arith) (
+        end,
+        [],
+        subst (λ (l : List Entry). AgreesUpTo first (decisions_of w.number deeds) l end [])
+            (sym (take_all w.good w.entries.items all)) agrees,
+      ) in
+      omega (arith, up, is_front.fits)
+
+module _ (first last front : ℕ) (list : List Op) (deeds : List Deed) (failed : Option FailedOrder)
+    (old : Worker) (desk : Front) (new : Worker)
+    (is_front : IsFront first deeds (record old { desk = desk }) front last)
+    (number : new.number ≡ old.number)
+    (entries : new.entries.items ≡ given_up_from failed old.number front old.entries.items)
+    (good : new.good ≡ front) where
+  pub whole_fine : new.desk.list ≡ list
+      → Meets failed old.number last (drop front old.entries.items)
+      → IsWhole first deeds (record old { desk = desk })
+      → IsFine first list deeds failed old new
+  whole_fine caught meets whole =
+      let same = whole_front first last front deeds (record old { desk = desk }) is_front whole in
+      let all : length old.entries.items ≤ front = omega (arith, same, whole.all) in
+      let kept = entries ∙ none_cut failed old.number front old.entries.items all in
+      let (end, agrees) = whole.agrees in
+      record {
+        desk = caught;
+        good = good ∙ same;
+        entries = kept;
+        all = good ∙ (same ∙ (whole.all ∙ sym (ap length kept)));
+        agrees = (
+          end,
+          subst (λ (k : ℕ). Agrees first (decisions_of k deeds) new.entries.items end)
+              (sym number)
+              (subst (λ (l : List Entry). Agrees first (decisions_of old.number deeds) l end)
+              (sym kept) agrees),
+        );
+        rises = subst (λ (k : ℕ). Rise (decisions_of k deeds)) (sym number) whole.rises;
+        elsewhere =
+            meets_none failed old.number last
+            (subst (Meets failed old.number last) (drop_all front old.entries.items all) meets);
+      }
+
+  pub fine_whole : IsFine first list deeds failed old new
+      → IsWhole first deeds (record old { desk = desk })
+  fine_whole fine =
+      let (end, agrees) = fine.agrees in
+      record {
+        all = sym fine.good ∙ (fine.all ∙ ap length fine.entries);
+        agrees = (
+          end,
+          subst (λ (l : List Entry). Agrees first (decisions_of old.number deeds) l end)
+              fine.entries
+              (subst (λ (k : ℕ). Agrees first (decisions_of k deeds) new.entries.items end)
+              number agrees),
+        );
+        rises = subst (λ (k : ℕ). Rise (decisions_of k deeds)) number fine.rises;
+      }

@@ -1,5 +1,5 @@
 -- The end of a batch.
-use Rattle.std.proofs.Common.{◌≡◌, ◌∙◌, ◌⊎◌, inl, inr, ℕ, zero, suc, ◌<◌, ◌≤◌, ◌+◌, Bool, true, false, List, [], ◌∷◌, map, length, get_or, slice_index_or, refl, sym, ap, subst, arith, if◌then◌else◌, eqb}
+use Rattle.std.proofs.Common.{◌≡◌, ◌∙◌, ◌⊎◌, inl, inr, ℕ, zero, suc, ◌<◌, ◌≤◌, ◌+◌, Bool, true, false, List, [], ◌∷◌, Option, map, length, get_or, slice_index_or, refl, sym, ap, subst, arith, if◌then◌else◌, eqb}
 use Rattle.std.proofs.lemmas.Bool.{cases_lt}
 use Rattle.std.proofs.lemmas.Bool.Decides.{eqb_tells}
 use Rattle.std.proofs.lemmas.List.{drop_all}
@@ -9,6 +9,7 @@ use Rattle.fl_ops.specs.declared.op.Op.{Op}
 use Rattle.fl_system.specs.Jobs.{bench_for, procs_after}
 use Rattle.fl_crew_model.specs.declared.record.Deed.{Deed}
 use Rattle.fl_crew_model.specs.declared.record.Entry as inner
+use Rattle.fl_crew_model.specs.declared.record.FailedOrder.{FailedOrder}
 use Rattle.fl_crew_model.specs.Books.{Books, Recorded}
 use Rattle.fl_crew_model.specs.Crews.{AllOfWorkers, IsWorker}
 use Rattle.fl_crew_threads.specs.Receiving.{place_of}
@@ -24,7 +25,7 @@ use Rattle.fl_dealing.specs.declared.item.Item.TheVariants as items
 use Rattle.fl_settling.specs.Batches.{AreBack, BatchEnds}
 use Rattle.fl_settling.specs.Each.{Each}
 use Rattle.fl_settling.specs.Numbers.{lost_by, lost_of, part_of}
-use Rattle.fl_settling.specs.Settled.{IsSettled, IsFine, Stands, IsCut, IsAhead}
+use Rattle.fl_settling.specs.Settled.{IsSettled, IsFine}
 use Rattle.fl_settling.proofs.Choosing.{item_get, some_item}
 use Rattle.fl_settling.proofs.Entries.{of_cut}
 use Rattle.fl_worker.specs.declared.task.Task.{Task}
@@ -34,28 +35,21 @@ use Rattle.fl_workers.specs.Ended.{IsKept, said_of, shown_of}
 
 -- ---- what settling leaves of a worker
 
-module _ (first : ℕ) (list : List Op) (deeds : List Deed) (old new : Worker)
-    (settled : IsSettled first list deeds old new) where
-  still_of : (ts : List Task) → AreOf ts old.entries.items
-      → Stands list old new ⊎ (IsCut list old new ⊎ IsAhead list old new)
-      → AreOf ts new.entries.items
-  still_of ts of (inl stands) = subst (AreOf ts) (sym stands.entries) of
-  still_of ts of (inr (inl cut)) =
-      subst (AreOf ts) (sym cut.entries) (of_cut new.good ts old.entries.items of)
-  still_of ts of (inr (inr ahead)) =
-      subst (AreOf ts) (sym ahead.entries) (of_cut 0 ts old.entries.items of)
-
+module _ (first : ℕ) (list : List Op) (deeds : List Deed) (failed : Option FailedOrder)
+    (old new : Worker) (settled : IsSettled first list deeds failed old new) where
   pub settled_kept : IsKept old new
   settled_kept = record {
     same = record { number = settled.number; bench = settled.bench; board = settled.board };
-    tasks = λ ts of. still_of ts of settled.entries;
+    tasks = λ ts of.
+        subst (AreOf ts) (sym settled.entries)
+        (of_cut failed old.number new.good ts old.entries.items of);
   }
 
-pub none_lost : (first : ℕ) (list : List Op) (deeds : List Deed) (old new : List Worker)
-    → Each (IsFine first list deeds) old new → (w : ℕ) → IsWorker (length old) w
+pub none_lost : (first : ℕ) (list : List Op) (deeds : List Deed) (failed : Option FailedOrder)
+    (old new : List Worker) → Each (IsFine first list deeds failed) old new → (w : ℕ) → IsWorker (length old) w
     → lost_by new w ≡ []
-none_lost first list deeds old new fine zero is = absurd (let low = is.low in omega (arith, low))
-none_lost first list deeds old new fine (suc k) is =
+none_lost first list deeds failed old new fine zero is = absurd (let low = is.low in omega (arith, low))
+none_lost first list deeds failed old new fine (suc k) is =
     let high = is.high in
     let below : k < length old = omega (arith, high) in
     let within : k < length new = omega (arith, below, fine.count) in
@@ -66,17 +60,21 @@ none_lost first list deeds old new fine (suc k) is =
     ap (part_of lost_of) (item_get new k d within) ∙ drop_all v.good v.entries.items past
 
 -- a batch that ended well may be said not to
-pub ends_less : (number : ℕ) (b b' : Books) (deeds : List Deed) (start now : List Worker)
-    (fine : Bool) → BatchEnds number b b' deeds start now true
-    → BatchEnds number b b' deeds start now fine
-ends_less number b b' deeds start now true ends = ends
-ends_less number b b' deeds start now false ends = record {
+pub ends_less : (number : ℕ) (b b' : Books) (deeds : List Deed) (failed : Option FailedOrder)
+    (start now : List Worker) (fine : Bool) → BatchEnds number b b' deeds failed start now true
+    → BatchEnds number b b' deeds failed start now fine
+ends_less number b b' deeds failed start now true ends = ends
+ends_less number b b' deeds failed start now false ends = record {
   benches = ends.benches;
   last = ends.last;
   left = ends.left;
   front = ends.front;
+  given_up = ends.given_up;
   undone = ends.undone;
+  met = ends.met;
+  homes = ends.homes;
   tasks = ends.tasks;
+  rises = ends.rises;
   whole = λ t. absurd (cc);
   batch = λ t. absurd (cc);
 }
@@ -143,7 +141,7 @@ owner_low n procs (By pid act) below = omega arith
 owner_low n procs (Member root c) below = omega arith
 owner_low n procs (Arrive d) below = omega arith
 
-past_low : (n procs : ℕ) (job : Job) → procs < n → procs_after n procs job < n
+pub past_low : (n procs : ℕ) (job : Job) → procs < n → procs_after n procs job < n
 past_low n procs Proc below = omega arith
 past_low n procs (By pid act) below = below
 past_low n procs (Member root c) below = below
@@ -208,35 +206,40 @@ module _ (n procs : ℕ) (is : List Item) (ws : List Worker) (taken : List Taken
 
 -- ---- what the end of a batch says, in the words of its caller
 
-abbrev pub EndsAs : ℕ → List Op → List Deed → List Worker → List Worker → Bool → Type 0
-EndsAs first list deeds old new fine =
+abbrev pub EndsAs : ℕ → List Op → List Deed → Option FailedOrder → List Worker → List Worker
+    → Bool → Type 0
+EndsAs first list deeds failed old new fine =
     (number : ℕ) (b b' : Books) (start : List Worker) → first ≡ length b.list → b'.list ≡ list
     → Recorded number b deeds b' → AllOfWorkers (length start) deeds → AreBack start old
-    → BatchEnds number b b' deeds start new fine
+    → BatchEnds number b b' deeds failed start new fine
 
-less : (first : ℕ) (list : List Op) (deeds : List Deed) (old new : List Worker) (fine fine' : Bool)
-    → (fine ≡ fine') ⊎ (fine ≡ true) → EndsAs first list deeds old new fine
-    → EndsAs first list deeds old new fine'
-less first list deeds old new fine fine' (inl same) ends =
-    subst (λ (f : Bool). EndsAs first list deeds old new f) same ends
-less first list deeds old new fine fine' (inr all) ends =
+less : (first : ℕ) (list : List Op) (deeds : List Deed) (failed : Option FailedOrder)
+    (old new : List Worker) (fine fine' : Bool) → (fine ≡ fine') ⊎ (fine ≡ true)
+    → EndsAs first list deeds failed old new fine → EndsAs first list deeds failed old new fine'
+less first list deeds failed old new fine fine' (inl same) ends =
+    subst (λ (f : Bool). EndsAs first list deeds failed old new f) same ends
+less first list deeds failed old new fine fine' (inr all) ends =
     λ number b b' start e l recorded of back.
-    ends_less number b b' deeds start new fine'
-    (subst (λ (f : Bool). BatchEnds number b b' deeds start new f) all
+    ends_less number b b' deeds failed start new fine'
+    (subst (λ (f : Bool). BatchEnds number b b' deeds failed start new f) all
     (ends number b b' start e l recorded of back))
 
-pub ends_as : (first : ℕ) (list list' : List Op) (deeds deeds' : List Deed) (old new : List Worker)
-    (fine fine' : Bool) → list' ≡ list → deeds' ≡ deeds → (fine ≡ fine') ⊎ (fine ≡ true)
-    → EndsAs first list' deeds' old new fine → EndsAs first list deeds old new fine'
-ends_as first list list' deeds deeds' old new fine fine' lists rows which ends =
-    less first list deeds old new fine fine' which
-    (subst (λ (l : List Op). EndsAs first l deeds old new fine) lists
-    (subst (λ (ds : List Deed). EndsAs first list' ds old new fine) rows ends))
+pub ends_as : (first : ℕ) (list list' : List Op) (deeds deeds' : List Deed)
+    (failed failed' : Option FailedOrder) (old new : List Worker) (fine fine' : Bool)
+    → list' ≡ list → deeds' ≡ deeds → failed' ≡ failed → (fine ≡ fine') ⊎ (fine ≡ true)
+    → EndsAs first list' deeds' failed' old new fine
+    → EndsAs first list deeds failed old new fine'
+ends_as first list list' deeds deeds' failed failed' old new fine fine' lists rows same which ends =
+    less first list deeds failed old new fine fine' which
+    (subst (λ (l : List Op). EndsAs first l deeds failed old new fine) lists
+    (subst (λ (ds : List Deed). EndsAs first list' ds failed old new fine) rows
+    (subst (λ (f : Option FailedOrder). EndsAs first list' deeds' f old new fine) same ends)))
 
-pub each_kept : (first : ℕ) (list : List Op) (deeds : List Deed) (old new : List Worker)
-    → Each (IsSettled first list deeds) old new → Each IsKept old new
-each_kept first list deeds old new settled = record {
+pub each_kept : (first : ℕ) (list : List Op) (deeds : List Deed) (failed : Option FailedOrder)
+    (old new : List Worker) → Each (IsSettled first list deeds failed) old new
+    → Each IsKept old new
+each_kept first list deeds failed old new settled = record {
   count = settled.count;
   at = λ k d below.
-      settled_kept first list deeds (get_or old k d) (get_or new k d) (settled.at k d below);
+      settled_kept first list deeds failed (get_or old k d) (get_or new k d) (settled.at k d below);
 }

@@ -3,7 +3,9 @@ pub mod Seats
 pub mod Opened
 pub mod Planned
 pub mod Begun
+mod Breaking
 pub mod Ends
+mod Lost
 pub mod Manning
 pub mod Frugal
 pub mod Said

@@ -74,6 +74,7 @@ seated_is {K} node size number boot ws r press is list count numbered booted ben
       benches = all i;
       procs = 0;
       size = count i;
+      failed = (is i).failed;
       stopped = false;
     }
 

@@ -1,8 +1,7 @@
 -- A crew stands for a node between its batches.
-use Rattle.std.proofs.Common.{◌≡◌, ◌≤◌, ◌∙◌, ℕ, Option, Some, None, Result, Ok, Err, List, length}
+use Rattle.std.proofs.Common.{◌≡◌, ◌∙◌, ℕ, Option, Some, None, Result, Ok, Err, List, length}
 use Rattle.std.proofs.Common.{IfOk, OnErr, OnOk, refl, sym, ap, subst, arith}
 use Rattle.fl_store.specs.Custody.{Custody}
-use Rattle.fl_store.specs.Kept.{Kept}
 use Rattle.fl_bench.specs.Bench.{new_bench}
 use Rattle.fl_dealing.specs.declared.entry.Entry.{Entry}
 use Rattle.fl_dealing.specs.declared.item.Item.{Item}
@@ -14,7 +13,7 @@ use Rattle.fl_system_laws.specs.laws.Numbered.{item_at-items_to, item_within, le
 use Rattle.fl_crew_model.specs.Books.{IsAt}
 use Rattle.fl_crew_model.specs.Crews.{IsDueHome}
 use Rattle.fl_workers.specs.Batches.{IsStill, IsUnbegun, Serves}
-use Rattle.fl_workers.specs.Over.{CrewOver, bench_at, bench_in}
+use Rattle.fl_workers.specs.Over.{CrewOver, bench_in}
 use Rattle.fl_workers.specs.Seated.{seated_of}
 use Rattle.fl_workers.specs.Seats.{empty_of}
 use Rattle.fl_workers.specs.Standing.{IsCrewNode, Stands, resting, stood_by}
@@ -73,7 +72,7 @@ module _ {K : Type 0} where
   module _ (custody : Custody K) (old new : CrewOver K) (stands : Stands custody old) where
     served_stands : (is : List Item) (es : List Entry)
         → IsStill old new → length new.benches ≡ new.size
-        → Passes custody (Serves old new is es) old.node.keeper new.node.keeper
+        → Passes custody (Serves custody old new is es) old.node.keeper new.node.keeper
         → Stands custody new
     served_stands is es still sized passes runs honest k may =
         let p = passes honest in
@@ -96,7 +95,7 @@ module _ {K : Type 0} where
 
     pub batch_stands : {A E : Type 0} (items : A → List Entry) (is : List Item) (r : Result A E)
         → IsStill old new → length new.benches ≡ new.size → OnErr r (IsUnbegun old new)
-        → IfOk r (λ es. Passes custody (Serves old new is (items es)) old.node.keeper
+        → IfOk r (λ es. Passes custody (Serves custody old new is (items es)) old.node.keeper
         new.node.keeper) → Stands custody new
     batch_stands items is (Ok es) still sized err ok = served_stands is (items es) still sized ok
     batch_stands items is (Err e) still sized err ok = unbegun_stands err sized

@@ -1,5 +1,6 @@
 -- What a batch of a crew does.
-use Rattle.std.specs.Prelude.{◌≡◌, ◌≢◌, ◌⊎◌, ℕ, false, List, [], ◌∷◌, ◌++◌, map, length, All}
+use Rattle.std.specs.Prelude.{◌≡◌, ◌≢◌, ◌⊎◌, ℕ, true, false, IsTrue, List, [], ◌∷◌, ◌++◌, map}
+use Rattle.std.specs.Prelude.{length, All}
 use Rattle.std.specs.List.{slice_get}
 use Rattle.std.specs.declared.option.Option.{Option}
 use Rattle.std.specs.declared.option.Option.TheVariants.{None, Some}
@@ -7,6 +8,7 @@ use Rattle.std.specs.declared.result.Result.TheVariants.{Ok}
 use Rattle.fl_bench.specs.Bench.{BenchState}
 use Rattle.fl_jobs.specs.declared.job.Job.{Job}
 use Rattle.fl_jobs.specs.declared.answer.Refusal.TheVariants.{Memory}
+use Rattle.fl_system.specs.declared.answer.Fault.{Fault}
 use Rattle.fl_system.specs.declared.answer.Fault.TheVariants.{KeeperFailed, Refused, Stopped}
 use Rattle.fl_crew_model.specs.declared.record.Told.{Told}
 use Rattle.fl_dealing.specs.declared.entry.Reply.{Reply}
@@ -20,9 +22,14 @@ use Rattle.fl_crew_model.specs.declared.record.Decision.{Decision}
 use Rattle.fl_crew_model.specs.declared.record.Deed.{Deed}
 use Rattle.fl_crew_model.specs.declared.record.Deed.TheVariants.{Decided, Delivered}
 use Rattle.fl_crew_model.specs.declared.record.Entry as told_entry
-use Rattle.fl_crew_model.specs.Answered.{AreTold, AreOwn}
-use Rattle.fl_crew_model.specs.Crews.{IsWorker, IsFront, IsCrew, IsWeave}
-use Rattle.fl_worker.specs.Stops.{AreUndone, IsGivenUp}
+use Rattle.fl_crew_model.specs.declared.record.FailedOrder.{FailedOrder}
+use Rattle.fl_crew_model.specs.Answered.{AreTold, AreOwn, IsAmong}
+use Rattle.fl_crew_model.specs.Books.{Books}
+use Rattle.fl_crew_model.specs.Crews.{Breaks, IsWorker, IsFront, IsCrew, IsWeave}
+use Rattle.fl_settling.specs.Batches.{IsStopFirst}
+use Rattle.fl_settling.specs.Cut.{AreGivenUp}
+use Rattle.fl_store.specs.Custody.{Custody}
+use Rattle.fl_worker.specs.Seen.{Rises}
 use Rattle.fl_worker.specs.Tasks.{AreOf}
 use Rattle.fl_crew_threads.specs.Receiving.{place_at, AreReceived, AreDecisions}
 use Rattle.fl_crew_threads.specs.declared.ruling.Placed.{Placed}
@@ -87,6 +94,33 @@ AreOnce [] = Unit {0}
 AreOnce (Decided d ∷ deeds) = IsFree d.place deeds × AreOnce deeds
 AreOnce (Delivered p ∷ deeds) = AreOnce deeds
 
+-- the job at this place was not done, and who asked is told why
+pub record IsLostAt (lost : List told_entry.Entry) (place : ℕ) (fault : Fault) : Type 0 where
+  pub index : ℕ
+  pub entry : told_entry.Entry
+  pub there : slice_get lost index ≡ Some entry
+  pub at : entry.place ≡ place
+  pub is_told : entry.told ≡ Told.Refused fault
+
+-- the first job that was not done is the order at this place, at which the keeper broke: it can
+-- stand behind a run of what was done
+pub record BreaksFirst (number : ℕ) (b : Books) (workers w : ℕ) (bench : BenchState) (last : ℕ)
+    (place : ℕ) (lost : List told_entry.Entry) : Type 0 where
+  pub entry : told_entry.Entry
+  pub rest : List told_entry.Entry
+  pub first : lost ≡ entry ∷ rest
+  pub at : entry.place ≡ place
+  pub breaks : Breaks number b workers w bench last entry
+
+-- The keeper broke at this order of a worker: who gave it is told so, and it is the first that was
+-- not done, if anything stands that the worker did.
+pub record HasMet (number : ℕ) (b : Books) (workers : ℕ) (good lost : ℕ → List told_entry.Entry)
+    (benches : ℕ → BenchState) (last : ℕ → ℕ) (order : FailedOrder) : Type 0 where
+  pub worker : IsWorker workers order.worker
+  pub told : IsLostAt (lost order.worker) order.place KeeperFailed
+  pub first : BreaksFirst number b workers order.worker (benches order.worker) (last order.worker)
+      order.place (lost order.worker) ⊎ (good order.worker ≡ [])
+
 -- The entries of each worker, of the jobs that were done and of the others, beside the record of the
 -- registrar.
 pub record IsServed {K : Type 0} (old new : CrewOver K) (is : List Item) (es : List Entry)
@@ -111,9 +145,20 @@ pub record IsServed {K : Type 0} (old new : CrewOver K) (is : List Item) (es : L
       → AreOf (tasks_of w 0 (owners_at old is) is) (good w ++ lost w)
   pub are_shown : (w : ℕ) → IsWorker old.size w
       → select w (owners_at old is) es ≡ map shown (good w ++ lost w)
-  -- of the jobs that were not done, the first may have met a keeper that broke
+  -- none saw less of the list than an earlier one of its worker
+  pub rises : (w : ℕ) → IsWorker old.size w → Rises 0 (good w ++ lost w)
+  -- who asked for a job that was not done is told that the keeper broke, where it did at this
+  -- order, and else that the crew is stopped
+  pub given_up : (w : ℕ) → IsWorker old.size w → AreGivenUp new.failed w (lost w)
+  -- each worker stopped at the first of these, or nothing stands that it did
   pub undone : (w : ℕ) → IsWorker old.size w
-      → AreUndone new.list (benches w) (lost w) ⊎ All IsGivenUp (lost w)
+      → IsStopFirst new.list (benches w) (lost w) ⊎ (good w ≡ [])
+  -- the order at which the keeper broke is among them
+  pub met : (order : FailedOrder) → new.failed ≡ Some order
+      → HasMet old.node.node.number (books_of new) old.size good lost benches last order
+  -- and so is each order that was decided, and whose worker stopped before it was told so
+  pub left_over : (w : ℕ) (d : Decision) → IsWorker old.size w → IsAmong (left w) d
+      → IsLostAt (lost w) d.place Stopped
   -- a job that takes no memory was not refused for want of it
   pub frugal : (w i : ℕ) (e : told_entry.Entry) → IsWorker old.size w
       → slice_get (good w) i ≡ Some e → IsFrugal e.job.value
@@ -132,11 +177,21 @@ pub record IsServed {K : Type 0} (old new : CrewOver K) (is : List Item) (es : L
       → IsCrew old.node.node.number old.size n (books_of old) (bench_at old.benches) first
       → IsOneRun old new n deeds good benches last
 
--- the same, beside what is kept
-pub record Serves {K : Type 0} (old new : CrewOver K) (is : List Item) (es : List Entry)
-    (k k' : Kept) : Type 0 where
+-- the same, beside what is kept: all that is saved, unless the keeper broke
+pub record Serves {K : Type 0} (custody : Custody K) (old new : CrewOver K) (is : List Item)
+    (es : List Entry) (k k' : Kept) : Type 0 where
   pub served : IsServed old new is es
-  pub kept : new.stopped ≡ false → k ≡ kept_of old.node.node → k' ≡ kept_of new.node.node
+  pub kept : custody.is_broken new.node.keeper ≡ false → k ≡ kept_of old.node.node
+      → k' ≡ kept_of new.node.node
+
+-- where its keeper broke at an order it is broken, and the crew is stopped
+pub record IsBrokenAt {K : Type 0} (custody : Custody K) (c : CrewOver K) : Type 0 where
+  pub broken : IsTrue (custody.is_broken c.node.keeper)
+  pub stopped : c.stopped ≡ true
+
+abbrev pub IsBrokenThere : {K : Type 0} → Custody K → CrewOver K → Type 0
+IsBrokenThere custody c =
+    (order : FailedOrder) → c.failed ≡ Some order → IsBrokenAt custody c
 
 -- a batch that was not begun: all is as it was, but that the registrar may have published what is
 -- due in its node

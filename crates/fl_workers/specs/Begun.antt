@@ -29,6 +29,7 @@ pub record IsBegun {K : Type 0} (orders : List (Option Awaited)) (old new : Regi
   pub due : new.due ≡ None
   pub orders_are : new.orders ≡ orders
   pub deeds : new.deeds ≡ []
+  pub failed : new.failed ≡ None
   pub stopped : new.stopped ≡ old.stopped
 
 -- what is saved, published and due is as it was

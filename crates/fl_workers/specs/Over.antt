@@ -12,6 +12,8 @@ use Rattle.fl_system.specs.declared.state.Batch.{Batch}
 use Rattle.fl_system.specs.Numbered.{item_at}
 use Rattle.fl_system.specs.State.{ops_in}
 use Rattle.fl_node.specs.Over.{NodeOver, coded_over}
+use Rattle.fl_crew_model.specs.contracts.record.FailedOrder as failed_row
+use Rattle.fl_crew_model.specs.declared.record.FailedOrder.{FailedOrder}
 use Rattle.fl_crew_model.specs.Books.{Books}
 use Rattle.fl_crew_model.specs.Crews.{benches_with}
 
@@ -28,6 +30,8 @@ pub record CrewOver (K : Type 0) : Type 0 where
   pub procs : ℕ
   -- how many workers it has, or is to have where it is stopped
   pub size : ℕ
+  -- the order of the last batch at which its keeper broke, if it did at one
+  pub failed : Option FailedOrder
   pub stopped : Bool
 
 -- what is saved and published
@@ -60,11 +64,13 @@ begun_benches c w = benches_after (bench_at c.benches) c.due w
 abbrev pub coded_crew : {K : Type 0} → Coded K → Coded (CrewOver K)
 coded_crew {K} keeper =
     code_by
-    (NodeOver K × (List Op × (Option Batch × (List BenchState × (ℕ × (ℕ × Bool))))))
+    (NodeOver K × (List Op × (Option Batch
+    × (List BenchState × (ℕ × (ℕ × (Option FailedOrder × Bool)))))))
     (coded× (coded_over keeper) (coded× (coded_list coded_op)
     (coded× (coded_option (batch_row.the_row).coded)
-    (coded× (coded_list coded_state) (coded× coded_ℕ (coded× coded_ℕ coded_bool))))))
-    (λ c. (c.node, (c.list, (c.due, (c.benches, (c.procs, (c.size, c.stopped)))))))
+    (coded× (coded_list coded_state) (coded× coded_ℕ
+    (coded× coded_ℕ (coded× (coded_option (failed_row.the_row).coded) coded_bool)))))))
+    (λ c. (c.node, (c.list, (c.due, (c.benches, (c.procs, (c.size, (c.failed, c.stopped))))))))
     (λ t. record {
       node = t.0;
       list = t.1.0;
@@ -72,6 +78,7 @@ coded_crew {K} keeper =
       benches = t.1.1.1.0;
       procs = t.1.1.1.1.0;
       size = t.1.1.1.1.1.0;
-      stopped = t.1.1.1.1.1.1;
+      failed = t.1.1.1.1.1.1.0;
+      stopped = t.1.1.1.1.1.1.1;
     })
     (λ _. refl)

@@ -30,6 +30,7 @@ seated_of n size =
       benches = items_to size (λ index. new_bench n.node.number n.node.boot index size);
       procs = 0;
       size = size;
+      failed = None;
       stopped = false;
     }
 

@@ -42,6 +42,7 @@ manned_of workers registrar procs stopped =
       benches = map bench_of_worker workers;
       procs = procs;
       size = length workers;
+      failed = registrar.failed;
       stopped = stopped;
     }
 
@@ -55,5 +56,6 @@ empty_of node size =
       benches = [];
       procs = 0;
       size = size;
+      failed = None;
       stopped = true;
     }

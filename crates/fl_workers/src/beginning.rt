@@ -1,5 +1,5 @@
 //! How a batch begins.
-ghost use Rattle.std.specs.Prelude.{◌≡◌, ℕ, [], All, IfOk, OnOk, OnErr, length};
+ghost use Rattle.std.specs.Prelude.{◌≡◌, ℕ, [], None, All, IfOk, OnOk, OnErr, length};
 ghost use Rattle.fl_crew_model.specs.Crews.{IsWorker};
 ghost use Rattle.fl_settling.specs.Each.{Each};
 ghost use Rattle.fl_settling.specs.Numbers.{bench_by};
@@ -39,6 +39,7 @@ fn publish<K: Keeper, R: Wait>(
     registrar: &mut Registrar<K>,
 ) -> Result<Option<Batch>, AllocError>
     requires none { registrar.old.deeds ≡ [] }
+    requires fresh { registrar.old.failed ≡ None }
     ensures ok { IfOk result (λ due. IsBegun registrar.old.orders registrar.old registrar.new) }
     ensures given { IfOk result (λ due. due ≡ registrar.old.due) }
     ensures err { OnErr result (IsNotBegun registrar.old registrar.new) }

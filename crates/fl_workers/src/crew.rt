@@ -14,7 +14,7 @@ ghost use Rattle.fl_store.specs.Kept.{Kept};
 ghost use Rattle.fl_system.specs.Waiting.{NotRunning};
 ghost use Rattle.fl_system.specs.declared.state.Pending.TheVariants.{Nothing};
 ghost use Rattle.fl_system.specs.declared.state.State.TheVariants.{Running};
-ghost use Rattle.fl_workers.specs.Batches.{IsStill, IsUnbegun, Serves, items_for};
+ghost use Rattle.fl_workers.specs.Batches.{IsBrokenThere, IsStill, IsUnbegun, Serves, items_for};
 ghost use Rattle.fl_workers.specs.Crews.{crew_of, IsSized};
 ghost use Rattle.fl_workers.specs.Seats.{empty_of};
 ghost use Rattle.fl_workers.specs.Standing.{Stands};
@@ -196,8 +196,9 @@ impl<K: Keeper, G: Gate + Send + Drop + 'static> Crew<K, G> {
         ensures procs { IfOk result (λ es. self.new.procs
             ≡ procs_behind self.old.size self.old.procs (items_for jobs.items packets.items)) }
         ensures serves { IfOk result (λ es. Passes K.custody
-            (Serves self.old self.new (items_for jobs.items packets.items) es.items)
+            (Serves K.custody self.old self.new (items_for jobs.items packets.items) es.items)
             self.old.node.keeper self.new.node.keeper) }
+        ensures broken { OnOk result (IsBrokenThere K.custody self.new) }
     {
         if self.is_stopped() {
             return Err(CrewFault::Stopped);

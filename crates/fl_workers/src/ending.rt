@@ -69,10 +69,12 @@ fn settle_slice<K: Keeper>(
         first ≡ length b.list → b'.list ≡ registrar.old.press.list →
         Recorded number b registrar.old.deeds b' →
         AllOfWorkers (length start) registrar.old.deeds → AreBack start workers.old →
-        BatchEnds number b b' registrar.old.deeds start workers.new result }
+        BatchEnds number b b' registrar.old.deeds registrar.old.failed start workers.new
+        result }
 {
+    let failed = registrar.failed();
     let deeds = registrar.end_batch(alloc);
-    if !settle_all(workers, registrar.press(), &deeds, first) {
+    if !settle_all(workers, registrar.press(), &deeds, first, failed) {
         return false;
     }
     if registrar.is_stopped() {
@@ -82,8 +84,9 @@ fn settle_slice<K: Keeper>(
 }
 
 /// Compares what the workers did since the list was `first` long with the record, which is closed,
-/// and has their desks learn all that is published. What contradicts is given up. Answers whether
-/// nothing does.
+/// and has their desks learn all that is published. What contradicts is given up. Whoever asked for
+/// what was not done is told why: the order at which the keeper broke, if it did at one, with the
+/// keeper's failure. Answers whether nothing contradicts.
 pub(crate) fn settle<K: Keeper>(
     alloc: Global,
     registrar: &mut Registrar<K>,
@@ -103,7 +106,8 @@ pub(crate) fn settle<K: Keeper>(
         first ≡ length b.list → b'.list ≡ registrar.old.press.list →
         Recorded number b registrar.old.deeds b' →
         AllOfWorkers (length start) registrar.old.deeds → AreBack start workers.old.items →
-        BatchEnds number b b' registrar.old.deeds start workers.new.items result }
+        BatchEnds number b b' registrar.old.deeds registrar.old.failed start workers.new.items
+        result }
 {
     settle_slice(alloc, registrar, workers.as_mut_slice(), taken, first)
 }

@@ -1,9 +1,10 @@
 //! The seats of a crew, with its workers at their desks.
-ghost use Rattle.std.specs.Prelude.{◌≡◌, ◌≤◌, ◌+◌, ◌↔◌, Err, IfOk, OnErr, IsTrue, true, length};
+ghost use Rattle.std.specs.Prelude.{◌≡◌, ◌≤◌, ◌+◌, ◌↔◌, Err, IfOk, OnOk, OnErr, IsTrue, true};
+ghost use Rattle.std.specs.Prelude.{length};
 ghost use Rattle.fl_dealing.specs.Dealt.{procs_behind};
 ghost use Rattle.fl_dealing.specs.Gathered.{StandFrom};
 ghost use Rattle.fl_registrar.specs.Passing.{Passes};
-ghost use Rattle.fl_workers.specs.Batches.{IsStill, IsUnbegun, Serves, items_for};
+ghost use Rattle.fl_workers.specs.Batches.{IsBrokenThere, IsStill, IsUnbegun, Serves, items_for};
 
 use crate::beginning::begin;
 use crate::ending::{collect, settle};
@@ -83,8 +84,9 @@ impl<K: Keeper> Manned<K> {
         ensures procs { IfOk result (λ es. self.new.procs
             ≡ procs_behind self.old.size self.old.procs (items_for jobs.items packets.items)) }
         ensures serves { IfOk result (λ es. Passes K.custody
-            (Serves self.old self.new (items_for jobs.items packets.items) es.items)
+            (Serves K.custody self.old self.new (items_for jobs.items packets.items) es.items)
             self.old.node.keeper self.new.node.keeper) }
+        ensures broken { OnOk result (IsBrokenThere K.custody self.new) }
     {
         if self.is_stopped {
             return Err(CrewFault::Stopped);

@@ -3,7 +3,8 @@ use Rattle.std.proofs.lemmas.Bool.{false≢true}
 use Rattle.fl_system.specs.declared.answer.Fault.{Fault}
 use Rattle.fl_system.specs.declared.answer.Fault.TheVariants.{KeeperFailed}
 use Rattle.fl_system.specs.Saves.{Saves}
-use Rattle.fl_registrar.proofs.Nodes.{saved_as, failed_as, given_up_as}
+use Rattle.fl_system.specs.State.{kept_of}
+use Rattle.fl_registrar.proofs.Nodes.{saved_as, failed_as, err_saved, given_up_as}
 use Rattle.fl_registrar.proofs.saving.save.Goals as goal
 
 pub returns-in_default-clause-becomes : goal.returns-in_default-clause-becomes
@@ -28,6 +29,12 @@ returns-then-is_failure-clause-becomes g c honest =
                 Saves c.args.node.now.node b.0 (Err f) c.save.new.self.node after) failed b.2),
           ),
     )
+
+pub returns-then-is_failure-clause-saved : goal.returns-then-is_failure-clause-saved
+returns-then-is_failure-clause-saved g c = λ broken.
+    let k = kept_of c.args.node.now.node in
+    let it = c.in-Err.ensures.node k in
+    err_saved c.args.node.now.node c.save.new.self.node k it.0 c.in-Err.fault it.1
 
 pub returns-clause-becomes : goal.returns-clause-becomes
 returns-clause-becomes g c honest =

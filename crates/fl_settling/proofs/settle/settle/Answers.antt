@@ -1,41 +1,29 @@
-use Rattle.std.proofs.Common.{◌≢◌, ◌∙◌, inr, refl, sym, ap, subst, arith}
-use Rattle.std.proofs.lemmas.Bool.{false≢true}
-use Rattle.fl_replica.specs.Boards.{Front, StartsWith}
-use Rattle.fl_crew_model.specs.Compared.{decisions_of}
-use Rattle.fl_settling.proofs.Wholes.{compared_settled}
+use Rattle.std.proofs.Common.{◌≡◌, ◌∙◌, Bool, true, false, IsTrue, ap, not, refl}
+use Rattle.fl_replica.specs.Boards.{Front}
+use Rattle.fl_settling.proofs.Wholes.{whole_fine, fine_whole}
 use Rattle.fl_settling.proofs.settle.settle.Goals as goal
 
-pub returns-then-not-catch_up-clause-settled : goal.returns-then-not-catch_up-clause-settled
-returns-then-not-catch_up-clause-settled c =
-    let old = c.args.worker.now in
-    let list = c.args.press.now.list in
-    let caught = c.catch_up.ensures in
-    let left = c.give_up.ensures in
-    let same_list = ap (λ (d : Front). d.list) left.desk in
-    let ahead : c.give_up.new.worker.desk.list ≢ list =
-    λ same. absurd (false≢true (sym c.if-not-catch_up.true ∙ caught.all.1 (sym same_list ∙ same))) in
-    record {
-      number = left.number;
-      bench = left.bench;
-      ends = left.ends;
-      tasks = left.tasks;
-      board = ap (λ (d : Front). d.board) left.desk ∙ caught.board;
-      later = subst (λ (d : Front). StartsWith d.list old.desk.list) (sym left.desk) caught.later;
-      learns = subst (λ (d : Front). StartsWith d.list list) (sym left.desk) caught.told;
-      entries = inr (inr (record {
-        desk = ahead;
-        good = left.good;
-        entries = left.entries;
-      }));
-      good = omega (arith, left.good);
-      recorded =
-          (c.args.first, decisions_of old.number c.args.deeds.now, rw left.good (refl, refl));
-      most = λ same. absurd (ahead same);
-    }
+not_not : (b : Bool) → not b ≡ false → IsTrue b
+not_not true is = refl
+not_not false is = absurd (cc)
 
-pub returns-clause-settled : goal.returns-clause-settled
-returns-clause-settled c =
-    let caught = c.catch_up.ensures in
-    compared_settled c.args.first c.args.press.now.list c.args.deeds.now c.args.worker.now
-    c.catch_up.new.desk c.compare.new.worker caught.board caught.later
-    (caught.all.0 c.if-not-catch_up.false) c.compare.ensures.compared
+pub returns-clause-fine : goal.returns-clause-fine
+returns-clause-fine c =
+    let old = c.args.worker.now in
+    let found = c.compare-found in
+    let left = c.give_up-2.ensures in
+    let caught =
+    ap (λ (d : Front). d.list) left.desk
+    ∙ c.catch_up-is_caught_up.ensures.all.0 c.if-not-is_caught_up.false in (
+      λ t.
+          whole_fine c.args.first found.result.last found.result.front c.args.press.now.list
+          c.args.deeds.now c.args.failed old c.catch_up-is_caught_up.new.desk
+          c.give_up-2.new.worker found.ensures.front left.number left.entries left.good caught
+          (found.ensures.met.0 (not_not found.result.is_met c.if-not-found.false))
+          (found.ensures.whole.0 t),
+      λ fine.
+          found.ensures.whole.1
+          (fine_whole c.args.first found.result.last found.result.front c.args.press.now.list
+          c.args.deeds.now c.args.failed old c.catch_up-is_caught_up.new.desk
+          c.give_up-2.new.worker found.ensures.front left.number left.entries left.good fine),
+    )

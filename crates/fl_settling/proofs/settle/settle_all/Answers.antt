@@ -16,16 +16,17 @@ loop-worker-preserved c =
     let read = c.worker-item.result in
     let item = get_or cur i read in
     let new = c.settle-fine.new.worker in
+    let failed = c.args.failed in
     let below : i < length cur = omega arith in
     let same = read_same cur i read below c.worker-item.is in
     record {
       settled =
-          each_more (IsSettled first list deeds) old cur i item new below at.invariant.rest same
-          c.settle-fine.ensures.settled at.invariant.settled;
+          each_more (IsSettled first list deeds failed) old cur i item new below at.invariant.rest
+          same c.settle-fine.ensures.settled at.invariant.settled;
       fine =
-          flag_more (IsFine first list deeds) old cur i item new at.fine c.settle-fine.result below
-          at.invariant.rest same c.settle-fine.ensures.fine at.invariant.fine;
-      rest = rest_more (IsSettled first list deeds) old cur i item new at.invariant.rest;
+          flag_more (IsFine first list deeds failed) old cur i item new at.fine
+          c.settle-fine.result below at.invariant.rest same c.settle-fine.ensures.fine at.invariant.fine;
+      rest = rest_more (IsSettled first list deeds failed) old cur i item new at.invariant.rest;
     }
 
 pub returns-clause-fine : goal.returns-clause-fine
@@ -41,8 +42,8 @@ returns-clause-fine c =
 pub returns-clause-batch : goal.returns-clause-batch
 returns-clause-batch c number b b' start first list recorded of_workers back =
     let at = c.loop-worker in
-    ends_at number c.args.first c.args.press.now.list b b' c.args.deeds.now start c.args.workers.now
-    at.workers at.fine
+    ends_at number c.args.first c.args.press.now.list b b' c.args.deeds.now c.args.failed start
+    c.args.workers.now at.workers at.fine
     first list recorded of_workers back
     (record {
       count = omega arith;

@@ -6,10 +6,10 @@ use Rattle.fl_settling.proofs.settle.settle_all.Given as goal
 abbrev pub invariant-loop-worker : goal.invariant-loop-worker
 invariant-loop-worker l = record {
   settled : (k : ℕ) (d : Worker) → k < l.worker-index
-      → IsSettled l.first l.press.list l.deeds (slice_index_or l.fn.workers k d)
+      → IsSettled l.first l.press.list l.deeds l.failed (slice_index_or l.fn.workers k d)
       (slice_index_or l.workers k d);
   fine : IsTrue l.fine ↔ ((k : ℕ) (d : Worker) → k < l.worker-index
-      → IsFine l.first l.press.list l.deeds (slice_index_or l.fn.workers k d)
+      → IsFine l.first l.press.list l.deeds l.failed (slice_index_or l.fn.workers k d)
       (slice_index_or l.workers k d));
   rest : (k : ℕ) (d : Worker) → l.worker-index ≤ k
       → slice_index_or l.workers k d ≡ slice_index_or l.fn.workers k d;

@@ -6,6 +6,7 @@ use Rattle.fl_replica.specs.Boards.{Pressed}
 use Rattle.fl_workers.specs.Batches.{items_for}
 use Rattle.fl_workers.specs.Ended.{AreAllAnswered, IsRuledOn, said_of}
 use Rattle.fl_workers.specs.Plans.{IsPlan}
+use Rattle.fl_workers.proofs.Breaking.{broken_there}
 use Rattle.fl_workers.proofs.Manning.{manned_still, unbegun, boards_after, answered_after, manned_after, entries_count, not_not}
 use Rattle.fl_workers.proofs.Serving.{serves}
 use Rattle.fl_workers.proofs.manned.Manned.batch.Goals as goal
@@ -127,3 +128,14 @@ returns-clause-serves g c =
     c.law_weave.ensures.built c.law_weave.ensures.due _ planned.room.no_taken
     c.work.ensures.received (items_for c.args.jobs.items c.args.packets.items)
     c.in_ok-items.ensures)
+
+pub returns-clause-broken : goal.returns-clause-broken
+returns-clause-broken g c =
+    let i = c.self.inside in
+    let fine = c.settle-fine in
+    broken_there g.K.Keeper.custody c.in_ok-queues.field-0.orders.items i.workers.items i.registrar
+    c.begin.new.registrar c.work.new.registrar fine.new.registrar
+    (length i.lines.rulings.items) i.procs (c.self.invariant.seated c.if-self.false)
+    c.in-Ok.ensures.begun c.work.ensures.rules fine.ensures.closed c.collect.new.workers.items
+    c.in_ok-queues.field-0.procs _
+    (λ goes. fine.ensures.runs (c.goes_on.ensures.fine (not_not c.goes_on.result goes)))
