@@ -1,11 +1,10 @@
 -- A line has one answer, where the keepers of its nodes open one way.
-use Rattle.std.proofs.Common.{◌≡◌, ◌≢◌, ◌⊎◌, ◌∙◌, inl, inr, ℕ, true, List, [], ◌∷◌, ◌++◌, length, take, None, Some, refl, sym, ap, subst, Result, Ok, Err, arith}
+use Rattle.std.proofs.Common.{◌≡◌, ◌≢◌, ◌∙◌, inl, inr, ℕ, true, List, [], ◌∷◌, ◌++◌, length, take, None, Some, refl, sym, ap, subst, Result, Ok, Err, arith}
 use Rattle.std.specs.List.{All, AllByRecursion}
 use Rattle.std.proofs.lemmas.List.Elements.{recursion_from_All}
 use Rattle.fl_bench.specs.laws.Puts.{none_some, same_found}
 use Rattle.fl_ops.specs.declared.format.Format.{Format}
 use Rattle.fl_ops.specs.Grammar.{first_fault}
-use Rattle.fl_store.specs.Custody.{Custody}
 use Rattle.fl_store.specs.Kept.{Kept}
 use Rattle.fl_jobs.specs.declared.answer.Refusal.TheVariants.{Memory}
 use Rattle.fl_wire.specs.PacketBytes.{packet_bytes}
@@ -14,7 +13,6 @@ use Rattle.fl_wire.specs.PacketGrammar.{packet_fields, packet_fault}
 use Rattle.fl_wire.specs.declared.packet.Packet.{Packet}
 use Rattle.fl_wire.specs.declared.packet.Packet.TheVariants as packets
 use Rattle.fl_labels.specs.SetBy as set
-use Rattle.fl_makers.specs.Making.{Making, IsKeeperFault}
 use Rattle.fl_system.specs.declared.answer.Fault.{Fault}
 use Rattle.fl_system.specs.declared.answer.Fault.TheVariants as faults
 use Rattle.fl_system.specs.declared.event.Event.{Event}
@@ -49,16 +47,16 @@ use Rattle.fl_calls.specs.Entering.{Openings, Enters, is_there, joins, is_refuse
 use Rattle.fl_calls.specs.Completing.{begins, starved, Finishes, given_up, not_saved, saved, Completes, at_once, in_steps}
 use Rattle.fl_calls.specs.Calls as calls
 use Rattle.fl_calls.specs.Calls.{Says, said_of, counted, Spells, Delivers, BeginsToTake, Tells, Unites, ChecksAt}
-use Rattle.fl_calls.specs.Over.{NotOpened, without_keeper, not_joined, openings_of}
 use Rattle.fl_turns.specs.Answer.{Answer, said}
 use Rattle.fl_turns.specs.Naming.{made_by, renamed}
 use Rattle.fl_turns.specs.Run.{Run}
 use Rattle.fl_turns.specs.Session.{Session, begun}
 use Rattle.fl_turns.specs.Turn.{AsksNode, AnswersLine, asks, unites, counts, lists, AnswersReading, Turn}
-use Rattle.fl_turn_laws.specs.Certain.{IsSure, OpenOneWay}
+use Rattle.fl_turn_laws.specs.Certain.{IsSure, OpenOneWay, RefusesOver, no_room, keeper_failed, another, not_joined}
 use Rattle.fl_turns.specs.Leading.{IsPlain, ArePlain, Leads}
 use Rattle.fl_turns.specs.laws.Leads.{stays, then_, enters_leads, step_leads, turn_leads, is_reached}
 use Rattle.fl_turn_laws.proofs.OneCheck.{one_check}
+use Rattle.fl_turn_laws.proofs.RefusedAgain.{refused_before}
 
 -- ---- worlds of one desk
 
@@ -255,9 +253,15 @@ sure_checked fault sure e =
     let same : fault ≡ faults.Refused Memory = cc e in
     sure.memory (ap Refused same)
 
-module _ (one_spelling : (f g : Format) (a b : Packet) → HasPacket f a → HasPacket g b
-    → packet_bytes f a ≡ packet_bytes g b → (f ≡ g) × (a ≡ b))
-    (whole : (f : Format) (packet : Packet) → HasPacket f packet → packet_fault (packet_bytes f packet) ≡ None) where
+-- what the law of packets says
+abbrev pub SpellOnePacket : Type 0
+SpellOnePacket = (f g : Format) (a b : Packet) → HasPacket f a → HasPacket g b
+    → packet_bytes f a ≡ packet_bytes g b → (f ≡ g) × (a ≡ b)
+
+abbrev pub HaveNoFault : Type 0
+HaveNoFault = (f : Format) (packet : Packet) → HasPacket f packet → packet_fault (packet_bytes f packet) ≡ None
+
+module _ (one_spelling : SpellOnePacket) (whole : HaveNoFault) where
   -- bytes of a packet have no fault
   no_fault : (packet : Packet) (bytes : List ℕ) (place : ℕ) → Spells bytes packet
       → first_fault (packet_fields bytes) ≡ Some place → ⊥
@@ -306,67 +310,46 @@ module _ (one_spelling : (f g : Format) (a b : Packet) → HasPacket f a → Has
 
   -- ---- lines
 
-  module _ {K M : Type 0} (custody : Custody K) (making : Making M K) (maker : M) (certain : OpenOneWay custody making maker) where
-    o : Openings
-    o = openings_of custody making maker
-
-    -- who is refused would not have joined
-    record WouldNotJoin (w : World) (number : ℕ) (fault : Fault) : Type 0 where
-      pub kept : Kept
-      pub found : making.finds maker number kept
-      pub refused : Joins w number kept (Refused fault) w
-
-    -- or is another's
-    IsOthers : ℕ → Fault → Type 0
-    IsOthers number fault = making.refuses maker number faults.WrongNode × (fault ≡ faults.WrongNode)
-
-    of_cause : (number : ℕ) (fault : Fault) → making.refuses maker number fault → IsKeeperFault fault → IsAmple (Refused fault)
-        → IsOthers number fault
-    unfolding IsOthers
-    of_cause number fault why (inl is) sure = absurd (sure.memory (ap Refused is))
-    of_cause number fault why (inr (inl is)) sure = absurd (sure.keeper (ap Refused is))
-    of_cause number fault why (inr (inr is)) sure = (subst (λ f. making.refuses maker number f) is why, is)
-
-    refusal : (w : World) (number : ℕ) (fault : Fault) → NotOpened custody making maker w number fault
-        → IsAmple (Refused fault) → IsOthers number fault ⊎ WouldNotJoin w number fault
-    refusal w number fault (without_keeper why) sure = inl (of_cause number fault why (certain.fails number fault why) sure)
-    refusal w number fault (not_joined keeper left made other over) sure =
-        let (honest, k, held, found, refused) = over (certain.trusted left) in
-        inr (record { kept = k; found = found; refused = refused })
-
+  module _ (o : Openings) (certain : OpenOneWay o) where
     -- how a node is opened is sure
     SureEntry : Result (Unit {0}) Fault → Type 0
     SureEntry (Ok u) = Unit {0}
     SureEntry (Err fault) = IsAmple (Refused fault)
 
-    both_join : (w : World) (number : ℕ) (k other : Kept) (r s : Reply) (a b : World) → making.finds maker number k → making.finds maker number other
+    both_join : (w : World) (number : ℕ) (k other : Kept) (r s : Reply) (a b : World) → o.finds number k → o.finds number other
         → Joins w number k r a → Joins w number other s b → IsAmple r → IsAmple s → (r ≡ s) × (a ≡ b)
     both_join w number k other r s a b found found' step step' p q =
         one_joining step (subst (λ x. Joins w number x s b) (certain.one_kept number other k found' found) step')
         p q
 
     -- who joins is not refused
-    joins_alone : (w a : World) (number boot : ℕ) (k : Kept) (fault : Fault) → making.finds maker number k
-        → Joins w number k (Booted boot) a → IsAmple (Refused fault) → IsOthers number fault ⊎ WouldNotJoin w number fault → ⊥
-    unfolding IsOthers
-    joins_alone w a number boot k fault found step sure (inl other) = certain.never_both number k other.0 found
-    joins_alone w a number boot k fault found step sure (inr not) =
-        let same = (both_join w number k not.kept (Booted boot) (Refused fault) a w found not.found step not.refused
-        (sure_booted boot) sure).0 in absurd (cc)
+    joins_alone : (w a : World) (number boot : ℕ) (k : Kept) (fault : Fault) → o.finds number k
+        → Joins w number k (Booted boot) a → IsAmple (Refused fault) → RefusesOver (o.finds number) w number fault → ⊥
+    joins_alone w a number boot k fault found step sure no_room = sure.memory refl
+    joins_alone w a number boot k fault found step sure keeper_failed = sure.keeper refl
+    joins_alone w a number boot k fault found step sure (another none) = none k found
+    joins_alone w a number boot k fault found step sure (not_joined {k = other} found' left refused) =
+        let same = (both_join w number k other (Booted boot) (Refused fault) a w found found' step
+        (refused_before left refused) (sure_booted boot) sure).0 in absurd (cc)
 
-    one_refusal : (w : World) (number : ℕ) (f g : Fault) → IsOthers number f ⊎ WouldNotJoin w number f
-        → IsOthers number g ⊎ WouldNotJoin w number g → IsAmple (Refused f) → IsAmple (Refused g) → f ≡ g
-    unfolding IsOthers
-    one_refusal w number f g (inl is) (inl so) p q = is.1 ∙ sym so.1
-    one_refusal w number f g (inl is) (inr not) p q = absurd (certain.never_both number not.kept is.0 not.found)
-    one_refusal w number f g (inr not) (inl is) p q = absurd (certain.never_both number not.kept is.0 not.found)
-    one_refusal w number f g (inr not) (inr nor) p q =
-        let same = (both_join w number not.kept nor.kept (Refused f) (Refused g) w w not.found nor.found not.refused
-        nor.refused p q).0 in cc
+    one_refusal : (w : World) (number : ℕ) (f g : Fault) → RefusesOver (o.finds number) w number f
+        → RefusesOver (o.finds number) w number g → IsAmple (Refused f) → IsAmple (Refused g) → f ≡ g
+    one_refusal w number f g no_room k p q = absurd (p.memory refl)
+    one_refusal w number f g keeper_failed k p q = absurd (p.keeper refl)
+    one_refusal w number f g (another none) no_room p q = absurd (q.memory refl)
+    one_refusal w number f g (another none) keeper_failed p q = absurd (q.keeper refl)
+    one_refusal w number f g (another none) (another none') p q = refl
+    one_refusal w number f g (another none) (not_joined {k} found left refused) p q = absurd (none k found)
+    one_refusal w number f g (not_joined found left refused) no_room p q = absurd (q.memory refl)
+    one_refusal w number f g (not_joined found left refused) keeper_failed p q = absurd (q.keeper refl)
+    one_refusal w number f g (not_joined {k} found left refused) (another none) p q = absurd (none k found)
+    one_refusal w number f g (not_joined {k} found left refused) (not_joined {k = other} found' left' refused') p q =
+        let same = (both_join w number k other (Refused f) (Refused g) w w found found' (refused_before left refused)
+        (refused_before left' refused') p q).0 in cc
 
     enters_one : (w a b : World) (number : ℕ) (r s : Result (Unit {0}) Fault) → Enters o w number r a → Enters o w number s b
         → SureEntry r → SureEntry s → (r ≡ s) × (a ≡ b)
-    unfolding o SureEntry
+    unfolding SureEntry
     enters_one w a b number r s (is_there at) (is_there at') p q = (refl, refl)
     enters_one w a b number r s (is_there at) (joins none found step) p q = absurd (none_some none at)
     enters_one w a b number r s (is_there at) (is_refused none why) p q = absurd (none_some none at)
@@ -375,15 +358,15 @@ module _ (one_spelling : (f g : Format) (a b : Packet) → HasPacket f a → Has
     enters_one w a b number r s (joins {k} {boot} none found step) (joins {k = other} {boot = boot'} none' found' step') p q =
         (refl, (both_join w number k other (Booted boot) (Booted boot') a b found found' step step' (sure_booted boot) (sure_booted boot')).1)
     enters_one w a b number r s (joins {k} {boot} none found step) (is_refused {fault} none' why) p q =
-        absurd (joins_alone w a number boot k fault found step q (refusal w number fault why q))
+        absurd (joins_alone w a number boot k fault found step q (certain.refused w number fault why))
     enters_one w a b number r s (is_refused {fault} none' why) (joins {k} {boot} none found step) p q =
-        absurd (joins_alone w b number boot k fault found step p (refusal w number fault why p))
+        absurd (joins_alone w b number boot k fault found step p (certain.refused w number fault why))
     enters_one w a b number r s (is_refused {fault} none why) (is_refused {fault = other} none' why') p q =
-        (ap Err (one_refusal w number fault other (refusal w number fault why p) (refusal w number other why' q) p q), refl)
+        (ap Err (one_refusal w number fault other (certain.refused w number fault why) (certain.refused w number other why') p q), refl)
 
     once_one : (number : ℕ) (does : World → Said → World → Type 0) → ((v : World) → Fit v → One does v) → (w : World) → Fit w
         → One (λ v. OnceOpen o v number does) w
-    unfolding One o SureEntry Fit
+    unfolding One SureEntry Fit
     once_one number does one w fit x y a b (shut {fault} entered) (shut {fault = other} entered') p q =
         let same = enters_one w a b number (Err fault) (Err other) entered entered' p q in
         let fault_is : fault ≡ other = cc (same.0) in
@@ -495,10 +478,10 @@ module _ (one_spelling : (f g : Format) (a b : Packet) → HasPacket f a → Has
         (λ i. first.0 i ∷ rest.0 i, rest.1)
 
     pub script_one : (lines : List (List ℕ)) (xs ys : List Answer) (m n : Session)
-        → Run (openings_of custody making maker) begun lines xs m
-        → Run (openings_of custody making maker) begun lines ys n → All IsSure xs → All IsSure ys
+        → Run o begun lines xs m
+        → Run o begun lines ys n → All IsSure xs → All IsSure ys
         → (xs ≡ ys) × (m ≡ n)
-    unfolding o Fit
+    unfolding Fit
     script_one lines xs ys m n h k p q =
         run_one begun lines xs ys m n (stays (empty_world 1)) h k (recursion_from_All IsSure xs p) (recursion_from_All IsSure ys q)
 
@@ -517,10 +500,10 @@ module _ (one_spelling : (f g : Format) (a b : Packet) → HasPacket f a → Has
         λ i. one.0 i ∷ rest i
 
     pub same_first : (first later other : List (List ℕ)) (xs ys : List Answer) (m n : Session)
-        → Run (openings_of custody making maker) begun (first ++ later) xs m
-        → Run (openings_of custody making maker) begun (first ++ other) ys n → All IsSure xs → All IsSure ys
+        → Run o begun (first ++ later) xs m
+        → Run o begun (first ++ other) ys n → All IsSure xs → All IsSure ys
         → take (length first) xs ≡ take (length first) ys
-    unfolding o Fit
+    unfolding Fit
     same_first first later other xs ys m n h k p q =
         first_one begun first later other xs ys m n (stays (empty_world 1)) h k (recursion_from_All IsSure xs p)
         (recursion_from_All IsSure ys q)

@@ -11,8 +11,8 @@ ghost use Rattle.fl_stream.specs.Output.{Writes};
 ghost use Rattle.fl_stream.specs.Turns.{LineOutput, Run as Lines};
 ghost use Rattle.fl_system.specs.Runs.{IsReached};
 ghost use Rattle.fl_turn_laws.specs.Beginning.{Begins};
-ghost use Rattle.fl_turn_laws.specs.Certain.{IsSure, OpenOneWay};
-ghost use Rattle.fl_turn_laws.specs.InMemory.{in_memory};
+ghost use Rattle.fl_turn_laws.specs.Certain.{IsSure, IsSureRun, OpenOneWay, Stores, given};
+ghost use Rattle.fl_turn_laws.specs.InMemory.{in_memory, never_opened};
 ghost use Rattle.fl_turns.specs.Answer.{Answer, starved_line};
 ghost use Rattle.fl_turns.specs.Answered.{IsAnswered};
 ghost use Rattle.fl_turns.specs.Lasting.{LastsFor};
@@ -93,9 +93,8 @@ pub fn law_script_safe<M: MakesKeepers>()
     law_lasting();
 }
 
-/// What the first lines are answered is a run of them alone; and, where the keepers open one way
-/// and no line is answered that memory was wanting or a keeper failed, the same whatever comes
-/// later.
+/// What the first lines are answered is a run of them alone; and, where nodes open one way and no
+/// line is answered that memory was wanting or a keeper failed, the same whatever comes later.
 pub fn law_first_lines<M: MakesKeepers>()
     ensures begins { (maker : M) (first later : List (List ℕ)) (outputs : List LineOutput)
         (end : SessionOver M.K M) → Lines (TurnsOver M.K.custody M.making)
@@ -104,7 +103,7 @@ pub fn law_first_lines<M: MakesKeepers>()
         1 (begun_over maker) first later outputs end }
     ensures same { (maker : M) (first later other : List (List ℕ)) (a b : List Answer)
         (m n : Session) →
-        OpenOneWay M.K.custody M.making maker →
+        OpenOneWay (openings_of M.K.custody M.making maker) →
         Run (openings_of M.K.custody M.making maker)
         begun (first ++ later) a m →
         Run (openings_of M.K.custody M.making maker)
@@ -114,12 +113,12 @@ pub fn law_first_lines<M: MakesKeepers>()
     law_one_packet();
 }
 
-/// Where the keepers of a script's nodes open one way, as those in memory do, and no line is
-/// answered that memory was wanting or a keeper failed, a script has one run: the same answers,
-/// whatever else they refuse, and the same nodes at the end.
+/// Where the nodes of a script open one way, as those in memory do, and no line is answered that
+/// memory was wanting or a keeper failed, a script has one run: the same answers, whatever else
+/// they refuse, and the same nodes at the end.
 pub fn law_output<M: MakesKeepers>()
     ensures { (maker : M) (lines : List (List ℕ)) (a b : List Answer) (m n : Session) →
-        OpenOneWay M.K.custody M.making maker →
+        OpenOneWay (openings_of M.K.custody M.making maker) →
         Run (openings_of M.K.custody M.making maker)
         begun lines a m →
         Run (openings_of M.K.custody M.making maker)
@@ -128,12 +127,43 @@ pub fn law_output<M: MakesKeepers>()
     law_one_packet();
 }
 
-/// So it is over keepers in memory, which open one way.
+/// So it is over given stores, as a directory and memory have them: where no line is answered that
+/// memory was wanting or a keeper failed, what a script is answered, and the nodes that it leaves,
+/// are a function of its lines and of what was kept of each node before.
+///
+/// The stores are what the first opening of each node found, whoever made its keeper. A refused
+/// node that is named again is opened over what its opening left, with its boot raised, and is
+/// refused again. Of runs in which it joins then nothing is said.
+pub fn law_given_stores<M: MakesKeepers, N: MakesKeepers>()
+    ensures answers { (stores : Stores) (maker : M) (other : N) (lines : List (List ℕ))
+        (a b : List Answer) (m n : Session) →
+        Run (given stores (openings_of M.K.custody M.making maker)) begun lines a m →
+        Run (given stores (openings_of N.K.custody N.making other)) begun lines b n →
+        All IsSure a → All IsSure b → (a ≡ b) × (m ≡ n) }
+    ensures first { (stores : Stores) (maker : M) (other : N) (first later rest : List (List ℕ))
+        (a b : List Answer) (m n : Session) →
+        Run (given stores (openings_of M.K.custody M.making maker)) begun (first ++ later) a m →
+        Run (given stores (openings_of N.K.custody N.making other)) begun (first ++ rest) b n →
+        All IsSure a → All IsSure b → take (length first) a ≡ take (length first) b }
+    ensures text { (stores : Stores) (maker : M) (other : N) (lines : List (List ℕ))
+        (text rest : List ℕ) (status worst : ℕ) (m n : Session) →
+        IsSureRun (given stores (openings_of M.K.custody M.making maker)) lines text status m →
+        IsSureRun (given stores (openings_of N.K.custody N.making other)) lines rest worst n →
+        (text ≡ rest) × (status ≡ worst) × (m ≡ n) }
+{
+    law_one_packet();
+}
+
+/// In memory nodes open one way; and each run there is one over stores in which nothing is kept
+/// yet.
 pub fn law_in_memory()
-    ensures { (lines : List (List ℕ)) (a b : List Answer) (m n : Session) →
+    ensures one { (lines : List (List ℕ)) (a b : List Answer) (m n : Session) →
         Run in_memory begun lines a m → Run in_memory begun lines b n → All IsSure a
         → All IsSure b →
         (a ≡ b) × (m ≡ n) }
+    ensures stores { (lines : List (List ℕ)) (answers : List Answer) (end : Session) →
+        Run in_memory begun lines answers end →
+        Run (given never_opened in_memory) begun lines answers end }
 {
     law_output::<MemMaker>();
 }

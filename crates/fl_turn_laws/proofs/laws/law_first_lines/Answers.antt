@@ -8,5 +8,4 @@ returns-clause-begins g c = λ maker first later outputs end. run_begins _ 1 (be
 
 pub returns-clause-same : goal.returns-clause-same
 returns-clause-same g c = λ maker first later other a b m n certain.
-    same_first c.law_one_packet.ensures.one c.law_one_packet.ensures.whole g.M.K.Keeper.custody
-    g.M.MakesKeepers.making maker certain first later other a b m n
+    same_first c.law_one_packet.ensures.one c.law_one_packet.ensures.whole _ certain first later other a b m n
