@@ -4,6 +4,7 @@
 pub mod fault;
 mod file;
 pub mod host;
+pub mod laws;
 pub mod maker;
 pub mod opener;
 mod opening;
