@@ -1,10 +1,10 @@
 -- Texts cut at their commas.
 use Rattle.std.proofs.Common.{◌≡◌, ◌≢◌, ℕ, ◌<◌, ◌≤◌, ◌+◌, ◌-◌, false, zero, suc, take, length-append, length-drop, append_assoc, append-nil, Option, Some, None, MatchOption, drop, List, [], ◌∷◌, ◌++◌, length, get_or, map, sym, ap, subst, refl, ◌∙◌, arith}
-use Rattle.std.specs.List.{join_with_byte, slice_split, slice_range}
+use Rattle.std.specs.List.{All, join_with_byte, slice_split, slice_range}
 use Rattle.std.specs.Str.{IsUtf8, IsCharBoundary}
 use Rattle.std.proofs.Math.Seq.{get_or-append_seam}
 use Rattle.std.proofs.lemmas.List.{drop_more, drop_all, take_more, get_or-drop, length-take, map-append}
-use Rattle.std.proofs.lemmas.List.Elements.{All-nil, All-cons, All-append, All-from_get_or}
+use Rattle.std.proofs.lemmas.List.Elements.{All-nil, All-cons, All-head, All-tail, All-append, All-from_get_or}
 use Rattle.std.proofs.lemmas.List.Folds.{drop_split}
 use Rattle.std.proofs.lemmas.Option.{same_Some}
 use Rattle.std.proofs.lemmas.List.Splits.{slice_split_none, slice_split_at, join_with_byte-slice_split}
@@ -41,6 +41,11 @@ module _ {K : Type 0} (text : K → List ℕ) (plain : (x : K) → NoComma (text
       sym (ap (λ ps. get_or ps k part) cut ∙ get_or-append_seam (map text items) part more part) in
       no_items bs xs k part o some e (inside, there) none is
 
+-- what holds of all that two lists have holds of the first's
+All-front : {X : Type 0} (P : X → Type 0) (xs ys : List X) → All P (xs ++ ys) → All P xs
+All-front P [] ys all = All-nil P
+All-front P (x ∷ xs) ys all = All-cons P x xs (All-head P x (xs ++ ys) all) (All-front P xs ys (All-tail P x (xs ++ ys) all))
+
 -- the parts of a text are those of its first piece, if a comma ends that, and those behind it
 pub parts_at : (rest piece behind : List ℕ) → NoComma piece → rest ≡ piece ++ 44 ∷ behind
     → slice_split is_comma rest ≡ piece ∷ slice_split is_comma behind
@@ -49,6 +54,23 @@ parts_at rest piece behind none cut =
 
 pub parts_end : (rest : List ℕ) → NoComma rest → slice_split is_comma rest ≡ rest ∷ []
 parts_end rest none = slice_split_none is_comma rest none
+
+last_alone : (firsts : List (List ℕ)) (last one : List ℕ) → one ∷ [] ≡ firsts ++ last ∷ [] → one ≡ last
+last_alone [] last one e = cc
+last_alone (first ∷ []) last one e = absurd (omega (arith, ap length e))
+last_alone (first ∷ second ∷ more) last one e = absurd (omega (arith, ap length e))
+
+-- a text with no comma is its last part
+pub one_part : (bs part : List ℕ) (firsts : List (List ℕ)) → NoComma bs
+    → slice_split is_comma bs ≡ firsts ++ part ∷ [] → bs ≡ part
+one_part bs part firsts plain cut = last_alone firsts part bs (sym (parts_end bs plain) ∙ cut)
+
+-- what stands between two braces has no comma where the whole has none
+pub plain_within : (bs : List ℕ) (first last : ℕ) (whole : List ℕ) → whole ≡ first ∷ (bs ++ last ∷ [])
+    → NoComma whole → NoComma bs
+plain_within bs first last whole is plain =
+    All-front (λ b. is_comma b ≡ false) bs (last ∷ [])
+    (All-tail (λ b. is_comma b ≡ false) first (bs ++ last ∷ []) (subst NoComma is plain))
 
 -- a piece that is an item's text is that item
 pub parts_more : {K : Type 0} (text : K → List ℕ) (items : List K) (x : K) (piece : List ℕ)

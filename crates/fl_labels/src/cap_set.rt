@@ -1,9 +1,9 @@
 //! Sets of capabilities.
-ghost use Rattle.std.specs.Prelude.{◌≡◌, IfOk, IfErr, OnOk, OnErr, IsErrOf, IsTrue, ◌↔◌, not, false};
+ghost use Rattle.std.specs.Prelude.{◌≡◌, ◌≢◌, IfOk, IfErr, OnOk, OnErr, IsErrOf, IsTrue, ◌↔◌, not, false, []};
 ghost use Rattle.fl_labels.specs.Cap.{cap_cmp};
 ghost use Rattle.fl_labels.specs.Found.{Found, Tells, Within};
 ghost use Rattle.fl_labels.specs.Judged.{Judges};
-ghost use Rattle.fl_labels.specs.Text.{cap_text};
+ghost use Rattle.fl_labels.specs.Text.{braces, cap_text};
 ghost use Rattle.fl_labels.specs.Uses.{AreUsesOf};
 ghost use Rattle.fl_labels.specs.Words.{IsListing};
 ghost use Rattle.fl_labels.specs.SetBy as set;
@@ -113,14 +113,18 @@ impl CapSet {
 
     /// Reads a text such as `{+1.1,-1.4}`: capabilities in any order, a repeated one once.
     ///
-    /// `BadText` of a text that lists no capabilities in braces, `Memory`. Linear in a text that
-    /// lists rising capabilities, and else with a sort.
+    /// `BadText` of a text that lists no capabilities in braces, `Memory` of one that lists some.
+    /// Linear in a text that lists rising capabilities, and else with a sort.
     pub fn from_text(alloc: Global, text: &str) -> Result<Self, SetError>
         ensures ok { IfOk result (λ caps. IsListing cap_text caps text.now) }
         ensures bad_text { IsErrOf result SetError.BadText
             → (s : set.SetBy cap_cmp) → ¬ IsListing cap_text s text.now }
         ensures never_too_long { IsErrOf result SetError.TooLong → ⊥ }
+        ensures memory { IsErrOf result SetError.Memory → text.now ≢ braces cap_text [] }
     {
+        if text == "{}" {
+            return Ok(CapSet::new(alloc));
+        }
         Ok(CapSet::from_vec(read_items(alloc, text)?)?)
     }
 

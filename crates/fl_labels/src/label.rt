@@ -2,7 +2,7 @@
 ghost use Rattle.std.specs.Prelude.{◌≡◌, ◌<◌, ◌≤◌, IfOk, IfErr, OnOk, OnErr, IsErrOf, not, false, IsTrue, ◌↔◌};
 ghost use Rattle.fl_labels.specs.Found.{Found};
 ghost use Rattle.fl_labels.specs.Text.{name_text};
-ghost use Rattle.fl_labels.specs.Words.{IsListing};
+ghost use Rattle.fl_labels.specs.Words.{IsListing, NoComma};
 ghost use Rattle.fl_labels.specs.Name.{name_cmp};
 ghost use Rattle.fl_labels.specs.SetBy as set;
 
@@ -118,8 +118,8 @@ impl Label {
     /// Reads a text such as `{1.1,1.4}`: tags in any order, a repeated one once.
     ///
     /// `BadText` of a text that lists no names in braces, `TooLong` where it lists more than 256,
-    /// `Memory`. Takes no memory for one tag at most. Linear in a text that lists rising tags, and
-    /// else with a sort.
+    /// `Memory` of one with a comma, so of no text of one tag at most, which takes none. Linear in
+    /// a text that lists rising tags, and else with a sort.
     pub fn from_text(alloc: Global, text: &str) -> Result<Self, SetError>
         ensures ok { IfOk result (λ label. IsListing name_text label text.now) }
         ensures short { IfOk result (λ label. set.len label ≤ 256) }
@@ -127,6 +127,7 @@ impl Label {
             → (s : set.SetBy name_cmp) × IsListing name_text s text.now × (256 < set.len s) }
         ensures bad_text { IsErrOf result SetError.BadText
             → (s : set.SetBy name_cmp) → ¬ IsListing name_text s text.now }
+        ensures memory { IsErrOf result SetError.Memory → ¬ NoComma text.now }
     {
         let inner = inner_of(text).ok_or(SetError::BadText)?;
         if inner.is_empty() {

@@ -63,6 +63,9 @@ pub(crate) fn read_parts<T: Item>(alloc: Global, inner: &str) -> Result<Vec<T>, 
     ensures bad_text { IsErrOf result SetError.BadText
         → (items : List T) → inner.now ≢ join_with_byte 44 (map T.text items) }
     ensures never_too_long { IsErrOf result SetError.TooLong → ⊥ }
+    ensures some { IsErrOf result SetError.Memory → inner.now ≢ [] }
+    ensures one { IsErrOf result SetError.Memory → NoComma inner.now
+        → (item : T) × (inner.now ≡ T.text item) }
 {
     let mut items = Vec::new(alloc);
     if inner.is_empty() {
@@ -85,12 +88,13 @@ pub(crate) fn read_parts<T: Item>(alloc: Global, inner: &str) -> Result<Vec<T>, 
 /// The items that a text such as `{1.1,1.4}` spells, in their order.
 ///
 /// `BadText` of a text that is no list of such items in braces with commas between them and no
-/// spaces, `Memory`.
+/// spaces, `Memory` of one that holds something.
 pub fn read_items<T: Item>(alloc: Global, text: &str) -> Result<Vec<T>, SetError>
     ensures ok { IfOk result (λ items. text.now ≡ braces T.text items.items) }
     ensures bad_text { IsErrOf result SetError.BadText → (items : List T)
         → text.now ≢ braces T.text items }
     ensures never_too_long { IsErrOf result SetError.TooLong → ⊥ }
+    ensures memory { IsErrOf result SetError.Memory → text.now ≢ braces T.text [] }
 {
     let inner = inner_of(text).ok_or(SetError::BadText)?;
     read_parts(alloc, inner)

@@ -3,7 +3,7 @@ use Rattle.std.specs.List.{slice_split}
 use Rattle.std.proofs.lemmas.Bool.{ne_eqb}
 use Rattle.std.proofs.lemmas.Str.{IsCharBoundary-start}
 use Rattle.fl_labels.specs.Words.{is_comma}
-use Rattle.fl_labels.proofs.Cut.{no_part, parts_at, parts_end, parts_more, joined, comma_there, behind_comma, piece_none, piece_more, last_piece, read_some}
+use Rattle.fl_labels.proofs.Cut.{no_part, parts_at, parts_end, parts_more, joined, comma_there, behind_comma, piece_none, piece_more, last_piece, one_part, read_some}
 use Rattle.fl_labels.proofs.list.read_parts.Goals as goal
 
 pub loop-at-init : goal.loop-at-init
@@ -115,3 +115,24 @@ returns-clause-ok g c =
     spelled
     ∙ append-nil _
     ∙ ap (λ items. map g.T.Item.text items) (sym c.in_ok-push-2.ensures.items))
+
+pub returns-in_err-push-2-clause-one : goal.returns-in_err-push-2-clause-one
+returns-in_err-push-2-clause-one g c = λ _ plain.
+    let inner = c.args.inner.now in
+    let long = ap length c.as_bytes-byte-items.ensures.value in
+    let past : length inner ≤ c.loop-at.at = omega (arith, long) in
+    let rest =
+    last_piece inner c.loop-at.start c.loop-at.at c.loop-at.invariant.low past
+    c.loop-at.invariant.piece in
+    let some : c.read-2.result ≡ Some c.in_ok-last.last = grind arith in
+    let spelled =
+    read_some g.T.Item.text c.range_from.result.now c.read-2.result c.in_ok-last.last
+    c.read-2.ensures some in (
+      c.in_ok-last.last,
+      one_part inner c.range_from.result.now (map g.T.Item.text c.loop-at.items.items) plain
+          (c.loop-at.invariant.so_far
+          ∙ ap (λ r. map g.T.Item.text c.loop-at.items.items ++ r)
+          (parts_end (drop c.loop-at.start inner) rest
+          ∙ ap (λ p. p ∷ []) (sym c.range_from.ensures.value)))
+          ∙ spelled,
+    )
