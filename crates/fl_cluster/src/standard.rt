@@ -1,5 +1,8 @@
 //! What a program whose script ended says on standard error, and its status. The bytes of standard
 //! streams have no name in a contract, so no clause speaks of them.
+ghost use Rattle.std.specs.Prelude.{◌≡◌};
+ghost use Rattle.std.specs.Process.{exit_status};
+ghost use Rattle.fl_cluster.specs.Ended.{status_at_end};
 
 use crate::fault::RunFault;
 use crate::watched::Watched;
@@ -16,7 +19,9 @@ pub fn tell_length<R>(rt: &HostRuntime, input: &Watched<R>, ended: Result<u8, Ru
 }
 
 /// The status of a program whose run ended so: 3 at a fault, which is told on standard error.
-pub fn exit_code(rt: &HostRuntime, ended: Result<u8, RunFault>) -> ExitCode {
+pub fn exit_code(rt: &HostRuntime, ended: Result<u8, RunFault>) -> ExitCode
+    ensures { exit_status result ≡ status_at_end ended }
+{
     match ended {
         Ok(status) => ExitCode::from(status),
         Err(fault) => {

@@ -1,9 +1,12 @@
 //! What the words of the program say.
-ghost use Rattle.std.specs.Prelude.{◌≡◌, ◌≤◌, IfOk, IfSome, Some, codes, false, map, string_bytes};
-ghost use Rattle.clap.specs.Words.{app_of, first_value, found_of, rule_of};
-ghost use Rattle.fl_words.specs.Words.{AreRight, SaysWorkers, dir_option, named_path, named_workers, path_of, program, workers_option};
+ghost use Rattle.std.specs.Prelude.{◌≡◌, ◌≤◌, Err, IfErr, IfOk, Some, codes, false, map};
+ghost use Rattle.std.specs.Prelude.{string_bytes};
+ghost use Rattle.clap.specs.Words.{HasKind, app_of, fault_of, first_value, found_of, rule_of};
+ghost use Rattle.fl_words.specs.Words.{AreRight, SaysWorkers, dir_option, named_path, named_workers};
+ghost use Rattle.fl_words.specs.Words.{path_of, program, workers_option};
 
 use clap::builder::ValueParser;
+use clap::error::ErrorKind;
 use clap::{Arg, ArgMatches, Command, Error, arg};
 use std::alloc::{AllocError, AllocGlobal, Global};
 
@@ -39,6 +42,15 @@ pub struct Settings<'a> {
     /// How many workers each node has. With none its calls are made one after another.
     pub workers: u8,
     pub place: Place<'a>,
+}
+
+/// Why the words of the program ask for nothing.
+#[derive(Clone, Copy, Debug, PartialEq, Eq)]
+pub enum WordsFault {
+    /// They are not the program's, or ask for its help or version. Their text was printed.
+    Refused,
+    /// There was no memory to read them.
+    Memory,
 }
 
 /// The status of a program whose words were refused, or were asked for help or the version.
@@ -88,6 +100,8 @@ fn parsed<'a>(alloc: Global, words: &'a [String]) -> Result<ArgMatches<'a>, Erro
     ensures workers { IfOk result (λ matches. first_value (found_of matches) (codes "workers")
         ≡ named_workers (map string_bytes words.entry.now)) }
     ensures right { IfOk result (λ _. AreRight (map string_bytes words.entry.now)) }
+    ensures fault { IfErr result
+        (HasKind (fault_of program (map string_bytes words.entry.now))) }
 {
     command(alloc)?.try_get_matches_from(words)
 }
@@ -126,27 +140,32 @@ fn workers_in(matches: &ArgMatches) -> u8
 
 /// Reads the words of the program, of which the first is its own name: where its nodes are kept,
 /// and how many workers each of them has.
-/// None where the parser gives no matches, since the words are not the program's, or ask for its
-/// help or version, or memory ran out: then its text was printed.
+///
+/// - `Refused`: the words are not the program's, or ask for its help or version. The parser's text
+///   was printed.
+/// - `Memory`: there was not enough. Nothing was printed.
 pub fn read_words<'a, RT: AllocGlobal + Print + Eprint>(
     rt: &RT,
     words: &'a [String],
-) -> Option<Settings<'a>>
-    ensures place { IfSome result (λ settings.
+) -> Result<Settings<'a>, WordsFault>
+    ensures place { IfOk result (λ settings.
         path_of settings.place ≡ named_path (map string_bytes words.entry.now)) }
-    ensures workers { IfSome result (λ settings.
+    ensures workers { IfOk result (λ settings.
         SaysWorkers (named_workers (map string_bytes words.entry.now)) settings.workers) }
-    ensures few { IfSome result (λ settings. settings.workers ≤ 16) }
-    ensures right { IfSome result (λ _. AreRight (map string_bytes words.entry.now)) }
+    ensures few { IfOk result (λ settings. settings.workers ≤ 16) }
+    ensures right { IfOk result (λ _. AreRight (map string_bytes words.entry.now)) }
+    ensures refused { result ≡ Err WordsFault.Refused
+        → ¬ AreRight (map string_bytes words.entry.now) }
 {
     match parsed(rt.alloc(), words) {
-        Ok(matches) => Some(Settings {
+        Ok(matches) => Ok(Settings {
             workers: workers_in(&matches),
             place: place_in(&matches),
         }),
+        Err(error) if error.kind() == ErrorKind::OutOfMemory => Err(WordsFault::Memory),
         Err(error) => {
             let _ = error.print(rt);
-            None
+            Err(WordsFault::Refused)
         }
     }
 }

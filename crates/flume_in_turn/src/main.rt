@@ -9,7 +9,7 @@ use fl_cluster::watched::Watched;
 use fl_dir_maker::host::HostMaker;
 use fl_makers::maker::MakesKeepers;
 use fl_makers::mem::MemMaker;
-use fl_words::words::{BAD_WORDS, Place, Settings, read_words};
+use fl_words::words::{BAD_WORDS, Place, Settings, WordsFault, read_words};
 use std::mem::forget;
 use std::process::ExitCode;
 use std::{env, io};
@@ -29,8 +29,10 @@ fn answered_in_turn<M: MakesKeepers + Drop>(rt: &HostRuntime, keepers: M) -> Res
 fn answered(rt: &HostRuntime) -> Result<u8, RunFault> {
     let words = env::args(rt).map_err(|_| RunFault::Memory)?;
     let words: Vec<String> = words.collect(rt.alloc()).map_err(|_| RunFault::Memory)?;
-    let Some(Settings { workers, place }) = read_words(rt, &words) else {
-        return Ok(BAD_WORDS);
+    let Settings { workers, place } = match read_words(rt, &words) {
+        Ok(settings) => settings,
+        Err(WordsFault::Refused) => return Ok(BAD_WORDS),
+        Err(WordsFault::Memory) => return Err(RunFault::Memory),
     };
     if workers > 0 {
         let _ = eprintln!(rt; "flume-tags: this program has no crews: flume_tags has them");

@@ -11,7 +11,7 @@ use fl_cluster::watched::Watched;
 use fl_dir_maker::host::HostMaker;
 use fl_makers::maker::MakesKeepers;
 use fl_makers::mem::MemMaker;
-use fl_words::words::{BAD_WORDS, Place, Settings, read_words};
+use fl_words::words::{BAD_WORDS, Place, Settings, WordsFault, read_words};
 use std::alloc::AllocGlobal;
 use std::mem::forget;
 use std::process::ExitCode;
@@ -65,8 +65,10 @@ fn answered<R: AllocGlobal + Threads + Wait + Sync + Send + Copy + Drop + 'stati
 ) -> Result<u8, RunFault> {
     let words = env::args(rt).map_err(|_| RunFault::Memory)?;
     let words: Vec<String> = words.collect(rt.alloc()).map_err(|_| RunFault::Memory)?;
-    let Some(Settings { workers, place }) = read_words(rt, &words) else {
-        return Ok(BAD_WORDS);
+    let Settings { workers, place } = match read_words(rt, &words) {
+        Ok(settings) => settings,
+        Err(WordsFault::Refused) => return Ok(BAD_WORDS),
+        Err(WordsFault::Memory) => return Err(RunFault::Memory),
     };
     match place {
         Place::Memory => answered_over(rt, waits, workers, MemMaker),
