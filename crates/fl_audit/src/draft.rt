@@ -82,7 +82,8 @@ fn notes_of_any(act: &Act) -> bool
         Act::Order(order) => !Taken::by(*order).as_slice().is_empty(),
         Act::Mail(mail) => notes_mail_of_any(mail),
         Act::Relabel(_, Err(_)) | Act::Exit | Act::Drop(_) => false,
-        _ => true,
+        Act::Relabel(_, Ok(_)) | Act::Ask(_) | Act::Spawn(_) | Act::Enter(_, _) => true,
+        Act::Emit(_) => true,
     }
 }
 
@@ -108,7 +109,7 @@ pub fn names_any(job: &Job) -> bool
 {
     match job {
         Job::By(_, act) => notes_of_any(act),
-        _ => false,
+        Job::Proc | Job::Member(_, _) | Job::Arrive(_) => false,
     }
 }
 
@@ -121,7 +122,8 @@ pub fn names_asker(asker: Option<&Process>, job: &Job) -> bool
 {
     match (asker, job) {
         (Some(process), Job::By(_, act)) => notes_act(process, act),
-        _ => false,
+        (None, Job::By(_, _)) => false,
+        (_, Job::Proc | Job::Member(_, _) | Job::Arrive(_)) => false,
     }
 }
 

@@ -221,7 +221,8 @@ fn is_unknown<R: Threads + Wait + Sync + Send + Copy + Drop + 'static, M: MakesK
     match request {
         Request::Deliver(packet) => crews.packet(*packet).is_none(),
         Request::Tell | Request::Restart { .. } | Request::Text | Request::Check(_) => false,
-        _ => true,
+        Request::Job(_) | Request::Begin(_, _) | Request::BeginDeliver(_) => true,
+        Request::Save | Request::Publish | Request::Cancel => true,
     }
 }
 
@@ -238,7 +239,8 @@ fn ask<R: Threads + Wait + Sync + Send + Copy + Drop + 'static, M: MakesKeepers>
         Request::Restart { kept } => restarted(crews, alloc, number, kept),
         Request::Text => text(crews, alloc, number),
         Request::Check(bytes) => check(crews, alloc, number, bytes.as_slice()),
-        _ => Said::Unknown,
+        Request::Job(_) | Request::Begin(_, _) | Request::BeginDeliver(_) => Said::Unknown,
+        Request::Save | Request::Publish | Request::Cancel => Said::Unknown,
     }
 }
 

@@ -99,7 +99,7 @@ impl Dealt {
     {
         match job {
             Job::Proc => ((self.procs as usize + 1) % self.queues.len()) as u8,
-            _ => self.procs,
+            Job::By(_, _) | Job::Member(_, _) | Job::Arrive(_) => self.procs,
         }
     }
 
