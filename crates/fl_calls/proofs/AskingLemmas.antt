@@ -20,8 +20,8 @@ use Rattle.fl_system.specs.State.{NodeState}
 use Rattle.fl_system.specs.Waiting.{IsRunning, NotRunning}
 use Rattle.fl_system.specs.World.{World, KeptNode}
 use Rattle.fl_system.specs.WorldSteps.{IsAt}
-use Rattle.fl_wire.specs.Faults.{IsBadOrMemoryAfter}
-use Rattle.fl_wire.specs.PacketGrammar.{packet_head, packet_kept, packet_fields}
+use Rattle.fl_wire.specs.Faults.{IsFaultOrMemory}
+use Rattle.fl_wire.specs.PacketGrammar.{packet_kept, packet_fields}
 use Rattle.fl_wire.specs.declared.fault.ReadFault.{ReadFault}
 use Rattle.fl_wire.specs.declared.fault.ReadFault.TheVariants.{BadPacket, Memory}
 use Rattle.fl_wire.specs.declared.packet.Packet.{Packet}
@@ -125,17 +125,17 @@ module _ {K : Type 0} (custody : Custody K) (over : WorldOver K) where
   -- ---- what a packet would bring
 
   pub checks_bad : (number : ℕ) (bytes : List ℕ) (fault : ReadFault) (place at : ℕ)
-      → IsBadOrMemoryAfter (packet_head bytes) (packet_kept bytes) (packet_fields bytes) fault → fault ≡ BadPacket place → place ≡ at
+      → IsFaultOrMemory (packet_fields bytes) (packet_kept bytes) fault → fault ≡ BadPacket place → place ≡ at
       → (w : World) (s : KeptNode) → MayBe custody over w → IsAt w number s → ChecksAt w number bytes (bad_packet at) w
   checks_bad number bytes fault place at bad is same w s _ _ =
       subst (λ at. ChecksAt w number bytes (bad_packet at) w) same
-      (ChecksAt.no_packet (subst (IsBadOrMemoryAfter (packet_head bytes) (packet_kept bytes) (packet_fields bytes)) is bad))
+      (ChecksAt.no_packet (subst (IsFaultOrMemory (packet_fields bytes) (packet_kept bytes)) is bad))
 
   pub checks_starved : (number : ℕ) (bytes : List ℕ) (fault : ReadFault) (r : Response)
-      → IsBadOrMemoryAfter (packet_head bytes) (packet_kept bytes) (packet_fields bytes) fault → fault ≡ Memory → r ≡ response.Reply starved
+      → IsFaultOrMemory (packet_fields bytes) (packet_kept bytes) fault → fault ≡ Memory → r ≡ response.Reply starved
       → (w : World) (s : KeptNode) → MayBe custody over w → IsAt w number s → ChecksAt w number bytes (shown over r) w
   checks_starved number bytes fault r bad is e w s _ _ =
-      let wants = subst (IsBadOrMemoryAfter (packet_head bytes) (packet_kept bytes) (packet_fields bytes)) is bad in
+      let wants = subst (IsFaultOrMemory (packet_fields bytes) (packet_kept bytes)) is bad in
       subst (λ r. ChecksAt w number bytes (shown over r) w) (sym e) (ChecksAt.no_room wants.0 wants.1)
 
   pub checks_tells : (number : ℕ) (bytes : List ℕ) (n : NodeOver K) (packet : Packet) (count : ℕ) (check : Check)

@@ -7,7 +7,7 @@ use Rattle.fl_ops.specs.declared.format.Format.{Format}
 use Rattle.fl_ops.specs.Grammar.{first_fault}
 use Rattle.fl_wire.specs.PacketBytes.{packet_bytes}
 use Rattle.fl_wire.specs.PacketFits.{HasPacket}
-use Rattle.fl_wire.specs.PacketGrammar.{packet_head, packet_kept, packet_fields}
+use Rattle.fl_wire.specs.PacketGrammar.{packet_kept, packet_fields}
 use Rattle.fl_wire.specs.declared.packet.Packet.{Packet}
 use Rattle.fl_wire.specs.declared.packet.Packet.TheVariants as packets
 use Rattle.fl_system.specs.declared.answer.Fault.{Fault}
@@ -111,8 +111,8 @@ pub record Spells (bytes : List ℕ) (packet : Packet) : Type 0 where
 pub data ChecksAt (w : World) (number : ℕ) (bytes : List ℕ) : Answer → World → Type 0 where
   no_packet : {place : ℕ} → first_fault (packet_fields bytes) ≡ Some place
       → ChecksAt w number bytes (bad_packet place) w
-  -- no memory is taken before the head is right, nor of a packet of which nothing is kept
-  no_room : first_fault (packet_head bytes) ≡ None → 0 < packet_kept bytes
+  -- memory is wanted of a packet alone, of which something is kept
+  no_room : first_fault (packet_fields bytes) ≡ None → 0 < packet_kept bytes
       → ChecksAt w number bytes (replied starved) w
   tells : {s : KeptNode} {packet : Packet} {count : ℕ} → IsAt w number s
       → Spells bytes packet → Checks s.node packet (Ok count)

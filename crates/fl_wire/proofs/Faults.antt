@@ -17,6 +17,15 @@ fault_rest [] gs h = refl
 fault_rest ((at, true) ∷ fs) gs h = fault_rest fs gs h
 fault_rest ((at, false) ∷ fs) gs h = absurd (cc)
 
+pub is_bad_front : (fs gs : List (ℕ × Bool)) (f : ReadFault) → IsBad fs f → IsBad (fs ++ gs) f
+is_bad_front fs gs (BadPacket place) h = fault_front fs gs place h
+is_bad_front fs gs Memory h = h
+
+-- fields of one fault
+pub is_bad_same : (fs gs : List (ℕ × Bool)) (f : ReadFault) → first_fault fs ≡ first_fault gs → IsBad gs f → IsBad fs f
+is_bad_same fs gs (BadPacket place) same h = same ∙ h
+is_bad_same fs gs Memory same h = h
+
 pub bad_front : (kept : ℕ) (fs gs : List (ℕ × Bool)) (f : ReadFault) → IsBadOrMemory kept fs f → IsBadOrMemory kept (fs ++ gs) f
 bad_front kept fs gs (BadPacket place) h = fault_front fs gs place h
 bad_front kept fs gs Memory h = h

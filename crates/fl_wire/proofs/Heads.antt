@@ -29,9 +29,12 @@ module _ (bs : List ℕ) (b kind : ℕ) (f : Format) (first : (has_byte bs 0 241
   pub format_is : f ≡ packet_format (slice_index bs 0)
   format_is = said ∙ ap packet_format first.1
 
+  pub packet_is : first_fault (packet_fields bs) ≡ first_fault (kind_fields f bs kind)
+  packet_is = λ i. if first.0 i then (if second.0 i then first_fault (kind_fields (sym format_is i) bs (sym second.1 i)) else Some 1) else Some 0
+
   pub packet_bad : (x : ReadFault) → IsBadOrMemoryAfter (kind_head f bs kind) (kind_kept f bs kind) (kind_fields f bs kind) x
       → IsBadOrMemoryAfter (packet_head bs) (packet_kept bs) (packet_fields bs) x
-  packet_bad (BadPacket place) h = (λ i. if first.0 i then (if second.0 i then first_fault (kind_fields (sym format_is i) bs (sym second.1 i)) else Some 1) else Some 0) ∙ h
+  packet_bad (BadPacket place) h = packet_is ∙ h
   packet_bad Memory h = (
     (λ i. if first.0 i then (if second.0 i then first_fault (kind_head (sym format_is i) bs (sym second.1 i)) else Some 1) else Some 0) ∙ h.0,
     subst (λ g. 0 < kind_kept g bs (slice_index bs 1)) format_is (subst (λ k. 0 < kind_kept f bs k) second.1 h.1),

@@ -15,3 +15,4 @@ pub mod There
 pub mod OpThere
 pub mod RowsThere
 pub mod PacketThere
+pub mod Walks

@@ -46,9 +46,37 @@ pub all_more : {K : Type 0} (Has : K → Type 0) (xs : List K) (x : K) → AllBy
 all_more Has [] x h it = (it, tt)
 all_more Has (y ∷ ys) x h it = (h.0, all_more Has ys x h.1 it)
 
--- after the items xs, of which before is the last, so many are left from a place on
-pub record ReadTo {K : Type 0} (R : K → K → Ordering) (Has : K → Type 0) (spell : K → List ℕ) (key_of : K → List ℕ) (there : ℕ → Bool) (key : ℕ → List ℕ) (size : ℕ) (bytes : List ℕ) (at count place left : ℕ) (xs : List K) (before : Option K) : Type 0 where
+-- after items without a fault, of which before is the last, so many are left from a place on
+pub record WalkedTo {K : Type 0} (key_of : K → List ℕ) (there : ℕ → Bool) (key : ℕ → List ℕ) (size at count place left : ℕ) (before : Option K) : Type 0 where
   pub faults : first_fault (rising_fields there key size at [] count) ≡ first_fault (rising_fields there key size place (key_before key_of before) left)
+
+module _ {K : Type 0} {key_of : K → List ℕ} {there : ℕ → Bool} {key : ℕ → List ℕ} {size at count : ℕ} where
+  pub walk_none : (place left : ℕ) → at ≡ place → left ≡ count → WalkedTo key_of there key size at count place left None
+  walk_none place left p q = record { faults = λ i. first_fault (rising_fields there key size (p i) [] (sym q i)) }
+
+  pub walk_more : (place left : ℕ) (before : Option K) (x : K) (next less : ℕ) → WalkedTo key_of there key size at count place left before
+      → is_next there key place (key_before key_of before) ≡ true → key place ≡ key_of x → place + size ≡ next → left ≡ suc less
+      → WalkedTo key_of there key size at count next less (Some x)
+  walk_more place left before x next less w here keyed p q = record {
+    faults = w.faults ∙ ap (λ m. first_fault (rising_fields there key size place (key_before key_of before) m)) q
+        ∙ ap (λ b. if b then first_fault (rising_fields there key size (place + size) (key place) less) else Some place) here
+        ∙ (λ i. first_fault (rising_fields there key size (p i) (keyed i) less));
+  }
+
+  pub walk_all : (place left : ℕ) (before : Option K) → WalkedTo key_of there key size at count place left before
+      → left ≡ 0 → first_fault (rising_fields there key size at [] count) ≡ None
+  walk_all place left before w done = w.faults ∙ ap (λ m. first_fault (rising_fields there key size place (key_before key_of before) m)) done
+
+  -- the next one isn't there
+  pub walk_fault : (place left : ℕ) (before : Option K) (less : ℕ) → WalkedTo key_of there key size at count place left before
+      → left ≡ suc less → is_next there key place (key_before key_of before) ≡ false → first_fault (rising_fields there key size at [] count) ≡ Some place
+  walk_fault place left before less w q lacks =
+      w.faults ∙ ap (λ m. first_fault (rising_fields there key size place (key_before key_of before) m)) q
+      ∙ ap (λ b. if b then first_fault (rising_fields there key size (place + size) (key place) less) else Some place) lacks
+
+-- the same, where the items are xs
+pub record ReadTo {K : Type 0} (R : K → K → Ordering) (Has : K → Type 0) (spell : K → List ℕ) (key_of : K → List ℕ) (there : ℕ → Bool) (key : ℕ → List ℕ) (size : ℕ) (bytes : List ℕ) (at count place left : ℕ) (xs : List K) (before : Option K) : Type 0 where
+  pub walked : WalkedTo key_of there key size at count place left before
   pub spelled : drop at bytes ≡ flat_map spell xs ++ drop place bytes
   pub counted : length xs + left ≡ count
   pub has : AllByRecursion Has xs
@@ -59,7 +87,7 @@ module _ {K : Type 0} {R : K → K → Ordering} {Has : K → Type 0} {spell : K
   pub read_none : (place left : ℕ) (xs : List K) → at ≡ place → left ≡ count → xs ≡ [] → ReadTo R Has spell key_of there key size bytes at count place left xs None
   unfolding IsStrictlySortedBy
   read_none place left xs p q none = subst (λ l. ReadTo R Has spell key_of there key size bytes at count place left l None) (sym none) (record {
-    faults = λ i. first_fault (rising_fields there key size (p i) [] (sym q i));
+    walked = walk_none place left p q;
     spelled = ap (λ n. drop n bytes) p;
     counted = omega (arith, q);
     has = tt;
@@ -72,9 +100,7 @@ module _ {K : Type 0} {R : K → K → Ordering} {Has : K → Type 0} {spell : K
       → IsNext R Has spell key_of there key size bytes place before x
       → place + size ≡ next → left ≡ suc less → ys ≡ xs ++ x ∷ [] → ReadTo R Has spell key_of there key size bytes at count next less ys (Some x)
   read_more o place left xs ys before x next less r n p q new = subst (λ l. ReadTo R Has spell key_of there key size bytes at count next less l (Some x)) (sym new) (record {
-    faults = r.faults ∙ ap (λ m. first_fault (rising_fields there key size place (key_before key_of before) m)) q
-        ∙ ap (λ b. if b then first_fault (rising_fields there key size (place + size) (key place) less) else Some place) n.next
-        ∙ (λ i. first_fault (rising_fields there key size (p i) (n.keyed i) less));
+    walked = walk_more place left before x next less r.walked n.next n.keyed p q;
     spelled = r.spelled ∙ ap (λ l. flat_map spell xs ++ l) (n.spelled ∙ ap (λ m. spell x ++ drop m bytes) p)
         ∙ sym (append_assoc (flat_map spell xs) (spell x) (drop next bytes)) ∙ ap (λ l. l ++ drop next bytes) (flat_map_more spell [] xs x);
     counted = omega (arith, length-append xs (x ∷ []), r.counted, q);
@@ -86,19 +112,12 @@ module _ {K : Type 0} {R : K → K → Ordering} {Has : K → Type 0} {spell : K
   pub read_all : (place left : ℕ) (xs : List K) (before : Option K) → ReadTo R Has spell key_of there key size bytes at count place left xs before
       → left ≡ 0 → place ≡ at + size * count → AreRead R Has spell (rising_fields there key size at [] count) size bytes at count xs
   read_all place left xs before r done end = record {
-    whole = r.faults ∙ ap (λ m. first_fault (rising_fields there key size place (key_before key_of before) m)) done;
+    whole = walk_all place left before r.walked done;
     has = r.has;
     rises = r.rises;
     counted = omega (arith, r.counted, done);
     spelled = r.spelled ∙ ap (λ m. flat_map spell xs ++ drop m bytes) end;
   }
-
-  -- the next one isn't there
-  pub read_fault : (place left : ℕ) (xs : List K) (before : Option K) (less : ℕ) → ReadTo R Has spell key_of there key size bytes at count place left xs before
-      → left ≡ suc less → is_next there key place (key_before key_of before) ≡ false → first_fault (rising_fields there key size at [] count) ≡ Some place
-  read_fault place left xs before less r q lacks =
-      r.faults ∙ ap (λ m. first_fault (rising_fields there key size place (key_before key_of before) m)) q
-      ∙ ap (λ b. if b then first_fault (rising_fields there key size (place + size) (key place) less) else Some place) lacks
 
 -- tags that are read are no more than a label holds
 pub tags_fit : {S : Type 0} (r : Result S SetError) (f : Format) (fields : List (ℕ × Bool)) (bs : List ℕ) (at count : ℕ) (tags : List Name)

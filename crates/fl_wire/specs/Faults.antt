@@ -18,3 +18,8 @@ IsBadOrMemory kept fields Memory = 0 < kept
 abbrev pub IsBadOrMemoryAfter : List (ℕ × Bool) → ℕ → List (ℕ × Bool) → ReadFault → Type 0
 IsBadOrMemoryAfter head kept fields (BadPacket place) = first_fault fields ≡ Some place
 IsBadOrMemoryAfter head kept fields Memory = (first_fault head ≡ None) × (0 < kept)
+
+-- the first fault of these fields, or no memory for what is kept, where they have none
+abbrev pub IsFaultOrMemory : List (ℕ × Bool) → ℕ → ReadFault → Type 0
+IsFaultOrMemory fields kept (BadPacket place) = first_fault fields ≡ Some place
+IsFaultOrMemory fields kept Memory = (first_fault fields ≡ None) × (0 < kept)

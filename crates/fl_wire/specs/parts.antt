@@ -2,3 +2,4 @@
 pub mod Items
 pub mod Ops
 pub mod SpansRead
+pub mod Walked

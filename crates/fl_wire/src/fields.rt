@@ -10,7 +10,7 @@ ghost use Rattle.fl_wire.specs.Fields.{short_at, long_at, has_node, has_short, h
 ghost use Rattle.fl_wire.specs.parts.Items.{name_key, key_of_cap};
 ghost use Rattle.fl_wire.specs.PacketBytes.{pid_bytes};
 ghost use Rattle.fl_wire.specs.PacketFits.{HasPid};
-ghost use Rattle.fl_wire.specs.PacketGrammar.{end_fields, end_size};
+ghost use Rattle.fl_wire.specs.PacketGrammar.{end_fields, end_size, packet_format};
 
 use crate::fault::ReadFault;
 use fl_labels::cap::Cap;
@@ -19,6 +19,17 @@ use fl_labels::name::Name;
 use fl_labels::pid::Pid;
 use fl_ops::fields::{self, byte_at, cap_at, name_at};
 use fl_ops::format::Format;
+
+// The format that the byte of a packet says.
+pub(crate) fn format_of(byte: u8) -> Format
+    ensures { result ≡ packet_format byte }
+{
+    if byte == 0xf1 {
+        Format::One
+    } else {
+        Format::Two
+    }
+}
 
 // The number that two bytes spell, where it is one from `low` to `high`.
 pub(crate) fn short_at(bytes: &[u8], at: usize, low: u16, high: u16) -> Result<u16, ReadFault>

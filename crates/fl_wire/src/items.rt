@@ -34,7 +34,7 @@ fn rises_above<T: Ord + Copy + Drop>(before: Option<T>, item: &T) -> bool
 }
 
 // The tag at a place, above the one before it.
-fn tag_above(
+pub(crate) fn tag_above(
     format: Format,
     bytes: &[u8],
     at: usize,
@@ -107,7 +107,12 @@ pub(crate) fn label_at(
 }
 
 // The capability at a place, above the one before it.
-fn cap_above(format: Format, bytes: &[u8], at: usize, before: Option<Cap>) -> Result<Cap, ReadFault>
+pub(crate) fn cap_above(
+    format: Format,
+    bytes: &[u8],
+    at: usize,
+    before: Option<Cap>,
+) -> Result<Cap, ReadFault>
     requires { at < 2 ^ 31 }
     ensures { MatchResult result
         (IsNext cap_cmp (HasCap format) (cap_bytes format) key_of_cap

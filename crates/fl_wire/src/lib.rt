@@ -9,6 +9,7 @@ pub mod laws;
 mod ops;
 pub mod packet;
 pub mod reading;
+mod walk;
 mod whole;
 mod window;
 pub mod writing;

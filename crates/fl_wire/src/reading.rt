@@ -2,16 +2,17 @@
 ghost use Rattle.std.specs.Prelude.{◌≡◌, ◌<◌, ◌≤◌, ◌+◌, ◌^◌, ◌*◌, IfOk, OnErr, MatchResult, length, drop, slice_index, None, ◌++◌};
 ghost use Rattle.fl_ops.specs.Grammar.{first_fault};
 ghost use Rattle.fl_wire.specs.Fields.{short_at};
-ghost use Rattle.fl_wire.specs.Faults.{IsBadOrMemory, IsBadOrMemoryAfter};
+ghost use Rattle.fl_wire.specs.Faults.{IsBadOrMemory, IsBadOrMemoryAfter, IsFaultOrMemory};
 ghost use Rattle.fl_wire.specs.PacketFits.{HasCaps, HasData, HasPacket};
 ghost use Rattle.fl_wire.specs.PacketBytes.{payload_bytes, message_bytes, data_bytes, packet_bytes};
 ghost use Rattle.fl_wire.specs.PacketGrammar.{payload_fields, message_kept, message_fields, data_head, data_kept, data_fields, packet_head, packet_kept, packet_fields, packet_format};
 
 use crate::fault::ReadFault;
-use crate::fields::{end_at, short_at};
+use crate::fields::{end_at, format_of, short_at};
 use crate::items::{caps_at, label_at};
 use crate::ops::batch_at;
 use crate::packet::Packet;
+use crate::walk::walk_packet;
 use crate::window::window_at;
 use fl_message::message::{Data, Message};
 use fl_message::payload::Payload;
@@ -109,25 +110,9 @@ fn data_at(alloc: Global, format: Format, bytes: &[u8]) -> Result<Data, ReadFaul
     })
 }
 
-// The format that the byte of a packet says.
-fn format_of(byte: u8) -> Format
-    ensures { result ≡ packet_format byte }
-{
-    if byte == 0xf1 {
-        Format::One
-    } else {
-        Format::Two
-    }
-}
-
-/// The packet that the bytes spell, all of them, in either format. Linear, and takes memory for the
-/// sets, the operations, the spans and the message alone, none before the head is right: the
-/// format, the kind, and what stands before the first of these. So none of a window without spans.
-///
-/// `BadPacket` where no packet spells them, at the first byte of the first field that is cut off,
-/// out of its range or against a rule with what came before it, or at the first byte after the
-/// packet's end. `Memory` where there is not enough memory.
-pub fn decode(alloc: Global, bytes: &[u8]) -> Result<Packet, ReadFault>
+// The packet that the bytes spell, in either format. Takes no memory before the head is right: the
+// format, the kind, and what stands before the first set, operation or span.
+fn packet_at(alloc: Global, bytes: &[u8]) -> Result<Packet, ReadFault>
     ensures { MatchResult result
         (λ packet. let f = packet_format (slice_index bytes.now 0) in
         HasPacket f packet × (packet_bytes f packet ≡ bytes.now))
@@ -140,5 +125,28 @@ pub fn decode(alloc: Global, bytes: &[u8]) -> Result<Packet, ReadFault>
         2 => Ok(Packet::Have(window_at(alloc, format, bytes, 2)?)),
         3 => Ok(Packet::Delta(batch_at(alloc, format, bytes, 2)?)),
         _ => Ok(Packet::Data(data_at(alloc, format, bytes)?)),
+    }
+}
+
+/// The packet that the bytes spell, all of them, in either format. Linear, and takes memory for the
+/// sets, the operations, the spans and the message alone, none before the head is right: the
+/// format, the kind, and what stands before the first of these. So none of a window without spans.
+/// Where memory is refused, the bytes are looked through once more, for which none is taken.
+///
+/// `BadPacket` where no packet spells them, at the first byte of the first field that is cut off,
+/// out of its range or against a rule with what came before it, or at the first byte after the
+/// packet's end. `Memory` only where a packet spells them, and there is not enough memory for it.
+pub fn decode(alloc: Global, bytes: &[u8]) -> Result<Packet, ReadFault>
+    ensures { MatchResult result
+        (λ packet. let f = packet_format (slice_index bytes.now 0) in
+        HasPacket f packet × (packet_bytes f packet ≡ bytes.now))
+        (IsFaultOrMemory (packet_fields bytes.now) (packet_kept bytes.now)) }
+{
+    match packet_at(alloc, bytes) {
+        Err(ReadFault::Memory) => {
+            walk_packet(bytes)?;
+            Err(ReadFault::Memory)
+        }
+        read => read,
     }
 }

@@ -69,7 +69,7 @@ fn policy_of(number: u8) -> Policy
 }
 
 // The digest at a place.
-fn digest_at(bytes: &[u8], at: usize) -> Result<Digest, BadField>
+pub(crate) fn digest_at(bytes: &[u8], at: usize) -> Result<Digest, BadField>
     requires { at < 2 ^ 32 }
     ensures { MatchResult result
         (λ d. (has_digest bytes.now at ≡ true)

@@ -16,7 +16,13 @@ use fl_opset::span::Span;
 use std::alloc::Global;
 
 // The span at a place, from one rank on and up to another.
-fn span_at(format: Format, bytes: &[u8], at: usize, low: u64, high: u64) -> Result<Span, ReadFault>
+pub(crate) fn span_at(
+    format: Format,
+    bytes: &[u8],
+    at: usize,
+    low: u64,
+    high: u64,
+) -> Result<Span, ReadFault>
     requires { at < 2 ^ 31 }
     ensures { MatchResult result (λ s. IsSpanAt format bytes.now at low high s)
         (IsBad (span_fields format bytes.now at low high)) }

@@ -4,7 +4,7 @@ use Rattle.fl_labels.specs.CapOrder.{cap_total}
 use Rattle.fl_ops.specs.Bytes.{cap_size}
 use Rattle.fl_wire.specs.PacketGrammar.{each_cap}
 use Rattle.fl_wire.proofs.Faults.{bad_at}
-use Rattle.fl_wire.proofs.Sets.{read_none, read_more, read_all, read_fault}
+use Rattle.fl_wire.proofs.Sets.{read_none, read_more, read_all, walk_fault}
 use Rattle.fl_wire.proofs.Spelled.{name_few}
 use Rattle.fl_wire.proofs.items.each_cap_at.Goals as goal
 
@@ -31,7 +31,7 @@ returns-in_err-cap c =
     let i = c.loop-i.i in
     let p = err_from_is_err_and c.from_residual-in_err-cap.result c.from_residual-in_err-cap.ensures.1 in
     rw (p.1, p.2) (bad_at c.args.count (each_cap c.args.format c.args.bytes.now c.args.at c.args.count) c.loop-i.place c.in_err-cap.field-0.0 c.in_err-cap.ensures.1
-    (read_fault c.loop-i.place (c.args.count - i) c.loop-i.caps.items c.loop-i.before (c.args.count - (i + 1)) c.loop-i.invariant.0 (omega arith) c.in_err-cap.ensures.0))
+    (walk_fault c.loop-i.place (c.args.count - i) c.loop-i.before (c.args.count - (i + 1)) c.loop-i.invariant.0.walked (omega arith) c.in_err-cap.ensures.0))
 
 pub returns : goal.returns
 returns c =

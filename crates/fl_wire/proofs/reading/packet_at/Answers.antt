@@ -6,7 +6,7 @@ use Rattle.fl_wire.specs.PacketFits.{HasData}
 use Rattle.fl_wire.specs.PacketGrammar.{kind_head, kind_kept, kind_fields}
 use Rattle.fl_wire.specs.declared.packet.Packet.TheVariants as kinds
 use Rattle.fl_wire.proofs.Heads.{format_is, packet_bad, packet_spelled}
-use Rattle.fl_wire.proofs.reading.decode.Goals as goal
+use Rattle.fl_wire.proofs.reading.packet_at.Goals as goal
 
 pub returns-in_err-data_at-in_default : goal.returns-in_err-data_at-in_default
 returns-in_err-data_at-in_default c =
