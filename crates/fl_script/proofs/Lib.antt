@@ -9,6 +9,7 @@ pub mod Saying
 pub mod Quiet
 pub mod SpawnWords
 pub mod SendWords
+pub mod TuneWords
 pub mod Found
 pub mod OfProcess
 pub mod AsciiWords

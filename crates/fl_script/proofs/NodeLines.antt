@@ -1,11 +1,12 @@
 -- Lines that begin with the number of a node.
-use Rattle.std.proofs.Common.{◌≡◌, ◌<◌, ◌≤◌, ◌-◌, ℕ, List, [], ◌∷◌, Bor, length, get_or, take, drop, map, refl, subst, arith, rules}
+use Rattle.std.proofs.Common.{◌≡◌, ◌<◌, ◌≤◌, ◌-◌, ℕ, inl, inr, List, [], ◌∷◌, Bor, length, get_or, take, drop, map, refl, sym, subst, arith, rules}
+use Rattle.std.proofs.lemmas.List.Elements.{All-tail}
 use Rattle.fl_labels.specs.Text.{pid_text}
-use Rattle.fl_labels.specs.Words.{IsNumber}
+use Rattle.fl_labels.specs.Words.{IsNumber, NoComma}
 use Rattle.fl_labels.specs.declared.pid.Pid.{Pid}
 use Rattle.fl_jobs.specs.declared.job.Act.{Act}
 use Rattle.fl_aliases.specs.Words.{Word}
-use Rattle.fl_script.specs.Grammar.{Spells, SpellsRequest}
+use Rattle.fl_script.specs.Grammar.{Spells, SpellsRequest, TakesBlock, HoldsBlock}
 use Rattle.fl_script.specs.declared.line.Line.{Line}
 use Rattle.fl_script.specs.declared.line.Line.TheVariants.{Node as OfNode, Union, Audit, Aliases}
 use Rattle.fl_script.specs.declared.request.Request.{Request}
@@ -48,3 +49,27 @@ module _ (node : ℕ) (word : Word) (is : IsNumber node word) where
       no_line (verb ∷ map (λ w. w.now) words) (λ request asks. no_request verb pid behind none request
       (subst (λ ws. SpellsRequest request (verb ∷ ws)) pid_first asks)) line
       (subst (λ ws. Spells line (word ∷ ws)) front s)
+
+-- what takes a block does so too behind one more word
+block_more : (verb word : Word) (words : List Word) → TakesBlock verb words → TakesBlock verb (word ∷ words)
+block_more verb word words h = record {
+  is = elim h.is [
+    | inl block ↦ inl block
+    | inr tags ↦ inr (tags.0, λ plain. tags.1 (All-tail NoComma word words plain))
+  ];
+}
+
+-- what takes a block behind a verb and a process does so in the line
+pub block_of_act : (first : Word) (rest : List (Bor Word)) (d : Bor Word)
+    → 1 ≤ length rest → 1 ≤ length (take (length rest - 1) (drop 1 rest))
+    → (let words = take (length rest - 1) (drop 1 rest) in
+    TakesBlock (get_or rest 0 d).now (map (λ w. w.now) (take (length words - 1) (drop 1 words))))
+    → HoldsBlock (first ∷ map (λ w. w.now) rest)
+block_of_act first rest d one two takes =
+    let words = take (length rest - 1) (drop 1 rest) in
+    let behind = map (λ (w : Bor Word). w.now) (take (length words - 1) (drop 1 words)) in
+    let verb = (get_or rest 0 d).now in
+    let process = (get_or words 0 d).now in
+    subst (λ ws. HoldsBlock (first ∷ ws)) (sym (first_word rest d verb one refl))
+    (subst (λ ws. TakesBlock verb ws) (sym (first_word words d process two refl))
+    (block_more verb process behind takes))

@@ -8,7 +8,7 @@ use Rattle.std.proofs.lemmas.List.Elements.{All-nil, All-cons, All-head, All-tai
 use Rattle.fl_aliases.specs.Expansion.{Expands, NoDollar}
 use Rattle.fl_aliases.specs.Table.{Table}
 use Rattle.fl_aliases.specs.Words.{Word}
-use Rattle.fl_script.specs.Grammar.{HoldsList, Spells}
+use Rattle.fl_script.specs.Grammar.{HoldsBlock, Spells}
 use Rattle.fl_script.specs.Reading.{SpellsReplaced}
 use Rattle.fl_script.specs.declared.line.Line.{Line}
 use Rattle.fl_script.specs.declared.unread.Unread.{Unread}
@@ -50,10 +50,10 @@ module _ (table : Table) where
   none_spelled words none line s = none s.replaced s.each
 
   -- reading the replaced words may want memory only where reading the words may
-  pub wants_as_replaced : (words replaced : List Word) → AllZip (Expands table) words replaced → HoldsList replaced → WantsMemory words
+  pub wants_as_replaced : (words replaced : List Word) → AllZip (Expands table) words replaced → HoldsBlock replaced → WantsMemory words
   wants_as_replaced words replaced each holds =
       elim (all_or_not NoDollar clean_or_not words) [
-        | inl clean ↦ record { is = inr (subst HoldsList (same_replaced table words replaced words each (clean_stay table words clean)) holds) }
+        | inl clean ↦ record { is = inr (subst HoldsBlock (same_replaced table words replaced words each (clean_stay table words clean)) holds) }
         | inr dollar ↦ record { is = inl dollar }
       ]
 

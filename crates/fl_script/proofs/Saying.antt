@@ -1,14 +1,14 @@
 -- What words say, and that they say nothing else.
-use Rattle.std.proofs.Common.{◌≡◌, ◌<◌, inl, inr, false, sym, ap, subst, ◌∙◌, true≢false, ℕ, List, [], ◌∷◌, length, Option, None, Some, true, codes, length-append, arith}
+use Rattle.std.proofs.Common.{◌≡◌, ◌<◌, false, sym, ap, subst, ◌∙◌, true≢false, ℕ, List, [], ◌∷◌, length, Option, None, Some, true, codes, length-append, arith}
 use Rattle.std.specs.List.{All}
 use Rattle.std.proofs.lemmas.List.Elements.{length_all_zip}
 use Rattle.fl_aliases.specs.Alias.{alias_text}
 use Rattle.fl_aliases.specs.Expansion.{Expands, NoDollar}
 use Rattle.fl_aliases.specs.Table.{Table}
-use Rattle.fl_aliases.specs.Words.{Word, words_of}
+use Rattle.fl_aliases.specs.Words.{Word}
 use Rattle.fl_script.specs.Grammar.{Spells}
-use Rattle.fl_script.specs.parts.Meaning.{EndsInAlias, CanBeNamed, WantsMemory}
-use Rattle.fl_script.specs.Reading.{makes, IsAsking, ReadingTakesMemory, WordsSay, SpellsReplaced, SpellsNamed}
+use Rattle.fl_script.specs.parts.Meaning.{CanBeNamed}
+use Rattle.fl_script.specs.Reading.{makes, EndsInAlias, WordsSay, SpellsReplaced, SpellsNamed}
 use Rattle.fl_script.specs.declared.line.Line.{Line}
 use Rattle.fl_script.specs.laws.Ends.{same_ends}
 use Rattle.fl_script.specs.laws.OneReading.{none_with_as, same_line}
@@ -16,14 +16,6 @@ use Rattle.fl_script.specs.laws.NamedLines.{named_dollar}
 use Rattle.fl_script.specs.laws.NoAs.{few_spell_made}
 use Rattle.fl_script.proofs.ReplacedWords.{too_many}
 use Rattle.fl_script.specs.laws.Replacing.{clean_stay, same_replaced}
-use Rattle.fl_script.specs.laws.WordShape.{clean_words}
-
-pub alias_wants : (words front : List Word) (alias : List ℕ) → EndsInAlias front alias words → WantsMemory words
-alias_wants words front alias s = record { is = inl (named_dollar words front alias s.split) }
-
--- a word has a `$`
-pub dollar_wants : (words : List Word) → ¬ All NoDollar words → WantsMemory words
-dollar_wants words dollar = record { is = inl dollar }
 
 module _ (table : Table) where
   -- words with no `$` say the line that they spell
@@ -66,7 +58,3 @@ module _ (table : Table) where
     where
       too_many_front : (front : List Word) → 6 < length front → makes line ≡ true → SpellsReplaced table line front → ⊥
       too_many_front front many made s = absurd (omega (arith, many, few_spell_made line s.replaced made s.spelled, length_all_zip (Expands table) front s.replaced s.each))
-
--- memory that the words may want the bytes may want
-pub bytes_want : (bytes : List ℕ) → IsAsking bytes → WantsMemory (words_of bytes) → ReadingTakesMemory bytes
-bytes_want bytes asking wants = record { asking = asking; takes = elim wants.is [ inl dollar ↦ inl (λ clean. dollar (clean_words bytes clean)) | inr label ↦ inr label ] }

@@ -1,7 +1,8 @@
 -- The lines of the script, each by the words that spell it.
 use Rattle.std.specs.Prelude.{◌≡◌, ◌⊎◌, ℕ, Bool, true, false, List, [], ◌∷◌, codes}
+use Rattle.std.specs.List.{All}
 use Rattle.fl_labels.specs.Text.{name_text, pid_text, cap_text, endpoint_text}
-use Rattle.fl_labels.specs.Words.{IsNumber}
+use Rattle.fl_labels.specs.Words.{IsNumber, NoComma}
 use Rattle.fl_jobs.specs.declared.job.Order.TheVariants.{Tag, Group, Put, MakeLogin, OpenGroup}
 use Rattle.fl_jobs.specs.declared.job.Act.TheVariants.{Order as Orders, Relabel, Ask, Spawn, Exit, Drop, Enter, Emit, Mail as Mailbox}
 use Rattle.fl_jobs.specs.declared.job.Mail.TheVariants.{Open, Tune, Close, Send, Take}
@@ -91,15 +92,21 @@ SpellsRequest request words = Matches (request_forms request) words
 abbrev pub Spells : Line → List Word → Type 0
 Spells line words = Matches (forms line) words
 
--- the verb of a line that holds a list: of tags, of capabilities, of bytes
-pub record IsListVerb (verb : Word) : Type 0 where
-  pub is : (verb ≡ codes "label") ⊎ (verb ≡ codes "spawn") ⊎ (verb ≡ codes "emit") ⊎ (verb ≡ codes "open") ⊎ (verb ≡ codes "tune") ⊎ (verb ≡ codes "send") ⊎ (verb ≡ codes "check")
+-- the verb of a line that holds capabilities, bytes or the labels of an endpoint: these stand in a
+-- block of memory, however few they are
+pub record IsBlockVerb (verb : Word) : Type 0 where
+  pub is : (verb ≡ codes "spawn") ⊎ (verb ≡ codes "emit") ⊎ (verb ≡ codes "open") ⊎ (verb ≡ codes "tune") ⊎ (verb ≡ codes "send") ⊎ (verb ≡ codes "check")
 
--- the second word is the verb of a list
-abbrev pub HoldsList : List Word → Type 0
-HoldsList [] = ⊥
-HoldsList (word ∷ []) = ⊥
-HoldsList (node ∷ verb ∷ words) = IsListVerb verb
+-- what the verb and the words behind it hold takes a block, as the tags of a label do where a comma
+-- parts them
+pub record TakesBlock (verb : Word) (words : List Word) : Type 0 where
+  pub is : IsBlockVerb verb ⊎ ((verb ≡ codes "label") × (¬ All NoComma words))
+
+-- what the words behind the number of a node hold takes a block
+abbrev pub HoldsBlock : List Word → Type 0
+HoldsBlock [] = ⊥
+HoldsBlock (word ∷ []) = ⊥
+HoldsBlock (node ∷ verb ∷ words) = TakesBlock verb words
 
 -- the nodes that the line names, in their order
 abbrev pub nodes_of : Line → List ℕ

@@ -1,10 +1,10 @@
 -- What the bytes of a line say.
 use Rattle.std.specs.Prelude.{◌≡◌, ◌≤◌, ◌<◌, ◌⊎◌, ℕ, Bool, true, false, List, [], ◌∷◌, ◌++◌, Option, None, Some, length, not, ◌==◌, codes, slice_get}
-use Rattle.std.specs.List.{find, AllZip}
+use Rattle.std.specs.List.{find, All, AllZip}
 use Rattle.std.specs.Str.{IsUtf8}
 use Rattle.fl_aliases.specs.Alias.{IsAlias, alias_text}
 use Rattle.fl_aliases.specs.Expansion.{Expands, NoDollar}
-use Rattle.fl_aliases.specs.Table.{Table}
+use Rattle.fl_aliases.specs.Table.{Table, target_of}
 use Rattle.fl_jobs.specs.declared.job.Act.{Act}
 use Rattle.fl_jobs.specs.declared.job.Act.TheVariants.{Order, Relabel, Ask, Spawn, Exit, Drop, Enter, Emit, Mail as Mailbox}
 use Rattle.fl_jobs.specs.declared.job.Mail.{Mail}
@@ -12,7 +12,7 @@ use Rattle.fl_jobs.specs.declared.job.Mail.TheVariants.{Open, Tune, Close, Send,
 use Rattle.fl_jobs.specs.declared.job.Job.{Job}
 use Rattle.fl_jobs.specs.declared.job.Job.TheVariants.{Proc, By, Member, Arrive}
 use Rattle.fl_aliases.specs.Words.{Word, words_of}
-use Rattle.fl_script.specs.Grammar.{Spells, HoldsList}
+use Rattle.fl_script.specs.Grammar.{Spells, HoldsBlock}
 use Rattle.fl_script.specs.declared.line.Line.{Line}
 use Rattle.fl_script.specs.declared.line.Line.TheVariants.{Node as OfNode, Union, Audit, Aliases}
 use Rattle.fl_script.specs.declared.request.Request.{Request}
@@ -92,6 +92,11 @@ pub record SpellsReplaced (table : Table) (line : Line) (words : List Word) : Ty
   pub each : AllZip (Expands table) words replaced
   pub spelled : Spells line replaced
 
+-- the words are these, and then `as $x`
+pub record EndsInAlias (front : List Word) (alias : List ℕ) (words : List Word) : Type 0 where
+  pub split : words ≡ front ++ codes "as" ∷ alias_text alias ∷ []
+  pub is_alias : IsAlias alias
+
 -- the words end in `as $x`, an alias for what the line makes that the words before spell, and there is room for one
 pub record SpellsNamed (table : Table) (line : Line) (alias : List ℕ) (words : List Word) : Type 0 where
   pub front : List Word
@@ -122,10 +127,27 @@ IsReading table bytes Quiet = IsQuiet bytes
 IsReading table bytes Bad = IsBad table bytes
 IsReading table bytes (Means line alias) = IsMeaning table bytes line alias
 
--- reading the line takes memory: it asks for an answer, and has an alias or holds a list
+-- an alias is replaced in the words: one is among them, and among those before `as $x` where they
+-- end so
+pub record ReplacesAlias (words : List Word) : Type 0 where
+  pub anywhere : ¬ All NoDollar words
+  pub before : (front : List Word) (alias : List ℕ) → EndsInAlias front alias words → ¬ All NoDollar front
+
+-- reading the words takes memory: an alias is replaced in them, or they hold what takes a block
+pub record WordsTakeMemory (words : List Word) : Type 0 where
+  pub is : ReplacesAlias words ⊎ HoldsBlock words
+
+-- reading the line takes memory: it asks for an answer, and reading its words does
 pub record ReadingTakesMemory (bytes : List ℕ) : Type 0 where
   pub asking : IsAsking bytes
-  pub takes : (¬ NoDollar bytes) ⊎ HoldsList (words_of bytes)
+  pub takes : WordsTakeMemory (words_of bytes)
+
+-- the alias of the line takes memory: it is to stand for what the line makes, and is not set yet
+pub record SettingTakesMemory (table : Table) (bytes : List ℕ) : Type 0 where
+  pub line : Line
+  pub alias : List ℕ
+  pub says : IsMeaning table bytes line (Some alias)
+  pub is_new : target_of table alias ≡ None
 
 -- there are no words, or the first begins with `#`
 abbrev pub SaysNothing : List (List ℕ) → Type 0

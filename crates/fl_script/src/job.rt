@@ -1,10 +1,12 @@
 //! Jobs by the words that spell them.
 ghost use Rattle.std.specs.Prelude.{◌≡◌, ◌∷◌, map, codes};
+ghost use Rattle.std.specs.List.{All};
 ghost use Rattle.fl_labels.specs.Found.{Finds};
 ghost use Rattle.fl_labels.specs.Text.{endpoint_text, pid_text};
+ghost use Rattle.fl_labels.specs.Words.{NoComma};
 ghost use Rattle.fl_labels.specs.declared.pid.Pid.{Pid};
 ghost use Rattle.fl_jobs.specs.declared.job.Act.TheVariants.{Order as Orders};
-ghost use Rattle.fl_script.specs.Grammar.{IsListVerb, SpellsJob};
+ghost use Rattle.fl_script.specs.Grammar.{SpellsJob, TakesBlock};
 ghost use Rattle.fl_script.specs.parts.Acts.{NoPidFirst, SpellsAct, SpellsOrders};
 ghost use Rattle.fl_script.specs.parts.Reads.{Reads, StarvesIf};
 
@@ -82,8 +84,9 @@ pub fn order_from_words(verb: &str, rest: &[&str]) -> Option<Order>
 }
 
 fn label_act(alloc: Global, rest: &[&str]) -> Result<Act, Unread>
-    ensures { (p : Pid) → Reads result (λ a.
+    ensures ok { (p : Pid) → Reads result (λ a.
         SpellsAct p a (codes "label") (map (λ w. w.now) rest.now)) }
+    ensures memory { StarvesIf result (¬ All NoComma (map (λ w. w.now) rest.now)) }
 {
     let [side, label] = rest else {
         return Err(Unread::Bad);
@@ -255,13 +258,13 @@ fn order_act(verb: &str, rest: &[&str]) -> Result<Act, Unread>
 }
 
 /// What a verb and the words after the process say that it does. `Bad` where they say nothing that
-/// a process does. Takes memory for a list alone: for its tags, capabilities or bytes, and for the
-/// box that the labels of an endpoint and a message stand in.
+/// a process does. Takes memory for capabilities, for the labels of an endpoint and for bytes,
+/// which stand in blocks, and for a label of two tags at least.
 #[inline(always)]
 pub fn act_from_words(alloc: Global, verb: &str, rest: &[&str]) -> Result<Act, Unread>
     ensures ok { (p : Pid) → Reads result (λ a.
         SpellsAct p a verb.now (map (λ w. w.now) rest.now)) }
-    ensures memory { StarvesIf result (IsListVerb verb.now) }
+    ensures memory { StarvesIf result (TakesBlock verb.now (map (λ w. w.now) rest.now)) }
 {
     match verb.as_bytes() {
         b"ask" => ask_act(rest),

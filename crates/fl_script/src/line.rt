@@ -3,7 +3,7 @@ ghost use Rattle.std.specs.Prelude.{ℕ, ◌∷◌, map, codes};
 ghost use Rattle.fl_labels.specs.Found.{Finds};
 ghost use Rattle.fl_labels.specs.Words.{IsNumber};
 ghost use Rattle.fl_script.specs.parts.Reads.{Reads, StarvesIf};
-ghost use Rattle.fl_script.specs.Grammar.{HoldsList, Spells};
+ghost use Rattle.fl_script.specs.Grammar.{HoldsBlock, Spells};
 
 use crate::job::act_from_words;
 use crate::request::{Request, other_request};
@@ -59,7 +59,7 @@ fn other_line(first: &str, rest: &[&str]) -> Option<Line>
 #[inline(always)]
 fn line_behind(alloc: Global, first: &str, rest: &[&str]) -> Result<Line, Unread>
     ensures ok { Reads result (λ l. Spells l (first.now ∷ map (λ w. w.now) rest.now)) }
-    ensures memory { StarvesIf result (HoldsList (first.now ∷ map (λ w. w.now) rest.now)) }
+    ensures memory { StarvesIf result (HoldsBlock (first.now ∷ map (λ w. w.now) rest.now)) }
 {
     // Most lines ask something of a node, and then no other words are looked for.
     let Some(node) = read_number(first) else {
@@ -80,12 +80,12 @@ fn line_behind(alloc: Global, first: &str, rest: &[&str]) -> Result<Line, Unread
     Ok(Line::Node { node, request })
 }
 
-/// The line that the words spell. `Bad` where they spell no line. Takes memory for a list alone: of
-/// tags, of capabilities or of bytes.
+/// The line that the words spell. `Bad` where they spell no line. Takes memory for a label of two
+/// tags at least, for capabilities, for the labels of an endpoint and for bytes.
 #[inline(always)]
 pub(crate) fn line_from_words(alloc: Global, words: &[&str]) -> Result<Line, Unread>
     ensures ok { Reads result (λ l. Spells l (map (λ w. w.now) words.now)) }
-    ensures memory { StarvesIf result (HoldsList (map (λ w. w.now) words.now)) }
+    ensures memory { StarvesIf result (HoldsBlock (map (λ w. w.now) words.now)) }
 {
     match words {
         [] => Err(Unread::Bad),

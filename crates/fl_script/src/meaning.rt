@@ -2,10 +2,11 @@
 ghost use Rattle.std.specs.Prelude.{◌≡◌, ◌≤◌, ◌+◌, ◌++◌, List, MatchOption, ℕ, length, map};
 ghost use Rattle.fl_script.specs.parts.Reads.{Reads, StarvesIf};
 ghost use Rattle.fl_aliases.specs.Words.{Word};
-ghost use Rattle.fl_script.specs.parts.Meaning.{EndsInAlias, CanBeNamed, WantsMemory};
+ghost use Rattle.fl_script.specs.parts.Meaning.{CanBeNamed, WantsMemory};
 ghost use Rattle.fl_script.specs.parts.Parts.{CanPart, parts_of};
 ghost use Rattle.fl_script.specs.Grammar.{Spells};
-ghost use Rattle.fl_script.specs.Reading.{act_makes, makes, SpellsReplaced, WordsSay};
+ghost use Rattle.fl_script.specs.Reading.{act_makes, makes, EndsInAlias, SpellsReplaced};
+ghost use Rattle.fl_script.specs.Reading.{WordsSay, WordsTakeMemory};
 
 use crate::cut::MOST_LINE_WORDS;
 use crate::line::{Line, line_from_words};
@@ -16,14 +17,13 @@ use arrayvec::ArrayVec;
 use fl_aliases::alias::Alias;
 use fl_aliases::table::Aliases;
 use fl_jobs::job::{Act, Job, Mail};
-use fl_message::boxed::Boxed;
 use std::alloc::Global;
 
 // A line, and the alias that is to stand for what it makes, if one is.
 #[derive(Drop)]
 pub(crate) struct Meaning {
     pub line: Line,
-    pub alias: Option<Boxed<Alias>>,
+    pub alias: Option<Alias>,
 }
 
 // Words that end in `as $x`: those before, and the alias.
@@ -129,7 +129,9 @@ fn named_line(
     front: &[&str],
     text: &mut String,
 ) -> Result<Line, Unread>
-    ensures { Reads result (λ line. CanBeNamed aliases.now line (map (λ w. w.now) front.now)) }
+    ensures ok { Reads result (λ line.
+        CanBeNamed aliases.now line (map (λ w. w.now) front.now)) }
+    ensures memory { StarvesIf result (WantsMemory (map (λ w. w.now) front.now)) }
 {
     if aliases.is_full() {
         return Err(Unread::Bad);
@@ -151,7 +153,7 @@ pub(crate) fn meaning_of(
 ) -> Result<Meaning, Unread>
     ensures ok { Reads result (λ meaning.
         WordsSay aliases.now meaning.line meaning.alias (map (λ w. w.now) words.now)) }
-    ensures memory { StarvesIf result (WantsMemory (map (λ w. w.now) words.now)) }
+    ensures memory { StarvesIf result (WordsTakeMemory (map (λ w. w.now) words.now)) }
 {
     let Some(named) = split_alias(words) else {
         let line = replaced_line(alloc, aliases, words, text)?;
@@ -160,6 +162,6 @@ pub(crate) fn meaning_of(
     let line = named_line(alloc, aliases, named.front, text)?;
     Ok(Meaning {
         line,
-        alias: Some(Boxed::new(alloc, named.alias)?),
+        alias: Some(named.alias),
     })
 }

@@ -9,7 +9,6 @@ use crate::unread::Unread;
 use arrayvec::ArrayVec;
 use fl_aliases::alias::Alias;
 use fl_aliases::table::Aliases;
-use fl_message::boxed::Boxed;
 use std::alloc::{AllocError, Global};
 
 /// The most bytes of a line that asks for an answer.
@@ -23,10 +22,7 @@ pub enum Reading {
     /// No line of the script.
     Bad,
     /// A line of the script, and the alias that is to stand for what it makes, if one is.
-    Means {
-        line: Line,
-        alias: Option<Boxed<Alias>>,
-    },
+    Means { line: Line, alias: Option<Alias> },
 }
 
 // The first byte that is no space.
@@ -57,9 +53,9 @@ fn is_quiet(bytes: &[u8]) -> bool
 /// lines share its memory.
 ///
 /// Looks at each byte a few times at most, and takes no memory but that of the replaced words,
-/// where an alias is in one and the text has no room for them, of the box of the alias behind `as`,
-/// and of the lists of a `label`, `spawn`, `emit`, `open`, `tune`, `send` or `check` line; where
-/// this is refused, the line is not read.
+/// where an alias is in one before `as $x` and the text has no room for them, of what a `spawn`,
+/// `emit`, `open`, `tune`, `send` or `check` line holds, and of a `label` line of two tags at
+/// least; where this is refused, the line is not read.
 pub fn read_line(
     alloc: Global,
     aliases: &Aliases,

@@ -1,9 +1,9 @@
 //! What lines ask of one node, by the words that spell it.
-ghost use Rattle.std.specs.Prelude.{◌≢◌, ◌∷◌, map, codes};
+ghost use Rattle.std.specs.Prelude.{◌≡◌, ◌≢◌, ◌∷◌, map, codes};
 ghost use Rattle.fl_labels.specs.Found.{Finds};
 ghost use Rattle.fl_script.specs.parts.Acts.{NoPidFirst};
 ghost use Rattle.fl_script.specs.parts.Reads.{Reads, StarvesIf};
-ghost use Rattle.fl_script.specs.Grammar.{IsListVerb, SpellsRequest};
+ghost use Rattle.fl_script.specs.Grammar.{SpellsRequest};
 
 use crate::job::{job_from_words, order_from_words};
 use crate::unread::Unread;
@@ -142,7 +142,7 @@ fn begin_request(rest: &[&str]) -> Option<Request>
 pub(crate) fn other_request(alloc: Global, verb: &str, rest: &[&str]) -> Result<Request, Unread>
     requires { NoPidFirst (map (λ w. w.now) rest.now) }
     ensures ok { Reads result (λ r. SpellsRequest r (verb.now ∷ map (λ w. w.now) rest.now)) }
-    ensures memory { StarvesIf result (IsListVerb verb.now) }
+    ensures memory { StarvesIf result (verb.now ≡ codes "check") }
 {
     // Questions of groups come most often.
     if let Some(job) = job_from_words(verb, rest) {

@@ -1,6 +1,7 @@
 //! Words of a line: a reader for each form that only lines have.
-ghost use Rattle.std.specs.Prelude.{◌≡◌, ◌≢◌, ◌<◌, ◌≤◌, codes, length};
+ghost use Rattle.std.specs.Prelude.{◌≡◌, ◌≢◌, ◌<◌, ◌≤◌, ◌⊎◌, codes, length};
 ghost use Rattle.fl_labels.specs.Found.{Finds};
+ghost use Rattle.fl_labels.specs.Words.{NoComma};
 ghost use Rattle.fl_script.specs.parts.Reads.{Reads, StarvesIf};
 ghost use Rattle.fl_ops.specs.PolicyText.{policy_text};
 ghost use Rattle.fl_script.specs.Words.{AreGivenWords, AreMessageWords, IsBytesWord, IsCapsWord, IsLabelWord, IsSecretWord, mode_text, side_text};
@@ -55,9 +56,10 @@ pub fn mode_from_word(word: &str) -> Option<Mode>
 }
 
 /// The label that a word lists, `TooLong` where it lists more tags than a label holds. `Bad` where
-/// it lists no tags.
+/// it lists no tags. Takes memory only where a comma parts them.
 pub fn label_from_word(alloc: Global, word: &str) -> Result<Result<Label, TooLong>, Unread>
-    ensures { Reads result (λ label. IsLabelWord label word.now) }
+    ensures ok { Reads result (λ label. IsLabelWord label word.now) }
+    ensures memory { StarvesIf result (¬ NoComma word.now) }
 {
     match Label::from_text(alloc, word) {
         Ok(label) => Ok(Ok(label)),
@@ -68,13 +70,15 @@ pub fn label_from_word(alloc: Global, word: &str) -> Result<Result<Label, TooLon
 }
 
 /// The labels that two words list, that of secrecy first, each `TooLong` where it has more tags
-/// than a label holds. `Bad` where a word lists no tags.
+/// than a label holds. `Bad` where a word lists no tags. Takes memory only where a comma parts
+/// some.
 pub fn labels_from_words(
     alloc: Global,
     secrecy: &str,
     integrity: &str,
 ) -> Result<GivenLabels, Unread>
-    ensures { Reads result (λ given. AreGivenWords given secrecy.now integrity.now) }
+    ensures ok { Reads result (λ given. AreGivenWords given secrecy.now integrity.now) }
+    ensures memory { StarvesIf result ((¬ NoComma secrecy.now) ⊎ (¬ NoComma integrity.now)) }
 {
     let secrecy = label_from_word(alloc, secrecy)?;
     let integrity = label_from_word(alloc, integrity)?;
@@ -82,9 +86,10 @@ pub fn labels_from_words(
 }
 
 /// The capabilities that a word lists in braces, in any order. `Bad` where it is no such list.
-/// Linear in a list that rises, and else with a sort.
+/// Linear in a list that rises, and else with a sort; takes no memory for `{}`.
 pub fn caps_from_word(alloc: Global, word: &str) -> Result<CapSet, Unread>
-    ensures { Reads result (λ caps. IsCapsWord caps word.now) }
+    ensures ok { Reads result (λ caps. IsCapsWord caps word.now) }
+    ensures memory { StarvesIf result (word.now ≢ codes "{}") }
 {
     match CapSet::from_text(alloc, word) {
         Ok(caps) => Ok(caps),

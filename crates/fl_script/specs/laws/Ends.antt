@@ -3,7 +3,7 @@ use Rattle.std.proofs.Common.{◌≡◌, ◌≢◌, ◌<◌, ◌≤◌, ◌+◌,
 use Rattle.std.proofs.lemmas.List.{drop_more, length-map, get_or-map, take-map}
 use Rattle.fl_aliases.specs.Alias.{IsAliasWord, alias_text}
 use Rattle.fl_aliases.specs.Words.{Word}
-use Rattle.fl_script.specs.parts.Meaning.{EndsInAlias}
+use Rattle.fl_script.specs.Reading.{EndsInAlias}
 
 -- the word so many places behind the front
 behind : (front : List Word) (a b : Word) → (get_or (front ++ a ∷ b ∷ []) (length front) [] ≡ a) × (get_or (front ++ a ∷ b ∷ []) (suc (length front)) [] ≡ b)

@@ -8,9 +8,9 @@ use Rattle.fl_aliases.specs.Table.{Table}
 use Rattle.fl_aliases.specs.laws.Expanding.{plain_itself, plain_alone, one_expansion}
 use Rattle.fl_aliases.specs.Words.{Word}
 
--- a word with a `$` is among the words
-pub dollar_at : (words : List (Bor Word)) (i : ℕ) (d : Bor Word) → i < length words → ¬ NoDollar (get_or words i d).now → ¬ All NoDollar (map (λ w. w.now) words)
-dollar_at words i d inside dollar = λ all. dollar (subst NoDollar (get_or-map (λ w. w.now) words i d [] inside) (all i [] (omega (arith, inside, length-map {A = Bor Word} {B = Word} words (λ w. w.now)))))
+-- a word that is not so is among the words
+pub not_all_at : (P : Word → Type 0) (words : List (Bor Word)) (i : ℕ) (d : Bor Word) → i < length words → ¬ P (get_or words i d).now → ¬ All P (map (λ w. w.now) words)
+not_all_at P words i d inside not_so = λ all. not_so (subst P (get_or-map (λ w. w.now) words i d [] inside) (all i [] (omega (arith, inside, length-map {A = Bor Word} {B = Word} words (λ w. w.now)))))
 
 take_whole : (l : List Word) (n : ℕ) → length l ≤ n → take n l ≡ l
 take_whole l n whole = sym (append-nil (take n l)) ∙ ap (λ r. take n l ++ r) (sym (drop_all n l whole)) ∙ take-append-drop n l

@@ -2,8 +2,8 @@ use Rattle.std.proofs.Common.{◌≡◌, ◌≤◌, ◌∙◌, ℕ, List, Err, a
 use Rattle.std.specs.Str.{IsAscii}
 use Rattle.std.proofs.lemmas.Str.{IsUtf8-from_ascii}
 use Rattle.fl_aliases.specs.Words.{words_of}
-use Rattle.fl_script.specs.Grammar.{HoldsList, Spells}
-use Rattle.fl_script.specs.Reading.{IsAsking, IsQuiet, WordsSay}
+use Rattle.fl_script.specs.Grammar.{HoldsBlock, Spells}
+use Rattle.fl_script.specs.Reading.{IsAsking, IsQuiet, WordsSay, WordsTakeMemory}
 use Rattle.fl_script.specs.declared.unread.Unread.TheVariants.{Bad, Memory}
 use Rattle.fl_script.specs.laws.WordShape.{clean_words}
 use Rattle.fl_script.proofs.AsciiWords.{no_ascii_says_none}
@@ -74,7 +74,7 @@ returns-in-Err-Memory-clause-err c =
     let is : c.in-Err-Memory.field-0 ≡ Memory = search rules in
     record {
       asking = asks c.args.bytes.now loud (omega arith) c.in-Some.ensures.ascii;
-      takes = inr (subst HoldsList words (c.in-Err-Memory.ensures.memory is));
+      takes = record { is = inr (subst HoldsBlock words (c.in-Err-Memory.ensures.memory is)) };
     }
 
 pub returns-in-Ok-meaning_of-clause-ok : goal.returns-in-Ok-meaning_of-clause-ok
@@ -91,7 +91,10 @@ returns-in-Ok-meaning_of-clause-ok c =
 pub returns-in-Err-Memory-meaning_of-clause-err : goal.returns-in-Err-Memory-meaning_of-clause-err
 returns-in-Err-Memory-meaning_of-clause-err c =
     let loud : ¬ IsQuiet c.args.bytes.now = search rules in
+    let words : map (λ w. w.now) c.as_slice-words.result.now ≡ words_of c.args.bytes.now =
+    ap (map (λ w. w.now)) c.as_slice-words.ensures.value ∙ c.in-Some.ensures.words in
+    let is : c.in-Err-Memory-meaning_of.field-0 ≡ Memory = search rules in
     record {
       asking = asks c.args.bytes.now loud (omega arith) c.in-Some.ensures.ascii;
-      takes = inl (rw c.if-not-has_dollar.false at c.in-Some.ensures.dollar);
+      takes = subst WordsTakeMemory words (c.in-Err-Memory-meaning_of.ensures.memory is);
     }
