@@ -31,7 +31,7 @@ fn push_piece<'a>(words: &mut ArrayVec<&'a str, MOST_LINE_WORDS>, piece: &'a [u8
 /// Adds the words of a line, and answers whether a `$` stands in it. None where it has more words
 /// than [`MOST_LINE_WORDS`], or a byte beyond ASCII, which no word of the script has. Looks at each
 /// byte once, and takes no memory.
-pub(crate) fn cut_line<'a>(
+pub fn cut_line<'a>(
     line: &'a [u8],
     words: &mut ArrayVec<&'a str, MOST_LINE_WORDS>,
 ) -> Option<bool>

@@ -1,7 +1,7 @@
 //! The lines of a script: their words, and what they say.
 #![tactic(auto)]
 
-mod cut;
+pub mod cut;
 mod job;
 pub mod laws;
 pub mod line;
@@ -9,5 +9,5 @@ mod meaning;
 pub mod reading;
 mod replaced;
 pub mod request;
-mod unread;
-mod words;
+pub mod unread;
+pub mod words;

@@ -83,7 +83,7 @@ fn line_behind(alloc: Global, first: &str, rest: &[&str]) -> Result<Line, Unread
 /// The line that the words spell. `Bad` where they spell no line. Takes memory for a label of two
 /// tags at least, for capabilities, for the labels of an endpoint and for bytes.
 #[inline(always)]
-pub(crate) fn line_from_words(alloc: Global, words: &[&str]) -> Result<Line, Unread>
+pub fn line_from_words(alloc: Global, words: &[&str]) -> Result<Line, Unread>
     ensures ok { Reads result (λ l. Spells l (map (λ w. w.now) words.now)) }
     ensures memory { StarvesIf result (HoldsBlock (map (λ w. w.now) words.now)) }
 {

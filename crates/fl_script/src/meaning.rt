@@ -56,7 +56,24 @@ fn makes(line: &Line) -> bool
             request: Request::Job(Job::By(_, act)),
             ..
         } => act_makes(act),
-        _ => false,
+        Line::Node {
+            request: Request::Job(Job::Member(_, _) | Job::Arrive(_)),
+            ..
+        } => false,
+        Line::Node {
+            request: Request::Begin(_, _)
+            | Request::Deliver(_)
+            | Request::BeginDeliver(_)
+            | Request::Tell
+            | Request::Save
+            | Request::Publish
+            | Request::Cancel
+            | Request::Restart { .. }
+            | Request::Text
+            | Request::Check(_),
+            ..
+        } => false,
+        Line::Union { .. } | Line::Audit | Line::Aliases => false,
     }
 }
 

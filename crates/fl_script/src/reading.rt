@@ -32,8 +32,8 @@ fn first_byte(bytes: &[u8]) -> Option<u8>
     bytes.iter().copied().find(|byte| *byte != b' ')
 }
 
-// Whether the line is empty or a comment. Looks no further than the first byte that is no space.
-fn is_quiet(bytes: &[u8]) -> bool
+/// Whether the line is empty or a comment. Looks no further than the first byte that is no space.
+pub fn is_quiet(bytes: &[u8]) -> bool
     ensures { IsTrue result ↔ IsQuiet bytes.now }
 {
     match first_byte(bytes) {
