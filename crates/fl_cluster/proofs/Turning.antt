@@ -1,5 +1,5 @@
 -- What a call of the cluster does, said of the lines of a script.
-use Rattle.std.proofs.Common.{◌≡◌, ◌∙◌, refl, sym, ap, subst, ℕ, true, List, [], Option, None, Some, inl, inr}
+use Rattle.std.proofs.Common.{◌≡◌, ◌∙◌, ◌⊎◌, refl, sym, ap, subst, ℕ, true, List, [], Option, None, Some, inl, inr}
 use Rattle.std.proofs.lemmas.List.{append-nil}
 use Rattle.fl_aliases.specs.Table.{Table}
 use Rattle.fl_aliases.specs.declared.target.Target.{Target}
@@ -8,8 +8,7 @@ use Rattle.fl_sink.specs.laws.Passing.{passes_none}
 use Rattle.fl_store.specs.Custody.{Custody}
 use Rattle.fl_stream.specs.Turns.{AnswerPasses, AnswerCuts}
 use Rattle.fl_makers.specs.Making.{Making}
-use Rattle.fl_script.specs.Reading.{IsReading, ReadingTakesMemory, makes}
-use Rattle.fl_script.specs.laws.NamedLines.{named_takes}
+use Rattle.fl_script.specs.Reading.{IsReading, ReadingTakesMemory, SettingTakesMemory, makes}
 use Rattle.fl_script.specs.declared.line.Line.{Line}
 use Rattle.fl_script.specs.declared.line.Line.TheVariants as line
 use Rattle.fl_script.specs.declared.reading.Reading.TheVariants as reading
@@ -136,7 +135,8 @@ module _ {K M : Type 0} (custody : Custody K) (making : Making M K) where
   turns_bad over bytes says =
       stays over.cluster _ (λ openings w is. inl (record { reading = reading.Bad; says = says; answered = (refl, refl) }))
 
-  pub turns_starved : (over : SessionOver K M) (bytes : List ℕ) → ReadingTakesMemory bytes
+  pub turns_starved : (over : SessionOver K M) (bytes : List ℕ)
+      → ReadingTakesMemory bytes ⊎ SettingTakesMemory over.aliases bytes
       → TurnOver custody making over bytes starved_line over
   turns_starved over bytes takes =
       stays over.cluster _ (λ openings w is. inr (record { takes = takes; answered = refl; unchanged = refl }))
@@ -148,14 +148,15 @@ module _ {K M : Type 0} (custody : Custody K) (making : Making M K) where
       goes_on_as old.cluster new.cluster _ _
       (λ openings w w' h. inl (record { reading = reading.Means l alias; says = says; answered = h })) on
 
-  -- a line with an alias takes memory to read
+  -- where the alias is new there may be no memory for it
   pub turns_placed : (old new : SessionOver K M) (bytes : List ℕ) (l : Line) (alias : List ℕ) (r : Response)
       → IsReading old.aliases bytes (reading.Means l (Some alias))
       → NamesOrStarves custody making old l (Some alias) r new
       → TurnOver custody making old bytes (shown new r) new
   turns_placed old new bytes l alias r says (inl on) = turns_named old new bytes l (Some alias) r says on
   turns_placed old new bytes l alias r says (inr h) =
-      rw (h.0, h.1) (turns_starved old bytes (named_takes says))
+      rw (h.0, h.1) (turns_starved old bytes
+      (inr (record { line = l; alias = alias; says = says; is_new = h.2 })))
 
   -- the response's text passed, and its status was told
   pub passes_answer : {before after : Option (List ℕ)} {pending rest : List ℕ} (number : ℕ) (old new : SessionOver K M)

@@ -22,7 +22,6 @@ use fl_calls::response::Response as Said;
 use fl_jobs::job::Job;
 use fl_labels::name::{Name, NodeNumber};
 use fl_makers::maker::MakesKeepers;
-use fl_message::boxed::Boxed;
 use fl_replies::text::write_world_reply;
 use fl_script::line::Line;
 use fl_script::reading::{Reading, read_line};
@@ -201,7 +200,7 @@ impl<M: MakesKeepers> Session<M> {
         alloc: Global,
         number: u64,
         line: Line,
-        alias: Option<Boxed<Alias>>,
+        alias: Option<Alias>,
         sink: &mut Sink,
         output: &mut W,
     ) -> Result<u8, WriteFault>
@@ -254,7 +253,7 @@ impl<M: MakesKeepers> Session<M> {
     }
 
     // What is answered to the line, whose alias, if it has one, stands for what it made then.
-    fn respond(&mut self, alloc: Global, line: Line, alias: Option<Boxed<Alias>>) -> Response
+    fn respond(&mut self, alloc: Global, line: Line, alias: Option<Alias>) -> Response
         requires { (bytes : List ℕ) × IsReading self.old.aliases bytes (reading.Means line alias) }
         ensures turns { (bytes : List ℕ)
             → IsReading self.old.aliases bytes (reading.Means line alias)
@@ -266,7 +265,7 @@ impl<M: MakesKeepers> Session<M> {
     {
         match alias {
             None => self.answer(alloc, line),
-            Some(alias) => self.answer_named(alloc, line, *alias),
+            Some(alias) => self.answer_named(alloc, line, alias),
         }
     }
 

@@ -62,11 +62,7 @@ fn understood(alloc: Global, aliases: &Aliases, line: &[u8], text: &mut String) 
             Line::Node {
                 node,
                 request: Request::Job(job),
-            } => Asked::Task(Task {
-                node,
-                job,
-                alias: alias.map(|alias| *alias),
-            }),
+            } => Asked::Task(Task { node, job, alias }),
             Line::Aliases => Asked::Aliases,
             other => Asked::Other(other),
         },

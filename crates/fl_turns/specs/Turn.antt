@@ -12,7 +12,7 @@ use Rattle.fl_script.specs.declared.request.Request.{Request}
 use Rattle.fl_script.specs.declared.request.Request.TheVariants as request
 use Rattle.fl_script.specs.declared.reading.Reading.{Reading}
 use Rattle.fl_script.specs.declared.reading.Reading.TheVariants as reading
-use Rattle.fl_script.specs.Reading.{IsReading, ReadingTakesMemory}
+use Rattle.fl_script.specs.Reading.{IsReading, ReadingTakesMemory, SettingTakesMemory}
 use Rattle.fl_calls.specs.Answer.{Answer as Said}
 use Rattle.fl_calls.specs.Entering.{Openings}
 use Rattle.fl_calls.specs.Calls.{Asks, AsksToBegin, Delivers, BeginsToTake}
@@ -75,7 +75,7 @@ pub record Understood (openings : Openings) (old : Session) (bytes : List ℕ) (
 -- reading the line, or setting its alias, takes memory, and there was not enough, and nothing changed
 pub record Starved (old : Session) (bytes : List ℕ) (answer : Answer) (new : Session)
     : Type 0 where
-  pub takes : ReadingTakesMemory bytes
+  pub takes : ReadingTakesMemory bytes ⊎ SettingTakesMemory old.aliases bytes
   pub answered : answer ≡ starved_line
   pub unchanged : new ≡ old
 

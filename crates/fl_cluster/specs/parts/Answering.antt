@@ -1,6 +1,8 @@
 -- What is responded to a line that was read.
-use Rattle.std.specs.Prelude.{◌≡◌, ◌⊎◌, ℕ, List, Option}
-use Rattle.fl_aliases.specs.Table.{Table}
+use Rattle.std.specs.Prelude.{◌≡◌, ◌⊎◌, ℕ, List}
+use Rattle.std.specs.declared.option.Option.{Option}
+use Rattle.std.specs.declared.option.Option.TheVariants.{None, Some}
+use Rattle.fl_aliases.specs.Table.{Table, target_of}
 use Rattle.fl_store.specs.Custody.{Custody}
 use Rattle.fl_makers.specs.Making.{Making}
 use Rattle.fl_script.specs.declared.line.Line.{Line}
@@ -26,9 +28,14 @@ Names custody making old line alias response new =
     AnswersNamed openings (record { world = w; aliases = old.aliases }) line alias
     (shown new response) (record { world = w'; aliases = new.aliases }))
 
--- the same, or there was no memory for the alias, and nothing changed
+-- the alias is not set
+abbrev pub IsUnset : Table → Option (List ℕ) → Type 0
+IsUnset table None = ⊥
+IsUnset table (Some alias) = target_of table alias ≡ None
+
+-- the same, or there was no memory for the alias, which is a new one, and nothing changed
 abbrev pub NamesOrStarves : {K M : Type 0} → Custody K → Making M K → SessionOver K M → Line → Option (List ℕ) → Response
     → SessionOver K M → Type 0
 NamesOrStarves custody making old line alias response new =
     Names custody making old line alias response new
-    ⊎ ((shown new response ≡ starved_line) × (new ≡ old))
+    ⊎ ((shown new response ≡ starved_line) × (new ≡ old) × IsUnset old.aliases alias)

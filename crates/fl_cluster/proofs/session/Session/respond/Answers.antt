@@ -10,7 +10,7 @@ returns-in-None-clause-turns g c = λ bytes says.
 pub returns-in-Some-clause-turns : goal.returns-in-Some-clause-turns
 returns-in-Some-clause-turns g c = λ bytes says.
     turns_placed g.M.K.Keeper.custody g.M.MakesKeepers.making
-    _ _ bytes c.args.line c.in-Some.alias c.answer_named.result (rw c.in-Some.is at says) (rw c.deref.ensures at c.answer_named.ensures.names)
+    _ _ bytes c.args.line c.in-Some.alias c.answer_named.result (rw c.in-Some.is at says) c.answer_named.ensures.names
 
 pub returns-in-None-clause-cause : goal.returns-in-None-clause-cause
 returns-in-None-clause-cause g c bytes says three = record {
