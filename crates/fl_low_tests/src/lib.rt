@@ -27,6 +27,8 @@ mod registries;
 #[cfg(test)]
 mod rows;
 #[cfg(test)]
+mod seals;
+#[cfg(test)]
 mod secrets;
 #[cfg(test)]
 mod sink;
