@@ -1,5 +1,5 @@
 -- What UPDATE makes of the row of the node itself, and what SELECT shows of it.
-use Rattle.std.proofs.Common.{◌≡◌, ℕ, pos, List, [], ◌∷◌, map, true, None, Ok, Err, Result, refl, sym, ap, subst, ◌∙◌, arith, IfOk}
+use Rattle.std.proofs.Common.{◌≡◌, ℕ, pos, List, [], ◌∷◌, map, true, None, Some, Ok, Err, Result, refl, sym, ap, subst, ◌∙◌, arith, IfOk}
 use Rattle.std.specs.List.Sorted.{IsPermutation}
 use Rattle.sqlite.specs.declared.types.Value.TheVariants.{Null, Int}
 use Rattle.sqlite_value.specs.Order.{value_cmp}
@@ -26,6 +26,7 @@ use Rattle.fl_sql_tables.specs.Tables.{keeper_schema, self_table, raise_boot_tex
 use Rattle.fl_ops.specs.declared.format.Format.{Format}
 use Rattle.fl_ops.specs.declared.format.Format.TheVariants.{Two}
 use Rattle.fl_ops.specs.Format.{format_byte}
+use Rattle.fl_sql_tables.specs.Spelling.{whole_in}
 use Rattle.fl_sql_tables.specs.Stored.{self_row, HasSelf}
 use Rattle.fl_sql_tables.proofs.Texts.{raise_boot_is, plain_4, boot_query, self_query, select_self_is, plain_5, unlisted_5}
 use Rattle.fl_sql_tables.proofs.Inserts.{went, same_value, cast_int, cast_null}
@@ -119,9 +120,9 @@ sets_boot old new number boot count ready h =
     record { raised = record { schema = it.0; format = f; was = ready.boot; before = one; itself = it.1; ops = it.2; catalog = it.3 }; shown = h.1 }
 
 pub boot_read : (r : Result ℕ Error) (row : Row) (rows : List Row) (f : Format) (number boot : ℕ) → row ≡ shown_self f number boot → rows ≡ self_row f number boot ∷ []
-    → IfOk r (λ x. (1 < length row) × (column row 1 ≡ Int (pos x))) → IfOk r (λ x. HasSelf number x rows)
+    → IfOk r (λ x. whole_in (column row 1) ≡ Some x) → IfOk r (λ x. HasSelf number x rows)
 boot_read (Err e) row rows f number boot is one h = tt
 boot_read (Ok x) row rows f number boot is one h =
-    let read : Int (pos boot) ≡ Int (pos x) = sym (ap (λ r. column r 1) is) ∙ h.1 in
+    let read : Some boot ≡ Some x = sym (ap (λ r. whole_in (column r 1)) is) ∙ h in
     let same : boot ≡ x = cc in
     (f, one ∙ ap (λ b. self_row f number b ∷ []) same)

@@ -1,5 +1,5 @@
 -- Why a call over a keeper's database fails.
-use Rattle.std.proofs.Common.{◌≡◌, ◌⊎◌, inl, inr, ℕ, ◌≤◌, List, [], ◌∷◌, length, Bool, true, false, IsTrue, Some, None, Option, Ok, Err, Result, codes, IfErr, ◌<◌, ◌≢◌, pos, ◌||◌, refl, sym, ap, subst, subst₂, ◌∙◌, arith, append-nil}
+use Rattle.std.proofs.Common.{◌≡◌, ◌⊎◌, inl, inr, ℕ, ◌≤◌, List, [], ◌∷◌, length, Bool, true, false, IsTrue, Some, None, Option, Ok, Err, Result, codes, IfErr, ◌<◌, pos, ◌||◌, refl, sym, ap, subst, subst₂, ◌∙◌, arith, append-nil}
 use Rattle.std.specs.Prelude.{IsSome}
 use Rattle.sqlite.specs.Disk.{MoreFaults}
 use Rattle.sqlite_trees.specs.declared.error.StoreError.{StoreError}
@@ -25,11 +25,8 @@ use Rattle.sqlite_resolve.specs.declared.error.CompileError.{CompileError}
 use Rattle.sqlite.proofs.Callers.{command_of}
 use Rattle.fl_sql_tables.specs.Tables.{keeper_schema, select_self_text, select_ops_text, insert_op_text, raise_boot_text}
 use Rattle.sqlite.specs.Command.TheVariants.{Update, Insert, CreateTable, DropTable}
-use Rattle.sqlite.specs.Reading.{IsReadError}
 use Rattle.sqlite.specs.Order.{column}
-use Rattle.sqlite.specs.Values.{type_of}
 use Rattle.sqlite.specs.declared.types.Value.TheVariants.{Int}
-use Rattle.sqlite.specs.declared.error.Error.TheVariants.{InvalidColumnIndex, InvalidColumnType, IntegralValueOutOfRange, Utf8Error}
 use Rattle.sqlite.specs.Steps.{FailsToCommit}
 use Rattle.fl_ops.specs.declared.op.Op.{Op}
 use Rattle.sqlite.specs.Does.{Does}
@@ -45,7 +42,7 @@ use Rattle.std.proofs.lemmas.List.{take-append-drop}
 use Rattle.fl_sql_tables.proofs.StateLemmas.{zero_or}
 use Rattle.fl_sql_tables.proofs.QueryLemmas.{runs_out}
 use Rattle.fl_sql_tables.proofs.SetLemmas.{with_none}
-use Rattle.fl_sql_tables.specs.Spelling.{row_of}
+use Rattle.fl_sql_tables.specs.Spelling.{row_of, whole_in}
 use Rattle.fl_sql_tables.specs.Failing.{IsFault, RunsOut, IsRefused, FailsToRaise, FailsToPut, FailsToSave}
 use Rattle.fl_sql_tables.proofs.BootLemmas.{shown_self, selects_self}
 use Rattle.fl_sql_tables.proofs.Texts.{self_query, ops_query, select_self_is, select_ops_is, plain_1, plain_3, plain_4, plain_5, unlisted_3, unlisted_5, raise_boot_is, insert_op_is}
@@ -164,13 +161,22 @@ query_fault sql old new has is_open plain whole unlisted always e h = elim (quer
   | inr limited ↦ inr (inr limited)
 ]
 
--- the operations are not shown, and for want of memory the transaction is undone
+-- for want of memory the transaction is undone
+pub query_out : (sql : List ℕ) (old new : State) → old.now.schema ≡ keeper_schema → IsTrue old.is_open → IsPlain (understood keeper_schema sql) → IsWhole sql 0 (understood keeper_schema sql)
+    → reads_listing keeper_schema sql ≡ false → IsReadAlways (command_of (understood keeper_schema sql)) → (e : Error) → FailsToQuery sql [] old new e
+    → e ≡ SqliteFailure code.OutOfMemory → RunsOut old new
+query_out sql old new has is_open plain whole unlisted always e h is = elim (query_cause sql old new has is_open plain whole unlisted always e h) [
+  | inl fails ↦ runs_out old new fails.3
+  | inr limited ↦ absurd (let wrong : SqliteFailure code.OutOfMemory ≡ SqliteFailure code.OperationInterrupted = sym is ∙ limited.0 in cc)
+]
+
+-- the operations are not shown
 pub ops_fails : (old new : State) → old.now.schema ≡ keeper_schema → IsTrue old.is_open → (e : Error) → FailsToQuery select_ops_text [] old new e
     → IsFault old new e × (e ≡ SqliteFailure code.OutOfMemory → RunsOut old new)
-ops_fails old new has is_open e h = elim (query_cause select_ops_text old new has is_open plain_3 whole_ops unlisted_3 read_ops e h) [
-  | inl fails ↦ (fails_alone old new e is_open fails, λ _. runs_out old new fails.3)
-  | inr limited ↦ (inr (inr limited), λ is. absurd (let wrong : SqliteFailure code.OutOfMemory ≡ SqliteFailure code.OperationInterrupted = sym is ∙ limited.0 in cc))
-]
+ops_fails old new has is_open e h = (
+  query_fault select_ops_text old new has is_open plain_3 whole_ops unlisted_3 read_ops e h,
+  query_out select_ops_text old new has is_open plain_3 whole_ops unlisted_3 read_ops e h,
+)
 
 more_before : (a b c : ℕ) → a ≤ b → MoreFaults b c → MoreFaults a c
 more_before a b c le h = omega (arith, h)
@@ -192,20 +198,17 @@ unfolding QueriesRow
 row_fault old new number boot has is_open one e (inl h) = query_fault select_self_text old new has is_open plain_5 whole_self unlisted_5 read_self e h
 row_fault old new number boot has is_open one e (inr h) = absurd (let wrong = selects_self old new one.0 number boot [] has one.1 h.1 in cc)
 
--- a boot in its range is read, if there is memory
-pub get_fault : (old new : State) (r : Result ℕ Error) (row : Row) (f : Format) (number boot : ℕ) → boot < 4294967296 → row ≡ shown_self f number boot
-    → IfErr r (λ e. e ≢ SqliteFailure code.OutOfMemory → 1 < length row → ¬ ((n : ℕ) × (column row 1 ≡ Int (pos n)) × (n < 4294967296)))
-    → IfErr r (IsReadError 1 (column row 1)) → IfErr r (IsFault old new)
-get_fault old new (Ok x) row f number boot low is kind named = tt
-get_fault old new (Err e) row f number boot low is kind named =
-    let other = λ (differs : e ≢ SqliteFailure code.OutOfMemory). kind differs (rw is (omega arith)) (boot, ap (λ r. column r 1) is, low) in
-    elim named [
-      | inl it ↦ absurd (other (λ h. let wrong : InvalidColumnIndex 1 ≡ SqliteFailure code.OutOfMemory = sym it ∙ h in cc))
-      | inr (inl it) ↦ absurd (other (λ h. let wrong : InvalidColumnType 1 (type_of (column row 1)) ≡ SqliteFailure code.OutOfMemory = sym it ∙ h in cc))
-      | inr (inr (inl it)) ↦ absurd (other (λ h. let wrong : IntegralValueOutOfRange 1 ≡ SqliteFailure code.OutOfMemory = sym it ∙ h in cc))
-      | inr (inr (inr (inl it))) ↦ absurd (other (λ h. let wrong : Utf8Error 1 ≡ SqliteFailure code.OutOfMemory = sym it ∙ h in cc))
-      | inr (inr (inr (inr it))) ↦ inl it
-    ]
+pub row_out : (old new : State) (number boot : ℕ) → old.now.schema ≡ keeper_schema → IsTrue old.is_open → HasSelf number boot (old.now.trees 0)
+    → (e : Error) → QueriesRow select_self_text [] old new (Err e) → e ≡ SqliteFailure code.OutOfMemory → RunsOut old new
+unfolding QueriesRow
+row_out old new number boot has is_open one e (inl h) = query_out select_self_text old new has is_open plain_5 whole_self unlisted_5 read_self e h
+row_out old new number boot has is_open one e (inr h) = absurd (let wrong = selects_self old new one.0 number boot [] has one.1 h.1 in cc)
+
+-- a boot in its range is read
+pub boot_there : (P : Error → Type 0) (r : Result ℕ Error) (row : Row) (f : Format) (number boot : ℕ) → boot < 4294967296 → row ≡ shown_self f number boot
+    → IfErr r (λ _. length row ≡ 3 → ¬ ((n : ℕ) × (n < 4294967296) × (whole_in (column row 1) ≡ Some n))) → IfErr r P
+boot_there P (Ok x) row f number boot low is out = tt
+boot_there P (Err e) row f number boot low is out = absurd (out (ap length is) (boot, low, ap (λ r. whole_in (column r 1)) is))
 
 -- ---- a statement that writes
 

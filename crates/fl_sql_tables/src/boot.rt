@@ -1,16 +1,39 @@
 //! The boot of a database.
-ghost use Rattle.std.specs.Prelude.{◌≡◌, ◌⊎◌, [], ◌∷◌, true, false, IsTrue, IfOk, OnOk, OnErr, IfErr, Err};
+ghost use Rattle.std.specs.Prelude.{◌≡◌, ◌<◌, ◌⊎◌, ℕ, [], ◌∷◌, length, true, false, IsTrue, IfOk, OnOk, OnErr};
+ghost use Rattle.std.specs.Prelude.{IfErr, Err, Some};
 ghost use Rattle.sqlite.specs.Held.{state};
+ghost use Rattle.sqlite.specs.Order.{column};
 ghost use Rattle.sqlite.specs.State.{HasCleanDisk, IsUnchanged, KeepsCommit, Survives};
 ghost use Rattle.fl_sql_tables.specs.Stored.{IsUndone, HasSelf};
 ghost use Rattle.fl_sql_tables.specs.Serving.{IsServing, SetsBoot, Raises, RaisesTo};
-ghost use Rattle.fl_sql_tables.specs.Failing.{IsFault, FailsToRaise};
+ghost use Rattle.fl_sql_tables.specs.Failing.{IsFault, FailsToRaise, RunsOut};
+ghost use Rattle.fl_sql_tables.specs.Spelling.{whole_in};
 
+use crate::reading::number_at;
 use fl_labels::name::NodeNumber;
-use sqlite::{Alter, Connection, Error, Transaction, params};
+use sqlite::{Alter, Connection, Error, ErrorCode, Row, Transaction, params};
+
+// The boot in what is shown of the row of the node itself. Takes no memory.
+fn boot_in(row: &Row) -> Result<u32, Error>
+    ensures ok { IfOk result (λ boot. whole_in (column row.now 1) ≡ Some boot) }
+    ensures err { IfErr result (λ _. length row.now ≡ 3
+        → ¬ ((boot : ℕ) × (boot < 4294967296) × (whole_in (column row.now 1) ≡ Some boot))) }
+{
+    if row.column_count() != 3 {
+        return Err(Error::InvalidColumnIndex(1));
+    }
+    let Some(boot) = number_at(row, 1) else {
+        return Err(Error::IntegralValueOutOfRange(1));
+    };
+    match u32::try_from(boot) {
+        Ok(boot) => Ok(boot),
+        Err(_) => Err(Error::IntegralValueOutOfRange(1)),
+    }
+}
 
 /// The boot of the node itself. Refused only where memory is, or the disk fails, or the limit on
-/// steps is met: the row is there, and its boot in its range.
+/// steps is met: the row is there, and its boot in its range. Of the row that is read, nothing
+/// takes memory.
 pub fn read_boot<S: Alter>(conn: &mut Connection<S>, number: NodeNumber) -> Result<u32, Error>
     requires idle { conn.old.in_transaction ≡ false }
     requires serving { IsServing number (state S.Store conn.old) }
@@ -23,10 +46,13 @@ pub fn read_boot<S: Alter>(conn: &mut Connection<S>, number: NodeNumber) -> Resu
         (state S.Store conn.old) (state S.Store conn.new)) }
     ensures fails { HasCleanDisk (state S.Store conn.new) → IfErr result (IsFault
         (state S.Store conn.old) (state S.Store conn.new)) }
+    ensures wants { HasCleanDisk (state S.Store conn.new)
+        → result ≡ Err (Error.SqliteFailure ErrorCode.OutOfMemory)
+        → RunsOut (state S.Store conn.old) (state S.Store conn.new) }
     ensures survives { Survives (state S.Store conn.old) (state S.Store conn.new) (λ _. ⊥) }
 {
     match conn.query_row("SELECT node, boot, format FROM self", &[]) {
-        Ok(row) => row.get(1),
+        Ok(row) => boot_in(&row),
         Err(error) => Err(error),
     }
 }
@@ -72,6 +98,9 @@ pub fn raise_boot<S: Alter>(
         (state S.Store conn.old) (state S.Store conn.new)) }
     ensures fails { HasCleanDisk (state S.Store conn.new) → IfErr result (FailsToRaise boot
         (state S.Store conn.old) (state S.Store conn.new)) }
+    ensures wants { HasCleanDisk (state S.Store conn.new)
+        → result ≡ Err (Error.SqliteFailure ErrorCode.OutOfMemory)
+        → RunsOut (state S.Store conn.old) (state S.Store conn.new) }
     ensures survives { Survives (state S.Store conn.old)
         (state S.Store conn.new) (RaisesTo number boot (state S.Store conn.old).now) }
 {

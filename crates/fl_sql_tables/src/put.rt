@@ -1,14 +1,14 @@
 //! Adding operations.
-ghost use Rattle.std.specs.Prelude.{◌≡◌, ◌<◌, ◌≤◌, [], ◌∷◌, length, IsTrue, IfErr, OnOk, OnErr, false};
+ghost use Rattle.std.specs.Prelude.{◌≡◌, ◌<◌, ◌≤◌, [], ◌∷◌, length, IsTrue, IfErr, OnOk, OnErr, false, Err};
 ghost use Rattle.sqlite.specs.Held.{state};
 ghost use Rattle.sqlite.specs.State.{HasCleanDisk, KeepsCommit, Survives};
 ghost use Rattle.sqlite.specs.View.{doubt};
 ghost use Rattle.fl_sql_tables.specs.Stored.{IsOurs, PutsIn, Saves, IsUndone, AddsTo};
-ghost use Rattle.fl_sql_tables.specs.Failing.{FailsToPut, FailsToSave};
+ghost use Rattle.fl_sql_tables.specs.Failing.{FailsToPut, FailsToSave, RunsOut};
 
 use fl_ops::op::Op;
 use fl_ops::writing::encode;
-use sqlite::{Alter, Connection, Error, Transaction, params};
+use sqlite::{Alter, Connection, Error, ErrorCode, Transaction, params};
 use std::alloc::Global;
 
 // Adds one operation in a transaction.
@@ -78,6 +78,9 @@ pub fn save_ops<S: Alter>(alloc: Global, conn: &mut Connection<S>, ops: &[Op]) -
     ensures fails { HasCleanDisk (state S.Store conn.new) → IsOurs (state S.Store conn.old)
         → IsTrue (state S.Store conn.old).is_open → IfErr result (FailsToSave ops.now
         (state S.Store conn.old) (state S.Store conn.new)) }
+    ensures wants { HasCleanDisk (state S.Store conn.new) → IsOurs (state S.Store conn.old)
+        → result ≡ Err (Error.SqliteFailure ErrorCode.OutOfMemory)
+        → RunsOut (state S.Store conn.old) (state S.Store conn.new) }
     ensures survives { IsOurs (state S.Store conn.old) → Survives (state S.Store conn.old)
         (state S.Store conn.new) (AddsTo ops.now (state S.Store conn.old).now) }
 {
