@@ -31,10 +31,7 @@ fn push_piece<'a>(words: &mut ArrayVec<&'a str, MOST_LINE_WORDS>, piece: &'a [u8
 /// Adds the words of a line, and answers whether a `$` stands in it. None where it has more words
 /// than [`MOST_LINE_WORDS`], or a byte beyond ASCII, which no word of the script has. Looks at each
 /// byte once, and takes no memory.
-pub fn cut_line<'a>(
-    line: &'a [u8],
-    words: &mut ArrayVec<&'a str, MOST_LINE_WORDS>,
-) -> Option<bool>
+pub fn cut_line<'a>(line: &'a [u8], words: &mut ArrayVec<&'a str, MOST_LINE_WORDS>) -> Option<bool>
     requires { words.old.items ≡ [] }
     ensures words { let cut = words_of line.now in
         MatchOption result ((8 < length cut) ⊎ (¬ IsAscii line.now))

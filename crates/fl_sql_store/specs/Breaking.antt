@@ -11,7 +11,7 @@ use Rattle.fl_store.specs.declared.keeper.KeeperFault.{KeeperFault}
 use Rattle.fl_store.specs.declared.keeper.KeeperFault.TheVariants.{Memory, Broken, WrongNode, BadRow, NamesSpent}
 use Rattle.fl_store.specs.Call.{Call, Load, Boot, Save}
 use Rattle.fl_sql_tables.specs.Stored.{HasSelf, HasBadRow, HasReadGood, IsUndone}
-use Rattle.fl_sql_tables.specs.Failing.{IsFault, FailsToRaise, FailsToLoad, FailsToSave}
+use Rattle.fl_sql_tables.specs.Failing.{IsFault, FailsToRaise, FailsToLoad, FailsToSave, RunsOut}
 use Rattle.fl_sql_store.specs.Opening.{IsFailure}
 use Rattle.fl_sql_store.specs.SqlKeeping.{SqlKept}
 
@@ -35,14 +35,16 @@ IsToldAs old new e WrongNode = ⊥
 IsToldAs old new e BadRow = ⊥
 IsToldAs old new e NamesSpent = ⊥
 
--- A call failed with an error that has this cause, and committed nothing; and what it left became
--- this with what the error was told as, where again nothing was committed. An error that breaks is kept.
+-- A call failed with an error that has this cause, and committed nothing; where that was want of memory, it left neither a transaction
+-- nor a savepoint. What it left became this with what the error was told as, where again nothing was committed. An error that breaks is
+-- kept.
 pub record IsTold {S : Type 0} (g : Ghosts S) (Fails : State → State → Error → Type 0)
     (old new : Held S) (why : Option Error) (fault : KeeperFault) : Type 0 where
   pub left : Held S
   pub error : Error
   pub cause : Fails (state g old) (state g left) error
   pub undone : IsUndone (state g old) (state g left)
+  pub out : error ≡ SqliteFailure OutOfMemory → RunsOut (state g old) (state g left)
   pub told : IsToldAs (state g left) (state g new) error fault
   pub keeps : fault ≡ Broken → why ≡ Some error
   pub kept : KeepsCommit (state g left) (state g new)

@@ -62,9 +62,9 @@ pub fn load_on<S: Alter>(
 
 /// Adds the operations in one transaction, all or none.
 ///
-/// Refused with `Memory` for want of memory, where none is added and the connection serves on; and
-/// with `Broken` for an error of another cause, or where the connection serves no more. That error
-/// is kept.
+/// Refused with `Memory` for want of memory, where none is added, neither a transaction nor a
+/// savepoint is left, and the connection serves on; and with `Broken` for an error of another
+/// cause, or where the connection serves no more. That error is kept.
 pub fn save_on<S: Alter>(
     alloc: Global,
     conn: &mut Connection<S>,
@@ -98,8 +98,9 @@ pub fn save_on<S: Alter>(
 /// Raises the boot by one and gives it.
 ///
 /// Refused with `NamesSpent` exactly where the boot is 4,294,967,295 and is read; with `Memory` for
-/// want of memory, where the boot stays and the connection serves on; and with `Broken` for an
-/// error of another cause, or where it serves no more. That error is kept.
+/// want of memory, where the boot stays, neither a transaction nor a savepoint is left, and the
+/// connection serves on; and with `Broken` for an error of another cause, or where it serves no
+/// more. That error is kept.
 pub fn boot_on<S: Alter>(
     conn: &mut Connection<S>,
     number: NodeNumber,

@@ -1,6 +1,7 @@
 use Rattle.std.proofs.Common.{◌<◌, inl, inr, ap, Err, arith}
 use Rattle.sqlite.specs.Held.{state}
 use Rattle.sqlite.specs.State.{HasCleanDisk}
+use Rattle.fl_sql_tables.proofs.QueryLemmas.{runs_out_then, kept_if_same}
 use Rattle.fl_sql_store.proofs.KeepLemmas.{survives_raising, clean_before}
 use Rattle.fl_sql_store.proofs.CauseLemmas.{boot_fault, not_last, undone_after}
 use Rattle.fl_sql_store.proofs.calls.boot_on.Goals as goal
@@ -24,6 +25,7 @@ returns-in-Err-clause-fails g c clean differs =
       error = c.in-Err.error;
       cause = inl (c.in-Err.ensures.fails late);
       undone = c.in-Err.ensures.err late;
+      out = λ is. c.in-Err.ensures.wants late (ap Err is);
       told = c.fault_of.ensures.told clean;
       keeps = c.fault_of.ensures.keeps;
       kept = c.fault_of.ensures.kept clean;
@@ -46,6 +48,9 @@ returns-in-Err-raise_boot-clause-fails g c clean differs =
       undone =
           undone_after old read left (c.in-Ok.ensures.same before)
           (c.in-Err-raise_boot.ensures.err late);
+      out =
+          λ is. runs_out_then old read left (kept_if_same old read (c.in-Ok.ensures.same before))
+          (c.in-Err-raise_boot.ensures.wants late (ap Err is));
       told = c.fault_of-in-Err-raise_boot.ensures.told clean;
       keeps = c.fault_of-in-Err-raise_boot.ensures.keeps;
       kept = c.fault_of-in-Err-raise_boot.ensures.kept clean;
@@ -62,6 +67,7 @@ returns-in-Err-clause-last g c clean spent =
       error = c.in-Err.error;
       cause = c.in-Err.ensures.fails late;
       undone = c.in-Err.ensures.err late;
+      out = λ is. c.in-Err.ensures.wants late (ap Err is);
       told = c.fault_of.ensures.told clean;
       keeps = c.fault_of.ensures.keeps;
       kept = c.fault_of.ensures.kept clean;

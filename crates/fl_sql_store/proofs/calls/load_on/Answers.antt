@@ -9,11 +9,13 @@ returns-in-Err-Failed-clause-refuses g c clean =
     let left = state g.S.Store c.load_ops.new.conn in
     let new = state g.S.Store c.fault_of.new.conn in
     let late = clean_before left new _ c.fault_of.ensures.survives clean in
+    let cause = rw c.in-Err-Failed.field-0-is at (c.in-Err-Failed.ensures.refuses late) in
     load_told g.S.Store c.args.conn.now c.fault_of.new.conn c.fault_of.new.why c.fault_of.result c.fault_of.ensures.either (record {
       left = c.load_ops.new.conn;
       error = _;
-      cause = rw c.in-Err-Failed.field-0-is at (c.in-Err-Failed.ensures.refuses late);
+      cause = cause;
       undone = c.in-Err-Failed.ensures.err late;
+      out = cause.1;
       told = c.fault_of.ensures.told clean;
       keeps = c.fault_of.ensures.keeps;
       kept = c.fault_of.ensures.kept clean;

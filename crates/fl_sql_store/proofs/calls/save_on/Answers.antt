@@ -13,6 +13,7 @@ returns-in-Err-clause-fails g c clean ours is_open =
       error = c.in-Err.error;
       cause = c.in-Err.ensures.fails late ours is_open;
       undone = c.in-Err.ensures.err late ours;
+      out = λ is. c.in-Err.ensures.wants late ours (ap Err is);
       told = c.fault_of.ensures.told clean;
       keeps = c.fault_of.ensures.keeps;
       kept = c.fault_of.ensures.kept clean;
