@@ -1,5 +1,5 @@
 -- A script is read, some bytes at a time, and answered.
-use Rattle.std.proofs.Common.{◌<◌, ◌≤◌, ◌⊎◌, inl, inr, ◌≡◌, ◌+◌, ◌++◌, ◌∙◌, refl, sym, ap, List, [], ℕ, length, max, take, subst, Option, None, Some, IfSome, arith}
+use Rattle.std.proofs.Common.{◌<◌, ◌≤◌, ◌^◌, ◌⊎◌, inl, inr, ◌≡◌, ◌+◌, ◌++◌, ◌∙◌, refl, sym, ap, List, [], ℕ, length, max, take, subst, Option, None, Some, IfSome, arith}
 use lib.Seq.{take-append_seam}
 use Rattle.std.proofs.Math.Nat.{zero-max}
 use Rattle.std.proofs.lemmas.List.{append_assoc, append-nil, length-append}
@@ -41,8 +41,8 @@ heard_due None k P bytes none e p = subst (λ y. IfSome y P) (sym e) tt
 heard_due (Some x) k P bytes none e p = subst (λ y. IfSome y P) (sym e) (subst (λ y. P (y ++ bytes)) (sym none) p)
 
 -- before the first byte
-pub ready_fresh : {M : Type 0} {start : M} {s : StreamState M} {room : ℕ} → s ≡ fresh_stream start → room ≡ 16777216 → IsReady s room
-ready_fresh {M} {start} {s} {room} e f =
+pub ready_fresh : {M : Type 0} {start : M} {s : StreamState M} {room : ℕ} → s ≡ fresh_stream start → room ≤ 2 ^ 62 → IsReady s room
+ready_fresh {M} {start} {s} {room} e few =
     let number : s.interpreter.number ≡ 1 = ap (λ (x : StreamState M). x.interpreter.number) e in
     record {
       part = no_feed_nil s.held (ap (λ (x : StreamState M). x.held) e);
@@ -61,8 +61,8 @@ plus_known-plus None a b = refl
 plus_known-plus (Some n) a b = ap Some (omega arith)
 
 -- nothing was counted
-pub counts_none : (n : Option ℕ) {room most : ℕ} → room ≡ most → CountsTo n n most room
-counts_none n is = record { more = 0; counted = plus_known-zero n; fits = omega arith }
+pub counts_none : (n : Option ℕ) (room : ℕ) → CountsTo n n room room
+counts_none n room = record { more = 0; counted = plus_known-zero n; fits = omega arith }
 
 -- more was counted
 pub counts_then : {n o q : Option ℕ} {room less least : ℕ} → CountsTo n o room less → CountsTo o q less least → CountsTo n q room least
@@ -86,12 +86,11 @@ module _ {M : Type 0} {turns : Turns M} where
   reading_none r h a s room = record { bytes = []; consumed = Consumes-nil r; grown_by = append_known-nil h; advance = bytes_pass_none a s; fits = omega arith }
 
   -- before the first byte
-  pub reading_fresh : (r h a : Option (List ℕ)) {start : M} {s : StreamState M} {room : ℕ} → s ≡ fresh_stream start
-      → room ≡ 16777216 → ReadingPasses turns r r h h a a (fresh_stream start) s 16777216 room
-  reading_fresh r h a {start} {s} {room} e f =
-      subst (λ x. ReadingPasses turns r r h h a a (fresh_stream start) x 16777216 room) (sym e)
-      (subst (λ n. ReadingPasses turns r r h h a a (fresh_stream start) (fresh_stream start) 16777216 n) (sym f)
-      (reading_none r h a (fresh_stream start) 16777216))
+  pub reading_fresh : (r h a : Option (List ℕ)) {start : M} {s : StreamState M} (room : ℕ) → s ≡ fresh_stream start
+      → ReadingPasses turns r r h h a a (fresh_stream start) s room room
+  reading_fresh r h a {start} {s} room e =
+      subst (λ x. ReadingPasses turns r r h h a a (fresh_stream start) x room room) (sym e)
+      (reading_none r h a (fresh_stream start) room)
 
   -- the end was read
   pub reading_end : {r l h k a : Option (List ℕ)} (s : StreamState M) (room : ℕ) (bytes : List ℕ) → bytes ≡ [] → Consumes r l bytes → k ≡ append_known h bytes → ReadingPasses turns r l h k a a s s room room
@@ -257,8 +256,8 @@ module _ {M : Type 0} {turns : Turns M} where
         written = subst (λ x. Appends a b x) (sym (g.passed.split ∙ ap (λ x. g.passed.front ++ x) ready.sent ∙ append-nil g.passed.front)) g.passed.written;
       }
 
-  pub reading_served : {r l m h k a b c : Option (List ℕ)} {start end : M} {s : StreamState M} {less : ℕ} → ReadingPasses turns r l h k a b (fresh_stream start) s 16777216 less → Overruns l m b c less → end ≡ s.interpreter.responder → IsReady s less → Served turns start r m a c end
-  reading_served {r} {l} {m} {h} {k} {a} {b} {c} {start} {end} {s} {less} p q same ready = record {
+  pub reading_served : {r l m h k a b c : Option (List ℕ)} {start end : M} {s : StreamState M} {most less : ℕ} → ReadingPasses turns r l h k a b (fresh_stream start) s most less → Overruns l m b c less → end ≡ s.interpreter.responder → IsReady s less → Served most turns start r m a c end
+  reading_served {r} {l} {m} {h} {k} {a} {b} {c} {start} {end} {s} {most} {less} p q same ready = record {
     taken = p.bytes;
     beyond = q.beyond;
     consumed = Consumes-trans r l m p.bytes q.beyond p.consumed q.consumed;

@@ -27,13 +27,13 @@ pub record Answered {M : Type 0} (turns : Turns M) (start : M) (heard : List ℕ
   pub written : Appends before said text
 
 -- the lines that ended in what was read are answered, and leave that state; bytes beyond were read only where the
--- script is too long
-pub record Served {M : Type 0} (turns : Turns M) (start : M) (remaining left before after : Option (List ℕ))
+-- script has more than so many
+pub record Served {M : Type 0} (most : ℕ) (turns : Turns M) (start : M) (remaining left before after : Option (List ℕ))
     (end : M) : Type 0 where
   pub taken : List ℕ
   pub beyond : List ℕ
   pub consumed : Consumes remaining left (taken ++ beyond)
-  pub bounded : (beyond ≡ []) ⊎ (16777216 < length (taken ++ beyond))
+  pub bounded : (beyond ≡ []) ⊎ (most < length (taken ++ beyond))
   pub answered : Answered turns start taken before after end
 
 -- the text ends in a line that has not ended: in some bytes, of which none is a line feed

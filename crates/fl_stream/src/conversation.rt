@@ -1,5 +1,5 @@
 //! The two ends of a conversation: what is heard, and what is said.
-ghost use Rattle.std.specs.Prelude.{◌≡◌, ◌+◌, ◌<◌, ◌≤◌, ℕ, List, Option, None, IfOk, IfSome, OnErr};
+ghost use Rattle.std.specs.Prelude.{◌≡◌, ◌+◌, ◌^◌, ◌≤◌, ℕ, List, Option, None, IfOk, IfSome, OnErr};
 ghost use Rattle.std.specs.Prelude.{OnOk, ⊤, length, take};
 ghost use Rattle.std.specs.Io.{ReadsAtMost};
 ghost use Rattle.std.specs.Io.KnownBytes.{Keeps, ReadConsumes, append_known};
@@ -40,7 +40,7 @@ pub trait Conversation<W: Writer> {
     /// Fails where hearing does; what was heard is then not known.
     fn hear(&mut self, output: &W, chunk: &mut [u8]) -> Result<usize>
         requires answered { IfSome (heard self.old) (λ bytes. may_hear bytes (said output.now)) }
-        requires patient { hearings self.old < 16777217 }
+        requires patient { hearings self.old ≤ 2 ^ 62 }
         requires short { length chunk.old ≤ 65536 }
         ensures bound { ReadsAtMost result chunk.new }
         ensures bytes { ReadConsumes (remaining self.old) (remaining self.new) result chunk.new }

@@ -1,5 +1,5 @@
 //! A script is heard, some bytes at a time.
-ghost use Rattle.std.specs.Prelude.{◌≡◌, ◌+◌, ◌<◌, ◌≤◌, ◌⊎◌, [], ℕ, List, Option};
+ghost use Rattle.std.specs.Prelude.{◌≡◌, ◌+◌, ◌^◌, ◌<◌, ◌≤◌, ◌⊎◌, [], ℕ, List, Option};
 ghost use Rattle.std.specs.Prelude.{IfErr, IfOk, IfSome, OnErr, OnOk, false, true, length, vec_len};
 ghost use Rattle.std.specs.Io.KnownBytes.{IsAtEnd};
 ghost use Rattle.fl_stream.specs.Served.{Answered, CountsPast, HearsMidLine, Outgrows, Served};
@@ -40,7 +40,7 @@ impl<M: Responder> Intake<M> {
         requires chunk { vec_len self.old.chunk ≡ 65536 }
         requires answered { IfSome (C.heard input.old)
             (λ bytes. C.may_hear bytes (C.said output.old)) }
-        requires patient { C.hearings input.old < 16777217 }
+        requires patient { C.hearings input.old ≤ 2 ^ 62 }
         ensures reads { OnOk result
             (ReadingPasses M.turns (C.remaining input.old) (C.remaining input.new)
             (C.heard input.old) (C.heard input.new) (W.contents output.old) (W.contents output.new)
@@ -130,7 +130,7 @@ impl<M: Responder> Intake<M> {
         output: &mut W,
     ) -> Result<u8, RunFault>
         requires begun { self.old.stream ≡ fresh_stream self.old.stream.interpreter.responder }
-        requires room { self.old.room ≡ 16777216 }
+        requires room { self.old.room ≤ 2 ^ 62 }
         requires chunk { vec_len self.old.chunk ≡ 65536 }
         requires unheard { IfSome (C.heard input.old) (λ bytes. bytes ≡ []) }
         requires fresh { C.hearings input.old ≡ 0 }
@@ -144,16 +144,16 @@ impl<M: Responder> Intake<M> {
             self.new.stream.interpreter.responder)) }
         ensures whole { OnOk result (IsAtEnd (C.remaining input.new)) }
         ensures short { OnOk result
-            (IfSome (C.remaining input.old) (λ script. length script ≤ 16777216)) }
+            (IfSome (C.remaining input.old) (λ script. length script ≤ self.old.room)) }
         ensures said { OnOk result (C.said output.new ≡ W.contents output.new) }
         ensures served { IfErr result (λ e. e ≡ RunFault.Read →
-            Served M.turns self.old.stream.interpreter.responder
+            Served self.old.room M.turns self.old.stream.interpreter.responder
             (C.remaining input.old) (C.remaining input.new)
             (W.contents output.old) (W.contents output.new)
             self.new.stream.interpreter.responder) }
         ensures cause { IfErr result (λ e. e ≡ RunFault.Read → C.is_deaf input.new
-            ⊎ (Outgrows 16777216 (C.heard input.old) (C.heard input.new)
-            × CountsPast 16777216 (C.counted input.old) (C.counted input.new))) }
+            ⊎ (Outgrows self.old.room (C.heard input.old) (C.heard input.new)
+            × CountsPast self.old.room (C.counted input.old) (C.counted input.new))) }
         ensures write_cause { IfErr result (λ e. e ≡ RunFault.Write → W.has_failed output.new) }
         ensures memory_cause { IfErr result (λ e. e ≡ RunFault.Memory →
             HearsMidLine (C.remaining input.old) (C.remaining input.new)

@@ -1,5 +1,5 @@
 //! Lines are answered, one after another.
-ghost use Rattle.std.specs.Prelude.{◌≡◌, ◌≤◌, ◌∷◌, [], OnErr, OnOk};
+ghost use Rattle.std.specs.Prelude.{◌≡◌, ◌<◌, ◌^◌, ◌∷◌, [], OnErr, OnOk};
 ghost use Rattle.fl_stream.specs.parts.Interpreter.{LinesCut, LinesPass, fresh};
 
 use crate::responder::Responder;
@@ -62,7 +62,7 @@ impl<M: Responder> Interpreter<M> {
         line: &[u8],
         output: &mut W,
     ) -> Result<(), WriteFault>
-        requires { self.old.number ≤ 16777217 }
+        requires { self.old.number < 2 ^ 63 }
         ensures ok { OnOk result (
             LinesPass M.turns self.old self.new
             (W.contents output.old) (W.contents output.new) (line.now ∷ [])) }

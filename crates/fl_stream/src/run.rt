@@ -1,5 +1,5 @@
 //! A whole run.
-ghost use Rattle.std.specs.Prelude.{◌≡◌, ◌≤◌, ◌⊎◌, ℕ, List, Option, None, IfErr, IfOk, IfSome};
+ghost use Rattle.std.specs.Prelude.{◌≡◌, ◌^◌, ◌≤◌, ◌⊎◌, ℕ, List, Option, None, IfErr, IfOk, IfSome};
 ghost use Rattle.std.specs.Prelude.{OnErr, OnOk, [], length, vec_len};
 ghost use Rattle.std.specs.Io.KnownBytes.{IsAtEnd};
 ghost use Rattle.fl_stream.specs.Served.{Answered, CountsPast, MayLackRoom, Outgrows, Served};
@@ -14,9 +14,6 @@ use fl_sink::writer::Writer;
 use std::alloc::{AllocGlobal, Global};
 use std::io::{Read, Write};
 
-/// The most bytes of a script.
-pub const MOST_BYTES: usize = 16_777_216;
-
 // A function of its own, so that no proof of the loop sees the numeral unfold.
 fn zeros(alloc: Global, count: usize) -> Result<Vec<u8>, RunFault>
     ensures len { IfOk result (λ bytes. vec_len bytes ≡ count) }
@@ -25,7 +22,7 @@ fn zeros(alloc: Global, count: usize) -> Result<Vec<u8>, RunFault>
     vec![in alloc; 0u8; count].map_err(|_| RunFault::Memory)
 }
 
-/// Hears a script of at most 16,777,216 bytes, and says what the responder answers to its lines.
+/// Hears a script of at most `most` bytes, and says what the responder answers to its lines.
 ///
 /// More is heard only where what was said is exactly the answers to all lines that have ended:
 /// [`Conversation::hear`] requires it. To hear no bytes is the end of the script. The status is the
@@ -41,9 +38,11 @@ fn zeros(alloc: Global, count: usize) -> Result<Vec<u8>, RunFault>
 pub fn converse<M: Responder + Drop, C: Conversation<W>, W: Writer>(
     alloc: Global,
     responder: M,
+    most: usize,
     input: &mut C,
     output: &mut W,
 ) -> (M, Result<u8, RunFault>)
+    requires most { most ≤ 2 ^ 62 }
     requires unheard { IfSome (C.heard input.old) (λ bytes. bytes ≡ []) }
     requires fresh { C.hearings input.old ≡ 0 }
     requires said { C.said output.old ≡ W.contents output.old }
@@ -54,14 +53,14 @@ pub fn converse<M: Responder + Drop, C: Conversation<W>, W: Writer>(
         (W.contents output.old) (W.contents output.new) script status result.0)) }
     ensures whole { OnOk result.1 (IsAtEnd (C.remaining input.new)) }
     ensures short { OnOk result.1
-        (IfSome (C.remaining input.old) (λ script. length script ≤ 16777216)) }
+        (IfSome (C.remaining input.old) (λ script. length script ≤ most)) }
     ensures said { OnOk result.1 (C.said output.new ≡ W.contents output.new) }
-    ensures served { IfErr result.1 (λ e. e ≡ RunFault.Read → Served M.turns responder
+    ensures served { IfErr result.1 (λ e. e ≡ RunFault.Read → Served most M.turns responder
         (C.remaining input.old) (C.remaining input.new)
         (W.contents output.old) (W.contents output.new) result.0) }
     ensures cause { IfErr result.1 (λ e. e ≡ RunFault.Read → C.is_deaf input.new
-        ⊎ (Outgrows 16777216 (C.heard input.old) (C.heard input.new)
-        × CountsPast 16777216 (C.counted input.old) (C.counted input.new))) }
+        ⊎ (Outgrows most (C.heard input.old) (C.heard input.new)
+        × CountsPast most (C.counted input.old) (C.counted input.new))) }
     ensures write_cause { IfErr result.1 (λ e. e ≡ RunFault.Write → W.has_failed output.new) }
     ensures memory_cause { IfErr result.1 (λ e. e ≡ RunFault.Memory →
         MayLackRoom (C.remaining input.old) (C.remaining input.new)
@@ -77,14 +76,14 @@ pub fn converse<M: Responder + Drop, C: Conversation<W>, W: Writer>(
     let mut intake = Intake {
         stream: Stream::new(alloc, responder),
         chunk,
-        room: MOST_BYTES,
+        room: most,
     };
     let result = intake.hear_all(alloc, input, output);
     (intake.into_responder(), result)
 }
 
-/// Reads a script of at most 16,777,216 bytes, by at most 16,777,217 reads, and writes what the
-/// responder answers to its lines.
+/// Reads a script of at most `most` bytes, by at most `most + 1` reads, and writes what the responder
+/// answers to its lines.
 ///
 /// It is [`converse`] with a reader and a writer: before each read but the first, all lines that
 /// have ended are answered, and the answers are written and flushed. A read of no bytes is the end
@@ -96,18 +95,20 @@ pub fn converse<M: Responder + Drop, C: Conversation<W>, W: Writer>(
 pub fn run<RT: AllocGlobal, M: Responder + Drop, R: Read, W: Write>(
     rt: &RT,
     responder: M,
+    most: usize,
     input: &mut R,
     output: &mut W,
 ) -> (M, Result<u8, RunFault>)
+    requires { most ≤ 2 ^ 62 }
     ensures ok { IfOk result.1 (λ status. IfSome (R.remaining input.old) (λ script.
         WritesOutput M.turns responder
         (W.contents output.old) (W.contents output.new) script status result.0)) }
     ensures whole { OnOk result.1 (IsAtEnd (R.remaining input.new)) }
     ensures short { OnOk result.1
-        (IfSome (R.remaining input.old) (λ script. length script ≤ 16777216)) }
+        (IfSome (R.remaining input.old) (λ script. length script ≤ most)) }
 
     // Any read may fail, so that all lines that have ended are answered before each.
-    ensures served { IfErr result.1 (λ e. e ≡ RunFault.Read → Served M.turns responder
+    ensures served { IfErr result.1 (λ e. e ≡ RunFault.Read → Served most M.turns responder
         (R.remaining input.old) (R.remaining input.new)
         (W.contents output.old) (W.contents output.new) result.0) }
     ensures memory_cause { IfErr result.1 (λ e. e ≡ RunFault.Memory →
@@ -116,5 +117,5 @@ pub fn run<RT: AllocGlobal, M: Responder + Drop, R: Read, W: Write>(
         WritesFirst M.turns responder
         (W.contents output.old) (W.contents output.new) script result.0)) }
 {
-    converse(rt.alloc(), responder, input, output)
+    converse(rt.alloc(), responder, most, input, output)
 }

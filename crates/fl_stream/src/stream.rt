@@ -1,5 +1,5 @@
 //! Bytes are taken as they come: each line is answered once it has ended.
-ghost use Rattle.std.specs.Prelude.{◌≡◌, ◌≢◌, ◌<◌, ◌≤◌, ◌+◌, ◌∷◌, ◌++◌, [], IfErr, IfOk, OnErr};
+ghost use Rattle.std.specs.Prelude.{◌≡◌, ◌≢◌, ◌<◌, ◌≤◌, ◌+◌, ◌^◌, ◌∷◌, ◌++◌, [], IfErr, IfOk, OnErr};
 ghost use Rattle.std.specs.Prelude.{OnOk, length};
 ghost use Rattle.std.specs.Str.Lines.{lines};
 ghost use Rattle.fl_stream.specs.Served.{EndsMidLine, HasNoFeed};
@@ -60,7 +60,7 @@ impl<M: Responder> Stream<M> {
         line: &[u8],
         output: &mut W,
     ) -> Result<(), WriteFault>
-        requires number { self.old.interpreter.number ≤ 16777217 }
+        requires number { self.old.interpreter.number < 2 ^ 63 }
         requires part { HasNoFeed self.old.held }
         requires line { HasNoFeed line.now }
         requires short { length line.now ≤ 65536 }
@@ -121,7 +121,7 @@ impl<M: Responder> Stream<M> {
         bytes: &[u8],
         output: &mut W,
     ) -> Result<(), RunFault>
-        requires number { self.old.interpreter.number + length bytes.now ≤ 16777217 }
+        requires number { self.old.interpreter.number + length bytes.now < 2 ^ 63 }
         requires part { HasNoFeed self.old.held }
         requires short { length bytes.now ≤ 65536 }
         ensures ok { OnOk result (
@@ -162,7 +162,7 @@ impl<M: Responder> Stream<M> {
 
     // Answers the last line, where it did not end. A return at its end is its last byte.
     fn answer_last<W: Writer>(&mut self, alloc: Global, output: &mut W) -> Result<(), WriteFault>
-        requires number { self.old.interpreter.number ≤ 16777217 }
+        requires number { self.old.interpreter.number < 2 ^ 63 }
         requires part { HasNoFeed self.old.held }
         ensures ok { OnOk result (LinesPass M.turns self.old.interpreter self.new.interpreter
             (W.contents output.old) (W.contents output.new) (lines self.old.held)) }
@@ -180,7 +180,7 @@ impl<M: Responder> Stream<M> {
     /// Answers the last line, where it did not end, and writes all. Gives the greatest status of a
     /// line. The writer is not flushed. At a fault a front of the answers was written.
     pub fn finish<W: Writer>(&mut self, alloc: Global, output: &mut W) -> Result<u8, WriteFault>
-        requires number { self.old.interpreter.number ≤ 16777217 }
+        requires number { self.old.interpreter.number < 2 ^ 63 }
         requires part { HasNoFeed self.old.held }
         ensures ok { IfOk result (λ status.
             EndPasses M.turns self.old self.new.interpreter.responder

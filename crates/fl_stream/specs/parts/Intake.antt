@@ -1,5 +1,5 @@
 -- A script is read, some bytes at a time.
-use Rattle.std.specs.Prelude.{◌≡◌, ◌+◌, ◌<◌, ◌≤◌, ◌⊎◌, [], ℕ, List, Option, length}
+use Rattle.std.specs.Prelude.{◌≡◌, ◌+◌, ◌^◌, ◌<◌, ◌⊎◌, [], ℕ, List, Option, length}
 use Rattle.std.specs.Io.KnownBytes.{Consumes, append_known}
 use Rattle.fl_stream.specs.Turns.{Turns}
 use Rattle.fl_stream.specs.Served.{HasNoFeed, plus_known}
@@ -8,7 +8,7 @@ use Rattle.fl_stream.specs.parts.Stream.{StreamState, BytesPass, BytesCut}
 -- all answers were sent, and so many more bytes have no more lines than there are numbers for
 pub record IsReady {M : Type 0} (stream : StreamState M) (room : ℕ) : Type 0 where
   pub part : HasNoFeed stream.held
-  pub number : stream.interpreter.number + room ≤ 16777217
+  pub number : stream.interpreter.number + room < 2 ^ 63
   pub sent : stream.interpreter.pending ≡ []
 
 -- bytes were counted, for which there was room

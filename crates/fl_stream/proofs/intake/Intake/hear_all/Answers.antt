@@ -8,11 +8,11 @@ pub hearing-init : goal.hearing-init
 hearing-init g c =
     let fresh : g.C.Conversation.hearings c.args.input.now ≡ 0 = c.requires.fresh in
     record {
-      reads = reading_fresh _ _ _ c.requires.begun c.requires.room;
+      reads = reading_fresh _ _ _ _ c.requires.begun;
       ready = ready_fresh c.requires.begun c.requires.room;
       chunk = c.requires.chunk;
       said = c.requires.said;
-      counts = counts_none _ c.requires.room;
+      counts = counts_none _ _;
       count = omega (arith, c.requires.room);
     }
 
