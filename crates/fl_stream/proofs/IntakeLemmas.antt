@@ -3,8 +3,8 @@ use Rattle.std.proofs.Common.{◌<◌, ◌≤◌, ◌^◌, ◌⊎◌, inl, inr, 
 use lib.Seq.{take-append_seam}
 use Rattle.std.proofs.Math.Nat.{zero-max}
 use Rattle.std.proofs.lemmas.List.{append_assoc, append-nil, length-append}
-use Rattle.std.proofs.KnownBytes.{Appends-trans, Appends-nil, Consumes-nil, Consumes-trans, Consumes-kept, Consumes-whole}
-use Rattle.std.specs.Io.KnownBytes.{Appends, Keeps, Consumes, IsAtEnd, append_known}
+use Rattle.std.proofs.KnownBytes.{Appends-trans, Appends-nil, Consumes-nil, Consumes-trans, Consumes-kept}
+use Rattle.std.specs.Io.KnownBytes.{Appends, Keeps, Consumes, append_known}
 use Rattle.std.specs.Str.Lines.{lines}
 use Rattle.fl_stream.specs.Turns.{Turns, Run, texts, worst}
 use Rattle.fl_stream.specs.Output.{WritesOutput, WritesFirst}
@@ -92,10 +92,6 @@ module _ {M : Type 0} {turns : Turns M} where
       subst (λ x. ReadingPasses turns r r h h a a (fresh_stream start) x room room) (sym e)
       (reading_none r h a (fresh_stream start) room)
 
-  -- the end was read
-  pub reading_end : {r l h k a : Option (List ℕ)} (s : StreamState M) (room : ℕ) (bytes : List ℕ) → bytes ≡ [] → Consumes r l bytes → k ≡ append_known h bytes → ReadingPasses turns r l h k a a s s room room
-  reading_end {r} {l} {h} {k} {a} s room bytes none q e = record { bytes = []; consumed = rw none at q; grown_by = rw none at e; advance = bytes_pass_none a s; fits = omega arith }
-
   -- bytes were read, taken, written and sent
   pub reading_sent : {r l h k a b c : Option (List ℕ)} {s t u : StreamState M} {room less : ℕ} (d : Option (List ℕ)) (bytes : List ℕ) → Consumes r l bytes → k ≡ append_known h bytes → BytesPass turns s t a b bytes → BytesPass turns t u b c [] → Keeps c d → length bytes + less ≡ room → ReadingPasses turns r l h k a d s u room less
   reading_sent {r} {l} {h} {k} {a} {b} {c} {s} {t} {u} {room} {less} d bytes q e taken sent keep fits = record {
@@ -128,22 +124,6 @@ module _ {M : Type 0} {turns : Turns M} where
   pub reading_cuts_beyond : {r l a : Option (List ℕ)} (s : StreamState M) (bytes : List ℕ) → Consumes r l bytes → ReadingCuts turns r l a a s s.interpreter.responder
   reading_cuts_beyond {r} {l} {a} s bytes q = record { bytes = bytes; consumed = q; stops = bytes_cut_passed bytes (bytes_pass_none a s) }
 
-  -- what was read was taken, and its answers stopped
-  pub reading_cuts_sending : {r l a b : Option (List ℕ)} {s t : StreamState M} {end : M} (c : Option (List ℕ)) (bytes : List ℕ) → Consumes r l bytes → BytesPass turns s t a b bytes → BytesCut turns t end b c [] → ReadingCuts turns r l a c s end
-  reading_cuts_sending {r} {l} {a} {b} {s} {t} {end} c bytes q p stop = record {
-    bytes = bytes;
-    consumed = q;
-    stops = subst (λ x. BytesCut turns s end a c x) (append-nil bytes) (bytes_cut_then c [] p stop);
-  }
-
-  -- what was read was taken and written, and not sent
-  pub reading_cuts_unsent : {r l a b c : Option (List ℕ)} {s t u : StreamState M} (d : Option (List ℕ)) (bytes : List ℕ) → Consumes r l bytes → BytesPass turns s t a b bytes → BytesPass turns t u b c [] → Keeps c d → ReadingCuts turns r l a d s u.interpreter.responder
-  reading_cuts_unsent {r} {l} {a} {b} {c} {s} {t} {u} d bytes q taken sent keep = record {
-    bytes = bytes;
-    consumed = q;
-    stops = subst (λ x. BytesCut turns s u.interpreter.responder a d x) (append-nil (bytes ++ []) ∙ append-nil bytes) (bytes_cut_passed [] (bytes_pass_kept d (bytes_pass_then c taken sent) keep));
-  }
-
   -- hearing failed, or gave more than there was room for at first
   pub reading_cause : {deaf : Type 0} {r l h k m a b : Option (List ℕ)} {s t : StreamState M} {room less : ℕ} {n o q : Option ℕ}
       → ReadingPasses turns r l h k a b s t room less → CountsTo n o room less
@@ -167,7 +147,7 @@ module _ {M : Type 0} {turns : Turns M} where
   }
 
   -- all that was read was the whole script, and it was answered
-  output_end : {a b : Option (List ℕ)} {start end : M} {s : StreamState M} {status : ℕ} (c : Option (List ℕ)) (taken : List ℕ) → BytesPass turns (fresh_stream start) s a b taken → EndPasses turns s end b c status → WritesOutput turns start a c taken status end
+  pub output_end : {a b : Option (List ℕ)} {start end : M} {s : StreamState M} {status : ℕ} (c : Option (List ℕ)) (taken : List ℕ) → BytesPass turns (fresh_stream start) s a b taken → EndPasses turns s end b c status → WritesOutput turns start a c taken status end
   output_end {a} {b} {start} {end} {s} {status} c taken p q = record {
     text = texts (p.proceeds.outputs ++ q.outputs);
     output = record {
@@ -180,7 +160,7 @@ module _ {M : Type 0} {turns : Turns M} where
   }
 
   -- a front of the text of the first lines was written
-  first_halts : {a b : Option (List ℕ)} {start end : M} (script : List ℕ) (first later : List (List ℕ)) → lines script ≡ first ++ later → LinesCut turns (fresh start) end a b first → WritesFirst turns start a b script end
+  pub first_halts : {a b : Option (List ℕ)} {start end : M} (script : List ℕ) (first later : List (List ℕ)) → lines script ≡ first ++ later → LinesCut turns (fresh start) end a b first → WritesFirst turns start a b script end
   first_halts {a} {b} {start} {end} script first later split h = record {
     first = first;
     later = later;
@@ -197,11 +177,6 @@ module _ {M : Type 0} {turns : Turns M} where
   first_stops None l a c taken p q = tt
   first_stops (Some xs) None a c taken p q = absurd p
   first_stops (Some xs) (Some ys) a c taken p q = rw p (first_halts (taken ++ ys) q.seen (lines (q.left ++ ys)) (q.split ys) q.halts)
-
-  -- all was taken, and the answers to what was held stopped
-  first_ends : {a b : Option (List ℕ)} {start end : M} {s : StreamState M} (c : Option (List ℕ)) (taken : List ℕ) → BytesPass turns (fresh_stream start) s a b taken → EndCuts turns s end b c → WritesFirst turns start a c taken end
-  first_ends {a} {b} {start} {end} {s} c taken p q =
-      first_halts taken (p.seen ++ lines s.held) [] (ap lines (sym (append-nil taken)) ∙ bytes_pass_split p [] ∙ ap (λ x. p.seen ++ lines x) (append-nil s.held) ∙ sym (append-nil (p.seen ++ lines s.held))) (lines_cut_then c p.proceeds q.halts)
 
   -- nothing is written for no line
   pub first_none : (a : Option (List ℕ)) (start : M) (script : List ℕ) → WritesFirst turns start a a script start
@@ -220,21 +195,6 @@ module _ {M : Type 0} {turns : Turns M} where
   pub reading_cuts : {r l h k m a b c : Option (List ℕ)} {start end : M} {s : StreamState M} {room less : ℕ} → ReadingPasses turns r l h k a b (fresh_stream start) s room less → ReadingCuts turns l m b c s end → IfSome r (λ script. WritesFirst turns start a c script end)
   reading_cuts {r} {l} {h} {k} {m} {a} {b} {c} {start} {end} {s} {room} {less} p q =
       first_stops r m a c (p.bytes ++ q.bytes) (Consumes-trans r l m p.bytes q.bytes p.consumed q.consumed) (subst (λ x. BytesCut turns (fresh_stream start) end a c (p.bytes ++ x)) (append-nil q.bytes) (bytes_cut_then c [] p.advance q.stops))
-
-  -- there was no more to read, and all was answered
-  pub reading_answered : {r l h k a b : Option (List ℕ)} {start end : M} {s : StreamState M} {room less : ℕ} {status : ℕ} (c : Option (List ℕ)) → ReadingPasses turns r l h k a b (fresh_stream start) s room less → IsAtEnd l → EndPasses turns s end b c status → IfSome r (λ script. WritesOutput turns start a c script status end)
-  reading_answered {r} {l} {h} {k} {a} {b} {start} {end} {s} {room} {less} {status} c p all e =
-      Consumes-whole r l p.bytes (λ script. WritesOutput turns start a c script status end) p.consumed all (output_end c p.bytes p.advance e)
-
-  -- there was no more to read, and the answers stopped
-  pub reading_end_cuts : {r l h k a b : Option (List ℕ)} {start end : M} {s : StreamState M} {room less : ℕ} (c : Option (List ℕ)) → ReadingPasses turns r l h k a b (fresh_stream start) s room less → IsAtEnd l → EndCuts turns s end b c → IfSome r (λ script. WritesFirst turns start a c script end)
-  reading_end_cuts {r} {l} {h} {k} {a} {b} {start} {end} {s} {room} {less} c p all e =
-      Consumes-whole r l p.bytes (λ script. WritesFirst turns start a c script end) p.consumed all (first_ends c p.bytes p.advance e)
-
-  -- the whole script was read, and there was room for it
-  pub reading_short : {r l h k a b : Option (List ℕ)} {old s : StreamState M} {room less : ℕ} → ReadingPasses turns r l h k a b old s room less → IsAtEnd l → IfSome r (λ script. length script ≤ room)
-  reading_short {r} {l} {h} {k} {a} {b} {old} {s} {room} {less} p end =
-      Consumes-whole r l p.bytes (λ script. length script ≤ room) p.consumed end (omega (arith, p.fits))
 
   -- all answers were written: exactly the lines that ended are answered
   pub reading_replied : {r l h k a b : Option (List ℕ)} {start : M} {s : StreamState M} {room less : ℕ} (p : ReadingPasses turns r l h k a b (fresh_stream start) s room less) → IsReady s less → Answered turns start p.bytes a b s.interpreter.responder
@@ -267,9 +227,9 @@ module _ {M : Type 0} {turns : Turns M} where
   }
 
   -- more may be heard, since all that ended was answered
-  pub reading_due : {r l h k a b said : Option (List ℕ)} {start : M} {s : StreamState M} {room less : ℕ} (due : List ℕ → Option (List ℕ) → Type 0) → ReadingPasses turns r l h k a b (fresh_stream start) s room less → IsReady s less → IfSome h (λ x. x ≡ []) → said ≡ b → ((bytes : List ℕ) (spoken : Option (List ℕ)) (mid : M) → Answered turns start bytes a spoken mid → due bytes spoken) → IfSome k (λ bytes. due bytes said)
+  pub reading_due : {r l h k a b said : Option (List ℕ)} {start : M} {s : StreamState M} {room less : ℕ} (due : List ℕ → Option (List ℕ) → Type 0) → ReadingPasses turns r l h k a b (fresh_stream start) s room less → IsReady s less → IfSome h (λ x. x ≡ []) → said ≡ b → ((bytes : List ℕ) (spoken : Option (List ℕ)) → Answered turns start bytes a spoken s.interpreter.responder → due bytes spoken) → IfSome k (λ bytes. due bytes said)
   reading_due {r} {l} {h} {k} {a} {b} {said} {start} {s} {room} {less} due p ready none sent allows =
-      heard_due h k (λ bytes. due bytes said) p.bytes none p.grown_by (allows p.bytes said s.interpreter.responder (subst (λ x. Answered turns start p.bytes a x s.interpreter.responder) (sym sent) (reading_replied p ready)))
+      heard_due h k (λ bytes. due bytes said) p.bytes none p.grown_by (allows p.bytes said (subst (λ x. Answered turns start p.bytes a x s.interpreter.responder) (sym sent) (reading_replied p ready)))
 
 -- a read that failed took nothing
 pub overruns_none : {l m b : Option (List ℕ)} (room : ℕ) → Keeps l m → Overruns l m b b room

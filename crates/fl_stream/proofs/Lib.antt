@@ -3,3 +3,4 @@ pub mod SplitLemmas
 pub mod InterpreterLemmas
 pub mod StreamLemmas
 pub mod IntakeLemmas
+pub mod OverLemmas

@@ -12,6 +12,14 @@ pub record LineOutput : Type 0 where
 abbrev pub Turns : Type 0 → Type 1
 Turns M = ℕ → M → List ℕ → LineOutput → M → Type 0
 
+-- no text, and nothing to be told of it
+abbrev pub silence : LineOutput
+silence = record { text = []; status = 0 }
+
+-- where it is over, any line is answered in silence, and leaves the state as it is
+abbrev pub StaysSilent : {M : Type 0} → Turns M → (M → Type 0) → Type 0
+StaysSilent {M} turns over = (number : ℕ) (state : M) (line : List ℕ) → over state → turns number state line silence state
+
 -- the lines are answered one after another, the first of them being the number-th
 abbrev pub Run : {M : Type 0} → Turns M → ℕ → M → List (List ℕ) → List LineOutput → M → Type 0
 Run turns number old [] [] new = new ≡ old

@@ -6,7 +6,7 @@ ghost use Rattle.fl_stream.specs.Served.{Answered, CountsPast, HearsMidLine, Out
 ghost use Rattle.fl_stream.specs.Output.{WritesFirst, WritesOutput};
 ghost use Rattle.fl_stream.specs.parts.Stream.{EndCuts, EndPasses, fresh_stream};
 ghost use Rattle.fl_stream.specs.parts.Intake.{CountsTo, IsReady, Overruns, ReadingPasses};
-ghost use Rattle.fl_stream.specs.parts.Intake.{ReadingCuts};
+ghost use Rattle.fl_stream.specs.parts.Intake.{ReadingCuts, ReadingEnds};
 
 use crate::conversation::Conversation;
 use crate::fault::RunFault;
@@ -25,7 +25,7 @@ pub struct Intake<M> {
 
 impl<M: Responder> Intake<M> {
     /// Hears more once, answers the lines that have ended, and sends the answers. Says whether
-    /// there was anything to hear.
+    /// there was anything to hear, and the responder is not over.
     ///
     /// `Read` where hearing fails or gives more than there is room for; `Write` where a write fails
     /// or takes no bytes, or sending fails; `Memory` where what was heard ends in a line that has
@@ -37,16 +37,22 @@ impl<M: Responder> Intake<M> {
         output: &mut W,
     ) -> Result<bool, RunFault>
         requires ready { IsReady self.old.stream self.old.room }
+        requires live { M.over self.old.stream.interpreter.responder → ⊥ }
         requires chunk { vec_len self.old.chunk ≡ 65536 }
         requires answered { IfSome (C.heard input.old)
             (λ bytes. C.may_hear bytes (C.said output.old)) }
         requires patient { C.hearings input.old ≤ 2 ^ 62 }
-        ensures reads { OnOk result
-            (ReadingPasses M.turns (C.remaining input.old) (C.remaining input.new)
+        ensures reads { IfOk result (λ more. more ≡ true →
+            ReadingPasses M.turns (C.remaining input.old) (C.remaining input.new)
             (C.heard input.old) (C.heard input.new) (W.contents output.old) (W.contents output.new)
             self.old.stream self.new.stream self.old.room self.new.room) }
-        ensures end { IfOk result (λ more. more ≡ false → IsAtEnd (C.remaining input.new)) }
+        ensures ends { IfOk result (λ more. more ≡ false →
+            ReadingEnds M.turns M.over (C.remaining input.old) (C.remaining input.new)
+            (W.contents output.old) (W.contents output.new)
+            self.old.stream self.new.stream self.old.room) }
         ensures ready { OnOk result (IsReady self.new.stream self.new.room) }
+        ensures live { IfOk result (λ more.
+            more ≡ true → M.over self.new.stream.interpreter.responder → ⊥) }
         ensures chunk { OnOk result (vec_len self.new.chunk ≡ 65536) }
         ensures said { IfOk result
             (λ more. more ≡ true → C.said output.new ≡ W.contents output.new) }
@@ -83,13 +89,13 @@ impl<M: Responder> Intake<M> {
             return Ok(false);
         }
         self.room -= count;
-        self.stream.take(alloc, &self.chunk[..count], output)?;
+        let more = self.stream.take(alloc, &self.chunk[..count], output)?;
         self.stream.write_answers(output)?;
         let sent = input.send(output);
         if sent.is_err() {
             return Err(RunFault::Write);
         }
-        Ok(true)
+        Ok(more)
     }
 
     /// Answers the last line, where it did not end, and sends all. Gives the greatest status of a
@@ -102,7 +108,9 @@ impl<M: Responder> Intake<M> {
         input: &C,
         output: &mut W,
     ) -> Result<u8, RunFault>
-        requires { IsReady self.old.stream self.old.room }
+        requires ready { IsReady self.old.stream self.old.room }
+        requires live { M.over self.old.stream.interpreter.responder →
+            self.old.stream.held ≡ [] }
         ensures ok { IfOk result (λ status. EndPasses M.turns
             self.old.stream self.new.stream.interpreter.responder
             (W.contents output.old) (W.contents output.new) status) }
@@ -120,9 +128,9 @@ impl<M: Responder> Intake<M> {
         Ok(status)
     }
 
-    /// Hears all there is, and answers it: one turn after another, and then the last line, where it
-    /// did not end. Gives the greatest status of a line. To be called once, before any turn. Its
-    /// faults are those of a turn and of the end.
+    /// Hears all there is, and answers it, or up to a line at which the responder is over: one turn
+    /// after another, and then the last line, where it did not end. Gives the greatest status of a
+    /// line. To be called once, before any turn. Its faults are those of a turn and of the end.
     pub fn hear_all<C: Conversation<W>, W: Writer>(
         &mut self,
         alloc: Global,
@@ -130,6 +138,7 @@ impl<M: Responder> Intake<M> {
         output: &mut W,
     ) -> Result<u8, RunFault>
         requires begun { self.old.stream ≡ fresh_stream self.old.stream.interpreter.responder }
+        requires live { M.over self.old.stream.interpreter.responder → ⊥ }
         requires room { self.old.room ≤ 2 ^ 62 }
         requires chunk { vec_len self.old.chunk ≡ 65536 }
         requires unheard { IfSome (C.heard input.old) (λ bytes. bytes ≡ []) }
@@ -137,14 +146,16 @@ impl<M: Responder> Intake<M> {
         requires said { C.said output.old ≡ W.contents output.old }
         requires due { (heard : List ℕ) (said : Option (List ℕ)) (mid : M) →
             Answered M.turns self.old.stream.interpreter.responder
-            heard (W.contents output.old) said mid → C.may_hear heard said }
+            heard (W.contents output.old) said mid → (M.over mid → ⊥) → C.may_hear heard said }
         ensures ok { IfOk result (λ status. IfSome (C.remaining input.old) (λ script.
             WritesOutput M.turns self.old.stream.interpreter.responder
             (W.contents output.old) (W.contents output.new) script status
             self.new.stream.interpreter.responder)) }
-        ensures whole { OnOk result (IsAtEnd (C.remaining input.new)) }
+        ensures whole { OnOk result (IsAtEnd (C.remaining input.new)
+            ⊎ M.over self.new.stream.interpreter.responder) }
         ensures short { OnOk result
-            (IfSome (C.remaining input.old) (λ script. length script ≤ self.old.room)) }
+            (IfSome (C.remaining input.old) (λ script. length script ≤ self.old.room)
+            ⊎ M.over self.new.stream.interpreter.responder) }
         ensures said { OnOk result (C.said output.new ≡ W.contents output.new) }
         ensures served { IfErr result (λ e. e ≡ RunFault.Read →
             Served self.old.room M.turns self.old.stream.interpreter.responder

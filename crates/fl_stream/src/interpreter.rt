@@ -1,5 +1,5 @@
 //! Lines are answered, one after another.
-ghost use Rattle.std.specs.Prelude.{◌≡◌, ◌<◌, ◌^◌, ◌∷◌, [], OnErr, OnOk};
+ghost use Rattle.std.specs.Prelude.{◌≡◌, ◌<◌, ◌^◌, ◌∷◌, ◌↔◌, [], IsTrue, OnErr, OnOk};
 ghost use Rattle.fl_stream.specs.parts.Interpreter.{LinesCut, LinesPass, fresh};
 
 use crate::responder::Responder;
@@ -52,7 +52,15 @@ impl<M: Responder> Interpreter<M> {
         self.status
     }
 
-    /// Answers the next line, given without its line feed. The answer may wait to be written.
+    /// Whether its responder is over.
+    pub fn is_over(&self) -> bool
+        ensures { IsTrue result ↔ M.over self.now.responder }
+    {
+        self.responder.is_over()
+    }
+
+    /// Answers the next line, given without its line feed, where the responder is not over. The
+    /// answer may wait to be written.
     ///
     /// At a fault a front of what waited and the answer was written, and the interpreter may not be
     /// used again.
@@ -62,7 +70,8 @@ impl<M: Responder> Interpreter<M> {
         line: &[u8],
         output: &mut W,
     ) -> Result<(), WriteFault>
-        requires { self.old.number < 2 ^ 63 }
+        requires number { self.old.number < 2 ^ 63 }
+        requires live { M.over self.old.responder → ⊥ }
         ensures ok { OnOk result (
             LinesPass M.turns self.old self.new
             (W.contents output.old) (W.contents output.new) (line.now ∷ [])) }
@@ -86,6 +95,7 @@ impl<M: Responder> Interpreter<M> {
         ensures ok { OnOk result (LinesPass M.turns self.old self.new
             (W.contents output.old) (W.contents output.new) []) }
         ensures empty { OnOk result (self.new.pending ≡ []) }
+        ensures same { self.new.responder ≡ self.old.responder }
         ensures err { OnErr result (LinesCut M.turns self.old self.new.responder
             (W.contents output.old) (W.contents output.new) []) }
         ensures cause { OnErr result (W.has_failed output.new) }

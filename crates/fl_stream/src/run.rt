@@ -24,9 +24,10 @@ fn zeros(alloc: Global, count: usize) -> Result<Vec<u8>, RunFault>
 
 /// Hears a script of at most `most` bytes, and says what the responder answers to its lines.
 ///
-/// More is heard only where what was said is exactly the answers to all lines that have ended:
-/// [`Conversation::hear`] requires it. To hear no bytes is the end of the script. The status is the
-/// greatest of its lines', and 0 where there are none.
+/// More is heard only where what was said is exactly the answers to all lines that have ended, and
+/// the responder is not over: [`Conversation::hear`] requires it. To hear no bytes is the end of the
+/// script. So is a line at which the responder is over: no line behind it is answered. The status is
+/// the greatest of its lines', and 0 where there are none.
 ///
 /// At a fault a front of the answers to the first lines is written: `Read` only where hearing fails
 /// or the script is longer; `Write` where a write fails or takes no bytes, or sending fails;
@@ -42,18 +43,20 @@ pub fn converse<M: Responder + Drop, C: Conversation<W>, W: Writer>(
     input: &mut C,
     output: &mut W,
 ) -> (M, Result<u8, RunFault>)
+    requires live { M.over responder → ⊥ }
     requires most { most ≤ 2 ^ 62 }
     requires unheard { IfSome (C.heard input.old) (λ bytes. bytes ≡ []) }
     requires fresh { C.hearings input.old ≡ 0 }
     requires said { C.said output.old ≡ W.contents output.old }
     requires due { (heard : List ℕ) (said : Option (List ℕ)) (mid : M) →
-        Answered M.turns responder heard (W.contents output.old) said mid → C.may_hear heard said }
+        Answered M.turns responder heard (W.contents output.old) said mid →
+        (M.over mid → ⊥) → C.may_hear heard said }
     ensures ok { IfOk result.1 (λ status. IfSome (C.remaining input.old) (λ script.
         WritesOutput M.turns responder
         (W.contents output.old) (W.contents output.new) script status result.0)) }
-    ensures whole { OnOk result.1 (IsAtEnd (C.remaining input.new)) }
-    ensures short { OnOk result.1
-        (IfSome (C.remaining input.old) (λ script. length script ≤ most)) }
+    ensures whole { OnOk result.1 (IsAtEnd (C.remaining input.new) ⊎ M.over result.0) }
+    ensures short { OnOk result.1 (IfSome (C.remaining input.old)
+        (λ script. length script ≤ most) ⊎ M.over result.0) }
     ensures said { OnOk result.1 (C.said output.new ≡ W.contents output.new) }
     ensures served { IfErr result.1 (λ e. e ≡ RunFault.Read → Served most M.turns responder
         (C.remaining input.old) (C.remaining input.new)
@@ -82,12 +85,13 @@ pub fn converse<M: Responder + Drop, C: Conversation<W>, W: Writer>(
     (intake.into_responder(), result)
 }
 
-/// Reads a script of at most `most` bytes, by at most `most + 1` reads, and writes what the responder
-/// answers to its lines.
+/// Reads a script of at most `most` bytes, by at most `most + 1` reads, and writes what the
+/// responder answers to its lines.
 ///
 /// It is [`converse`] with a reader and a writer: before each read but the first, all lines that
 /// have ended are answered, and the answers are written and flushed. A read of no bytes is the end
-/// of the script. The status is the greatest of its lines', and 0 where there are none.
+/// of the script, and so is a line at which the responder is over. The status is the greatest of
+/// its lines', and 0 where there are none.
 ///
 /// At a fault a front of the answers to the first lines is written: `Read` where a read fails or
 /// the script is longer; `Write` where a write fails or takes no bytes, or a flush fails; `Memory`
@@ -99,13 +103,14 @@ pub fn run<RT: AllocGlobal, M: Responder + Drop, R: Read, W: Write>(
     input: &mut R,
     output: &mut W,
 ) -> (M, Result<u8, RunFault>)
-    requires { most ≤ 2 ^ 62 }
+    requires live { M.over responder → ⊥ }
+    requires most { most ≤ 2 ^ 62 }
     ensures ok { IfOk result.1 (λ status. IfSome (R.remaining input.old) (λ script.
         WritesOutput M.turns responder
         (W.contents output.old) (W.contents output.new) script status result.0)) }
-    ensures whole { OnOk result.1 (IsAtEnd (R.remaining input.new)) }
-    ensures short { OnOk result.1
-        (IfSome (R.remaining input.old) (λ script. length script ≤ most)) }
+    ensures whole { OnOk result.1 (IsAtEnd (R.remaining input.new) ⊎ M.over result.0) }
+    ensures short { OnOk result.1 (IfSome (R.remaining input.old)
+        (λ script. length script ≤ most) ⊎ M.over result.0) }
 
     // Any read may fail, so that all lines that have ended are answered before each.
     ensures served { IfErr result.1 (λ e. e ≡ RunFault.Read → Served most M.turns responder

@@ -4,7 +4,7 @@ ghost use Rattle.std.specs.Prelude.{OnOk, length};
 ghost use Rattle.std.specs.Str.Lines.{lines};
 ghost use Rattle.fl_stream.specs.Served.{EndsMidLine, HasNoFeed};
 ghost use Rattle.fl_stream.specs.parts.Interpreter.{LinesCut, LinesPass};
-ghost use Rattle.fl_stream.specs.parts.Stream.{BytesPass, EndPasses, BytesCut, EndCuts};
+ghost use Rattle.fl_stream.specs.parts.Stream.{BytesPass, BytesTaken, EndPasses, BytesCut, EndCuts};
 ghost use Rattle.fl_stream.specs.parts.Stream.{fresh_stream};
 
 use crate::fault::RunFault;
@@ -61,6 +61,7 @@ impl<M: Responder> Stream<M> {
         output: &mut W,
     ) -> Result<(), WriteFault>
         requires number { self.old.interpreter.number < 2 ^ 63 }
+        requires live { M.over self.old.interpreter.responder → ⊥ }
         requires part { HasNoFeed self.old.held }
         requires line { HasNoFeed line.now }
         requires short { length line.now ≤ 65536 }
@@ -110,7 +111,8 @@ impl<M: Responder> Stream<M> {
     }
 
     /// Answers the lines that end in these bytes, and keeps what follows the last of them. The
-    /// answers may wait to be written.
+    /// answers may wait to be written. Says whether more may be taken: behind a line at which the
+    /// responder was over none is answered, and nothing is kept.
     ///
     /// `Write` where a write fails; `Memory` where the bytes end in a line that has not ended and
     /// there is no room for it. A front of what waited and of the answers was written then, and the
@@ -120,13 +122,14 @@ impl<M: Responder> Stream<M> {
         alloc: Global,
         bytes: &[u8],
         output: &mut W,
-    ) -> Result<(), RunFault>
+    ) -> Result<bool, RunFault>
         requires number { self.old.interpreter.number + length bytes.now < 2 ^ 63 }
+        requires live { M.over self.old.interpreter.responder → ⊥ }
         requires part { HasNoFeed self.old.held }
         requires short { length bytes.now ≤ 65536 }
-        ensures ok { OnOk result (
-            BytesPass M.turns self.old self.new
-            (W.contents output.old) (W.contents output.new) bytes.now) }
+        ensures ok { IfOk result (λ more.
+            BytesTaken M.turns M.over self.old self.new
+            (W.contents output.old) (W.contents output.new) bytes.now more) }
         ensures number { OnOk result (
             self.new.interpreter.number ≤ self.old.interpreter.number + length bytes.now) }
         ensures part { OnOk result (HasNoFeed self.new.held) }
@@ -140,9 +143,13 @@ impl<M: Responder> Stream<M> {
         let mut rest = bytes;
         while let Some((line, after)) = cut_line(rest) {
             self.end_line(alloc, line, output)?;
+            if self.interpreter.is_over() {
+                return Ok(false);
+            }
             rest = after;
         }
-        self.hold(rest)
+        self.hold(rest)?;
+        Ok(true)
     }
 
     /// Writes the answers that wait. The writer is not flushed. At a fault a front of them was
@@ -150,7 +157,8 @@ impl<M: Responder> Stream<M> {
     pub fn write_answers<W: Writer>(&mut self, output: &mut W) -> Result<(), WriteFault>
         ensures ok { OnOk result (BytesPass M.turns self.old self.new
             (W.contents output.old) (W.contents output.new) []) }
-        ensures same { OnOk result (self.new.interpreter.number ≡ self.old.interpreter.number) }
+        ensures number { OnOk result (self.new.interpreter.number ≡ self.old.interpreter.number) }
+        ensures same { self.new.interpreter.responder ≡ self.old.interpreter.responder }
         ensures held { self.new.held ≡ self.old.held }
         ensures empty { OnOk result (self.new.interpreter.pending ≡ []) }
         ensures err { OnErr result (BytesCut M.turns self.old self.new.interpreter.responder
@@ -163,6 +171,7 @@ impl<M: Responder> Stream<M> {
     // Answers the last line, where it did not end. A return at its end is its last byte.
     fn answer_last<W: Writer>(&mut self, alloc: Global, output: &mut W) -> Result<(), WriteFault>
         requires number { self.old.interpreter.number < 2 ^ 63 }
+        requires live { M.over self.old.interpreter.responder → self.old.held ≡ [] }
         requires part { HasNoFeed self.old.held }
         ensures ok { OnOk result (LinesPass M.turns self.old.interpreter self.new.interpreter
             (W.contents output.old) (W.contents output.new) (lines self.old.held)) }
@@ -181,6 +190,7 @@ impl<M: Responder> Stream<M> {
     /// line. The writer is not flushed. At a fault a front of the answers was written.
     pub fn finish<W: Writer>(&mut self, alloc: Global, output: &mut W) -> Result<u8, WriteFault>
         requires number { self.old.interpreter.number < 2 ^ 63 }
+        requires live { M.over self.old.interpreter.responder → self.old.held ≡ [] }
         requires part { HasNoFeed self.old.held }
         ensures ok { IfOk result (λ status.
             EndPasses M.turns self.old self.new.interpreter.responder

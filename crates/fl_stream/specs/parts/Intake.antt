@@ -1,6 +1,6 @@
 -- A script is read, some bytes at a time.
-use Rattle.std.specs.Prelude.{◌≡◌, ◌+◌, ◌^◌, ◌<◌, ◌⊎◌, [], ℕ, List, Option, length}
-use Rattle.std.specs.Io.KnownBytes.{Consumes, append_known}
+use Rattle.std.specs.Prelude.{◌≡◌, ◌+◌, ◌++◌, ◌^◌, ◌<◌, ◌≤◌, ◌⊎◌, [], ℕ, List, Option, length}
+use Rattle.std.specs.Io.KnownBytes.{Consumes, IsAtEnd, append_known}
 use Rattle.fl_stream.specs.Turns.{Turns}
 use Rattle.fl_stream.specs.Served.{HasNoFeed, plus_known}
 use Rattle.fl_stream.specs.parts.Stream.{StreamState, BytesPass, BytesCut}
@@ -25,6 +25,18 @@ pub record ReadingPasses {M : Type 0} (turns : Turns M) (remaining left heard gr
   pub grown_by : grown ≡ append_known heard bytes
   pub advance : BytesPass turns old new before after bytes
   pub fits : length bytes + less ≡ room
+
+-- no more is read: bytes were, for which there was room, and a front of them was taken: all there are, or up to the end
+-- of a line at which it was over
+pub record ReadingEnds {M : Type 0} (turns : Turns M) (over : M → Type 0)
+    (remaining left before after : Option (List ℕ)) (old new : StreamState M) (room : ℕ) : Type 0 where
+  pub taken : List ℕ
+  pub beyond : List ℕ
+  pub consumed : Consumes remaining left (taken ++ beyond)
+  pub advance : BytesPass turns old new before after taken
+  pub fits : length (taken ++ beyond) ≤ room
+  pub ends : (IsAtEnd left × (beyond ≡ [])) ⊎ over new.interpreter.responder
+  pub none_held : over new.interpreter.responder → new.held ≡ []
 
 -- bytes were read, and taking them stopped
 pub record ReadingCuts {M : Type 0} (turns : Turns M) (remaining left before after : Option (List ℕ))

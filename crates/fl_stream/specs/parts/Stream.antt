@@ -1,5 +1,5 @@
 -- A script is taken some bytes at a time, and each line is answered once it has ended.
-use Rattle.std.specs.Prelude.{◌≡◌, ◌++◌, [], List, ℕ, Option, max, refl}
+use Rattle.std.specs.Prelude.{◌≡◌, ◌++◌, [], Bool, List, ℕ, Option, false, max, refl, true}
 use Rattle.std.specs.Coded.{Coded, code_by, coded×, coded_ℕ, coded_list}
 use Rattle.std.specs.Str.Lines.{lines}
 use Rattle.std.specs.Io.KnownBytes.{Appends}
@@ -25,6 +25,16 @@ pub record BytesPass {M : Type 0} (turns : Turns M) (old new : StreamState M)
   pub ended : IsEnded done
   pub split : (later : List ℕ) → lines (done ++ later) ≡ seen ++ lines later
   pub proceeds : LinesPass turns old.interpreter new.interpreter before after seen
+
+-- the bytes were taken, and more may be; or else a front of them, up to the end of a line at which it was over
+pub record BytesTaken {M : Type 0} (turns : Turns M) (over : M → Type 0) (old new : StreamState M)
+    (before after : Option (List ℕ)) (bytes : List ℕ) (more : Bool) : Type 0 where
+  pub front : List ℕ
+  pub rest : List ℕ
+  pub cut : bytes ≡ front ++ rest
+  pub advance : BytesPass turns old new before after front
+  pub whole : more ≡ true → (rest ≡ []) × ¬ (over new.interpreter.responder)
+  pub is_over : more ≡ false → over new.interpreter.responder × (new.held ≡ [])
 
 -- some of the lines that ended in the bytes were answered, and a front of their text written
 pub record BytesCut {M : Type 0} (turns : Turns M) (old : StreamState M) (end : M)

@@ -1,7 +1,8 @@
 use Rattle.std.proofs.Common.{◌≡◌, ◌≤◌, ◌+◌, sym, ◌∙◌, arith}
 use Rattle.std.proofs.lemmas.Result.{err_from_is_err_and}
 use Rattle.fl_sink.specs.laws.Passing.{on_err_always}
-use Rattle.fl_stream.proofs.IntakeLemmas.{reading_fresh, ready_fresh, reading_then, reading_cuts, reading_answered, reading_end_cuts, reading_short, reading_served, reading_due, reading_cause, reading_mid_line, counts_none, counts_then}
+use Rattle.fl_stream.proofs.IntakeLemmas.{reading_fresh, ready_fresh, reading_then, reading_cuts, reading_served, reading_due, reading_cause, reading_mid_line, counts_none, counts_then}
+use Rattle.fl_stream.proofs.OverLemmas.{ends_then, ends_output, ends_cuts, ends_whole, ends_short}
 use Rattle.fl_stream.proofs.intake.Intake.hear_all.Goals as goal
 
 pub hearing-init : goal.hearing-init
@@ -9,6 +10,7 @@ hearing-init g c =
     let fresh : g.C.Conversation.hearings c.args.input.now ≡ 0 = c.requires.fresh in
     record {
       reads = reading_fresh _ _ _ _ c.requires.begun;
+      live = c.requires.live;
       ready = ready_fresh c.requires.begun c.requires.room;
       chunk = c.requires.chunk;
       said = c.requires.said;
@@ -18,13 +20,14 @@ hearing-init g c =
 
 pub turn-requires-clause-answered : goal.turn-requires-clause-answered
 turn-requires-clause-answered g c =
-    reading_due g.C.Conversation.may_hear c.hearing.invariant.reads c.hearing.invariant.ready c.requires.unheard c.hearing.invariant.said c.requires.due
+    reading_due g.C.Conversation.may_hear c.hearing.invariant.reads c.hearing.invariant.ready c.requires.unheard c.hearing.invariant.said (λ bytes spoken answered. c.requires.due bytes spoken _ answered c.hearing.invariant.live)
 
 pub hearing-preserved : goal.hearing-preserved
 hearing-preserved g c =
     let less : g.C.Conversation.hearings c.turn.new.input + c.turn.new.self.room ≤ g.C.Conversation.hearings c.hearing.input + c.hearing.self.room = c.in_ok-turn.ensures.count c.if-branch.true in
     record {
-      reads = reading_then c.hearing.invariant.reads c.in_ok-turn.ensures.reads;
+      reads = reading_then c.hearing.invariant.reads (c.in_ok-turn.ensures.reads c.if-branch.true);
+      live = c.in_ok-turn.ensures.live c.if-branch.true;
       ready = c.in_ok-turn.ensures.ready;
       chunk = c.in_ok-turn.ensures.chunk;
       said = c.in_ok-turn.ensures.said c.if-branch.true;
@@ -52,15 +55,20 @@ returns-in_err-turn-clause-err g c = on_err_always _ (reading_cuts c.hearing.inv
 
 pub returns-in_err-status-clause-err : goal.returns-in_err-status-clause-err
 returns-in_err-status-clause-err g c =
-    let read = reading_then c.hearing.invariant.reads c.in_ok-turn.ensures.reads in
-    on_err_always _ (reading_end_cuts _ read (c.in_ok-turn.ensures.end c.if-branch.false) c.in_err-status.ensures.err)
+    let ends = ends_then c.hearing.invariant.reads (c.in_ok-turn.ensures.ends c.if-branch.false) in
+    on_err_always _ (ends_cuts _ ends c.in_err-status.ensures.err)
 
 pub returns-clause-ok : goal.returns-clause-ok
 returns-clause-ok g c =
-    let read = reading_then c.hearing.invariant.reads c.in_ok-turn.ensures.reads in
-    (reading_answered _ read (c.in_ok-turn.ensures.end c.if-branch.false) c.in_ok-status.ensures.ok)
+    let ends = ends_then c.hearing.invariant.reads (c.in_ok-turn.ensures.ends c.if-branch.false) in
+    ends_output _ g.met.M.Responder.silent ends c.in_ok-status.ensures.ok
+
+pub returns-clause-whole : goal.returns-clause-whole
+returns-clause-whole g c =
+    let ends = ends_then c.hearing.invariant.reads (c.in_ok-turn.ensures.ends c.if-branch.false) in
+    ends_whole ends c.in_ok-status.ensures.ok
 
 pub returns-clause-short : goal.returns-clause-short
 returns-clause-short g c =
-    let read = reading_then c.hearing.invariant.reads c.in_ok-turn.ensures.reads in
-    reading_short read (c.in_ok-turn.ensures.end c.if-branch.false)
+    let ends = ends_then c.hearing.invariant.reads (c.in_ok-turn.ensures.ends c.if-branch.false) in
+    ends_short ends c.in_ok-status.ensures.ok

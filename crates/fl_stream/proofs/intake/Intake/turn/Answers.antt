@@ -1,9 +1,10 @@
-use Rattle.std.proofs.Common.{◌≡◌, ◌∙◌, [], sym, length, arith, rules}
+use Rattle.std.proofs.Common.{◌≡◌, ◌<◌, ◌∙◌, [], sym, length, arith, rules}
 use Rattle.std.proofs.lemmas.Result.{err_from_is_err_and}
 use Rattle.std.proofs.lemmas.List.{nil_from_length}
 use Rattle.std.proofs.KnownBytes.{Consumes-nil, Consumes-kept}
 use Rattle.fl_sink.specs.laws.Passing.{on_err_always}
-use Rattle.fl_stream.proofs.IntakeLemmas.{reading_end, reading_sent, reading_cuts_beyond, reading_cuts_sending, reading_cuts_unsent, read_again}
+use Rattle.fl_stream.proofs.IntakeLemmas.{reading_sent, reading_cuts_beyond, read_again}
+use Rattle.fl_stream.proofs.OverLemmas.{taken_whole, reading_cuts_sending, reading_cuts_unsent, ends_here, ends_over}
 use Rattle.fl_stream.proofs.intake.Intake.turn.Goals as goal
 
 pub returns-in-Err-clause-err : goal.returns-in-Err-clause-err
@@ -12,13 +13,14 @@ returns-in-Err-clause-err g c = reading_cuts_beyond _ [] (Consumes-kept _ _ _ []
 pub returns-then-count-self-clause-err : goal.returns-then-count-self-clause-err
 returns-then-count-self-clause-err g c = reading_cuts_beyond _ _ c.in-Ok.ensures.bytes.0
 
-pub returns-then-count-eq0-clause-reads : goal.returns-then-count-eq0-clause-reads
-returns-then-count-eq0-clause-reads g c =
+pub returns-then-count-eq0-clause-ends : goal.returns-then-count-eq0-clause-ends
+returns-then-count-eq0-clause-ends g c =
     let zero : c.in-Ok.count ≡ 0 = search rules in
-    reading_end _ _ _ (nil_from_length _ (omega (arith, zero, c.in-Ok.ensures.bound.1))) c.in-Ok.ensures.bytes.0 c.in-Ok.ensures.grows
+    let some : 0 < length c.hear.new.chunk = search rules in
+    λ _. ends_here _ _ _ (nil_from_length _ (omega (arith, zero, c.in-Ok.ensures.bound.1))) c.in-Ok.ensures.bytes.0 (c.in-Ok.ensures.bytes.1 zero some) c.requires.live
 
-pub returns-in_err-take-clause-memory_cause : goal.returns-in_err-take-clause-memory_cause
-returns-in_err-take-clause-memory_cause g c =
+pub returns-in_err-more-clause-memory_cause : goal.returns-in_err-more-clause-memory_cause
+returns-in_err-more-clause-memory_cause g c =
     let len : c.args.self.now.chunk.len ≡ length c.hear.new.chunk = search rules in
     let same : c.deref.result.now ≡ c.hear.new.chunk = c.deref.ensures.value ∙ read_again c.hear.new.chunk _ len in
     let fault = err_from_is_err_and c.from_residual.result c.from_residual.ensures.1 in
@@ -26,23 +28,29 @@ returns-in_err-take-clause-memory_cause g c =
       bytes = _;
       consumed = c.in-Ok.ensures.bytes.0;
       grown_by = c.in-Ok.ensures.grows;
-      ends = rw same at (c.in_err-take.ensures.memory_cause (sym fault.2 ∙ is_memory));
+      ends = rw same at (c.in_err-more.ensures.memory_cause (sym fault.2 ∙ is_memory));
     })
 
 pub returns-in_err-write_answers-clause-err : goal.returns-in_err-write_answers-clause-err
 returns-in_err-write_answers-clause-err g c =
     let len : c.args.self.now.chunk.len ≡ length c.hear.new.chunk = search rules in
     let same : c.deref.result.now ≡ c.hear.new.chunk = c.deref.ensures.value ∙ read_again c.hear.new.chunk _ len in
-    on_err_always _ (reading_cuts_sending _ _ c.in-Ok.ensures.bytes.0 (rw same at c.in_ok-take.ensures.ok) c.in_err-write_answers.ensures.err)
+    on_err_always _ (reading_cuts_sending _ _ c.in-Ok.ensures.bytes.0 (rw same at c.in_ok-more.ensures.ok) c.in_err-write_answers.ensures.err)
 
 pub returns-then-is_err-clause-err : goal.returns-then-is_err-clause-err
 returns-then-is_err-clause-err g c =
     let len : c.args.self.now.chunk.len ≡ length c.hear.new.chunk = search rules in
     let same : c.deref.result.now ≡ c.hear.new.chunk = c.deref.ensures.value ∙ read_again c.hear.new.chunk _ len in
-    reading_cuts_unsent _ _ c.in-Ok.ensures.bytes.0 (rw same at c.in_ok-take.ensures.ok) c.in_ok-write_answers.ensures.ok c.send-sent.ensures.bytes
+    reading_cuts_unsent _ _ c.in-Ok.ensures.bytes.0 (rw same at c.in_ok-more.ensures.ok) c.in_ok-write_answers.ensures.ok c.send-sent.ensures.bytes
 
 pub returns-clause-reads : goal.returns-clause-reads
 returns-clause-reads g c =
     let len : c.args.self.now.chunk.len ≡ length c.hear.new.chunk = search rules in
     let same : c.deref.result.now ≡ c.hear.new.chunk = c.deref.ensures.value ∙ read_again c.hear.new.chunk _ len in
-    reading_sent _ _ c.in-Ok.ensures.bytes.0 c.in-Ok.ensures.grows (rw same at c.in_ok-take.ensures.ok) c.in_ok-write_answers.ensures.ok c.send-sent.ensures.bytes (omega (arith, c.in-Ok.ensures.bound.1))
+    λ all. reading_sent _ _ c.in-Ok.ensures.bytes.0 c.in-Ok.ensures.grows (taken_whole (rw same at c.in_ok-more.ensures.ok) all) c.in_ok-write_answers.ensures.ok c.send-sent.ensures.bytes (omega (arith, c.in-Ok.ensures.bound.1))
+
+pub returns-clause-ends : goal.returns-clause-ends
+returns-clause-ends g c =
+    let len : c.args.self.now.chunk.len ≡ length c.hear.new.chunk = search rules in
+    let same : c.deref.result.now ≡ c.hear.new.chunk = c.deref.ensures.value ∙ read_again c.hear.new.chunk _ len in
+    λ stop. ends_over _ _ c.in-Ok.ensures.bytes.0 (rw same at c.in_ok-more.ensures.ok) c.in_ok-write_answers.ensures.ok c.write_answers.ensures.same c.write_answers.ensures.held c.send-sent.ensures.bytes (omega (arith, c.in-Ok.ensures.bound.1)) stop
