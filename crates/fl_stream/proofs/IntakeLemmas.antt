@@ -8,7 +8,7 @@ use Rattle.std.specs.Io.KnownBytes.{Appends, Keeps, Consumes, append_known}
 use Rattle.std.specs.Str.Lines.{lines}
 use Rattle.fl_stream.specs.Turns.{Turns, Run, texts, worst}
 use Rattle.fl_stream.specs.Output.{WritesOutput, WritesFirst}
-use Rattle.fl_stream.specs.Served.{Answered, Served, Outgrows, HearsMidLine, CountsPast, plus_known}
+use Rattle.fl_stream.specs.Served.{Answered, Served, Outgrows, HearsLongLine, HearsMidLine, CountsPast, plus_known}
 use Rattle.fl_stream.specs.parts.Interpreter.{LinesCut, fresh}
 use Rattle.fl_stream.specs.parts.Stream.{StreamState, BytesPass, BytesCut, EndPasses, EndCuts, fresh_stream}
 use Rattle.fl_stream.specs.parts.Intake.{CountsTo, IsReady, ReadingPasses, ReadingCuts, Overruns}
@@ -124,11 +124,40 @@ module _ {M : Type 0} {turns : Turns M} where
   pub reading_cuts_beyond : {r l a : Option (List ℕ)} (s : StreamState M) (bytes : List ℕ) → Consumes r l bytes → ReadingCuts turns r l a a s s.interpreter.responder
   reading_cuts_beyond {r} {l} {a} s bytes q = record { bytes = bytes; consumed = q; stops = bytes_cut_passed bytes (bytes_pass_none a s) }
 
-  -- hearing failed, or gave more than there was room for at first
-  pub reading_cause : {deaf : Type 0} {r l h k m a b : Option (List ℕ)} {s t : StreamState M} {room less : ℕ} {n o q : Option ℕ}
-      → ReadingPasses turns r l h k a b s t room less → CountsTo n o room less
-      → deaf ⊎ (Outgrows less k m × CountsPast less o q) → deaf ⊎ (Outgrows room h m × CountsPast room n q)
-  reading_cause p c q = elim q [ inl d ↦ inl d | inr more ↦ inr (reading_outgrows p more.0, counts_past c more.1) ]
+  -- what was heard ends in a long line
+  reading_long_line : {r l h k a b : Option (List ℕ)} {start : M} {s : StreamState M} {room less most : ℕ}
+      → ReadingPasses turns r l h k a b (fresh_stream start) s room less → IsReady s less → most < length s.held → HearsLongLine most r l h k
+  reading_long_line {s = s} p ready many = record {
+    bytes = p.bytes;
+    consumed = p.consumed;
+    grown_by = p.grown_by;
+    front = p.advance.done;
+    part = s.held;
+    cut = p.advance.cut;
+    many = many;
+    no_feed = ready.part;
+  }
+
+  -- a line has no more bytes than were heard
+  reading_holds : {r l h k a b : Option (List ℕ)} {start : M} {s : StreamState M} {room less : ℕ}
+      → ReadingPasses turns r l h k a b (fresh_stream start) s room less → length s.held ≤ room
+  reading_holds {s = s} p = omega (arith, p.fits, ap length p.advance.cut, length-append p.advance.done s.held)
+
+  -- hearing failed, or gave more than there was room for at first, or a line became too long
+  pub reading_cause : {deaf same : Type 0} {r l h k m x a b : Option (List ℕ)} {start : M} {s : StreamState M} {room less most : ℕ} {n o q : Option ℕ}
+      → ReadingPasses turns r l h k a b (fresh_stream start) s room less → CountsTo n o room less → IsReady s less
+      → (same → (m ≡ k) × (x ≡ l))
+      → deaf ⊎ ((Outgrows less k m × CountsPast less o q) ⊎ ((most < length s.held) × same))
+      → deaf ⊎ ((Outgrows room h m × CountsPast room n q) ⊎ ((most < room) × HearsLongLine most r x h m))
+  reading_cause {r} {l} {h} {k} {m} {x} {room = room} {most = most} p c ready stays q =
+      elim q [
+        | inl d ↦ inl d
+        | inr (inl more) ↦ inr (inl (reading_outgrows p more.0, counts_past c more.1))
+        | inr (inr long) ↦ inr (inr (
+          omega (arith, long.0, reading_holds p),
+          subst (λ y. HearsLongLine most r y h m) (sym (stays long.1).1) (subst (λ y. HearsLongLine most r l h y) (sym (stays long.1).0) (reading_long_line p ready long.0)),
+        ))
+      ]
 
   -- what was heard last ends in a line that has not ended
   pub reading_mid_line : {r l m h k n a b : Option (List ℕ)} {s t : StreamState M} {room less : ℕ}

@@ -51,6 +51,17 @@ pub record HearsMidLine (remaining left heard grown : Option (List ℕ)) : Type 
   pub grown_by : grown ≡ append_known heard bytes
   pub ends : EndsMidLine bytes
 
+-- bytes were heard that end in a line that has not ended, and has more than so many
+pub record HearsLongLine (most : ℕ) (remaining left heard grown : Option (List ℕ)) : Type 0 where
+  pub bytes : List ℕ
+  pub consumed : Consumes remaining left bytes
+  pub grown_by : grown ≡ append_known heard bytes
+  pub front : List ℕ
+  pub part : List ℕ
+  pub cut : bytes ≡ front ++ part
+  pub many : most < length part
+  pub no_feed : HasNoFeed part
+
 -- there is something that there may be no room for: nothing was heard, or a line has not ended
 abbrev pub MayLackRoom : Option (List ℕ) → Option (List ℕ) → Option (List ℕ) → Option (List ℕ) → Type 0
 MayLackRoom remaining left heard grown =

@@ -5,7 +5,7 @@ use thiserror::Error;
 /// What stops a run outside a line's own answer.
 #[derive(Clone, Copy, Debug, PartialEq, Eq, Error)]
 pub enum RunFault {
-    /// A read failed, or the script is too long.
+    /// A read failed, or the script or a line of it is too long.
     #[error("read fault")]
     Read,
     /// A write or a flush failed, or a write took no bytes.

@@ -2,7 +2,8 @@
 ghost use Rattle.std.specs.Prelude.{◌≡◌, ◌+◌, ◌^◌, ◌<◌, ◌≤◌, ◌⊎◌, [], ℕ, List, Option};
 ghost use Rattle.std.specs.Prelude.{IfErr, IfOk, IfSome, OnErr, OnOk, false, true, length, vec_len};
 ghost use Rattle.std.specs.Io.KnownBytes.{IsAtEnd};
-ghost use Rattle.fl_stream.specs.Served.{Answered, CountsPast, HearsMidLine, Outgrows, Served};
+ghost use Rattle.fl_stream.specs.Served.{Answered, CountsPast, HearsLongLine, HearsMidLine};
+ghost use Rattle.fl_stream.specs.Served.{Outgrows, Served};
 ghost use Rattle.fl_stream.specs.Output.{WritesFirst, WritesOutput};
 ghost use Rattle.fl_stream.specs.parts.Stream.{EndCuts, EndPasses, fresh_stream};
 ghost use Rattle.fl_stream.specs.parts.Intake.{CountsTo, IsReady, Overruns, ReadingPasses};
@@ -27,9 +28,10 @@ impl<M: Responder> Intake<M> {
     /// Hears more once, answers the lines that have ended, and sends the answers. Says whether
     /// there was anything to hear, and the responder is not over.
     ///
-    /// `Read` where hearing fails or gives more than there is room for; `Write` where a write fails
-    /// or takes no bytes, or sending fails; `Memory` where what was heard ends in a line that has
-    /// not ended, and there is no room for it.
+    /// `Read` where hearing fails or gives more than there is room for, or where more than 16 MiB
+    /// are held of a line that has not ended: then nothing is heard. `Write` where a write fails or
+    /// takes no bytes, or sending fails; `Memory` where what was heard ends in a line that has not
+    /// ended, and there is no room for it.
     pub fn turn<C: Conversation<W>, W: Writer>(
         &mut self,
         alloc: Global,
@@ -66,7 +68,8 @@ impl<M: Responder> Intake<M> {
             self.old.room self.new.room) }
         ensures cause { IfErr result (λ e. e ≡ RunFault.Read → C.is_deaf input.new
             ⊎ (Outgrows self.old.room (C.heard input.old) (C.heard input.new)
-            × CountsPast self.old.room (C.counted input.old) (C.counted input.new))) }
+            × CountsPast self.old.room (C.counted input.old) (C.counted input.new))
+            ⊎ ((16777216 < length self.old.stream.held) × (input.new ≡ input.old))) }
         ensures write_cause { IfErr result (λ e. e ≡ RunFault.Write → W.has_failed output.new) }
         ensures memory_cause { IfErr result (λ e. e ≡ RunFault.Memory →
             HearsMidLine (C.remaining input.old) (C.remaining input.new)
@@ -78,6 +81,9 @@ impl<M: Responder> Intake<M> {
             (W.contents output.old) (W.contents output.new)
             self.old.stream self.new.stream.interpreter.responder) }
     {
+        if self.stream.holds_too_much() {
+            return Err(RunFault::Read);
+        }
         let count = match input.hear(output, &mut self.chunk) {
             Ok(count) => count,
             Err(_) => return Err(RunFault::Read),
@@ -164,7 +170,10 @@ impl<M: Responder> Intake<M> {
             self.new.stream.interpreter.responder) }
         ensures cause { IfErr result (λ e. e ≡ RunFault.Read → C.is_deaf input.new
             ⊎ (Outgrows self.old.room (C.heard input.old) (C.heard input.new)
-            × CountsPast self.old.room (C.counted input.old) (C.counted input.new))) }
+            × CountsPast self.old.room (C.counted input.old) (C.counted input.new))
+            ⊎ ((16777216 < self.old.room) × HearsLongLine 16777216
+            (C.remaining input.old) (C.remaining input.new)
+            (C.heard input.old) (C.heard input.new))) }
         ensures write_cause { IfErr result (λ e. e ≡ RunFault.Write → W.has_failed output.new) }
         ensures memory_cause { IfErr result (λ e. e ≡ RunFault.Memory →
             HearsMidLine (C.remaining input.old) (C.remaining input.new)

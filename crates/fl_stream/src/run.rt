@@ -1,8 +1,9 @@
 //! A whole run.
-ghost use Rattle.std.specs.Prelude.{◌≡◌, ◌^◌, ◌≤◌, ◌⊎◌, ℕ, List, Option, None, IfErr, IfOk, IfSome};
-ghost use Rattle.std.specs.Prelude.{OnErr, OnOk, [], length, vec_len};
+ghost use Rattle.std.specs.Prelude.{◌≡◌, ◌^◌, ◌<◌, ◌≤◌, ◌⊎◌, ℕ, List, Option, None};
+ghost use Rattle.std.specs.Prelude.{IfErr, IfOk, IfSome, OnErr, OnOk, [], length, vec_len};
 ghost use Rattle.std.specs.Io.KnownBytes.{IsAtEnd};
-ghost use Rattle.fl_stream.specs.Served.{Answered, CountsPast, MayLackRoom, Outgrows, Served};
+ghost use Rattle.fl_stream.specs.Served.{Answered, CountsPast, HearsLongLine, MayLackRoom};
+ghost use Rattle.fl_stream.specs.Served.{Outgrows, Served};
 ghost use Rattle.fl_stream.specs.Output.{WritesFirst, WritesOutput};
 
 use crate::conversation::Conversation;
@@ -25,14 +26,14 @@ fn zeros(alloc: Global, count: usize) -> Result<Vec<u8>, RunFault>
 /// Hears a script of at most `most` bytes, and says what the responder answers to its lines.
 ///
 /// More is heard only where what was said is exactly the answers to all lines that have ended, and
-/// the responder is not over: [`Conversation::hear`] requires it. To hear no bytes is the end of the
-/// script. So is a line at which the responder is over: no line behind it is answered. The status is
-/// the greatest of its lines', and 0 where there are none.
+/// the responder is not over: [`Conversation::hear`] requires it. To hear no bytes is the end of
+/// the script. So is a line at which the responder is over: no line behind it is answered. The
+/// status is the greatest of its lines', and 0 where there are none.
 ///
-/// At a fault a front of the answers to the first lines is written: `Read` only where hearing fails
-/// or the script is longer; `Write` where a write fails or takes no bytes, or sending fails;
-/// `Memory` where there is no room for the 64 KiB that are heard at once, or for a line that has
-/// not ended.
+/// At a fault a front of the answers to the first lines is written: `Read` only where hearing
+/// fails, the script is longer, or a line that has not ended has more than 16 MiB; `Write` where a
+/// write fails or takes no bytes, or sending fails; `Memory` where there is no room for the 64 KiB
+/// that are heard at once, or for a line that has not ended.
 ///
 /// The responder is given back as it is after the lines that were begun: by these and no others it
 /// came from the one that was handed in.
@@ -63,7 +64,10 @@ pub fn converse<M: Responder + Drop, C: Conversation<W>, W: Writer>(
         (W.contents output.old) (W.contents output.new) result.0) }
     ensures cause { IfErr result.1 (λ e. e ≡ RunFault.Read → C.is_deaf input.new
         ⊎ (Outgrows most (C.heard input.old) (C.heard input.new)
-        × CountsPast most (C.counted input.old) (C.counted input.new))) }
+        × CountsPast most (C.counted input.old) (C.counted input.new))
+        ⊎ ((16777216 < most) × HearsLongLine 16777216
+        (C.remaining input.old) (C.remaining input.new)
+        (C.heard input.old) (C.heard input.new))) }
     ensures write_cause { IfErr result.1 (λ e. e ≡ RunFault.Write → W.has_failed output.new) }
     ensures memory_cause { IfErr result.1 (λ e. e ≡ RunFault.Memory →
         MayLackRoom (C.remaining input.old) (C.remaining input.new)
@@ -93,9 +97,10 @@ pub fn converse<M: Responder + Drop, C: Conversation<W>, W: Writer>(
 /// of the script, and so is a line at which the responder is over. The status is the greatest of
 /// its lines', and 0 where there are none.
 ///
-/// At a fault a front of the answers to the first lines is written: `Read` where a read fails or
-/// the script is longer; `Write` where a write fails or takes no bytes, or a flush fails; `Memory`
-/// where there is no room for the 64 KiB that a read fills, or for a line that has not ended.
+/// At a fault a front of the answers to the first lines is written: `Read` where a read fails, the
+/// script is longer, or a line that has not ended has more than 16 MiB; `Write` where a write fails
+/// or takes no bytes, or a flush fails; `Memory` where there is no room for the 64 KiB that a read
+/// fills, or for a line that has not ended.
 pub fn run<RT: AllocGlobal, M: Responder + Drop, R: Read, W: Write>(
     rt: &RT,
     responder: M,

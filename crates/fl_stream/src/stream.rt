@@ -1,6 +1,6 @@
 //! Bytes are taken as they come: each line is answered once it has ended.
-ghost use Rattle.std.specs.Prelude.{◌≡◌, ◌≢◌, ◌<◌, ◌≤◌, ◌+◌, ◌^◌, ◌∷◌, ◌++◌, [], IfErr, IfOk, OnErr};
-ghost use Rattle.std.specs.Prelude.{OnOk, length};
+ghost use Rattle.std.specs.Prelude.{◌≡◌, ◌≢◌, ◌<◌, ◌≤◌, ◌↔◌, ◌+◌, ◌^◌, ◌∷◌, ◌++◌, []};
+ghost use Rattle.std.specs.Prelude.{IfErr, IfOk, IsTrue, OnErr, OnOk, length};
 ghost use Rattle.std.specs.Str.Lines.{lines};
 ghost use Rattle.fl_stream.specs.Served.{EndsMidLine, HasNoFeed};
 ghost use Rattle.fl_stream.specs.parts.Interpreter.{LinesCut, LinesPass};
@@ -18,6 +18,9 @@ use std::marker::Model;
 
 /// The most bytes that are taken at once.
 pub const AT_ONCE: usize = 65_536;
+
+/// The most bytes of a line that has not ended, behind which more are heard.
+pub const MOST_HELD: usize = 16_777_216;
 
 /// An interpreter, and the line that has not ended yet, with room behind it for all that is taken
 /// at once.
@@ -50,6 +53,13 @@ impl<M: Responder> Stream<M> {
             interpreter: Interpreter::new(alloc, responder),
             held: Vec::new(alloc),
         }
+    }
+
+    /// Whether the line that has not ended is longer than any behind which more are heard.
+    pub fn holds_too_much(&self) -> bool
+        ensures { IsTrue result ↔ 16777216 < length self.now.held }
+    {
+        self.held.len() > MOST_HELD
     }
 
     // Answers the line that ends with these bytes and a line feed. It is copied only where some of

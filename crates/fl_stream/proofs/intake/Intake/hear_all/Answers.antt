@@ -1,4 +1,4 @@
-use Rattle.std.proofs.Common.{◌≡◌, ◌≤◌, ◌+◌, sym, ◌∙◌, arith}
+use Rattle.std.proofs.Common.{◌≡◌, ◌≤◌, ◌+◌, sym, ap, ◌∙◌, arith}
 use Rattle.std.proofs.lemmas.Result.{err_from_is_err_and}
 use Rattle.fl_sink.specs.laws.Passing.{on_err_always}
 use Rattle.fl_stream.proofs.IntakeLemmas.{reading_fresh, ready_fresh, reading_then, reading_cuts, reading_served, reading_due, reading_cause, reading_mid_line, counts_none, counts_then}
@@ -43,7 +43,7 @@ returns-in_err-turn-clause-served g c =
 pub returns-in_err-turn-clause-cause : goal.returns-in_err-turn-clause-cause
 returns-in_err-turn-clause-cause g c =
     let fault = err_from_is_err_and c.from_residual.result c.from_residual.ensures.1 in
-    rw fault.1 (λ is_read. reading_cause c.hearing.invariant.reads c.hearing.invariant.counts (c.in_err-turn.ensures.cause (sym fault.2 ∙ is_read)))
+    rw fault.1 (λ is_read. reading_cause c.hearing.invariant.reads c.hearing.invariant.counts c.hearing.invariant.ready (λ same. (ap g.C.Conversation.heard same, ap g.C.Conversation.remaining same)) (c.in_err-turn.ensures.cause (sym fault.2 ∙ is_read)))
 
 pub returns-in_err-turn-clause-memory_cause : goal.returns-in_err-turn-clause-memory_cause
 returns-in_err-turn-clause-memory_cause g c =

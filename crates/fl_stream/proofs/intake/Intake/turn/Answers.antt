@@ -1,11 +1,17 @@
 use Rattle.std.proofs.Common.{◌≡◌, ◌<◌, ◌∙◌, [], sym, length, arith, rules}
 use Rattle.std.proofs.lemmas.Result.{err_from_is_err_and}
 use Rattle.std.proofs.lemmas.List.{nil_from_length}
-use Rattle.std.proofs.KnownBytes.{Consumes-nil, Consumes-kept}
+use Rattle.std.proofs.KnownBytes.{Consumes-nil, Consumes-kept, Keeps-refl}
 use Rattle.fl_sink.specs.laws.Passing.{on_err_always}
-use Rattle.fl_stream.proofs.IntakeLemmas.{reading_sent, reading_cuts_beyond, read_again}
+use Rattle.fl_stream.proofs.IntakeLemmas.{overruns_none, reading_sent, reading_cuts_beyond, read_again}
 use Rattle.fl_stream.proofs.OverLemmas.{taken_whole, reading_cuts_sending, reading_cuts_unsent, ends_here, ends_over}
 use Rattle.fl_stream.proofs.intake.Intake.turn.Goals as goal
+
+pub returns-then-holds_too_much-clause-served : goal.returns-then-holds_too_much-clause-served
+returns-then-holds_too_much-clause-served g c = λ _. overruns_none _ (Keeps-refl _)
+
+pub returns-then-holds_too_much-clause-err : goal.returns-then-holds_too_much-clause-err
+returns-then-holds_too_much-clause-err g c = reading_cuts_beyond _ [] (Consumes-nil _)
 
 pub returns-in-Err-clause-err : goal.returns-in-Err-clause-err
 returns-in-Err-clause-err g c = reading_cuts_beyond _ [] (Consumes-kept _ _ _ [] (Consumes-nil _) c.in-Err.ensures.bytes)
