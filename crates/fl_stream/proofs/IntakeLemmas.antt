@@ -10,10 +10,10 @@ use Rattle.fl_stream.specs.Turns.{Turns, Run, texts, worst}
 use Rattle.fl_stream.specs.Output.{WritesOutput, WritesFirst}
 use Rattle.fl_stream.specs.Served.{Answered, Served, Outgrows, HearsLongLine, HearsMidLine, CountsPast, plus_known}
 use Rattle.fl_stream.specs.parts.Interpreter.{LinesCut, fresh}
-use Rattle.fl_stream.specs.parts.Stream.{StreamState, BytesPass, BytesCut, EndPasses, EndCuts, fresh_stream}
+use Rattle.fl_stream.specs.parts.Stream.{StreamState, BytesPass, BytesCut, EndPasses, fresh_stream}
 use Rattle.fl_stream.specs.parts.Intake.{CountsTo, IsReady, ReadingPasses, ReadingCuts, Overruns}
 use Rattle.fl_stream.proofs.RunLemmas.{Run-append}
-use Rattle.fl_stream.proofs.InterpreterLemmas.{lines_cut_then, texts-append, worst-append}
+use Rattle.fl_stream.proofs.InterpreterLemmas.{texts-append, worst-append}
 use Rattle.fl_stream.proofs.StreamLemmas.{bytes_pass_split, bytes_pass_none, bytes_pass_then, bytes_cut_then, bytes_cut_passed, bytes_pass_kept, no_feed_nil}
 
 -- what holds of each value holds of one that may be there

@@ -1,13 +1,12 @@
 -- It is over, and what follows is silence.
-use Rattle.std.proofs.Common.{◌<◌, ◌≤◌, ◌⊎◌, inl, inr, ◌≡◌, ◌+◌, ◌++◌, ◌∙◌, refl, sym, ap, List, [], ◌∷◌, ℕ, Bool, true, false, length, map, max, subst, Option, None, Some, IfSome, arith}
+use Rattle.std.proofs.Common.{◌≤◌, ◌⊎◌, inl, inr, ◌≡◌, ◌+◌, ◌++◌, ◌∙◌, refl, sym, ap, List, [], ◌∷◌, ℕ, Bool, true, false, length, map, max, subst, Option, None, Some, IfSome, arith}
 use Rattle.std.proofs.Math.Nat.{max-zero, zero-max}
 use Rattle.std.proofs.lemmas.List.{append_assoc, append-nil, length-append}
-use Rattle.std.proofs.KnownBytes.{Appends-nil, Consumes-trans, Consumes-whole}
+use Rattle.std.proofs.KnownBytes.{Consumes-trans, Consumes-whole}
 use Rattle.std.specs.Io.KnownBytes.{Keeps, Consumes, IsAtEnd}
 use Rattle.std.specs.Str.Lines.{lines}
 use Rattle.fl_stream.specs.Turns.{Turns, LineOutput, Run, StaysSilent, silence, texts, worst}
 use Rattle.fl_stream.specs.Output.{WritesOutput, WritesFirst}
-use Rattle.fl_stream.specs.parts.Interpreter.{fresh}
 use Rattle.fl_stream.specs.parts.Stream.{StreamState, BytesPass, BytesTaken, BytesCut, EndPasses, EndCuts, fresh_stream}
 use Rattle.fl_stream.specs.parts.Intake.{ReadingPasses, ReadingCuts, ReadingEnds}
 use Rattle.fl_stream.proofs.RunLemmas.{Run-append}

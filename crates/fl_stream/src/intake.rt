@@ -61,6 +61,7 @@ impl<M: Responder> Intake<M> {
         ensures less { IfOk result (λ more. more ≡ true → self.new.room < self.old.room) }
         ensures count { IfOk result (λ more. more ≡ true →
             C.hearings input.new + self.new.room ≤ C.hearings input.old + self.old.room) }
+        ensures once { C.hearings input.new ≤ C.hearings input.old + 1 }
         ensures served { IfErr result (λ e. e ≡ RunFault.Read →
             Overruns (C.remaining input.old) (C.remaining input.new)
             (W.contents output.old) (W.contents output.new) self.old.room) }
@@ -163,6 +164,7 @@ impl<M: Responder> Intake<M> {
             (IfSome (C.remaining input.old) (λ script. length script ≤ self.old.room)
             ⊎ M.over self.new.stream.interpreter.responder) }
         ensures said { OnOk result (C.said output.new ≡ W.contents output.new) }
+        ensures seldom { C.hearings input.new ≤ self.old.room + 1 }
         ensures served { IfErr result (λ e. e ≡ RunFault.Read →
             Served self.old.room M.turns self.old.stream.interpreter.responder
             (C.remaining input.old) (C.remaining input.new)

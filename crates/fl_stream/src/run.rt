@@ -1,5 +1,5 @@
 //! A whole run.
-ghost use Rattle.std.specs.Prelude.{◌≡◌, ◌^◌, ◌<◌, ◌≤◌, ◌⊎◌, ℕ, List, Option, None};
+ghost use Rattle.std.specs.Prelude.{◌≡◌, ◌+◌, ◌^◌, ◌<◌, ◌≤◌, ◌⊎◌, ℕ, List, Option, None};
 ghost use Rattle.std.specs.Prelude.{IfErr, IfOk, IfSome, OnErr, OnOk, [], length, vec_len};
 ghost use Rattle.std.specs.Io.KnownBytes.{IsAtEnd};
 ghost use Rattle.fl_stream.specs.Served.{Answered, CountsPast, HearsLongLine, MayLackRoom};
@@ -27,8 +27,9 @@ fn zeros(alloc: Global, count: usize) -> Result<Vec<u8>, RunFault>
 ///
 /// More is heard only where what was said is exactly the answers to all lines that have ended, and
 /// the responder is not over: [`Conversation::hear`] requires it. To hear no bytes is the end of
-/// the script. So is a line at which the responder is over: no line behind it is answered. The
-/// status is the greatest of its lines', and 0 where there are none.
+/// the script. So is a line at which the responder is over: no line behind it is answered. More is
+/// asked for at most `most + 1` times. The status is the greatest of the lines', and 0 where there
+/// are none.
 ///
 /// At a fault a front of the answers to the first lines is written: `Read` only where hearing
 /// fails, the script is longer, or a line that has not ended has more than 16 MiB; `Write` where a
@@ -59,6 +60,7 @@ pub fn converse<M: Responder + Drop, C: Conversation<W>, W: Writer>(
     ensures short { OnOk result.1 (IfSome (C.remaining input.old)
         (λ script. length script ≤ most) ⊎ M.over result.0) }
     ensures said { OnOk result.1 (C.said output.new ≡ W.contents output.new) }
+    ensures seldom { C.hearings input.new ≤ most + 1 }
     ensures served { IfErr result.1 (λ e. e ≡ RunFault.Read → Served most M.turns responder
         (C.remaining input.old) (C.remaining input.new)
         (W.contents output.old) (W.contents output.new) result.0) }
