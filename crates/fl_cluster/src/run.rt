@@ -17,13 +17,16 @@ use fl_world::laws::{law_headline, law_lasting};
 use std::alloc::AllocGlobal;
 use std::io::{Read, Write};
 
+/// The most bytes of a script.
+pub const MOST_BYTES: usize = 16_777_216;
+
 /// Hears a script of at most 16,777,216 bytes, and says the answers to its lines.
 ///
 /// More is heard only where what was said is exactly the answers to all lines that have ended:
-/// [`Conversation::hear`] requires it. To hear no bytes is the end of the script. The status is 3
-/// where some line was answered that a keeper failed, else 1 where some line was none of the
-/// script, and else 0. A node is opened by the first line that names it, over the keeper that is
-/// made for it then.
+/// [`Conversation::hear`] requires it. To hear no bytes is the end of the script. More is asked for
+/// at most 16,777,217 times. The status is 3 where some line was answered that a keeper failed,
+/// else 1 where some line was none of the script, and else 0. A node is opened by the first line
+/// that names it, over the keeper that is made for it then.
 ///
 /// At a fault a front of the answers to the first lines is written: `Read` only where hearing fails
 /// or the script is longer; `Write` where a write fails or takes no bytes, or sending fails;
@@ -62,8 +65,9 @@ pub fn converse<RT: AllocGlobal, C: Conversation<W>, W: Writer, M: MakesKeepers 
     ensures short { OnOk result.1 (IfSome (C.remaining input.old)
         (λ script. length script ≤ 16777216)) }
     ensures said { OnOk result.1 (C.said output.new ≡ W.contents output.new) }
+    ensures seldom { C.hearings input.new ≤ 16777217 }
     ensures served { IfErr result.1 (λ e. e ≡ RunFault.Read →
-        Served (TurnsOver M.K.custody M.making) (begun_over keepers)
+        Served 16777216 (TurnsOver M.K.custody M.making) (begun_over keepers)
         (C.remaining input.old) (C.remaining input.new)
         (W.contents output.old) (W.contents output.new) result.0) }
     ensures cause { IfErr result.1 (λ e. e ≡ RunFault.Read → C.is_deaf input.new
@@ -80,7 +84,8 @@ pub fn converse<RT: AllocGlobal, C: Conversation<W>, W: Writer, M: MakesKeepers 
     law_headline();
     law_lasting();
     let alloc = rt.alloc();
-    fl_stream::run::converse(alloc, Session::new(alloc, keepers), input, output)
+    let session = Session::new(alloc, keepers);
+    fl_stream::run::converse(alloc, session, MOST_BYTES, input, output)
 }
 
 /// Reads a script of at most 16,777,216 bytes, by at most 16,777,217 reads, and writes the answers
@@ -133,7 +138,7 @@ pub fn run<RT: AllocGlobal, R: Read, W: Write, M: MakesKeepers + Drop>(
 
     // Any read may fail, so that all lines that have ended are answered before each.
     ensures served { IfErr result.1 (λ e. e ≡ RunFault.Read →
-        Served (TurnsOver M.K.custody M.making) (begun_over keepers)
+        Served 16777216 (TurnsOver M.K.custody M.making) (begun_over keepers)
         (R.remaining input.old) (R.remaining input.new)
         (W.contents output.old) (W.contents output.new) result.0) }
     ensures memory_cause { IfErr result.1 (λ e. e ≡ RunFault.Memory →

@@ -306,6 +306,8 @@ impl<M: MakesKeepers> Responder for Session<M> {
 
     ghost turns = { TurnsOver M.K.custody M.making };
 
+    ghost over = { λ _. ⊥ };
+
     fn answer<W: Writer>(
         &mut self,
         alloc: Global,
@@ -326,4 +328,11 @@ impl<M: MakesKeepers> Responder for Session<M> {
             Err(AllocError) => self.answer_starved(number, sink, output),
         }
     }
+
+    // A script ends where its bytes end.
+    fn is_over(&self) -> bool {
+        false
+    }
+
+    ghost silent = { λ _ _ _ is_over. absurd is_over };
 }

@@ -1,6 +1,6 @@
 //! A reader that is watched: its reads and its bytes are counted, and a script that is too long is
 //! told from a read that failed.
-ghost use Rattle.std.specs.Prelude.{◌≡◌, ◌+◌, ◌*◌, ◌≤◌, None, Some, OnErr, OnOk, IfOk, false, true, ⊤};
+ghost use Rattle.std.specs.Prelude.{◌≡◌, ◌+◌, ◌*◌, ◌^◌, ◌≤◌, None, Some, OnErr, OnOk, IfOk, false, true, ⊤};
 
 use fl_stream::conversation::Conversation;
 use std::io::{Read, Result, Write};
@@ -10,9 +10,9 @@ use std::io::{Read, Result, Write};
 pub struct Watched<R> {
     reader: R,
     hearings: u64,
-    heard: u64,
+    heard: u128,
     has_failed: bool,
-    ghost few: { hearings ≤ 16777217 },
+    ghost few: { hearings ≤ 2 ^ 62 + 1 },
     ghost most: { heard ≤ 65536 * hearings },
 }
 
@@ -59,7 +59,7 @@ impl<R: Read, W: Write> Conversation<W> for Watched<R> {
         self.hearings += 1;
         let read = self.reader.read(chunk);
         match &read {
-            Ok(count) => self.heard += *count as u64,
+            Ok(count) => self.heard += *count as u128,
             Err(_) => self.has_failed = true,
         }
         read

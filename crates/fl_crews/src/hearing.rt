@@ -1,5 +1,5 @@
 //! A script is heard, some bytes at a time, and its lines are answered.
-ghost use Rattle.std.specs.Prelude.{◌≡◌, ◌≢◌, ◌+◌, ◌<◌, ◌≤◌, IfErr, IfOk, IfSome, OnErr, OnOk, length, true, vec_len};
+ghost use Rattle.std.specs.Prelude.{◌≡◌, ◌≢◌, ◌+◌, ◌^◌, ◌<◌, ◌≤◌, IfErr, IfOk, IfSome, OnErr, OnOk, length, true, vec_len};
 ghost use Rattle.fl_crew_calls.specs.Status.{IsStatus};
 ghost use Rattle.fl_crew_lines.specs.Putting.{Grows};
 
@@ -10,11 +10,13 @@ use fl_sink::sink::{Sink, WriteFault};
 use fl_sink::writer::Writer;
 use fl_stream::conversation::Conversation;
 use fl_stream::fault::RunFault;
-use fl_stream::run::MOST_BYTES;
 use std::alloc::Global;
 use std::mem::replace;
 use std::sync::Wait;
 use std::thread::Threads;
+
+/// The most bytes of a script.
+const MOST_BYTES: usize = 16_777_216;
 
 // The line without the carriage return at its end, if it has one.
 fn without_return(line: &[u8]) -> &[u8] {
@@ -198,7 +200,7 @@ impl<R: Threads + Wait + Sync + Send + Copy + Drop + 'static, M: MakesKeepers> H
         requires chunk { length chunk.old ≤ 65536 }
         requires answered { IfSome (C.heard input.old)
             (λ bytes. C.may_hear bytes (C.said output.old)) }
-        requires patient { C.hearings input.old < 16777217 }
+        requires patient { C.hearings input.old ≤ 2 ^ 62 }
         ensures grows { Grows (W.contents output.old) (W.contents output.new) }
         ensures status { IsStatus self.new.status }
         ensures chunk { length chunk.new ≡ length chunk.old }
@@ -207,6 +209,7 @@ impl<R: Threads + Wait + Sync + Send + Copy + Drop + 'static, M: MakesKeepers> H
         ensures less { IfOk result (λ more. more ≡ true → self.new.room < self.old.room) }
         ensures count { IfOk result (λ more. more ≡ true →
             C.hearings input.new + self.new.room ≤ C.hearings input.old + self.old.room) }
+        ensures once { C.hearings input.new ≤ C.hearings input.old + 1 }
         ensures cause { IfErr result (λ e. e ≡ RunFault.Write → W.has_failed output.new) }
     {
         let count = match input.hear(output, chunk) {

@@ -49,6 +49,7 @@ fn hear_all<
     ensures status { IfOk result IsStatus }
     ensures grows { Grows (W.contents output.old) (W.contents output.new) }
     ensures said { OnOk result (C.said output.new ≡ W.contents output.new) }
+    ensures seldom { C.hearings input.new ≤ 16777217 }
     ensures cause { IfErr result (λ e. e ≡ RunFault.Write → W.has_failed output.new) }
 {
     'hearing: while hearing.turn(alloc, input, output, chunk)? {}
@@ -61,8 +62,9 @@ fn hear_all<
 /// Consecutive jobs of one node are one batch, of 256 jobs at most. They are answered when it has
 /// ended, and in the order of their lines: before any other line is answered, before a line that
 /// names an alias which one of them sets, and with the 256th of them, or the last line. Before more
-/// is heard, all other lines that have ended are answered. What the answers are depends on the
-/// threads in which the workers serve, so no clause says it, nor that the run comes to its end.
+/// is heard, all other lines that have ended are answered. More is asked for at most 16,777,217
+/// times. What the answers are depends on the threads in which the workers serve, so no clause says
+/// it, nor that the run comes to its end.
 ///
 /// The status is 3 where some line was answered that a keeper failed, else 1 where some line was
 /// none of the script, and else 0. A node is opened by the first line that names it, over the
@@ -88,6 +90,7 @@ pub fn converse<
     ensures status { IfOk result IsStatus }
     ensures grows { Grows (W.contents output.old) (W.contents output.new) }
     ensures said { OnOk result (C.said output.new ≡ W.contents output.new) }
+    ensures seldom { C.hearings input.new ≤ 16777217 }
     ensures cause { IfErr result (λ e. e ≡ RunFault.Write → W.has_failed output.new) }
 {
     let alloc = rt.alloc();

@@ -27,4 +27,5 @@ pub returns-clause-ok : goal.returns-clause-ok
 returns-clause-ok g c = rw c.new.ensures at c.converse.ensures.ok
 
 pub converse-requires-clause-due : goal.converse-requires-clause-due
-converse-requires-clause-due g c = rw c.new.ensures c.requires.due
+converse-requires-clause-due g c =
+    rw c.new.ensures (λ heard said mid answered _. c.requires.due heard said mid answered)
