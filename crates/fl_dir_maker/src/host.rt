@@ -5,8 +5,10 @@ ghost use Rattle.fl_dir_maker.specs.DirMaking.{dir_making};
 ghost use Rattle.fl_dir_maker.specs.Reach.{unknown};
 
 use crate::fault::{Cause, of_files, of_system};
+use crate::file::file_of;
 use crate::maker::DirMaker;
 use crate::opener::OpensFiles;
+use fl_jobs::answer::Refusal;
 use fl_labels::name::NodeNumber;
 use fl_makers::maker::MakesKeepers;
 use fl_sql_store::sql_keeper::SqlKeeper;
@@ -15,6 +17,8 @@ use fl_system::answer::Fault;
 use sqlite::{File, FileStore, Files, Unknown};
 use std::alloc::Global;
 use std::hash::{BuildHasher, RandomState};
+use std::io::ErrorKind;
+use std::{fs, io};
 
 /// Opens files of the host's file system.
 #[derive(Clone, Copy)]
@@ -35,7 +39,8 @@ impl<'a> OpensFiles for HostFiles<'a> {
     // what is on a disk is not known
     ghost reach = { unknown };
 
-    /// The files at this path, which this process alone has open.
+    /// The files at this path, which this process alone has open, and which are made if they are
+    /// missing.
     ///
     /// Refused with `Memory`, with `Files` where another process has them open or SQLite left a
     /// journal, and with `System` where the system refuses.
@@ -49,6 +54,57 @@ impl<'a> OpensFiles for HostFiles<'a> {
             Err(error) => Err(of_system(error)),
         }
     }
+}
+
+/// What is missing where a database is to be opened.
+#[derive(Clone, Copy)]
+enum Missing {
+    Nothing,
+    /// The database, or all of its bytes.
+    Database,
+    /// Its log.
+    Log,
+}
+
+// Whether there is a file at the path, and has some bytes. Where the system does not tell, it is
+// taken to be so.
+fn has_some(rt: &HostRuntime, path: &str) -> bool {
+    match fs::metadata(rt, path) {
+        Ok(found) => found.len() > 0,
+        Err(error) => error.kind() != ErrorKind::NotFound,
+    }
+}
+
+// Whether there is a log of the database at the path. It stands beside the file itself, where the
+// path is a link to it.
+fn has_log(rt: &HostRuntime, path: &str) -> io::Result<bool> {
+    let real = fs::canonicalize(rt, path)?;
+    let log = format!(in rt.alloc(); "{}-wal", real.as_str())?;
+    match fs::metadata(rt, log.as_str()) {
+        Ok(_) => Ok(true),
+        Err(error) => Ok(error.kind() != ErrorKind::NotFound),
+    }
+}
+
+// What is missing at this path.
+fn missing_at(rt: &HostRuntime, path: &str) -> Missing {
+    if !has_some(rt, path) {
+        return Missing::Database;
+    }
+    match has_log(rt, path) {
+        Ok(false) => Missing::Log,
+        Ok(true) | Err(_) => Missing::Nothing,
+    }
+}
+
+// Says on standard error what was missing at this path.
+fn tell_missing(rt: &HostRuntime, path: &str, missing: Missing) {
+    let what = match missing {
+        Missing::Nothing => return,
+        Missing::Database => "a new database",
+        Missing::Log => "its log is missing: what was saved last may be lost",
+    };
+    let _ = eprintln!(rt; "flume-tags: {path}: {what}");
 }
 
 /// Makes keepers over the files of a directory of the host, as [`DirMaker`] does over [`HostFiles`].
@@ -75,12 +131,22 @@ impl<'a> MakesKeepers for HostMaker<'a> {
 
     ghost told = { λ _ _ _ why. inl why };
 
-    /// The keeper over the node's file, as [`DirMaker`] makes it.
+    /// The keeper over the node's file, as [`DirMaker`] makes it. Where one is made, and the database
+    /// was not there before, or its log was not, standard error says so.
     fn make(
         &mut self,
         alloc: Global,
         number: NodeNumber,
     ) -> Result<SqlKeeper<FileStore<File>>, Fault> {
-        self.maker.make(alloc, number)
+        let HostMaker { maker } = self;
+        let Ok(path) = file_of(alloc, maker.dir, number) else {
+            return Err(Fault::Refused(Refusal::Memory));
+        };
+        let missing = missing_at(maker.rt, path.as_str());
+        let made = maker.make(alloc, number);
+        if made.is_ok() {
+            tell_missing(maker.rt, path.as_str(), missing);
+        }
+        made
     }
 }

@@ -19,10 +19,11 @@ use std::alloc::Global;
 /// Makes keepers over the files of a directory: node 3 is kept in its `node-3.db`.
 #[derive(Drop)]
 pub struct DirMaker<'a, O> {
-    rt: &'a HostRuntime,
+    pub(crate) rt: &'a HostRuntime,
     opener: O,
-    dir: &'a str,
-    told: bool,
+    pub(crate) dir: &'a str,
+    // The nodes of which standard error has a line.
+    told: Vec<NodeNumber>,
 }
 
 impl<'a, O> DirMaker<'a, O> {
@@ -30,24 +31,28 @@ impl<'a, O> DirMaker<'a, O> {
     pub fn new(rt: &'a HostRuntime, opener: O, dir: &'a str) -> DirMaker<'a, O>
         ensures opener { result.opener ≡ opener }
         ensures dir { result.dir.now ≡ dir.entry.now }
-        ensures told { result.told ≡ false }
     {
         DirMaker {
             rt,
             opener,
             dir,
-            told: false,
+            told: Vec::new(rt.alloc()),
         }
     }
 
-    // Writes to standard error why a keeper failed, but once only.
-    fn tell(&mut self, path: &str, cause: &Cause)
+    // Writes to standard error why there is no keeper of the node, but once only, and not where
+    // memory was wanting.
+    fn tell(&mut self, number: NodeNumber, path: &str, cause: &Cause)
         ensures { self.new ≡ record self.old { told = self.new.told } }
     {
-        if self.told || cause.fault() != Fault::KeeperFailed {
+        if let Cause::Memory = cause {
             return;
         }
-        self.told = true;
+        if self.told.contains(&number) {
+            return;
+        }
+        // Without room for its number it is told again.
+        let _ = self.told.push(number);
         let _ = eprintln!(self.rt; "flume-tags: {path}: {cause}");
     }
 }
@@ -64,7 +69,8 @@ impl<'a, O: OpensFiles> MakesKeepers for DirMaker<'a, O> {
     ///
     /// Refused with `Memory`; with `WrongNode` where the file is another node's; and with
     /// `KeeperFailed` where the file cannot be opened, is open already, or is no keeper's database.
-    /// The first time of that last one, the path and the cause are written to standard error.
+    /// The first time that a node's keeper is refused, but with `Memory`, the path and the cause are
+    /// written to standard error. Costs a look at each node of which that was so.
     fn make(
         &mut self,
         alloc: Global,
@@ -76,7 +82,7 @@ impl<'a, O: OpensFiles> MakesKeepers for DirMaker<'a, O> {
         match open(&mut self.opener, alloc, path.as_str(), number) {
             Ok(keeper) => Ok(keeper),
             Err(cause) => {
-                self.tell(path.as_str(), &cause);
+                self.tell(number, path.as_str(), &cause);
                 Err(cause.fault())
             }
         }
