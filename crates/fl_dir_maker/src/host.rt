@@ -131,8 +131,8 @@ impl<'a> MakesKeepers for HostMaker<'a> {
 
     ghost told = { λ _ _ _ why. inl why };
 
-    /// The keeper over the node's file, as [`DirMaker`] makes it. Where one is made, and the database
-    /// was not there before, or its log was not, standard error says so.
+    /// The keeper over the node's file, as [`DirMaker`] makes it. Where one is made, and the
+    /// database was not there before, or its log was not, standard error says so.
     fn make(
         &mut self,
         alloc: Global,

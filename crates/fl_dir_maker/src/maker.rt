@@ -69,8 +69,8 @@ impl<'a, O: OpensFiles> MakesKeepers for DirMaker<'a, O> {
     ///
     /// Refused with `Memory`; with `WrongNode` where the file is another node's; and with
     /// `KeeperFailed` where the file cannot be opened, is open already, or is no keeper's database.
-    /// The first time that a node's keeper is refused, but with `Memory`, the path and the cause are
-    /// written to standard error. Costs a look at each node of which that was so.
+    /// The first time that a node's keeper is refused, but with `Memory`, the path and the cause
+    /// are written to standard error. Costs a look at each node of which that was so.
     fn make(
         &mut self,
         alloc: Global,
