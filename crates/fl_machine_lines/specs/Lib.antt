@@ -1,0 +1,4 @@
+pub mod Grammar
+pub mod Reading
+pub mod laws
+pub mod parts

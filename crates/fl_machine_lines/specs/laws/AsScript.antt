@@ -1,0 +1,111 @@
+-- What is asked of a machine's node: what a script asks in the same words, and what is received.
+use Rattle.std.proofs.Common.{◌≡◌, ◌≤◌, ap, refl, subst, suc, ℕ, List, [], ◌∷◌, Option, Some, length, codes, arith, rules}
+use Rattle.fl_jobs.specs.declared.job.Act.TheVariants.{Order as Orders}
+use Rattle.fl_jobs.specs.declared.job.Job.TheVariants.{By}
+use Rattle.fl_aliases.specs.Words.{Word}
+use Rattle.fl_script.specs.Grammar.{Matches, SpellsRequest, Spells as SpellsScript}
+use Rattle.fl_script.specs.declared.line.Line.TheVariants.{Node as OfNode}
+use Rattle.fl_script.specs.declared.request.Request.{Request}
+use Rattle.fl_script.specs.declared.request.Request.TheVariants as requests
+use Rattle.fl_script.specs.laws.JobKinds.{kind_of}
+use Rattle.fl_script.specs.laws.NoAs.{few_spell}
+use Rattle.fl_script.specs.laws.OneLine.{no_verb}
+use Rattle.fl_machine_lines.specs.Grammar.{Spells, SpellsAsked, asked_forms, line_forms}
+use Rattle.fl_machine_lines.specs.parts.Asking.{AsksAsScript, asked_of}
+use Rattle.fl_machine_lines.specs.declared.asked.Asked.{Asked}
+use Rattle.fl_machine_lines.specs.declared.asked.Asked.TheVariants.{Job, Begin, Receive, BeginReceive, Tell, Save, Publish, Cancel, Text, Check}
+use Rattle.fl_machine_lines.specs.declared.line.MachineLine.{MachineLine}
+use Rattle.fl_machine_lines.specs.declared.line.MachineLine.TheVariants.{Quiet, Bad, Echo, Audit, Asks}
+
+-- what is asked, by its sort alone
+pub data Sort : Asked → Type 0 where
+  script : (asked : Asked) (request : Request) → asked_of request ≡ Some asked
+      → ((words : List Word) → Matches (asked_forms asked) words → SpellsRequest request words)
+      → Sort asked
+  receive : (bytes : List ℕ) → Sort (Receive bytes)
+  begin_receive : (bytes : List ℕ) → Sort (BeginReceive bytes)
+
+pub sort_of : (asked : Asked) → Sort asked
+sort_of (Job job) = script (Job job) (requests.Job job) refl (λ words s. s)
+sort_of (Begin pid order) = script (Begin pid order) (requests.Begin pid order) refl (λ words s. s)
+sort_of (Receive bytes) = receive bytes
+sort_of (BeginReceive bytes) = begin_receive bytes
+sort_of Tell = script Tell requests.Tell refl (λ words s. s)
+sort_of Save = script Save requests.Save refl (λ words s. s)
+sort_of Publish = script Publish requests.Publish refl (λ words s. s)
+sort_of Cancel = script Cancel requests.Cancel refl (λ words s. s)
+sort_of Text = script Text requests.Text refl (λ words s. s)
+sort_of (Check bytes) = script (Check bytes) (requests.Check bytes) refl (λ words s. s)
+
+same : {a b : Asked} → ◌≡◌ {A = Option Asked} (Some a) (Some b) → a ≡ b
+same e = cc e
+
+by_request : (number : ℕ) (request : Request) (asked : Asked) (words : List Word)
+    → asked_of request ≡ Some asked → SpellsScript (OfNode number request) words
+    → SpellsAsked number asked words
+by_request number (requests.Job job) asked words e s =
+    subst (λ a. SpellsAsked number a words) (same e) s
+by_request number (requests.Begin pid order) asked words e s =
+    subst (λ a. SpellsAsked number a words) (same e) s
+by_request number (requests.Deliver packet) asked words e s = absurd (cc e)
+by_request number (requests.BeginDeliver packet) asked words e s = absurd (cc e)
+by_request number requests.Tell asked words e s = subst (λ a. SpellsAsked number a words) (same e) s
+by_request number requests.Save asked words e s = subst (λ a. SpellsAsked number a words) (same e) s
+by_request number requests.Publish asked words e s =
+    subst (λ a. SpellsAsked number a words) (same e) s
+by_request number requests.Cancel asked words e s =
+    subst (λ a. SpellsAsked number a words) (same e) s
+by_request number (requests.Restart kept) asked words e s = absurd (cc e)
+by_request number requests.Text asked words e s = subst (λ a. SpellsAsked number a words) (same e) s
+by_request number (requests.Check bytes) asked words e s =
+    subst (λ a. SpellsAsked number a words) (same e) s
+
+-- what a script asks of the node, its machine is asked in the same words
+pub from_script : (number : ℕ) (asked : Asked) (words : List Word) → AsksAsScript number asked words
+    → SpellsAsked number asked words
+from_script number asked words s = by_request number s.request asked words s.alike s.spelled
+
+-- no request begins with `receive`
+pub no_receive : (request : Request) (words : List Word)
+    → SpellsRequest request (codes "receive" ∷ words) → ⊥
+no_receive (requests.Job job) words s = no_verb (codes "receive") refl (kind_of job) words s
+no_receive requests.Tell words s = absurd (search (rules, s.0))
+no_receive request words s = absurd (search (rules, s.0))
+
+-- nor with `begin receive`
+pub no_begin_receive : (request : Request) (words : List Word)
+    → SpellsRequest request (codes "begin" ∷ codes "receive" ∷ words) → ⊥
+no_begin_receive (requests.Job job) words s =
+    no_verb (codes "begin") refl (kind_of job) (codes "receive" ∷ words) s
+no_begin_receive (requests.Begin pid order) words s =
+    no_verb (codes "receive") refl (kind_of (By pid (Orders order))) words s.1
+no_begin_receive (requests.BeginDeliver packet) words s = absurd (search (rules, s.1.0))
+no_begin_receive requests.Tell words s = absurd (search (rules, s.0))
+no_begin_receive request words s = absurd (search (rules, s.0))
+
+same_length : (ps : List (Word → Type 0)) (words : List Word) → Matches ps words
+    → length words ≡ length ps
+same_length [] [] s = refl
+same_length [] (word ∷ words) s = absurd s
+same_length (p ∷ ps) [] s = absurd s
+same_length (p ∷ ps) (word ∷ words) s = ap suc (same_length ps words s.1)
+
+few_asked : (number : ℕ) {asked : Asked} → Sort asked → (words : List Word)
+    → SpellsAsked number asked words → length words ≤ 8
+few_asked number kind [] s = omega arith
+few_asked number (script asked request e f) (word ∷ words) s =
+    few_spell (OfNode number request) (word ∷ words) (s.0, f words s.1)
+few_asked number (receive bytes) (word ∷ words) s =
+    omega (arith, same_length (asked_forms (Receive bytes)) words s.1)
+few_asked number (begin_receive bytes) (word ∷ words) s =
+    omega (arith, same_length (asked_forms (BeginReceive bytes)) words s.1)
+
+-- a line to a machine has at most 8 words
+pub few_spell_line : (number : ℕ) (line : MachineLine) (words : List Word)
+    → Spells number line words → length words ≤ 8
+few_spell_line number (Asks asked) words s = few_asked number (sort_of asked) words s
+few_spell_line number Quiet words s = omega (arith, same_length (line_forms number Quiet) words s)
+few_spell_line number Bad words s = omega (arith, same_length (line_forms number Bad) words s)
+few_spell_line number (Echo text) words s =
+    omega (arith, same_length (line_forms number (Echo text)) words s)
+few_spell_line number Audit words s = omega (arith, same_length (line_forms number Audit) words s)

@@ -1,0 +1,133 @@
+-- Bytes say one thing at most to a machine.
+use Rattle.std.proofs.Common.{◌≡◌, refl, ap, subst, ℕ, List, [], ◌∷◌, codes, arith, rules}
+use Rattle.fl_labels.specs.Words.{IsNumber}
+use Rattle.fl_aliases.specs.Words.{Word, words_of}
+use Rattle.fl_script.specs.Grammar.{Matches, SpellsRequest, request_forms}
+use Rattle.fl_script.specs.declared.request.Request.{Request}
+use Rattle.fl_script.specs.laws.Agreement.{agree}
+use Rattle.fl_script.specs.laws.OneLine.{one_request}
+use Rattle.fl_script.specs.laws.OneWord.{no_letter, same_bytes}
+use Rattle.fl_machine_lines.specs.Grammar.{Spells, asked_forms, line_forms}
+use Rattle.fl_machine_lines.specs.Reading.{AreAlike, IsReading, SaysLine, SaysNone}
+use Rattle.fl_machine_lines.specs.laws.AsScript.{Sort, sort_of, no_receive, no_begin_receive}
+use Rattle.fl_machine_lines.specs.laws.AsScript.Sort.{script, receive, begin_receive}
+use Rattle.fl_machine_lines.specs.declared.asked.Asked.{Asked}
+use Rattle.fl_machine_lines.specs.declared.asked.Asked.TheVariants.{Receive, BeginReceive}
+use Rattle.fl_machine_lines.specs.declared.line.MachineLine.{MachineLine}
+use Rattle.fl_machine_lines.specs.declared.line.MachineLine.TheVariants.{Quiet, Bad, Echo, Audit, Asks}
+
+-- the words of what is received are no request
+not_received : (request : Request) (bytes : List ℕ) (words : List Word)
+    → Matches (asked_forms (Receive bytes)) words → SpellsRequest request words → ⊥
+not_received request bytes [] s t = absurd s
+not_received request bytes (verb ∷ words) s t =
+    no_receive request words (subst (λ v. SpellsRequest request (v ∷ words)) s.0 t)
+
+not_begun : (request : Request) (bytes : List ℕ) (words : List Word)
+    → Matches (asked_forms (BeginReceive bytes)) words → SpellsRequest request words → ⊥
+not_begun request bytes [] s t = absurd s
+not_begun request bytes (verb ∷ []) s t = absurd s.1
+not_begun request bytes (verb ∷ word ∷ words) s t =
+    no_begin_receive request words (subst (SpellsRequest request) (λ i. s.0 i ∷ s.1.0 i ∷ words) t)
+
+-- words ask one thing at most
+one_asked : {a b : Asked} → Sort a → Sort b → (words : List Word) → Matches (asked_forms a) words
+    → Matches (asked_forms b) words → a ≡ b
+one_asked (script a x e f) (script b y g h) words s t =
+    let both = one_request x y
+    (agree (request_forms x) (request_forms y) words (f words s) (h words t)) in cc
+one_asked (script a x e f) (receive bytes) words s t =
+    absurd (not_received x bytes words t (f words s))
+one_asked (script a x e f) (begin_receive bytes) words s t =
+    absurd (not_begun x bytes words t (f words s))
+one_asked (receive bytes) (script b y g h) words s t =
+    absurd (not_received y bytes words s (h words t))
+one_asked (begin_receive bytes) (script b y g h) words s t =
+    absurd (not_begun y bytes words s (h words t))
+one_asked (receive x) (receive y) words s t =
+    let both = agree (asked_forms (Receive x)) (asked_forms (Receive y)) words s t in ap Receive
+    (same_bytes x y both.1.0)
+one_asked (begin_receive x) (begin_receive y) words s t =
+    let both = agree (asked_forms (BeginReceive x)) (asked_forms (BeginReceive y)) words s t in ap
+    BeginReceive (same_bytes x y both.1.1.0)
+one_asked (receive x) (begin_receive y) words s t =
+    let both = agree (asked_forms (Receive x)) (asked_forms (BeginReceive y)) words s t in absurd
+    (search (rules, both.0.left, both.0.right))
+one_asked (begin_receive x) (receive y) words s t =
+    let both = agree (asked_forms (BeginReceive x)) (asked_forms (Receive y)) words s t in absurd
+    (search (rules, both.0.left, both.0.right))
+
+-- no machine's number is the word `echo`, nor `audit`
+pub not_echo : (number : ℕ) (word : Word) → IsNumber number word → word ≡ codes "echo" → ⊥
+not_echo number word is e = no_letter number 101 _ word (omega arith) is e
+
+pub not_audit : (number : ℕ) (word : Word) → IsNumber number word → word ≡ codes "audit" → ⊥
+not_audit number word is e = no_letter number 97 _ word (omega arith) is e
+
+one_form : (number : ℕ) (a b : MachineLine) (words : List Word) → Spells number a words
+    → Spells number b words → AreAlike a b
+one_form number a b [] s t = absurd (nothing a s)
+  where
+    nothing : (line : MachineLine) → Spells number line [] → ⊥
+    nothing Quiet s = absurd s
+    nothing Bad s = absurd s
+    nothing (Echo text) s = absurd s
+    nothing Audit s = absurd s
+    nothing (Asks asked) s = absurd s
+one_form number Quiet b (word ∷ words) s t = absurd s.0
+one_form number Bad b (word ∷ words) s t = absurd s.0
+one_form number (Echo text) Quiet (word ∷ words) s t = absurd t.0
+one_form number (Echo text) Bad (word ∷ words) s t = absurd t.0
+one_form number (Echo text) (Echo other) (word ∷ words) s t =
+    let both =
+    agree (line_forms number (Echo text)) (line_forms number (Echo other)) (word ∷ words) s t in
+    cc (both.1.0.left.same, both.1.0.right.same)
+one_form number (Echo text) Audit (word ∷ words) s t = absurd (search (rules, s.0, t.0))
+one_form number (Echo text) (Asks asked) (word ∷ words) s t = absurd (not_echo number word t.0 s.0)
+one_form number Audit Quiet (word ∷ words) s t = absurd t.0
+one_form number Audit Bad (word ∷ words) s t = absurd t.0
+one_form number Audit (Echo other) (word ∷ words) s t = absurd (search (rules, s.0, t.0))
+one_form number Audit Audit (word ∷ words) s t = refl
+one_form number Audit (Asks asked) (word ∷ words) s t = absurd (not_audit number word t.0 s.0)
+one_form number (Asks asked) Quiet (word ∷ words) s t = absurd t.0
+one_form number (Asks asked) Bad (word ∷ words) s t = absurd t.0
+one_form number (Asks asked) (Echo other) (word ∷ words) s t = absurd (not_echo number word s.0 t.0)
+one_form number (Asks asked) Audit (word ∷ words) s t = absurd (not_audit number word s.0 t.0)
+one_form number (Asks asked) (Asks other) (word ∷ words) s t =
+    ap Asks (one_asked (sort_of asked) (sort_of other) words s.1 t.1)
+
+one_said : (number : ℕ) (bytes : List ℕ) (r s : MachineLine) → SaysLine number bytes r
+    → SaysLine number bytes s → AreAlike r s
+one_said number bytes r s p q = one_form number r s (words_of bytes) p.spelled q.spelled
+
+not_none : (number : ℕ) (bytes : List ℕ) (line : MachineLine) → SaysLine number bytes line
+    → SaysNone number bytes → ⊥
+not_none number bytes line p q = q.none p.plain line p.spelled
+
+pub one_reading : (number : ℕ) (bytes : List ℕ) (r s : MachineLine) → IsReading number bytes r
+    → IsReading number bytes s → AreAlike r s
+one_reading number bytes Quiet Quiet p q = refl
+one_reading number bytes Quiet Bad p q = absurd (q.loud p)
+one_reading number bytes Quiet (Echo word) p q = absurd (q.loud p)
+one_reading number bytes Quiet Audit p q = absurd (q.loud p)
+one_reading number bytes Quiet (Asks asked) p q = absurd (q.loud p)
+one_reading number bytes Bad Quiet p q = absurd (p.loud q)
+one_reading number bytes Bad Bad p q = refl
+one_reading number bytes Bad (Echo word) p q = absurd (not_none number bytes (Echo word) q p)
+one_reading number bytes Bad Audit p q = absurd (not_none number bytes Audit q p)
+one_reading number bytes Bad (Asks asked) p q = absurd (not_none number bytes (Asks asked) q p)
+one_reading number bytes (Echo word) Quiet p q = absurd (p.loud q)
+one_reading number bytes (Echo word) Bad p q = absurd (not_none number bytes (Echo word) p q)
+one_reading number bytes (Echo a) (Echo b) p q = one_said number bytes (Echo a) (Echo b) p q
+one_reading number bytes (Echo a) Audit p q = one_said number bytes (Echo a) Audit p q
+one_reading number bytes (Echo a) (Asks b) p q = one_said number bytes (Echo a) (Asks b) p q
+one_reading number bytes Audit Quiet p q = absurd (p.loud q)
+one_reading number bytes Audit Bad p q = absurd (not_none number bytes Audit p q)
+one_reading number bytes Audit (Echo b) p q = one_said number bytes Audit (Echo b) p q
+one_reading number bytes Audit Audit p q = refl
+one_reading number bytes Audit (Asks b) p q = one_said number bytes Audit (Asks b) p q
+one_reading number bytes (Asks asked) Quiet p q = absurd (p.loud q)
+one_reading number bytes (Asks asked) Bad p q = absurd (not_none number bytes (Asks asked) p q)
+one_reading number bytes (Asks a) (Echo b) p q = one_said number bytes (Asks a) (Echo b) p q
+one_reading number bytes (Asks a) Audit p q = one_said number bytes (Asks a) Audit p q
+one_reading number bytes (Asks a) (Asks b) p q = one_said number bytes (Asks a) (Asks b) p q
