@@ -67,6 +67,31 @@ The key needs to be hashed before being used by the HMAC algorithm.",
     Ok(())
 }
 
+// Whether the bytes are the packet of the test below, sealed by one of the keys.
+fn opens(keys: &[Key], bytes: &[u8]) -> bool {
+    match unsealed(keys, bytes) {
+        Some(packet) => packet == b"packet".as_slice(),
+        None => false,
+    }
+}
+
+// Whether the bytes are sealed by none of the keys.
+fn is_closed(keys: &[Key], bytes: &[u8]) -> bool {
+    unsealed(keys, bytes).is_none()
+}
+
+// Whether the key opens nothing where a byte is another one, nor where some lack.
+fn is_closed_once_changed(key: Key, bytes: &mut [u8]) -> bool {
+    for at in 0..bytes.len() {
+        bytes[at] ^= 1;
+        if !is_closed(&[key], bytes) || !is_closed(&[key], &bytes[..at]) {
+            return false;
+        }
+        bytes[at] ^= 1;
+    }
+    true
+}
+
 /// What one key sealed is opened by it, whichever it is of those given, and by no other; nor where
 /// a byte is another one, or lacks.
 #[test]
@@ -75,15 +100,11 @@ fn packets_are_sealed(rt: HostRuntime) -> Result<(), AllocError> {
     let mut bytes = Vec::new(rt.alloc());
     bytes.extend_from_slice(b"packet")?;
     put_seal(one, &mut bytes)?;
-    assert_eq!(rt; unsealed(&[one], &bytes), Some(b"packet".as_slice()));
-    assert_eq!(rt; unsealed(&[other, one], &bytes), Some(b"packet".as_slice()));
-    assert_eq!(rt; unsealed(&[other], &bytes), None);
-    assert_eq!(rt; unsealed(&[], &bytes), None);
-    for at in 0..bytes.len() {
-        assert_eq!(rt; unsealed(&[one], &bytes[..at]), None);
-        bytes[at] ^= 1;
-        assert_eq!(rt; unsealed(&[one], &bytes), None);
-        bytes[at] ^= 1;
-    }
+    assert!(rt; opens(&[one], &bytes));
+    assert!(rt; opens(&[other, one], &bytes));
+    assert!(rt; is_closed(&[other], &bytes));
+    assert!(rt; is_closed(&[], &bytes));
+    assert!(rt; is_closed_once_changed(one, &mut bytes));
+    assert!(rt; opens(&[one], &bytes));
     Ok(())
 }
