@@ -46,6 +46,7 @@ module _ {K : Type 0} (custody : Custody K) (workers : ℕ) where
   pub registers_nothing : (r : RegistrarOver K) → Registers custody workers r r
   registers_nothing r = record {
     number = refl;
+    boot = refl;
     board = refl;
     runs = λ runs. runs;
     room = λ room. room;
@@ -63,6 +64,7 @@ module _ {K : Type 0} (custody : Custody K) (workers : ℕ) where
       → Registers custody workers a c
   registers_more a b c ab bc = record {
     number = bc.number ∙ ab.number;
+    boot = bc.boot ∙ ab.boot;
     board = bc.board ∙ ab.board;
     runs = λ runs. ab.runs (bc.runs runs);
     room = λ room. ab.room (bc.room room);
@@ -137,6 +139,7 @@ module _ {K : Type 0} (custody : Custody K) (workers : ℕ) where
       })
 
   module _ (old new : RegistrarOver K) (number : new.node.node.number ≡ old.node.node.number)
+      (boot : new.node.node.boot ≡ old.node.node.boot)
       (board : new.press.board ≡ old.press.board) (rows : new.rows ≡ old.rows)
       (own : (jobs : ℕ → ℕ → Option Job) → AreAwaited jobs old.orders → AreOwn jobs old.deeds → AreOwn jobs new.deeds)
       (left : (jobs : ℕ → ℕ → Option Job) → AreAwaited jobs old.orders → AreAwaited jobs new.orders)
@@ -148,6 +151,7 @@ module _ {K : Type 0} (custody : Custody K) (workers : ℕ) where
         → Registers custody workers old new
     registers_decision d is deeds stopped at run = record {
       number = number;
+      boot = boot;
       board = board;
       runs = λ runs. sym stopped ∙ runs;
       room = room_less old new rows stopped (Decided d) deeds;
@@ -166,6 +170,7 @@ module _ {K : Type 0} (custody : Custody K) (workers : ℕ) where
         → Registers custody workers old new
     registers_delivery p deeds stopped at run = record {
       number = number;
+      boot = boot;
       board = board;
       runs = λ runs. sym stopped ∙ runs;
       room = room_less old new rows stopped (Delivered p) deeds;
@@ -185,6 +190,7 @@ module _ {K : Type 0} (custody : Custody K) (workers : ℕ) where
         → Registers custody workers old new
     registers_halt deeds stopped broke there = record {
       number = number;
+      boot = boot;
       board = board;
       runs = λ runs. let no : true ≡ false = sym stopped ∙ runs in absurd (cc);
       room = λ room. let no : true ≡ false = sym stopped ∙ room.runs in absurd (cc);

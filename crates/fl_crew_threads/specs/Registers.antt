@@ -39,6 +39,7 @@ IsStoppedThere r = (order : FailedOrder) → r.failed ≡ Some order → IsStopp
 pub record Registers {K : Type 0} (custody : Custody K) (workers : ℕ) (old new : RegistrarOver K)
     : Type 0 where
   pub number : new.node.node.number ≡ old.node.node.number
+  pub boot : new.node.node.boot ≡ old.node.node.boot
   pub board : new.press.board ≡ old.press.board
   pub runs : new.stopped ≡ false → old.stopped ≡ false
   pub room : HasRoom new → HasRoom old

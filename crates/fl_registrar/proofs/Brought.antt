@@ -20,7 +20,7 @@ use Rattle.fl_system.specs.declared.state.Batch.TheVariants.{Received}
 use Rattle.fl_system.specs.declared.state.Pending.TheVariants.{Due, Nothing, Unsaved}
 use Rattle.fl_system.specs.declared.state.State.{State}
 use Rattle.fl_system.specs.declared.state.State.TheVariants.{Running, Stopped}
-use Rattle.fl_system.specs.State.{NodeState}
+use Rattle.fl_system.specs.State.{NodeState, ops_of}
 use Rattle.fl_system.specs.Begins.{pending_with}
 use Rattle.fl_system.specs.Publishes.{Cancels, cancelled_with}
 use Rattle.fl_system.specs.Receives.{Receives, CanTake, AreLacking, HasNew}
@@ -177,24 +177,24 @@ module _ (n : NodeState) (list : List Op) (ops : SetBy op_cmp) (answer : Result 
   idle_law : n.state ≡ Running Nothing → Declines n.number (books_at n list None) ops answer
   idle_law is = by_law None (subst (λ (s : State). Reflects s None) (sym is) refl)
 
-  by_stage : (stage : Stage) (batch : Batch) → IsAt stage n.state
+  by_stage : (stage : Stage) (batch : Batch) → IsAt stage n list (ops_of batch)
       → Declines n.number (books_at n list (Some batch)) ops answer
   by_stage Saved batch at = by_law (Some batch) (subst (λ (s : State). Reflects s (Some batch))
-      (sym at.1) (batch, refl))
-  by_stage Listed batch at = any_due n list (Some batch) ops answer (idle_law at)
-  by_stage Staged batch at = any_due n list (Some batch) ops answer (idle_law at)
+      (sym at.state) (batch, refl))
+  by_stage Listed batch at = any_due n list (Some batch) ops answer (idle_law at.state)
+  by_stage Staged batch at = any_due n list (Some batch) ops answer (idle_law at.state)
 
-  stood : (waiting : Option Waiting) → Stands false waiting n.state
+  stood : (waiting : Option Waiting) → Stands false waiting n list
       → Declines n.number (books_at n list (due_of waiting)) ops answer
-  stood None at = idle_law at
+  stood None at = idle_law at.state
   stood (Some waiting) at = by_stage waiting.stage waiting.batch at
 
   -- what the law says of a registrar's node is so whatever waits
   pub declines_by : (stopped : Bool) (waiting : Option Waiting) → stopped ≡ false
-      → Stands stopped waiting n.state → Declines n.number (books_at n list (due_of waiting))
+      → Stands stopped waiting n list → Declines n.number (books_at n list (due_of waiting))
       ops answer
   declines_by stopped waiting runs at = stood waiting (subst
-      (λ (s : Bool). Stands s waiting n.state) runs at)
+      (λ (s : Bool). Stands s waiting n list) runs at)
 
 on_page : (n : NodeState) (ops : SetBy op_cmp) → CanTake n ops → CanTake (page n.number n.saved) ops
 on_page n ops may op m = (

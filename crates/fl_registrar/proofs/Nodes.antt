@@ -1,14 +1,15 @@
 -- What the calls of a node leave of it.
-use Rattle.std.proofs.Common.{◌≡◌, ◌≢◌, ◌⊎◌, ℕ, Some, None, Ok, Err, Result, true, refl, sym, ap}
-use Rattle.std.proofs.Common.{subst}
+use Rattle.std.proofs.Common.{◌≡◌, ◌≢◌, ◌⊎◌, ◌∙◌, ◌++◌, ℕ, Some, None, Ok, Err, Result, List}
+use Rattle.std.proofs.Common.{true, false, refl, sym, ap, subst}
 use Rattle.std.specs.Result.{is_err}
 use Rattle.fl_labels.specs.declared.name.Name.{Name}
 use Rattle.fl_ops.specs.declared.op.Body.{Body}
+use Rattle.fl_ops.specs.declared.op.Op.{Op}
 use Rattle.fl_store.specs.Kept.{Kept, with_batch}
 use Rattle.fl_system.specs.declared.answer.Fault.{Fault}
 use Rattle.fl_system.specs.declared.answer.Fault.TheVariants.{KeeperFailed}
 use Rattle.fl_system.specs.declared.state.Batch.{Batch}
-use Rattle.fl_system.specs.declared.state.Pending.TheVariants.{Nothing, Unsaved}
+use Rattle.fl_system.specs.declared.state.Pending.TheVariants.{Due, Nothing, Unsaved}
 use Rattle.fl_system.specs.declared.state.State.{State}
 use Rattle.fl_system.specs.declared.state.State.TheVariants.{Running}
 use Rattle.fl_system.specs.State.{NodeState, ops_of}
@@ -18,7 +19,11 @@ use Rattle.fl_system.specs.Begins.{Begins, order, pending_with}
 use Rattle.fl_system.specs.Saves.{Saves, stored, halted}
 use Rattle.fl_system.specs.Publishes.{Publishes, Cancels, cancelled_with}
 use Rattle.fl_registrar.specs.declared.saving.Saving.TheVariants as savings
+use Rattle.fl_registrar.specs.Listing.{HasListed, Owes}
 use Rattle.fl_registrar.specs.parts.Saving.{BecomesOf}
+
+one_due : (s : State) (a b : Batch) → s ≡ Running (Due a) → s ≡ Running (Due b) → a ≡ b
+one_due s a b is there = cc
 
 -- what is not published stays as it is
 pub not_published : {n n' : NodeState} (result : Result ℕ Fault) → is_err result ≡ true
@@ -26,6 +31,18 @@ pub not_published : {n n' : NodeState} (result : Result ℕ Fault) → is_err re
 not_published (Ok count) e h = absurd (cc)
 not_published (Err fault) e (Publishes.no_room is) = refl
 not_published (Err fault) e (Publishes.none why) = refl
+
+-- what was due is published
+pub published_as : (n n' : NodeState) (result : Result ℕ Fault) (list ops : List Op)
+    → is_err result ≡ false → Publishes n result n' → Owes n list ops → HasListed n' list ops
+published_as n n' (Ok count) list ops e (Publishes.published {batch = other} there) owes =
+    let same : other ≡ owes.batch = one_due n.state other owes.batch there owes.state in
+    record {
+      state = refl;
+      published = (λ i. owes.published i ++ ops_of (same i)) ∙ ap (λ (l : List Op). list ++ l)
+          owes.its;
+    }
+published_as n n' (Err fault) list ops e h owes = absurd (cc)
 
 -- ---- what is to be saved
 
@@ -59,6 +76,19 @@ pub err_saved : (n n' : NodeState) (k k' : Kept) (fault : Fault) → Saves n k (
 err_saved n n' k k' fault (Saves.no_room there) = refl
 err_saved n n' k k' fault (Saves.failed there kept) = refl
 err_saved n n' k k' fault (Saves.none why) = refl
+
+-- neither saving nor giving up changes how often the node was opened
+pub saves_boot : (n n' : NodeState) (k k' : Kept) (result : Result (Unit {0}) Fault)
+    → Saves n k result n' k' → n'.boot ≡ n.boot
+saves_boot n n' k k' result (Saves.saved there) = refl
+saves_boot n n' k k' result (Saves.no_room there) = refl
+saves_boot n n' k k' result (Saves.failed there kept) = refl
+saves_boot n n' k k' result (Saves.none why) = refl
+
+pub cancels_boot : (n n' : NodeState) (result : Result (Unit {0}) Fault) → Cancels n result n'
+    → n'.boot ≡ n.boot
+cancels_boot n n' result (Cancels.given_up there) = refl
+cancels_boot n n' result (Cancels.none why) = refl
 
 pub cancelled_as : (n n' : NodeState) (batch : Batch) (result : Result (Unit {0}) Fault)
     → n.state ≡ Running (Unsaved batch) → Cancels n result n' → n' ≡ cancelled_with n batch

@@ -1,6 +1,6 @@
 -- What a ruling does to the books.
 use Rattle.std.proofs.Common.{◌≡◌, ℕ, Option, Some, None, Ok, Err, List, [], ◌∷◌, ◌++◌, true, false}
-use Rattle.std.proofs.Common.{Bool, Result, OnOk, OnErr, refl, sym, ap, ◌∙◌, subst}
+use Rattle.std.proofs.Common.{Bool, Result, OnOk, OnErr, refl, sym, ap, ◌∙◌, subst, append-nil}
 use Rattle.std.specs.Option.{is_some}
 use Rattle.std.specs.Result.{is_err}
 use Rattle.fl_labels.specs.declared.name.Name.{Name}
@@ -18,6 +18,7 @@ use Rattle.fl_system.specs.declared.state.State.{State}
 use Rattle.fl_system.specs.declared.state.State.TheVariants.{Running}
 use Rattle.fl_system.specs.State.{NodeState, kept_of, ops_of}
 use Rattle.fl_system.specs.Begins.{Begins, order, pending_with}
+use Rattle.fl_system.specs.Publishes.{cancelled_with}
 use Rattle.fl_system.specs.Saves.{Saves}
 use Rattle.fl_node.specs.Over.{NodeOver}
 use Rattle.fl_crew_model.specs.declared.record.Ruling.TheVariants.{Made, Late, GivenUp}
@@ -33,11 +34,13 @@ use Rattle.fl_registrar.specs.declared.saving.Saving.TheVariants as savings
 use Rattle.fl_registrar.specs.declared.waiting.Stage.TheVariants as stages
 use Rattle.fl_registrar.specs.declared.waiting.Waiting.{Waiting}
 use Rattle.fl_registrar.specs.Over.{RegistrarOver, books_of}
+use Rattle.fl_registrar.specs.Listing.{HasListed}
 use Rattle.fl_registrar.specs.Passing.{Passes}
 use Rattle.fl_registrar.specs.Publishing.{IsSameButList}
 use Rattle.fl_registrar.specs.parts.Rules.{Rules}
 use Rattle.fl_registrar.specs.parts.Saving.{BecomesOf}
 use Rattle.fl_registrar.specs.parts.Sound.{Stands, due_of}
+use Rattle.fl_registrar.specs.parts.Stages.{IsAt}
 use Rattle.fl_registrar.proofs.Nodes.{order_back, saves_again, spent_as, not_begun}
 use Rattle.fl_registrar.proofs.Passed.{stays, weaker}
 
@@ -64,18 +67,26 @@ pub same_kept : (n n' : NodeState) → n'.number ≡ n.number → n'.boot ≡ n.
 same_kept n n' number boot saved =
     λ i. record { number = number i; boot = boot i; saved = saved i }
 
--- where nothing waits and the registrar runs, nothing is on the node's way
-pub idle_state : (stopped : Bool) (waiting : Option Waiting) (state : State) → stopped ≡ false
-    → waiting ≡ None → Stands stopped waiting state → state ≡ Running Nothing
-idle_state stopped waiting state runs none stands =
-    subst (λ (w : Option Waiting). Stands false w state) none
-    (subst (λ (s : Bool). Stands s waiting state) runs stands)
+-- where nothing waits and the registrar runs, nothing is on the node's way, and it has published
+-- what the press has
+pub all_listed : (stopped : Bool) (waiting : Option Waiting) (n : NodeState) (list : List Op)
+    → stopped ≡ false → waiting ≡ None → Stands stopped waiting n list → HasListed n list []
+all_listed stopped waiting n list runs none stands =
+    subst (λ (w : Option Waiting). Stands false w n list) none
+    (subst (λ (s : Bool). Stands s waiting n list) runs stands)
 
-pub stands_idle : (stopped : Bool) (waiting : Option Waiting) (state : State) → stopped ≡ false
-    → waiting ≡ None → state ≡ Running Nothing → Stands stopped waiting state
-stands_idle stopped waiting state runs none idle =
-    subst (λ (s : Bool). Stands s waiting state) (sym runs)
-    (subst (λ (w : Option Waiting). Stands false w state) (sym none) idle)
+-- where the node stands once nothing waits any more
+pub cleared_stands : (stopped : Bool) (waiting : Waiting) (n n' : NodeState) (list list' : List Op)
+    → (IsAt waiting.stage n list (ops_of waiting.batch) → HasListed n' list' [])
+    → Stands stopped (Some waiting) n list → Stands stopped None n' list'
+cleared_stands true waiting n n' list list' f h = tt
+cleared_stands false waiting n n' list list' f h = f h
+
+pub moved_stands : (stopped : Bool) (waiting w : Waiting) (n n' : NodeState) (list list' : List Op)
+    → (IsAt waiting.stage n list (ops_of waiting.batch) → IsAt w.stage n' list' (ops_of w.batch))
+    → Stands stopped (Some waiting) n list → Stands stopped (Some w) n' list'
+moved_stands true waiting w n n' list list' f h = tt
+moved_stands false waiting w n n' list list' f h = f h
 
 pub in_ok : {T E : Type 0} {P : Type 0} (r : Result T E) → is_err r ≡ false → OnOk r P → P
 in_ok (Ok x) e h = h
@@ -242,27 +253,39 @@ module _ {K : Type 0} (custody : Custody K) where
 
   -- ---- where the node is then
 
-  pub back_stands : (old new : NodeOver K) (body : Body) (name : Name)
-      → old.node.state ≡ Running Nothing
-      → (stopped : Bool) (waiting : Option Waiting) → stopped ≡ false → waiting ≡ None
-      → Passes custody (λ k k'. BecomesOf (pending_with old.node (order name body None None))
-      (order name body None None) k savings.NoMemory new.node k') old.keeper new.keeper
-      → custody.is_honest new.keeper → (k : Kept) → custody.may_hold new.keeper k
-      → Stands stopped waiting new.node.state
-  back_stands old new body name idle stopped waiting runs none passes honest k held =
-      let b = (passes honest).1 k held in
-      let back : new.node ≡ old.node = b.2.0 ∙ order_back old.node name body idle in
-      stands_idle stopped waiting new.node.state runs none
-      (ap (λ (n : NodeState). n.state) back ∙ idle)
+  module _ (old new : NodeOver K) (batch : Batch) (stopped : Bool) (waiting : Option Waiting)
+      (list : List Op)
+      (was : custody.is_honest old.keeper → (k : Kept) → custody.may_hold old.keeper k
+      → Stands stopped waiting old.node list) where
+    -- what was begun is given up
+    pub back_stands : cancelled_with (pending_with old.node batch) batch ≡ old.node
+        → Passes custody (λ k k'. BecomesOf (pending_with old.node batch)
+        batch k savings.NoMemory new.node k') old.keeper new.keeper
+        → custody.is_honest new.keeper → (k : Kept) → custody.may_hold new.keeper k
+        → Stands stopped waiting new.node list
+    back_stands back passes honest k held =
+        let p = passes honest in
+        let b = p.1 k held in
+        subst (λ (n : NodeState). Stands stopped waiting n list) (sym (b.2.0 ∙ back))
+        (was p.0 b.0 b.1)
 
-  pub saved_stands : (old new : NodeOver K) (body : Body) (name : Name) (stopped : Bool)
-      (batch : Batch) → stopped ≡ false
-      → Passes custody (λ k k'. BecomesOf (pending_with old.node (order name body None None))
-      (order name body None None) k savings.Saved new.node k') old.keeper new.keeper
-      → custody.is_honest new.keeper → (k : Kept) → custody.may_hold new.keeper k
-      → Stands stopped (Some (record { batch = batch; stage = stages.Saved })) new.node.state
-  saved_stands old new body name stopped batch runs passes honest k held =
-      let b = (passes honest).1 k held in
-      subst (λ (s : Bool). Stands s (Some (record { batch = batch; stage = stages.Saved }))
-      new.node.state) (sym runs)
-      (order name body None None, ap (λ (n : NodeState). n.state) b.2.0)
+    -- it is saved, and due
+    pub saved_stands : (its : Batch) → ops_of batch ≡ ops_of its → stopped ≡ false
+        → waiting ≡ None
+        → Passes custody (λ k k'. BecomesOf (pending_with old.node batch)
+        batch k savings.Saved new.node k') old.keeper new.keeper
+        → custody.is_honest new.keeper → (k : Kept) → custody.may_hold new.keeper k
+        → Stands stopped (Some (record { batch = its; stage = stages.Saved })) new.node list
+    saved_stands its same runs none passes honest k held =
+        let p = passes honest in
+        let b = p.1 k held in
+        let all = all_listed stopped waiting old.node list runs none (was p.0 b.0 b.1) in
+        subst (λ (s : Bool). Stands s (Some (record { batch = its; stage = stages.Saved }))
+        new.node list) (sym runs)
+        (record {
+          batch = batch;
+          state = ap (λ (n : NodeState). n.state) b.2.0;
+          its = same;
+          published = ap (λ (n : NodeState). n.published) b.2.0 ∙ all.published
+              ∙ append-nil list;
+        })

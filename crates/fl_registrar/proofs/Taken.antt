@@ -32,8 +32,6 @@ use Rattle.fl_crew_model.specs.Registering.{Reflects, IsRegistrar, IsTaken}
 use Rattle.fl_registrar.specs.declared.awaited.Awaited.{Awaited}
 use Rattle.fl_registrar.specs.declared.parcel.Receipt.{Receipt}
 use Rattle.fl_registrar.specs.declared.saving.Saving.TheVariants as savings
-use Rattle.fl_registrar.specs.declared.waiting.Stage.TheVariants as stages
-use Rattle.fl_registrar.specs.declared.waiting.Waiting.{Waiting}
 use Rattle.fl_registrar.specs.Over.{RegistrarOver, books_of}
 use Rattle.fl_registrar.specs.Apart.{IsFree, AreApart}
 use Rattle.fl_registrar.specs.Going.{GoesOn}
@@ -41,11 +39,10 @@ use Rattle.fl_registrar.specs.Passing.{Passes}
 use Rattle.fl_registrar.specs.Publishing.{IsSameButList}
 use Rattle.fl_registrar.specs.Taking.{news_of, delivery_of}
 use Rattle.fl_registrar.specs.parts.Saving.{BecomesOf}
-use Rattle.fl_registrar.specs.parts.Sound.{Stands}
 use Rattle.fl_registrar.specs.parts.Takes.{Takes}
 use Rattle.fl_registrar.proofs.Nodes.{saves_again}
 use Rattle.fl_registrar.proofs.Passed.{stays, weaker}
-use Rattle.fl_registrar.proofs.Ruled.{same_books, same_kept, stands_idle}
+use Rattle.fl_registrar.proofs.Ruled.{same_books, same_kept}
 use Rattle.fl_registrar.proofs.Decided.{MoreLaw}
 use Rattle.fl_registrar.proofs.Brought.{same_news}
 
@@ -219,32 +216,6 @@ module _ {K : Type 0} (custody : Custody K) where
             };
             kept = λ runs. kept_is k k' h;
           }))
-
-  -- ---- where the node is then
-
-  pub given_up_stands : (old new : NodeOver K) (batch : Batch) → old.node.state ≡ Running Nothing
-      → cancelled_with (pending_with old.node batch) batch ≡ old.node
-      → (stopped : Bool) (waiting : Option Waiting) → stopped ≡ false → waiting ≡ None
-      → Passes custody (λ k k'. BecomesOf (pending_with old.node batch)
-      batch k savings.NoMemory new.node k') old.keeper new.keeper
-      → custody.is_honest new.keeper → (k : Kept) → custody.may_hold new.keeper k
-      → Stands stopped waiting new.node.state
-  given_up_stands old new batch idle back stopped waiting runs none passes honest k held =
-      let b = (passes honest).1 k held in
-      let same : new.node ≡ old.node = b.2.0 ∙ back in
-      stands_idle stopped waiting new.node.state runs none
-      (ap (λ (n : NodeState). n.state) same ∙ idle)
-
-  pub due_stands : (old new : NodeOver K) (batch its : Batch) (stopped : Bool) → stopped ≡ false
-      → Passes custody (λ k k'. BecomesOf (pending_with old.node batch)
-      batch k savings.Saved new.node k') old.keeper new.keeper
-      → custody.is_honest new.keeper → (k : Kept) → custody.may_hold new.keeper k
-      → Stands stopped (Some (record { batch = its; stage = stages.Saved })) new.node.state
-  due_stands old new batch its stopped runs passes honest k held =
-      let b = (passes honest).1 k held in
-      subst (λ (s : Bool). Stands s (Some (record { batch = its; stage = stages.Saved }))
-      new.node.state) (sym runs)
-      (batch, ap (λ (n : NodeState). n.state) b.2.0)
 
   -- ---- the record
 

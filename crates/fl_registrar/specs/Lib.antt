@@ -4,6 +4,7 @@ pub mod Publishing
 pub mod Ruling
 pub mod Apart
 pub mod Going
+pub mod Listing
 pub mod Stopping
 pub mod Taking
 pub mod parts

@@ -22,6 +22,7 @@ ghost use Rattle.fl_registrar.specs.parts.Takes.{Takes};
 ghost use Rattle.fl_registrar.specs.Ruling.{HasRoom, Awaits, decision_of, published_by};
 ghost use Rattle.fl_registrar.specs.Ruling.{due_after, IsOf};
 ghost use Rattle.fl_registrar.specs.Going.{GoesOn};
+ghost use Rattle.fl_registrar.specs.Listing.{ListsHonestly};
 ghost use Rattle.fl_registrar.specs.Apart.{AreAwaited, AreApart};
 ghost use Rattle.fl_registrar.specs.Stopping.{failed_after, stopped_after, IsHalt, HasFailed};
 ghost use Rattle.fl_registrar.specs.parts.Rules.{Rules};
@@ -79,18 +80,18 @@ impl<K: Keeper> Model for Registrar<K> {
       stopped = a.is_stopped;
     } };
 
-    ghost invariant = { λ a. IsSound K.custody a.node.keeper a.node.node.state
-        a.press.staged a.due a.is_stopped };
+    ghost invariant = { λ a. IsSound K.custody a.node.keeper a.node.node a.press a.due
+        a.is_stopped };
 }
 
 impl<K: Keeper> Registrar<K> {
-    /// The registrar of a node that runs, with nothing on its way, and of a press with nothing
-    /// staged. Contracts speak of the press's list: that it is the node's is for the caller to see
-    /// to. No order is awaited, and the record has no row. Takes no memory.
+    /// The registrar of a node that runs, with nothing on its way, and of a press with the node's
+    /// list and nothing staged. No order is awaited, and the record has no row. Takes no memory.
     pub fn new(alloc: Global, node: Node<K>, press: Press) -> Registrar<K>
         requires idle { K.custody.is_honest node.keeper → (k : Kept)
             → K.custody.may_hold node.keeper k → node.node.state ≡ Running Nothing }
         requires none { press.staged ≡ [] }
+        requires list { press.list ≡ node.node.published }
         ensures { result ≡ record {
           node = node;
           press = press;
@@ -142,6 +143,15 @@ impl<K: Keeper> Registrar<K> {
         ensures { result.now ≡ self.now.press }
     {
         &self.press
+    }
+
+    /// What is true of every registrar: while it is not stopped, and its keeper is honest, its node
+    /// has published what the press has, and of what is due to that all, or nothing.
+    pub fn law_listed(&self)
+        ensures { self.now.stopped ≡ false → ListsHonestly K.custody self.now.node.keeper
+            self.now.node.node self.now.press.list self.now.due }
+    {
+        let _due = &self.due;
     }
 
     /// Whether its keeper broke, so that it does nothing any more.
@@ -236,6 +246,7 @@ impl<K: Keeper> Registrar<K> {
         ensures saved { OnErr result (self.new.node.node.saved ≡ self.old.node.node.saved) }
         ensures stopped { self.new.stopped ≡ stopped_after self.old.stopped result }
         ensures number { self.new.node.node.number ≡ self.old.node.node.number }
+        ensures boot { self.new.node.node.boot ≡ self.old.node.node.boot }
         ensures keeper { K.custody.number self.new.node.keeper
             ≡ K.custody.number self.old.node.keeper }
         ensures board { self.new.press.board ≡ self.old.press.board }
@@ -322,6 +333,7 @@ impl<K: Keeper> Registrar<K> {
         ensures failed { result ≡ Err Fault.KeeperFailed → HasFailed self.old self.new }
         ensures stopped { self.new.stopped ≡ stopped_after self.old.stopped result }
         ensures number { self.new.node.node.number ≡ self.old.node.node.number }
+        ensures boot { self.new.node.node.boot ≡ self.old.node.node.boot }
         ensures keeper { K.custody.number self.new.node.keeper
             ≡ K.custody.number self.old.node.keeper }
         ensures board { self.new.press.board ≡ self.old.press.board }
@@ -373,6 +385,7 @@ impl<K: Keeper> Registrar<K> {
         ensures failed { OnErr result (HasFailed self.old self.new) }
         ensures stopped { self.new.stopped ≡ stopped_after self.old.stopped result }
         ensures number { self.new.node.node.number ≡ self.old.node.node.number }
+        ensures boot { self.new.node.node.boot ≡ self.old.node.node.boot }
         ensures keeper { K.custody.number self.new.node.keeper
             ≡ K.custody.number self.old.node.keeper }
         ensures board { self.new.press.board ≡ self.old.press.board }
@@ -456,6 +469,7 @@ impl<K: Keeper> Registrar<K> {
         ensures failed { result ≡ Err Fault.KeeperFailed → HasFailed self.old self.new }
         ensures stopped { self.new.stopped ≡ stopped_after self.old.stopped result }
         ensures number { self.new.node.node.number ≡ self.old.node.node.number }
+        ensures boot { self.new.node.node.boot ≡ self.old.node.node.boot }
         ensures keeper { K.custody.number self.new.node.keeper
             ≡ K.custody.number self.old.node.keeper }
         ensures board { self.new.press.board ≡ self.old.press.board }

@@ -38,6 +38,7 @@ fn is_failure(fault: Fault) -> bool
 /// Saves what the node has begun, or gives it up where there is no memory for that.
 pub fn save<K: Keeper>(node: &mut Node<K>) -> Saving
     ensures number { node.new.node.number ≡ node.old.node.number }
+    ensures boot { node.new.node.boot ≡ node.old.node.boot }
     ensures keeper { K.custody.number node.new.keeper ≡ K.custody.number node.old.keeper }
     ensures broken { result ≡ Saving.Broken → IsTrue (K.custody.is_broken node.new.keeper) }
     ensures saved { result ≡ Saving.Broken → node.new.node.saved ≡ node.old.node.saved }

@@ -1,7 +1,9 @@
 //! What is saved, and not yet on the press.
-ghost use Rattle.std.specs.Prelude.{◌≡◌, ◌++◌, [], OnOk, OnErr};
+ghost use Rattle.std.specs.Prelude.{◌≡◌, ◌++◌, [], List, OnOk, OnErr};
+ghost use Rattle.fl_ops.specs.declared.op.Op.{Op};
 ghost use Rattle.fl_system.specs.State.{ops_of};
 ghost use Rattle.fl_registrar.specs.parts.Stages.{IsAt, IsListed, staged_at, unstaged_at};
+ghost use Rattle.fl_registrar.specs.Listing.{HasListed};
 ghost use Rattle.fl_registrar.specs.Publishing.{IsSameButList};
 
 use fl_node::node::Node;
@@ -61,8 +63,9 @@ fn list<K: Keeper>(
     ensures batch { waiting.new.batch ≡ waiting.old.batch }
     ensures listed { OnOk result (IsListed waiting.new.stage) }
     ensures staged { staged_at waiting.new.stage ≡ staged_at waiting.old.stage }
-    ensures at { IsAt waiting.old.stage node.old.node.state
-        → IsAt waiting.new.stage node.new.node.state }
+    ensures at { (list : List Op)
+        → IsAt waiting.old.stage node.old.node list (ops_of waiting.old.batch)
+        → IsAt waiting.new.stage node.new.node list (ops_of waiting.new.batch) }
 {
     let Stage::Saved = waiting.stage else {
         return Ok(());
@@ -117,9 +120,12 @@ pub fn publish<K: Keeper, R: Wait>(
     ensures batch { waiting.new.batch ≡ waiting.old.batch }
     ensures staged { OnErr result
         (press.new.staged ≡ staged_at waiting.new.stage (ops_of waiting.new.batch)) }
-    ensures at { IsAt waiting.old.stage node.old.node.state
-        → IsAt waiting.new.stage node.new.node.state }
-    ensures listed { OnOk result (IsListed waiting.new.stage) }
+    ensures done { OnOk result
+        (IsAt waiting.old.stage node.old.node press.old.list (ops_of waiting.old.batch)
+        → HasListed node.new.node press.new.list []) }
+    ensures at { OnErr result
+        (IsAt waiting.old.stage node.old.node press.old.list (ops_of waiting.old.batch)
+        → IsAt waiting.new.stage node.new.node press.new.list (ops_of waiting.new.batch)) }
 {
     list(alloc, node, waiting)?;
     print(rt, press, waiting)

@@ -14,7 +14,7 @@ ghost use Rattle.fl_worker.specs.declared.task.Task.{Task as TaskValue};
 ghost use Rattle.fl_worker.specs.declared.worker.Worker.{Worker as WorkerValue};
 
 use crate::ends::Ends;
-use crate::gate::Gate;
+use crate::gate::{Gate, Gated};
 use crate::serving::{serve_one, undone};
 use crate::task::Task;
 use core::mem::replace_with;
@@ -171,7 +171,7 @@ impl Seat {
         &mut self,
         rt: &R,
         alloc: Global,
-        gate: &G,
+        gate: &Gated<'_, G>,
         desk: Desk,
         task: Task,
     ) -> Desk
@@ -188,10 +188,9 @@ impl Seat {
             return desk;
         }
         let place = task.place;
-        gate.before(place);
+        let desk = gate.before(desk, place);
         let desk = self.take_turn(rt, alloc, desk, task);
-        gate.after(place);
-        desk
+        gate.after(desk, place)
     }
 }
 
@@ -224,8 +223,9 @@ fn serve_all<R: Wait, G: Gate>(rt: &R, alloc: Global, gate: &G, worker: Worker) 
         entries,
         good,
     };
+    let gate = Gated::new(gate);
     for task in given {
-        desk = seat.turn(rt, alloc, gate, desk, task);
+        desk = seat.turn(rt, alloc, &gate, desk, task);
     }
     let Seat {
         number,

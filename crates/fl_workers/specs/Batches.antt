@@ -207,5 +207,6 @@ pub record IsUnbegun {K : Type 0} (old new : CrewOver K) : Type 0 where
 -- what a batch leaves as it was, whatever its keeper does
 pub record IsStill {K : Type 0} (old new : CrewOver K) : Type 0 where
   pub number : new.node.node.number ≡ old.node.node.number
+  pub boot : new.node.node.boot ≡ old.node.node.boot
   pub size : new.size ≡ old.size
   pub runs : new.stopped ≡ false → old.stopped ≡ false

@@ -7,6 +7,7 @@ ghost use Rattle.fl_dealing.specs.Gathered.{StandFrom};
 ghost use Rattle.fl_node.specs.Causes.{KeeperFails, LoadsBadRow};
 ghost use Rattle.fl_node.specs.Telling.{TellsNothing, AnswersNothing};
 ghost use Rattle.fl_opset.specs.RegistryText.{registry_text};
+ghost use Rattle.fl_registrar.specs.Listing.{ListsHonestly};
 ghost use Rattle.fl_registrar.specs.Passing.{Passes};
 ghost use Rattle.fl_sink.specs.Sink.{Writes};
 ghost use Rattle.fl_system.specs.Gossip.{IsSummary, IsAnswer};
@@ -239,6 +240,18 @@ impl<K: Keeper, G: Gate + Send + Drop + 'static> Crew<K, G> {
         let _seats = &self.seats;
     }
 
+    /// What is true of every crew: as long as it is not stopped, and its keeper is honest, its node
+    /// has published what the desks may see, and of what is due to them all, or nothing. So each
+    /// name that was told stands in the text.
+    pub fn law_listed(&self)
+        ensures { self.now.stopped ≡ false → ListsHonestly K.custody self.now.node.keeper
+            self.now.node.node self.now.list self.now.due }
+    {
+        if let Seats::Manned(manned) = &self.seats {
+            manned.registrar.law_listed();
+        }
+    }
+
     // That it is not stopped.
     fn runs(&self) -> Result<(), Fault>
         ensures ok { OnOk result (self.now.stopped ≡ false) }
@@ -276,7 +289,8 @@ impl<K: Keeper, G: Gate + Send + Drop + 'static> Crew<K, G> {
         self.node().reply(alloc, window)
     }
 
-    /// Writes the text of what the registrar's node has published, as [`Node::text`] has it.
+    /// Writes the text of what the registrar's node has published, as [`Node::text`] has it: of the
+    /// list that the desks may see, and perhaps of what is due to it ([`Crew::law_listed`]).
     /// `Stopped` of a stopped crew.
     pub fn text<W: Write>(&self, output: &mut W) -> Result<Result<(), WriteFault>, Fault>
         ensures running { OnOk result (self.now.stopped ≡ false) }

@@ -1,18 +1,16 @@
 -- Where a node and a press are, by how far what is saved has come.
-use Rattle.std.specs.Prelude.{◌≡◌, List, []}
+use Rattle.std.specs.Prelude.{List, []}
 use Rattle.fl_ops.specs.declared.op.Op.{Op}
-use Rattle.fl_system.specs.declared.state.Batch.{Batch}
-use Rattle.fl_system.specs.declared.state.Pending.TheVariants.{Nothing, Due}
-use Rattle.fl_system.specs.declared.state.State.{State}
-use Rattle.fl_system.specs.declared.state.State.TheVariants.{Running}
+use Rattle.fl_system.specs.State.{NodeState}
+use Rattle.fl_registrar.specs.Listing.{HasListed, Owes}
 use Rattle.fl_registrar.specs.declared.waiting.Stage.{Stage}
 use Rattle.fl_registrar.specs.declared.waiting.Stage.TheVariants.{Saved, Listed, Staged}
 
--- it is due in the node, or nothing is on its way there
-abbrev pub IsAt : Stage → State → Type 0
-IsAt Saved state = (batch : Batch) × (state ≡ Running (Due batch))
-IsAt Listed state = state ≡ Running Nothing
-IsAt Staged state = state ≡ Running Nothing
+-- these operations are due in the node, or it has published them, where the press has this list
+abbrev pub IsAt : Stage → NodeState → List Op → List Op → Type 0
+IsAt Saved n list ops = Owes n list ops
+IsAt Listed n list ops = HasListed n list ops
+IsAt Staged n list ops = HasListed n list ops
 
 -- the node has published it
 abbrev pub IsListed : Stage → Type 0

@@ -10,14 +10,14 @@ use Rattle.fl_crew_threads.proofs.ruling.rule.Goals as goal
 pub returns-in-Ok-clause-rules : goal.returns-in-Ok-clause-rules
 returns-in-Ok-clause-rules g c workers is =
     let e = c.in-Ok.ensures in
-    registers_decision _ workers c.args.registrar.now c.decide.new.self e.number e.board e.rows
+    registers_decision _ workers c.args.registrar.now c.decide.new.self e.number e.boot e.board e.rows
     e.own e.left e.apart e.rises e.goes _ is e.deed e.stopped e.at
     (e.ruled (λ no. absurd (cc))).has_room.runs
 
 pub returns-in-Err-clause-rules : goal.returns-in-Err-clause-rules
 returns-in-Err-clause-rules g c workers is =
     let e = c.in-Err.ensures in
-    registers_refusal _ workers c.args.registrar.now c.decide.new.self e.number e.board e.rows
+    registers_refusal _ workers c.args.registrar.now c.decide.new.self e.number e.boot e.board e.rows
     e.own e.left e.apart e.rises e.goes Ruling c.in-Err.fault e.fault
     (λ is. e.same (ap Err is)) (λ is. e.failed (ap Err is)) (λ is. e.broken (ap Err is))
     (λ is before. there is) e.stopped

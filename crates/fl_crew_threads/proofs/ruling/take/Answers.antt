@@ -9,14 +9,14 @@ use Rattle.fl_crew_threads.proofs.ruling.take.Goals as goal
 pub returns-in-Ok-clause-rules : goal.returns-in-Ok-clause-rules
 returns-in-Ok-clause-rules g c workers =
     let e = c.in-Ok.ensures in
-    registers_delivery _ workers c.args.registrar.now c.receive.new.self e.number e.board e.rows (λ jobs awaited. e.own jobs)
+    registers_delivery _ workers c.args.registrar.now c.receive.new.self e.number e.boot e.board e.rows (λ jobs awaited. e.own jobs)
     (λ jobs awaited. subst (AreAwaited jobs) (sym e.orders) awaited) e.apart e.rises e.goes _ e.deed e.stopped
     e.at (e.runs (λ no. absurd (cc))).runs
 
 pub returns-in-Err-clause-rules : goal.returns-in-Err-clause-rules
 returns-in-Err-clause-rules g c workers =
     let e = c.in-Err.ensures in
-    registers_refusal _ workers c.args.registrar.now c.receive.new.self e.number e.board e.rows (λ jobs awaited. e.own jobs)
+    registers_refusal _ workers c.args.registrar.now c.receive.new.self e.number e.boot e.board e.rows (λ jobs awaited. e.own jobs)
     (λ jobs awaited. subst (AreAwaited jobs) (sym e.orders) awaited) e.apart e.rises e.goes Receipt c.in-Err.fault e.fault
     (λ is. e.same (ap Err is)) (λ is. e.failed (ap Err is)) (λ is. e.broken (ap Err is))
     (λ is. still_failed g.K.Keeper.custody workers c.args.registrar.now c.receive.new.self

@@ -5,6 +5,7 @@ use Rattle.fl_system.specs.declared.answer.Fault.TheVariants.{KeeperFailed}
 use Rattle.fl_system.specs.Saves.{Saves}
 use Rattle.fl_system.specs.State.{kept_of}
 use Rattle.fl_registrar.proofs.Nodes.{saved_as, failed_as, err_saved, given_up_as}
+use Rattle.fl_registrar.proofs.Nodes.{saves_boot, cancels_boot}
 use Rattle.fl_registrar.proofs.saving.save.Goals as goal
 
 pub returns-in_default-clause-becomes : goal.returns-in_default-clause-becomes
@@ -51,3 +52,23 @@ returns-clause-becomes g c honest =
             λ batch is. given_up_as _ _ _ b.0 after batch _ _ other is b.2 c.cancel.ensures.cancels,
           ),
     )
+
+pub returns-in_default-clause-boot : goal.returns-in_default-clause-boot
+returns-in_default-clause-boot g c =
+    let k = kept_of c.args.node.now.node in
+    let it = c.in_default.ensures.node k in
+    saves_boot c.args.node.now.node c.save.new.self.node k it.0 _ it.1
+
+pub returns-then-is_failure-clause-boot : goal.returns-then-is_failure-clause-boot
+returns-then-is_failure-clause-boot g c =
+    let k = kept_of c.args.node.now.node in
+    let it = c.in-Err.ensures.node k in
+    saves_boot c.args.node.now.node c.save.new.self.node k it.0 (Err c.in-Err.fault) it.1
+
+pub returns-clause-boot : goal.returns-clause-boot
+returns-clause-boot g c =
+    let k = kept_of c.args.node.now.node in
+    let it = c.in-Err.ensures.node k in
+    cancels_boot c.save.new.self.node c.cancel.new.self.node c.cancel.result
+    c.cancel.ensures.cancels
+    ∙ saves_boot c.args.node.now.node c.save.new.self.node k it.0 (Err c.in-Err.fault) it.1

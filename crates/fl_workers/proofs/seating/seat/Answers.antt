@@ -18,3 +18,6 @@ returns-clause-seated g c =
     c.in-Ok-workers_for.workers.items c.new.result c.in-Ok-board.press c.new.ensures
     (c.in-Ok-board.ensures.list ∙ c.published.ensures) made.count c.number.ensures.number
     c.boot.ensures.boot made.benches
+
+pub new-requires-clause-list : goal.new-requires-clause-list
+new-requires-clause-list g c = c.in-Ok-board.ensures.list ∙ c.published.ensures

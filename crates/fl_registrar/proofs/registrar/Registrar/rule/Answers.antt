@@ -7,12 +7,12 @@ use Rattle.fl_registrar.specs.Over.{RegistrarOver}
 use Rattle.fl_system.specs.declared.state.Batch.TheVariants.{Ordered}
 use Rattle.fl_registrar.specs.parts.Saving.{BecomesOf}
 use Rattle.fl_registrar.specs.parts.Sound.{IsSound, due_of, staged_of}
-use Rattle.fl_registrar.proofs.Nodes.{begun_as, not_begun}
+use Rattle.fl_registrar.proofs.Nodes.{begun_as, not_begun, order_back}
 use Rattle.fl_registrar.proofs.Passed.{become}
 use Rattle.fl_registrar.specs.declared.saving.Saving.TheVariants as savings
 use Rattle.fl_registrar.specs.Passing.{Passes}
 use Rattle.fl_registrar.proofs.Ruled.{in_ok, in_err, saved_stands, back_stands, seen, no_waiting}
-use Rattle.fl_registrar.proofs.Ruled.{idle_state, same_over, busy_rules, spent_rules, memory_rules}
+use Rattle.fl_registrar.proofs.Ruled.{all_listed, same_over, busy_rules, spent_rules, memory_rules}
 use Rattle.fl_registrar.proofs.Ruled.{broken_rules, made_rules, late_rules}
 use Rattle.fl_registrar.proofs.registrar.Registrar.rule.Goals as goal
 
@@ -28,13 +28,18 @@ invariant_of-self g c =
     let node = c.self.inside.node in
     let same = same_over node c.begin.new.self (not_begun node.node c.begin.new.self.node
     c.args.body c.in_default.field-0 c.in_default.ensures.begins) c.in_default.ensures.keeper in
-    subst (λ (n : NodeOver g.row.K.Denot). IsSound custody n.keeper n.node.state
-    c.self.inside.press.staged c.self.inside.due c.self.inside.is_stopped) (sym same)
+    subst (λ (n : NodeOver g.row.K.Denot). IsSound custody n.keeper n.node
+    c.self.inside.press c.self.inside.due c.self.inside.is_stopped) (sym same)
     c.self.invariant
 
 pub returns-in_default-clause-number : goal.returns-in_default-clause-number
 returns-in_default-clause-number g c =
     rw (← c.self.view_is) (ap (λ (n : NodeState). n.number)
+    (not_begun _ _ _ _ c.in_default.ensures.begins))
+
+pub returns-in_default-clause-boot : goal.returns-in_default-clause-boot
+returns-in_default-clause-boot g c =
+    rw (← c.self.view_is) (ap (λ (n : NodeState). n.boot)
     (not_begun _ _ _ _ c.in_default.ensures.begins))
 
 pub returns-in_default-clause-rules : goal.returns-in_default-clause-rules
@@ -48,16 +53,16 @@ returns-in_default-clause-rules g c =
     (seen c.begin.new.self c.self.inside.press c.self.inside.due c.self.inside.orders.items
     c.self.inside.deeds.items (vec_capacity c.self.inside.deeds) c.self.inside.failed c.self.inside.is_stopped)
     c.args.worker c.args.body c.in_default.field-0 (ap due_of waiting) refl refl
-    (λ honest k held. idle_state c.self.inside.is_stopped c.self.inside.due node.node.state
+    (λ honest k held. (all_listed c.self.inside.is_stopped c.self.inside.due node.node
+    c.self.inside.press.list
     (ap (λ (r : RegistrarOver g.row.K.Denot). r.stopped) c.self.view_is ∙ c.requires) waiting
-    (c.self.invariant.stands honest k held))
+    (c.self.invariant.stands honest k held)).state)
     c.in_default.ensures.keeper c.in_default.ensures.begins)
 
 pub invariant_of-self-in-NoMemory : goal.invariant_of-self-in-NoMemory
 invariant_of-self-in-NoMemory g c =
     let custody = g.K.Keeper.custody in
     let node = c.self.inside.node in
-    let waiting = no_waiting c.self.inside.due (sym c.is_some.ensures ∙ c.if-is_some.false) in
     let begun = begun_as node.node c.begin.new.self.node c.args.body c.in-Ok.name
     c.in-Ok.ensures.begins in
     let passes = become custody node c.begin.new.self c.save.new.node
@@ -65,10 +70,10 @@ invariant_of-self-in-NoMemory g c =
     c.in-NoMemory.ensures.becomes in
     record {
       staged_is = c.self.invariant.staged_is;
-      stands = back_stands custody node c.save.new.node c.args.body c.in-Ok.name begun.idle
-          c.self.inside.is_stopped c.self.inside.due (ap
-          (λ (r : RegistrarOver g.row.K.Denot). r.stopped) c.self.view_is ∙ c.requires)
-          waiting passes;
+      stands = back_stands custody node c.save.new.node (order c.in-Ok.name c.args.body None None)
+          c.self.inside.is_stopped c.self.inside.due c.self.inside.press.list
+          c.self.invariant.stands (order_back node.node c.in-Ok.name c.args.body begun.idle)
+          passes;
     }
 
 pub returns-in-NoMemory-clause-rules : goal.returns-in-NoMemory-clause-rules
@@ -121,10 +126,11 @@ invariant_of-self-2 g c =
     c.in-Saved.ensures.becomes in
     record {
       staged_is = c.self.invariant.staged_is ∙ ap staged_of waiting;
-      stands = saved_stands custody node c.save.new.node c.args.body c.in-Ok.name
-          c.self.inside.is_stopped (Ordered (record { name = c.in-Ok.name; body = c.args.body })
-          (Some c.args.pid) (Some c.args.worker)) (ap (λ (r : RegistrarOver g.row.K.Denot).
-          r.stopped) c.self.view_is ∙ c.requires) passes;
+      stands = saved_stands custody node c.save.new.node (order c.in-Ok.name c.args.body None None)
+          c.self.inside.is_stopped c.self.inside.due c.self.inside.press.list
+          c.self.invariant.stands (Ordered (record { name = c.in-Ok.name; body = c.args.body })
+          (Some c.args.pid) (Some c.args.worker)) refl (ap (λ (r : RegistrarOver g.row.K.Denot).
+          r.stopped) c.self.view_is ∙ c.requires) waiting passes;
     }
 
 pub returns-then-is_err-clause-rules : goal.returns-then-is_err-clause-rules

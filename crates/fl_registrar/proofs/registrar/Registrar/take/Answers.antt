@@ -23,11 +23,12 @@ use Rattle.fl_registrar.specs.parts.Saving.{BecomesOf}
 use Rattle.fl_registrar.specs.parts.Sound.{IsSound, due_of, staged_of}
 use Rattle.fl_registrar.proofs.Passed.{become}
 use Rattle.fl_registrar.proofs.Ruled.{seen, in_ok, in_err, no_waiting, same_over}
+use Rattle.fl_registrar.proofs.Ruled.{back_stands, saved_stands}
 use Rattle.fl_registrar.proofs.Brought.{not_broken, not_received, none_received, brings}
 use Rattle.fl_registrar.proofs.Brought.{packet_back, undone}
-use Rattle.fl_registrar.proofs.Brought.{declines_by, brought_new, busy_waiting}
+use Rattle.fl_registrar.proofs.Brought.{declines_by, brought_new, busy_waiting, same_news}
 use Rattle.fl_registrar.proofs.Taken.{declined_takes, no_room_takes, broken_takes, taken_takes}
-use Rattle.fl_registrar.proofs.Taken.{late_takes, given_up_stands, due_stands}
+use Rattle.fl_registrar.proofs.Taken.{late_takes}
 use Rattle.fl_registrar.proofs.registrar.Registrar.take.Goals as goal
 
 pub news-requires : goal.news-requires
@@ -42,8 +43,8 @@ invariant_of-self g c =
     let node = not_received i.node.node c.receive.new.self.node (set.of_list ops)
     c.in-Err.fault c.in-Err.ensures.receives in
     let keeper = c.in-Err.ensures.keeper in
-    subst (λ (n : NodeOver g.row.K.Denot). IsSound g.K.Keeper.custody n.keeper n.node.state
-    i.press.staged i.due i.is_stopped) (sym (same_over i.node c.receive.new.self node keeper))
+    subst (λ (n : NodeOver g.row.K.Denot). IsSound g.K.Keeper.custody n.keeper n.node
+    i.press i.due i.is_stopped) (sym (same_over i.node c.receive.new.self node keeper))
     c.self.invariant
 
 pub returns-in-Err-clause-number : goal.returns-in-Err-clause-number
@@ -53,6 +54,14 @@ returns-in-Err-clause-number g c =
     let node = not_received i.node.node c.receive.new.self.node (set.of_list ops)
     c.in-Err.fault c.in-Err.ensures.receives in
     rw (← c.self.view_is) (ap (λ (n : NodeState). n.number) node)
+
+pub returns-in-Err-clause-boot : goal.returns-in-Err-clause-boot
+returns-in-Err-clause-boot g c =
+    let i = c.self.inside in
+    let ops = ops_of c.args.parcel.now.packet in
+    let node = not_received i.node.node c.receive.new.self.node (set.of_list ops)
+    c.in-Err.fault c.in-Err.ensures.receives in
+    rw (← c.self.view_is) (ap (λ (n : NodeState). n.boot) node)
 
 pub returns-in-Err-clause-takes : goal.returns-in-Err-clause-takes
 returns-in-Err-clause-takes g c =
@@ -101,8 +110,8 @@ invariant_of-self-then-is_some g c =
     let node = undone i.node.node c.receive.new.self.node c.cancel.new.self.node (set.of_list ops)
     c.in-Ok.count c.cancel.result b c.cancel.ensures.cancels in
     let keeper = c.cancel.ensures.keeper ∙ c.in-Ok.ensures.keeper in
-    subst (λ (n : NodeOver g.row.K.Denot). IsSound g.K.Keeper.custody n.keeper n.node.state
-    i.press.staged i.due i.is_stopped) (sym (same_over i.node c.cancel.new.self node keeper))
+    subst (λ (n : NodeOver g.row.K.Denot). IsSound g.K.Keeper.custody n.keeper n.node
+    i.press i.due i.is_stopped) (sym (same_over i.node c.cancel.new.self node keeper))
     c.self.invariant
 
 pub returns-then-is_some-clause-number : goal.returns-then-is_some-clause-number
@@ -116,6 +125,18 @@ returns-then-is_some-clause-number g c =
     c.in-Ok.count c.cancel.result b c.cancel.ensures.cancels in
     let keeper = c.cancel.ensures.keeper ∙ c.in-Ok.ensures.keeper in
     rw (← c.self.view_is) (ap (λ (n : NodeState). n.number) node)
+
+pub returns-then-is_some-clause-boot : goal.returns-then-is_some-clause-boot
+returns-then-is_some-clause-boot g c =
+    let i = c.self.inside in
+    let ops = ops_of c.args.parcel.now.packet in
+    let some : 0 < c.in-Ok.count = omega arith in
+    let b = brings i.node.node c.receive.new.self.node (set.of_list ops)
+    c.in-Ok.count some c.in-Ok.ensures.receives in
+    let node = undone i.node.node c.receive.new.self.node c.cancel.new.self.node (set.of_list ops)
+    c.in-Ok.count c.cancel.result b c.cancel.ensures.cancels in
+    let keeper = c.cancel.ensures.keeper ∙ c.in-Ok.ensures.keeper in
+    rw (← c.self.view_is) (ap (λ (n : NodeState). n.boot) node)
 
 pub returns-then-is_some-clause-takes : goal.returns-then-is_some-clause-takes
 returns-then-is_some-clause-takes g c =
@@ -146,8 +167,8 @@ invariant_of-self-in_default g c =
     (set.of_list ops) c.in-Ok.count c.cancel-in_default.result b
     c.cancel-in_default.ensures.cancels in
     let keeper = c.cancel-in_default.ensures.keeper ∙ c.in-Ok.ensures.keeper in
-    subst (λ (n : NodeOver g.row.K.Denot). IsSound g.K.Keeper.custody n.keeper n.node.state
-    i.press.staged i.due i.is_stopped) (sym (same_over i.node c.cancel-in_default.new.self node
+    subst (λ (n : NodeOver g.row.K.Denot). IsSound g.K.Keeper.custody n.keeper n.node
+    i.press i.due i.is_stopped) (sym (same_over i.node c.cancel-in_default.new.self node
     keeper)) c.self.invariant
 
 pub returns-in_default-clause-number : goal.returns-in_default-clause-number
@@ -162,6 +183,19 @@ returns-in_default-clause-number g c =
     c.cancel-in_default.ensures.cancels in
     let keeper = c.cancel-in_default.ensures.keeper ∙ c.in-Ok.ensures.keeper in
     rw (← c.self.view_is) (ap (λ (n : NodeState). n.number) node)
+
+pub returns-in_default-clause-boot : goal.returns-in_default-clause-boot
+returns-in_default-clause-boot g c =
+    let i = c.self.inside in
+    let ops = ops_of c.args.parcel.now.packet in
+    let some : 0 < c.in-Ok.count = omega arith in
+    let b = brings i.node.node c.receive.new.self.node (set.of_list ops)
+    c.in-Ok.count some c.in-Ok.ensures.receives in
+    let node = undone i.node.node c.receive.new.self.node c.cancel-in_default.new.self.node
+    (set.of_list ops) c.in-Ok.count c.cancel-in_default.result b
+    c.cancel-in_default.ensures.cancels in
+    let keeper = c.cancel-in_default.ensures.keeper ∙ c.in-Ok.ensures.keeper in
+    rw (← c.self.view_is) (ap (λ (n : NodeState). n.boot) node)
 
 pub returns-in_default-clause-takes : goal.returns-in_default-clause-takes
 returns-in_default-clause-takes g c =
@@ -186,8 +220,6 @@ pub invariant_of-self-in-NoMemory : goal.invariant_of-self-in-NoMemory
 invariant_of-self-in-NoMemory g c =
     let i = c.self.inside in
     let ops = ops_of c.args.parcel.now.packet in
-    let runs = ap (λ (r : RegistrarOver g.row.K.Denot). r.stopped) c.self.view_is ∙ c.requires in
-    let none = no_waiting i.due (sym c.is_some.ensures ∙ c.if-is_some.false) in
     let some : 0 < c.in-Ok.count = omega arith in
     let b = brings i.node.node c.receive.new.self.node (set.of_list ops)
     c.in-Ok.count some c.in-Ok.ensures.receives in
@@ -196,8 +228,9 @@ invariant_of-self-in-NoMemory g c =
     in
     record {
       staged_is = c.self.invariant.staged_is;
-      stands = given_up_stands g.K.Keeper.custody i.node c.save.new.node (Received b.new) b.idle
-          (packet_back i.node.node b.new b.idle) i.is_stopped i.due runs none passes;
+      stands = back_stands g.K.Keeper.custody i.node c.save.new.node (Received b.new)
+          i.is_stopped i.due i.press.list c.self.invariant.stands
+          (packet_back i.node.node b.new b.idle) passes;
     }
 
 pub returns-in-NoMemory-clause-takes : goal.returns-in-NoMemory-clause-takes
@@ -242,10 +275,17 @@ invariant_of-self-2 g c =
     c.in-Ok.count some c.in-Ok.ensures.receives in
     let passes = become g.K.Keeper.custody i.node c.receive.new.self c.save.new.node
     (Received b.new) savings.Saved b.is c.in-Ok.ensures.keeper c.in-Saved.ensures.becomes in
+    let from = c.saved.ensures.saved ∙ ap (λ (n : NodeState). n.saved) b.is in
+    let these = c.as_slice.ensures ∙ c.args.parcel.now.same in
+    let it : c.in-Ok-news.new ≡ news_of i.node.node.saved ops = c.in-Ok-news.ensures
+    ∙ (λ j. news_of (from j) (these j)) in
+    let same : b.new ≡ c.in-Ok-news.new =
+    same_news i.node.node.number i.node.node.saved ops b.new b.lacking ∙ sym it in
     record {
       staged_is = c.self.invariant.staged_is ∙ ap staged_of none;
-      stands = due_stands g.K.Keeper.custody i.node c.save.new.node (Received b.new)
-          _ i.is_stopped runs passes;
+      stands = saved_stands g.K.Keeper.custody i.node c.save.new.node (Received b.new)
+          i.is_stopped i.due i.press.list c.self.invariant.stands (Received c.in-Ok-news.new)
+          (ap set.members same) runs none passes;
     }
 
 pub returns-then-is_err-clause-takes : goal.returns-then-is_err-clause-takes
