@@ -5,7 +5,8 @@ use Rattle.std.specs.List.Sorted.{IsStrictlySortedBy, IsNonDecreasingBy, IsParti
 use Rattle.std.specs.Ordering.{nat_cmp}
 use Rattle.std.proofs.lemmas.Bool.{cases_lt, false≢true}
 use Rattle.std.proofs.lemmas.Bool.Decides.{nat_tests}
-use Rattle.std.proofs.lemmas.List.{take-append-drop, length-take-le, length-drop, get_or-take, get_or-drop, take_all}
+use Rattle.std.proofs.lemmas.List.{take-append-drop, length-take-le, length-drop, get_or-take, get_or-drop, take_more, take_all, flat_map_more}
+use Rattle.std.proofs.lemmas.List.Concat.{flat_map-append}
 use Rattle.std.proofs.lemmas.List.Elements.{recursion_from_All, filter-append, All-drop, All-same}
 use Rattle.std.proofs.lemmas.List.Sorted.{IsNonDecreasingBy-take}
 use Rattle.std.proofs.lemmas.Map.Keys.{Less-from_sorted}
@@ -17,6 +18,7 @@ use Rattle.fl_opset.specs.Rank.{name_rank, op_rank}
 use Rattle.fl_opset.specs.Windows.{is_lacking}
 use Rattle.fl_opset.specs.laws.Fits.{within, too_low, too_high}
 use Rattle.fl_opset.proofs.Rising.{ranks_rise}
+use Rattle.fl_opset.proofs.Front.{front_kept, front_grows, front_full}
 use Rattle.fl_opset.proofs.Lacks.{outside, all_kept, none_kept, weaker}
 
 -- ---- the two searches
@@ -132,18 +134,52 @@ module _ (w : Intervals) where
       go false e h =
           h ∙ (λ i. sym (none_of it own.0 e) i ++ filter (is_lacking w) (all_ops ns)) ∙ sym (filter-append (is_lacking w) it.ops.items (all_ops ns))
 
-  -- after the walk over the entries of the window's nodes
-  pub lacking_walked : (ns mid : List NodeOps) (i : ℕ) (taken : List Op) → All AreOfNode ns → mid ≡ filter (is_between w.from.node w.to.node) ns → length mid ≤ i
-      → taken ≡ filter (is_lacking w) (all_ops (take i mid)) → taken ≡ filter (is_lacking w) (all_ops ns)
-  lacking_walked ns mid i taken own is done h =
-      h ∙ ap (λ l. filter (is_lacking w) (all_ops l)) (take_all i mid done ∙ is) ∙ lacking_between ns (recursion_from_All AreOfNode ns own)
+  -- what entries lack in parts
+  lacking_parted : (ns : List NodeOps) (i : ℕ)
+      → filter (is_lacking w) (all_ops ns) ≡ filter (is_lacking w) (all_ops (take i ns)) ++ filter (is_lacking w) (all_ops (drop i ns))
+  lacking_parted ns i =
+      ap (λ l. filter (is_lacking w) (all_ops l)) (sym (take-append-drop i ns))
+      ∙ ap (filter (is_lacking w)) (flat_map-append (λ (it : NodeOps). it.ops.items) (take i ns) (drop i ns))
+      ∙ filter-append (is_lacking w) (all_ops (take i ns)) (all_ops (drop i ns))
 
-  -- what the nodes of the window lack is lacking of all
-  pub some_between : (ns mid : List NodeOps) → All AreOfNode ns → mid ≡ filter (is_between w.from.node w.to.node) ns
-      → 0 < length (filter (is_lacking w) (all_ops mid)) → 0 < length (filter (is_lacking w) (all_ops ns))
-  some_between ns mid own is some =
-      let same = ap (λ l. length (filter (is_lacking w) (all_ops l))) is ∙ ap length (lacking_between ns (recursion_from_All AreOfNode ns own)) in
-      omega (arith, some, same)
+  -- of one entry more
+  module _ (most : ℕ) (ns : List NodeOps) (i : ℕ) (it : NodeOps) (inside : i < length ns) (is : it ≡ get_or ns i it) (ops taken : List Op) (same : ops ≡ it.ops.items)
+      (was : taken ≡ take most (filter (is_lacking w) (all_ops (take i ns)))) where
+    one_more : all_ops (take (i + 1) ns) ≡ all_ops (take i ns) ++ ops
+    one_more =
+        ap all_ops (take_more ns i it inside ∙ ap (λ y. take i ns ++ y ∷ []) (sym is)) ∙ sym (flat_map_more (λ (it : NodeOps). it.ops.items) [] (take i ns) it)
+        ∙ ap (λ l. all_ops (take i ns) ++ l) (sym same)
+
+    pub node_more : take most (taken ++ filter (is_lacking w) ops) ≡ take most (filter (is_lacking w) (all_ops (take (i + 1) ns)))
+    node_more =
+        ap (λ l. take most (l ++ filter (is_lacking w) ops)) was ∙ front_kept most (filter (is_lacking w) (all_ops (take i ns))) (filter (is_lacking w) ops)
+        ∙ ap (take most) (sym (filter-append (is_lacking w) (all_ops (take i ns)) ops)) ∙ ap (λ l. take most (filter (is_lacking w) l)) (sym one_more)
+
+    pub some_of_node : length taken < length (take most (taken ++ filter (is_lacking w) ops)) → 0 < length (take most (filter (is_lacking w) (all_ops ns)))
+    some_of_node some =
+        let grows = front_grows most (filter (is_lacking w) (all_ops (take (i + 1) ns))) (filter (is_lacking w) (all_ops (drop (i + 1) ns))) in
+        omega (arith, some, ap length node_more, grows, ap (λ l. length (take most l)) (lacking_parted ns (i + 1)))
+
+  module _ (ns mid : List NodeOps) (own : All AreOfNode ns) (is : mid ≡ filter (is_between w.from.node w.to.node) ns) where
+    same_lacking : filter (is_lacking w) (all_ops mid) ≡ filter (is_lacking w) (all_ops ns)
+    same_lacking = ap (λ l. filter (is_lacking w) (all_ops l)) is ∙ lacking_between ns (recursion_from_All AreOfNode ns own)
+
+    module _ (most i : ℕ) (taken : List Op) (was : taken ≡ take most (filter (is_lacking w) (all_ops (take i mid)))) where
+      -- after the walk over the entries of the window's nodes
+      pub lacking_walked : length mid ≤ i → taken ≡ take most (filter (is_lacking w) (all_ops ns))
+      lacking_walked done = was ∙ ap (λ l. take most (filter (is_lacking w) (all_ops l))) (take_all i mid done) ∙ ap (take most) same_lacking
+
+      -- once there are as many as are wanted
+      pub lacking_full : length taken ≡ most → taken ≡ take most (filter (is_lacking w) (all_ops ns))
+      lacking_full full =
+          let front = filter (is_lacking w) (all_ops (take i mid)) in
+          let behind = filter (is_lacking w) (all_ops (drop i mid)) in
+          sym (front_full most taken behind full) ∙ ap (λ l. take most (l ++ behind)) was ∙ front_kept most front behind
+          ∙ ap (take most) (sym (lacking_parted mid i) ∙ same_lacking)
+
+    -- what the nodes of the window lack is lacking of all
+    pub some_between : (most : ℕ) → 0 < length (take most (filter (is_lacking w) (all_ops mid))) → 0 < length (take most (filter (is_lacking w) (all_ops ns)))
+    some_between most some = omega (arith, some, ap (λ l. length (take most l)) same_lacking)
 
 pub ranks_of_entry : (ns : List NodeOps) (i : ℕ) (it : NodeOps) (ops : List Op) → All AreOfNode ns → i < length ns → it ≡ get_or ns i it → ops ≡ it.ops.items → IsNonDecreasingBy op_rank ops
 ranks_of_entry ns i it ops own inside is same =

@@ -29,3 +29,4 @@ pub mod Entries
 pub mod Passed
 pub mod Between
 pub mod Each
+pub mod Front

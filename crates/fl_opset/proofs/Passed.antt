@@ -1,9 +1,9 @@
 -- Spans below all of the operations, which a search leaves out.
-use Rattle.std.proofs.Common.{◌≡◌, ℕ, ◌+◌, ◌-◌, ◌<◌, ◌≤◌, true, ◌||◌, not, cond, List, [], ◌∷◌, ◌++◌, length, get_or, take, drop, refl, sym, ap, subst, ◌∙◌, append-nil, arith, eqb, Result, Ok, Err, OnOk, is_ok}
+use Rattle.std.proofs.Common.{◌≡◌, ℕ, ◌+◌, ◌-◌, ◌<◌, ◌≤◌, true, ◌||◌, not, List, [], ◌∷◌, ◌++◌, length, get_or, take, drop, refl, sym, ap, subst, ◌∙◌, append-nil, arith, eqb}
 use Rattle.std.specs.List.{All, AllByRecursion, filter, list_any}
 use Rattle.std.specs.List.Sorted.{IsNonDecreasingBy}
 use Rattle.std.proofs.lemmas.Bool.Decides.{nat_tests}
-use Rattle.std.proofs.lemmas.List.{take-append-drop, take_rest}
+use Rattle.std.proofs.lemmas.List.{take-append-drop, take_all, take_rest}
 use Rattle.std.proofs.lemmas.List.Elements.{recursion_from_All}
 use Rattle.fl_ops.specs.declared.op.Op.{Op}
 use Rattle.fl_opset.specs.declared.span.Span.{Span}
@@ -11,6 +11,7 @@ use Rattle.fl_opset.specs.declared.intervals.Intervals.{Intervals}
 use Rattle.fl_opset.specs.Rank.{name_rank, op_rank, last_rank, least_rank, greatest_rank}
 use Rattle.fl_opset.specs.Spans.{in_span, fit}
 use Rattle.fl_opset.specs.laws.Fits.{too_high, fit_at, at_fit, fit_drop}
+use Rattle.fl_opset.proofs.Front.{front_full}
 use Rattle.fl_opset.proofs.Lacks.{outside, same_kept, weaker, rest_above, rest_taken}
 
 -- spans that fit between two ranks fit between any two around these
@@ -70,12 +71,16 @@ pub no_length : (n : ℕ) → eqb n 0 ≡ true → n ≡ 0
 no_length n h = grind (arith, nat_tests)
 
 -- nothing is left
-pub none_left : (ss : List Span) (rest taken wanted : List Op) → length rest ≡ 0 → taken ++ filter (outside ss) rest ≡ wanted → taken ≡ wanted
-none_left ss rest taken wanted none was =
-    sym (ap (λ l. taken ++ filter (outside ss) l) (empty rest none) ∙ append-nil taken) ∙ was
+pub none_left : (most : ℕ) (ss : List Span) (rest taken wanted : List Op) → length taken ≤ most → length rest ≡ 0 → take most (taken ++ filter (outside ss) rest) ≡ wanted → taken ≡ wanted
+none_left most ss rest taken wanted few none was =
+    sym (ap (λ l. take most (taken ++ filter (outside ss) l)) (empty rest none) ∙ ap (take most) (append-nil taken) ∙ take_all most taken few) ∙ was
+
+-- there are as many as are wanted
+pub none_more : (most many : ℕ) (ss : List Span) (rest taken wanted : List Op) → many ≡ length taken → many ≡ most → take most (taken ++ filter (outside ss) rest) ≡ wanted → taken ≡ wanted
+none_more most many ss rest taken wanted count full was = sym (front_full most taken (filter (outside ss) rest) (sym count ∙ full)) ∙ was
 
 -- the rest is taken after all spans
-pub rest_added : {T E : Type 0} (all : List Span) (i : ℕ) (wanted rest taken more : List Op) (r : Result T E) → length all ≤ i → more ≡ cond (is_ok r) (taken ++ rest) taken
-    → taken ++ filter (outside (drop i all)) rest ≡ wanted → OnOk r (more ≡ wanted)
-rest_added all i wanted rest taken more (Ok x) done new was = rest_taken all i wanted rest taken more done new was
-rest_added all i wanted rest taken more (Err e) done new was = tt
+pub rest_front : (most : ℕ) (all : List Span) (i : ℕ) (rest taken wanted : List Op) → length all ≤ i
+    → take most (taken ++ filter (outside (drop i all)) rest) ≡ wanted → take most (taken ++ rest) ≡ wanted
+rest_front most all i rest taken wanted done was =
+    ap (take most) (rest_taken all i (taken ++ filter (outside (drop i all)) rest) rest taken (taken ++ rest) done refl refl) ∙ was

@@ -1,5 +1,5 @@
 //! Sets of operations, by the node that made them.
-ghost use Rattle.std.specs.Prelude.{◌≡◌, ◌≢◌, ◌≤◌, ◌<◌, ◌↔◌, IsTrue, IfOk, IfSome, IfNone, OnOk, OnErr, false, not, ◌&&◌, is_ok, length};
+ghost use Rattle.std.specs.Prelude.{◌≡◌, ◌≢◌, ◌≤◌, ◌<◌, ◌↔◌, IsTrue, IfOk, IfSome, IfNone, OnOk, OnErr, false, not, ◌&&◌, is_ok, length, take};
 ghost use Rattle.std.specs.List.{Contains};
 ghost use Rattle.std.specs.List.Sorted.{IsStrictlySortedBy};
 ghost use Rattle.fl_labels.specs.Found.{Tells, Within};
@@ -360,16 +360,23 @@ impl OpSet {
         windows_of(alloc, &spans)
     }
 
-    /// The members whose name is in the window and in none of its spans, rising. Two binary
-    /// searches find the nodes of the window, and of no other is a member looked at. Of each it
-    /// finds the window by searches in steps that double, walks no further than it, searches twice
-    /// for each span, by the logarithm of the members in it, and is then linear in what is lacking.
-    /// An error says that there was no memory for it, and comes only where something is lacking.
-    pub fn lacking(&self, alloc: Global, window: &Intervals) -> Result<Vec<Op>, AllocError>
-        ensures ok { IfOk result (λ ops. ops.items ≡ lacking self.now window.now) }
-        ensures wants { OnErr result (0 < length (lacking self.now window.now)) }
+    /// The first members whose name is in the window and in none of its spans, rising: as many as
+    /// are wanted at most. Two binary searches find the nodes of the window. No member of another
+    /// node is looked at, nor of a node behind that of the last one it answers. Of each it finds
+    /// the window by searches in steps that double, walks no further than it, searches twice for
+    /// each span, by the logarithm of the members in it, until it has as many as are wanted, and is
+    /// then linear in what it answers, and copies that alone. An error says that there was no
+    /// memory for it, and comes only where it would answer something.
+    pub fn lacking(
+        &self,
+        alloc: Global,
+        window: &Intervals,
+        most: usize,
+    ) -> Result<Vec<Op>, AllocError>
+        ensures ok { IfOk result (λ ops. ops.items ≡ take most (lacking self.now window.now)) }
+        ensures wants { OnErr result (0 < length (take most (lacking self.now window.now))) }
     {
-        lacking_of(alloc, &self.nodes, window)
+        lacking_of(alloc, &self.nodes, window, most)
     }
 
     /// Puts the text of the members into a sink, a line for each, rising: `1.1 tag export`, `1.2

@@ -1,5 +1,5 @@
 //! Walks over the operations of each node.
-ghost use Rattle.std.specs.Prelude.{◌≡◌, ◌<◌, ◌≤◌, ◌++◌, ◌&&◌, [], true, OnOk, OnErr, IfOk, length, nat_le};
+ghost use Rattle.std.specs.Prelude.{◌≡◌, ◌<◌, ◌≤◌, ◌++◌, ◌&&◌, [], true, OnOk, OnErr, IfOk, length, take, nat_le};
 ghost use Rattle.std.specs.List.{flat_map, filter};
 ghost use Rattle.std.specs.List.Sorted.{IsStrictlySortedBy};
 ghost use Rattle.fl_labels.specs.Found.{Tells, Within};
@@ -126,22 +126,28 @@ fn nodes_between(nodes: &[NodeOps], first: NodeNumber, last: NodeNumber) -> &[No
     between
 }
 
-/// The operations that the window lacks, rising. Two binary searches find its nodes, and no other
-/// one is looked at; for each of them it costs what [`add_lacking`] does. An error says that there
-/// was no memory for them, and comes only where something is lacking.
+/// The first operations that the window lacks, rising: as many as are wanted at most. Two binary
+/// searches find its nodes, and no other one is looked at, nor one behind the last one wanted; for
+/// each of them it costs what [`add_lacking`] does. An error says that there was no memory for
+/// them, and comes only where there are some.
 pub fn lacking_of(
     alloc: Global,
     nodes: &[NodeOps],
     window: &Intervals,
+    most: usize,
 ) -> Result<Vec<Op>, AllocError>
     requires { AreByNode nodes.now }
-    ensures ok { IfOk result
-        (λ lacking. lacking.items ≡ filter (is_lacking window.now) (all_ops nodes.now)) }
-    ensures wants { OnErr result (0 < length (filter (is_lacking window.now) (all_ops nodes.now))) }
+    ensures ok { IfOk result (λ lacking.
+        lacking.items ≡ take most (filter (is_lacking window.now) (all_ops nodes.now))) }
+    ensures wants { OnErr result
+        (0 < length (take most (filter (is_lacking window.now) (all_ops nodes.now)))) }
 {
     let mut lacking = Vec::new(alloc);
     for it in nodes_between(nodes, window.from.node, window.to.node) {
-        add_lacking(&it.ops, window, &mut lacking)?;
+        if lacking.len() == most {
+            return Ok(lacking);
+        }
+        add_lacking(&it.ops, window, most, &mut lacking)?;
     }
     Ok(lacking)
 }
