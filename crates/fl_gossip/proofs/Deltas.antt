@@ -1,5 +1,5 @@
 -- Operations cut into deltas.
-use Rattle.std.proofs.Common.{◌≡◌, ◌<◌, ◌≤◌, ◌+◌, ◌-◌, ℕ, get_or, nat_le, ◌&&◌, not, Bool, true, false, cond, List, [], ◌∷◌, ◌++◌, length, take, drop, refl, sym, ap, subst, ◌∙◌, arith, append_assoc, append-nil, Result, Ok, Err, OnErr, Ordering, Less, Equal, Greater}
+use Rattle.std.proofs.Common.{◌≡◌, ◌<◌, ◌≤◌, ◌+◌, ◌-◌, ◌*◌, ◌^◌, ℕ, inl, inr, min, get_or, nat_le, ◌&&◌, not, Bool, true, false, cond, List, [], ◌∷◌, ◌++◌, length, take, drop, refl, sym, ap, subst, ◌∙◌, arith, append_assoc, append-nil, Result, Ok, Err, OnErr, Ordering, Less, Equal, Greater}
 use Rattle.std.specs.Cmp.{tied_itself}
 use Rattle.std.specs.List.{Contains, filter, flat_map, list_any, AllByRecursion}
 use Rattle.std.specs.List.Sorted.{IsStrictlySortedBy}
@@ -7,9 +7,11 @@ use Rattle.std.specs.Ordering.{ordering_then}
 use Rattle.std.proofs.lemmas.Grind.{flat_map-append}
 use Rattle.std.proofs.lemmas.List.{take-append-drop, take_all, take_more, length-append, length-take-le, flat_map_more, nil_from_length}
 use Rattle.std.proofs.lemmas.List.Elements.{recursion_from_All, All-contains_itself}
-use Rattle.std.proofs.lemmas.Bool.{le-leb}
+use Rattle.std.proofs.lemmas.Bool.{le-leb, cases_lt}
+use Rattle.std.proofs.Math.Nat.{min-eq_left, min-eq_right}
+use Rattle.std.proofs.Math.Seq.{take-nil}
 use Rattle.fl_labels.specs.NameOrder.{name_exact}
-use Rattle.fl_labels.specs.SetBy.{SetBy, In, members, members_rise}
+use Rattle.fl_labels.specs.SetBy.{SetBy, In, members, members_rise, len}
 use Rattle.fl_ops.specs.declared.op.Op.{Op}
 use Rattle.fl_ops.specs.OpOrder.{op_cmp}
 use Rattle.fl_ops.specs.OpLaws.{op_total}
@@ -21,10 +23,12 @@ use Rattle.fl_opset.specs.Rank.{name_rank}
 use Rattle.fl_opset.specs.Spans.{in_span}
 use Rattle.fl_opset.specs.Windows.{is_lacking, lacking}
 use Rattle.fl_opset.specs.laws.Members.{lacking_member}
+use Rattle.fl_opset.proofs.Front.{front_kept, front_grows, front_short, front_full, front_added}
 use Rattle.fl_wire.specs.declared.packet.Packet.{Packet}
 use Rattle.fl_wire.specs.NameOrder.{by_name}
 use Rattle.fl_gossip.specs.Taking.{ops_of}
 use Rattle.fl_gossip.specs.Replying.{IsDelta, AreDeltas, AreInDeltas}
+use Rattle.fl_gossip.specs.laws.Wanted.{lacking_few, all_wanted}
 use Rattle.fl_gossip.specs.parts.Filling.{AreFull, AreFilled, filled}
 use Rattle.fl_gossip.specs.parts.Nothing.{IsOfNothing}
 
@@ -191,42 +195,88 @@ pub wanted : {T E P : Type 0} (r : Result T E) → P → OnErr r P
 wanted (Ok x) h = tt
 wanted (Err e) h = h
 
--- ---- the operations of each node in turn
-
--- those of the first nodes are filled in
-pub record FilledOf (nodes : List NodeOps) (i : ℕ) (deltas : List Packet) (waiting : List Op) : Type 0 where
-  pub state : AreFilled deltas waiting
-  pub whole : filled deltas waiting ≡ all_ops (take i nodes)
-
-pub filled_none : (nodes : List NodeOps) (deltas : List Packet) (waiting : List Op) → deltas ≡ [] → waiting ≡ [] → FilledOf nodes 0 deltas waiting
-filled_none nodes deltas waiting none empty =
-    subst (λ l. FilledOf nodes 0 l waiting) (sym none) (subst (λ l. FilledOf nodes 0 [] l) (sym empty) (record { state = record { full = tt; few = omega arith }; whole = refl }))
-
 pub none_filled : (deltas : List Packet) (waiting ops : List Op) → deltas ≡ [] → waiting ≡ [] → filled deltas waiting ++ ops ≡ ops
 none_filled deltas waiting ops none empty = λ i. filled (none i) (empty i) ++ ops
 
-module _ (nodes : List NodeOps) (i : ℕ) (x : NodeOps) (inside : i < length nodes) (at : x ≡ get_or nodes i x) (deltas : List Packet) (waiting ops : List Op) (f : FilledOf nodes i deltas waiting) (is : ops ≡ x.ops.items) where
-  one_node_more : filled deltas waiting ++ ops ≡ all_ops (take (i + 1) nodes)
-  one_node_more =
-      (λ k. f.whole k ++ is k) ∙ flat_map_more (λ (it : NodeOps). it.ops.items) [] (take i nodes) x
-      ∙ ap all_ops (ap (λ y. take i nodes ++ y ∷ []) at ∙ sym (take_more nodes i x inside))
+-- ---- the first operations of each node in turn
 
-  pub with_node_rises : IsStrictlySortedBy by_name (all_ops nodes) → IsStrictlySortedBy by_name (filled deltas waiting ++ ops)
-  with_node_rises up =
-      let split : all_ops (take (i + 1) nodes) ++ all_ops (drop (i + 1) nodes) ≡ all_ops nodes =
-      sym (flat_map-append (λ (it : NodeOps). it.ops.items) (take (i + 1) nodes) (drop (i + 1) nodes)) ∙ ap all_ops (take-append-drop (i + 1) nodes) in
-      subst (IsStrictlySortedBy by_name) (sym one_node_more) (front_rises by_name (all_ops (take (i + 1) nodes)) (all_ops (drop (i + 1) nodes)) (subst (IsStrictlySortedBy by_name) (sym split) up))
+pub taken_rises : {K : Type 0} (R : K → K → Ordering) (n : ℕ) (xs : List K) → IsStrictlySortedBy R xs → IsStrictlySortedBy R (take n xs)
+taken_rises R n xs up = front_rises R (take n xs) (drop n xs) (subst (IsStrictlySortedBy R) (sym (take-append-drop n xs)) up)
 
-  -- where it wanted memory, something is lacking
-  pub node_lacks : (all : List Op) → all_ops nodes ≡ all → 0 < length (filled deltas waiting ++ ops) → 0 < length all
-  node_lacks all same some =
-      let rest = all_ops (drop (i + 1) nodes) in
-      let split : all_ops (take (i + 1) nodes) ++ rest ≡ all_ops nodes =
-      sym (flat_map-append (λ (it : NodeOps). it.ops.items) (take (i + 1) nodes) (drop (i + 1) nodes)) ∙ ap all_ops (take-append-drop (i + 1) nodes) in
-      omega (arith, some, ap length one_node_more, length-append (all_ops (take (i + 1) nodes)) rest, ap length (split ∙ same))
+-- those of the first nodes are filled in, as many as are wanted
+pub record FilledOf (most : ℕ) (nodes : List NodeOps) (i : ℕ) (deltas : List Packet) (waiting : List Op) (left : ℕ) : Type 0 where
+  pub state : AreFilled deltas waiting
+  pub whole : filled deltas waiting ≡ take most (all_ops (take i nodes))
+  pub room : left ≡ most - length (filled deltas waiting)
 
-  pub with_node : (more : List Packet) (now : List Op) → AreFilled more now → filled more now ≡ filled deltas waiting ++ ops → FilledOf nodes (i + 1) more now
-  with_node more now state all = record { state = state; whole = all ∙ one_node_more }
+pub filled_none : (most : ℕ) (nodes : List NodeOps) (deltas : List Packet) (waiting : List Op) → deltas ≡ [] → waiting ≡ [] → FilledOf most nodes 0 deltas waiting most
+filled_none most nodes deltas waiting none empty =
+    subst (λ l. FilledOf most nodes 0 l waiting most) (sym none)
+    (subst (λ l. FilledOf most nodes 0 [] l most) (sym empty) (record { state = record { full = tt; few = omega arith }; whole = sym (take-nil most); room = omega arith }))
 
-pub filled_all : (nodes : List NodeOps) (i : ℕ) (deltas : List Packet) (waiting : List Op) → length nodes ≤ i → FilledOf nodes i deltas waiting → filled deltas waiting ≡ all_ops nodes
-filled_all nodes i deltas waiting done f = f.whole ∙ ap all_ops (take_all i nodes done)
+module _ (nodes : List NodeOps) (i : ℕ) where
+  parted_nodes : all_ops (take i nodes) ++ all_ops (drop i nodes) ≡ all_ops nodes
+  parted_nodes = sym (flat_map-append (λ (it : NodeOps). it.ops.items) (take i nodes) (drop i nodes)) ∙ ap all_ops (take-append-drop i nodes)
+
+module _ (most : ℕ) (nodes : List NodeOps) (i : ℕ) (deltas : List Packet) (waiting : List Op) (left : ℕ) (f : FilledOf most nodes i deltas waiting left) where
+  filled_few : length (filled deltas waiting) ≤ most
+  filled_few = omega (arith, ap length f.whole, front_short most (all_ops (take i nodes)))
+
+  pub filled_all : length nodes ≤ i → filled deltas waiting ≡ take most (all_ops nodes)
+  filled_all done = f.whole ∙ ap (λ l. take most (all_ops l)) (take_all i nodes done)
+
+  -- once there is no room left
+  pub filled_up : left ≡ 0 → filled deltas waiting ≡ take most (all_ops nodes)
+  filled_up none =
+      let behind = all_ops (drop i nodes) in
+      let full : length (filled deltas waiting) ≡ most = omega (arith, none, f.room, filled_few) in
+      sym (front_full most (filled deltas waiting) behind full) ∙ ap (λ l. take most (l ++ behind)) f.whole ∙ front_kept most (all_ops (take i nodes)) behind
+      ∙ ap (take most) (parted_nodes nodes i)
+
+  module _ (x : NodeOps) (inside : i < length nodes) (at : x ≡ get_or nodes i x) (ops front : List Op) (place : ℕ) (is : ops ≡ x.ops.items) (least : place ≡ min (length ops) left) (is_front : front ≡ take place ops) where
+    one_node_more : filled deltas waiting ++ front ≡ take most (all_ops (take (i + 1) nodes))
+    one_node_more =
+        front_added most left place (filled deltas waiting) ops front f.room filled_few least is_front
+        ∙ ap (λ l. take most (l ++ ops)) f.whole ∙ front_kept most (all_ops (take i nodes)) ops
+        ∙ ap (take most) (ap (λ l. all_ops (take i nodes) ++ l) is ∙ flat_map_more (λ (it : NodeOps). it.ops.items) [] (take i nodes) x
+        ∙ ap all_ops (ap (λ y. take i nodes ++ y ∷ []) at ∙ sym (take_more nodes i x inside)))
+
+    pub with_node_rises : IsStrictlySortedBy by_name (all_ops nodes) → IsStrictlySortedBy by_name (filled deltas waiting ++ front)
+    with_node_rises up =
+        subst (IsStrictlySortedBy by_name) (sym one_node_more)
+        (taken_rises by_name most (all_ops (take (i + 1) nodes))
+        (front_rises by_name (all_ops (take (i + 1) nodes)) (all_ops (drop (i + 1) nodes)) (subst (IsStrictlySortedBy by_name) (sym (parted_nodes nodes (i + 1))) up)))
+
+    -- where it wanted memory, something is wanted
+    pub node_lacks : 0 < length (filled deltas waiting ++ front) → 0 < length (take most (all_ops nodes))
+    node_lacks some =
+        omega (arith, some, ap length one_node_more, front_grows most (all_ops (take (i + 1) nodes)) (all_ops (drop (i + 1) nodes)), ap (λ l. length (take most l)) (parted_nodes nodes (i + 1)))
+
+    pub with_node : (more : List Packet) (now : List Op) (room : ℕ) → AreFilled more now → filled more now ≡ filled deltas waiting ++ front → room ≡ left - length front → FilledOf most nodes (i + 1) more now room
+    with_node more now room state all less = record {
+      state = state;
+      whole = all ∙ one_node_more;
+      room = omega (arith, less, f.room, ap length all, length-append (filled deltas waiting) front);
+    }
+
+-- no more than there are of what is lacking
+module _ (s : SetBy op_cmp) (w : Intervals) (most product there wanted : ℕ) (is_product : product ≡ min (most * 64) (2 ^ 64 - 1)) (is_there : there ≡ len s) (small : there < 2 ^ 64) (is : wanted ≡ min product there) where
+  pub front_wanted : take wanted (lacking s w) ≡ take (64 * most) (lacking s w)
+  front_wanted = elim (cases_lt there (64 * most)) [
+    | inl less ↦ all_wanted s w wanted (is ∙ min-eq_right (enough less) ∙ is_there) ∙ sym (take_all (64 * most) (lacking s w) (omega (arith, less, is_there, lacking_few s w)))
+    | inr some ↦ ap (λ n. take n (lacking s w)) (is ∙ min-eq_left (omega (arith, fits some, some)) ∙ fits some)
+  ]
+    where
+      fits : 64 * most ≤ there → product ≡ 64 * most
+      fits some =
+          let turned : most * 64 ≡ 64 * most = omega arith in
+          is_product ∙ min-eq_left (omega (arith, some, small)) ∙ turned
+
+      enough : there < 64 * most → there ≤ product
+      enough less = elim (cases_lt (most * 64) (2 ^ 64 - 1)) [
+        | inl fit ↦ omega (arith, less, is_product ∙ min-eq_left (weak fit))
+        | inr over ↦ omega (arith, small, is_product ∙ min-eq_right over)
+      ]
+        where
+          weak : most * 64 < 2 ^ 64 - 1 → most * 64 ≤ 2 ^ 64 - 1
+          weak fit = omega (arith, fit)

@@ -1,3 +1,5 @@
 -- Lemmas that the crates above cite.
 pub mod Leasts
 pub mod Rising
+pub mod OneCutting
+pub mod Wanted

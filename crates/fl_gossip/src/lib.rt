@@ -3,6 +3,7 @@
 
 mod ahead;
 pub mod fault;
+pub mod laws;
 pub mod meeting;
 pub mod replying;
 pub mod taking;

@@ -1,8 +1,9 @@
 //! What is answered to a window.
-ghost use Rattle.std.specs.Prelude.{◌≡◌, ◌<◌, ◌≤◌, ◌++◌, length, vec_len, IfOk, OnOk, OnErr};
+ghost use Rattle.std.specs.Prelude.{◌≡◌, ◌<◌, ◌≤◌, ◌*◌, ◌++◌, length, take, vec_len, IfOk, OnOk, OnErr};
 ghost use Rattle.std.specs.List.Sorted.{IsStrictlySortedBy};
 ghost use Rattle.fl_labels.specs.Found.{Tells};
 ghost use Rattle.fl_labels.specs.SetBy.{In};
+ghost use Rattle.fl_opset.specs.ByNode.{all_ops};
 ghost use Rattle.fl_opset.specs.Catching.{HaveNoClash};
 ghost use Rattle.fl_opset.specs.Windows.{lacking};
 ghost use Rattle.fl_wire.specs.NameOrder.{by_name};
@@ -13,6 +14,7 @@ ghost use Rattle.fl_gossip.specs.parts.Nothing.{IsOfNothing};
 
 use fl_ops::op::Op;
 use fl_opset::intervals::Intervals;
+use fl_opset::node_ops::NodeOps;
 use fl_opset::rank::rank;
 use fl_opset::set::OpSet;
 use fl_wire::batch::{Batch, MOST_OPS, OpList};
@@ -85,6 +87,53 @@ fn is_of_nothing(window: &Intervals) -> bool
         && rank(window.to) == GREATEST_RANK
 }
 
+// The first of the nodes' operations, as many as are wanted at most, as [`reply`] has them. Copies
+// no other one, and looks at no node behind the last one wanted. An error says that there was no
+// memory for them, and comes only where there are some.
+fn first_of(alloc: Global, nodes: &[NodeOps], most: usize) -> Result<Vec<Packet>, AllocError>
+    requires { IsStrictlySortedBy by_name (all_ops nodes.now) }
+    ensures ok { IfOk result (λ packets.
+        AreInDeltas (take most (all_ops nodes.now)) packets.items) }
+    ensures wants { OnErr result (0 < length (take most (all_ops nodes.now))) }
+{
+    let mut deltas = Vec::new(alloc);
+    let mut waiting = Vec::new(alloc);
+    let mut left = most;
+    for entry in nodes {
+        if left == 0 {
+            return finished(deltas, waiting);
+        }
+        let ops = entry.ops();
+        let (front, _) = ops.split_at(ops.len().min(left));
+        fill(&mut deltas, &mut waiting, front)?;
+        left -= front.len();
+    }
+    finished(deltas, waiting)
+}
+
+// The first of what the window lacks, as many as are wanted at most, as [`reply`] has it. An error
+// says that there was no memory for it, and comes only where there is something.
+fn reply_of(
+    alloc: Global,
+    saved: &OpSet,
+    window: &Intervals,
+    most: usize,
+) -> Result<Vec<Packet>, AllocError>
+    requires { HaveNoClash (In saved.now) (In saved.now) }
+    ensures ok { IfOk result (λ packets.
+        AreInDeltas (take most (lacking saved.now window.now)) packets.items) }
+    ensures wants { OnErr result (0 < length (take most (lacking saved.now window.now))) }
+{
+    if is_of_nothing(window) {
+        return first_of(alloc, saved.by_node(), most);
+    }
+    let mut deltas = Vec::new(alloc);
+    let mut waiting = Vec::new(alloc);
+    let ops = saved.lacking(alloc, window, most)?;
+    fill(&mut deltas, &mut waiting, &ops)?;
+    finished(deltas, waiting)
+}
+
 /// What the window lacks of the set, which has each name once: deltas of 64 operations, the last
 /// one shorter, rising. Linear in what is lacking, which is copied once where the window has
 /// nothing, and else twice, after two searches a span. An error says that there was no memory for
@@ -94,15 +143,25 @@ pub fn reply(alloc: Global, saved: &OpSet, window: &Intervals) -> Result<Vec<Pac
     ensures ok { IfOk result (λ packets. AreInDeltas (lacking saved.now window.now) packets.items) }
     ensures wants { OnErr result (0 < length (lacking saved.now window.now)) }
 {
-    let mut deltas = Vec::new(alloc);
-    let mut waiting = Vec::new(alloc);
-    if !is_of_nothing(window) {
-        let ops = saved.lacking(alloc, window)?;
-        fill(&mut deltas, &mut waiting, &ops)?;
-        return finished(deltas, waiting);
-    }
-    for entry in saved.by_node() {
-        fill(&mut deltas, &mut waiting, entry.ops())?;
-    }
-    finished(deltas, waiting)
+    reply_of(alloc, saved, window, saved.len())
+}
+
+/// The first packets of what [`reply`] answers, so many at most. They are the same packets, by
+/// [`crate::laws::law_front`]. Linear in what they hold, which is copied as often as there, after
+/// two searches for each span before the last of it: no operation behind that is copied, and no
+/// node behind that of the last one is looked at. An error says that there was no memory for them,
+/// and comes only where there are some.
+pub fn reply_front(
+    alloc: Global,
+    saved: &OpSet,
+    window: &Intervals,
+    most: usize,
+) -> Result<Vec<Packet>, AllocError>
+    requires { HaveNoClash (In saved.now) (In saved.now) }
+    ensures ok { IfOk result (λ packets.
+        AreInDeltas (take (64 * most) (lacking saved.now window.now)) packets.items) }
+    ensures wants { OnErr result (0 < length (take (64 * most) (lacking saved.now window.now))) }
+{
+    let wanted = most.saturating_mul(MOST_OPS).min(saved.len());
+    reply_of(alloc, saved, window, wanted)
 }
