@@ -7,7 +7,7 @@ use crate::bytes::bytes_of;
 use crate::packets::push_packet;
 use crate::rows::parts;
 use fl_gossip::fault::GossipFault;
-use fl_gossip::replying::reply;
+use fl_gossip::replying::{reply, reply_front};
 use fl_gossip::taking::take;
 use fl_labels::name::{Name, NodeNumber};
 use fl_ops::op::{Body, Op, Policy};
@@ -96,6 +96,7 @@ pub fn say(alloc: Global, out: &mut String, what: &str, rest: &str) -> Result<()
         "windows" => windows(alloc, out, &saved),
         "copy" => compare(out, &saved.copy(alloc)?, &saved),
         "take" => take_all(alloc, out, &saved, second),
+        "front" => push_front(alloc, out, &saved, second),
         _ => answer_other(alloc, out, &saved, second),
     }
 }
@@ -162,6 +163,21 @@ fn answer(
 {
     let packets = reply(alloc, saved, window)?;
     take_each(alloc, out, &packets, other)
+}
+
+// The first packets, so many at most, of what the set replies to each window of another one.
+fn push_front(alloc: Global, out: &mut String, saved: &OpSet, rest: &str) -> Result<(), AllocError>
+    requires { HaveNoClash (In saved.now) (In saved.now) }
+{
+    let (name, digits) = parts(rest);
+    let other = named(alloc, name)?;
+    for window in other.have(alloc)? {
+        for packet in reply_front(alloc, saved, &window, digits.parse().unwrap_or(0))? {
+            push_packet(alloc, out, &packet, &[])?;
+        }
+        out.push(';')?;
+    }
+    Ok(())
 }
 
 fn take_each(
@@ -259,3 +275,15 @@ reply tag whole => ;not all
 copy whole => all
 reply 64 none => 643 ;all
 reply all odd => 643 643 643 643 643 643 643 633 ;f2030102020000000100000400;all";
+
+/// The first packets of such replies, so many at most.
+pub const FRONTS: &str = "\
+front all none 0 => ;
+front none none 1 => ;
+front all none 2 => 643 643 ;
+front 64 none 2 => 643 ;
+front all none 18446744073709551615 => 643 643 643 643 643 643 643 643 \
+643 643 643 643 643 643 643 643 f2030102020000000100000401;
+front all gap 1 => 643 ;
+front all odd 1 => 643 ;f2030102020000000100000400;
+front all odd 8 => 643 643 643 643 643 643 643 633 ;f2030102020000000100000400;";

@@ -94,6 +94,7 @@ fn rows_have_their_answers(rt: HostRuntime) -> Result<(), AllocError> {
         gossip::TAKEN,
         gossip::WINDOWS,
         gossip::REPLIES,
+        gossip::FRONTS,
     ] {
         check(&rt, rows)?;
     }
