@@ -107,7 +107,10 @@ impl Sets {
 
     fn lacking(&self) -> Result<usize, Fail> {
         match self.windows.first() {
-            Some(window) => Ok(self.whole.lacking(self.alloc, window)?.len()),
+            Some(window) => {
+                let lacking = self.whole.lacking(self.alloc, window, self.whole.len())?;
+                Ok(lacking.len())
+            }
             None => Ok(0),
         }
     }
