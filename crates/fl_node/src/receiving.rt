@@ -100,7 +100,7 @@ impl<K: Keeper> Node<K> {
         match packet {
             Packet::Full(_) => self.count(alloc, packet),
             Packet::Delta(_) => self.count(alloc, packet),
-            Packet::Have(window) => match self.saved.lacking(alloc, window) {
+            Packet::Have(window) => match self.saved.lacking(alloc, window, self.saved.len()) {
                 Ok(lacking) => Ok(lacking.len() as u64),
                 Err(_) => Err(Fault::Refused(Refusal::Memory)),
             },
