@@ -33,7 +33,8 @@ use Rattle.fl_calls.specs.declared.response.Check.{Check}
 use Rattle.fl_calls.specs.declared.response.Response.{Response}
 use Rattle.fl_calls.specs.declared.response.Response.TheVariants as response
 use Rattle.fl_calls.specs.Answer.{text, checked, bad_packet, lent, registry_of, shown}
-use Rattle.fl_calls.specs.Calls.{counted, Spells, Tells, Unites, ChecksAt}
+use Rattle.fl_wire.specs.Spelling.{Spells}
+use Rattle.fl_calls.specs.Calls.{counted, Tells, Unites, ChecksAt}
 use Rattle.fl_calls.specs.Completing.{starved}
 use Rattle.fl_calls.proofs.Going.{there}
 

@@ -3,11 +3,9 @@ use Rattle.std.specs.Prelude.{◌≡◌, ◌<◌, ◌⊎◌, ℕ, Bool, true, fa
 use Rattle.std.specs.declared.option.Option.TheVariants.{None, Some}
 use Rattle.std.specs.declared.result.Result.TheVariants.{Ok, Err}
 use Rattle.fl_labels.specs.SetBy as set
-use Rattle.fl_ops.specs.declared.format.Format.{Format}
 use Rattle.fl_ops.specs.Grammar.{first_fault}
-use Rattle.fl_wire.specs.PacketBytes.{packet_bytes}
-use Rattle.fl_wire.specs.PacketFits.{HasPacket}
 use Rattle.fl_wire.specs.PacketGrammar.{packet_kept, packet_fields}
+use Rattle.fl_wire.specs.Spelling.{Spells}
 use Rattle.fl_wire.specs.declared.packet.Packet.{Packet}
 use Rattle.fl_wire.specs.declared.packet.Packet.TheVariants as packets
 use Rattle.fl_system.specs.declared.answer.Fault.{Fault}
@@ -100,12 +98,6 @@ counted (packets.Full batch) count = New count
 counted (packets.Have window) count = Lacks count
 counted (packets.Delta batch) count = New count
 counted (packets.Data d) count = Data
-
--- these bytes spell the packet, in one of the formats
-pub record Spells (bytes : List ℕ) (packet : Packet) : Type 0 where
-  pub format : Format
-  pub has : HasPacket format packet
-  pub written : packet_bytes format packet ≡ bytes
 
 -- What a packet of these bytes would bring to the node of this number is told.
 pub data ChecksAt (w : World) (number : ℕ) (bytes : List ℕ) : Answer → World → Type 0 where

@@ -9,7 +9,7 @@ ghost use Rattle.fl_calls.specs.Answer.{shown};
 ghost use Rattle.fl_calls.specs.Calls.{counted, Tells, Unites, ChecksAt};
 ghost use Rattle.fl_calls.specs.Failing.{SaysFailed};
 
-use crate::response::{Check, Response};
+use crate::response::{Response, counted};
 use fl_jobs::answer::Refusal;
 use fl_labels::name::NodeNumber;
 use fl_node::node::Node;
@@ -18,7 +18,6 @@ use fl_store::keeper::Keeper;
 use fl_system::answer::Fault;
 use fl_system::reply::Reply;
 use fl_wire::fault::ReadFault;
-use fl_wire::packet::Packet;
 use fl_wire::reading::decode;
 use fl_world::world::World;
 use std::alloc::{AllocError, Global};
@@ -93,17 +92,6 @@ pub fn unite<K: Keeper>(
     match united(alloc, one, other) {
         Ok(all) => Response::Union(all),
         Err(AllocError) => starved(),
-    }
-}
-
-// What a count says of the packet.
-fn counted(packet: &Packet, count: u64) -> Check
-    ensures { result ≡ counted packet.now count }
-{
-    match packet {
-        Packet::Full(_) | Packet::Delta(_) => Check::New(count),
-        Packet::Have(_) => Check::Lacks(count),
-        Packet::Data(_) => Check::Data,
     }
 }
 

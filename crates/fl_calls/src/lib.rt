@@ -7,3 +7,4 @@ pub mod cluster;
 mod completing;
 pub mod laws;
 pub mod response;
+pub mod text;

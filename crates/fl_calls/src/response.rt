@@ -1,9 +1,12 @@
 //! What is answered to a line that asks something of a world.
+ghost use Rattle.std.specs.Prelude.{◌≡◌};
+ghost use Rattle.fl_calls.specs.Calls.{counted};
 
 use fl_labels::name::NodeNumber;
 use fl_opset::set::OpSet;
 use fl_system::answer::Fault;
 use fl_system::reply::Reply;
+use fl_wire::packet::Packet;
 
 /// What a packet would bring, were it to come now.
 #[derive(Clone, Copy, Debug, PartialEq, Eq)]
@@ -14,6 +17,18 @@ pub enum Check {
     Lacks(u64),
     /// A message.
     Data,
+}
+
+/// What a count says of a packet: how many operations of it are new, how many a window lacks, or
+/// that it is a message.
+pub fn counted(packet: &Packet, count: u64) -> Check
+    ensures { result ≡ counted packet.now count }
+{
+    match packet {
+        Packet::Full(_) | Packet::Delta(_) => Check::New(count),
+        Packet::Have(_) => Check::Lacks(count),
+        Packet::Data(_) => Check::Data,
+    }
 }
 
 /// What is answered to a line that asks something of a world.

@@ -2,13 +2,14 @@
 ghost use Rattle.std.specs.Prelude.{OnErr};
 ghost use Rattle.fl_sink.specs.Sink.{Puts};
 ghost use Rattle.fl_calls.specs.Answer.{shown as shown_of};
-ghost use Rattle.fl_turns.specs.AnswerText.{check_text, said_text, text_of};
+ghost use Rattle.fl_turns.specs.AnswerText.{said_text, text_of};
 ghost use Rattle.fl_cluster.specs.Shown.{shown};
 
 use crate::response::Response;
 use crate::session::Session;
 use fl_calls::cluster::Cluster;
-use fl_calls::response::{Check, Response as Said};
+use fl_calls::response::Response as Said;
+use fl_calls::text::write_check;
 use fl_makers::maker::MakesKeepers;
 use fl_replies::text::{write_count, write_dropped_fault, write_world_reply};
 use fl_sink::sink::{Sink, WriteFault};
@@ -54,18 +55,5 @@ fn write_said<M: MakesKeepers, W: Writer>(
         Said::BadPacket(place) => write_count(b"refused F18 ", *place, sink, output),
         Said::Admitted(count) => write_count(b"admitted ", *count, sink, output),
         Said::Unknown => write_count(b"refused F19 ", number, sink, output),
-    }
-}
-
-// Puts what a packet would bring into the sink.
-fn write_check<W: Writer>(check: Check, sink: &mut Sink, output: &mut W) -> Result<(), WriteFault>
-    ensures puts { let text = check_text check in
-        Puts (W.contents output.old) (W.contents output.new) sink.old text sink.new result }
-    ensures cause { OnErr result (W.has_failed output.new) }
-{
-    match check {
-        Check::New(count) => write_count(b"new ", count, sink, output),
-        Check::Lacks(count) => write_count(b"lacks ", count, sink, output),
-        Check::Data => sink.put_all(output, &[b"data\n"]),
     }
 }

@@ -46,7 +46,8 @@ use Rattle.fl_calls.specs.Answer.{Answer as Said, replied, text, checked, bad_pa
 use Rattle.fl_calls.specs.Entering.{Openings, Enters, is_there, joins, is_refused, OnceOpen, shut, opened}
 use Rattle.fl_calls.specs.Completing.{begins, starved, Finishes, given_up, not_saved, saved, Completes, at_once, in_steps}
 use Rattle.fl_calls.specs.Calls as calls
-use Rattle.fl_calls.specs.Calls.{Says, said_of, counted, Spells, Delivers, BeginsToTake, Tells, Unites, ChecksAt}
+use Rattle.fl_wire.specs.Spelling.{Spells}
+use Rattle.fl_calls.specs.Calls.{Says, said_of, counted, Delivers, BeginsToTake, Tells, Unites, ChecksAt}
 use Rattle.fl_turns.specs.Answer.{Answer, said}
 use Rattle.fl_turns.specs.Naming.{made_by, renamed}
 use Rattle.fl_turns.specs.Run.{Run}

@@ -3,16 +3,9 @@ use Rattle.std.specs.Prelude.{[], ℕ, List, codes}
 use Rattle.fl_aliases.specs.Table.{table_text}
 use Rattle.fl_opset.specs.RegistryText.{registry_text}
 use Rattle.fl_replies.specs.ReplyText.{count_text, dropped_fault_text, world_text}
-use Rattle.fl_calls.specs.declared.response.Check.{Check}
-use Rattle.fl_calls.specs.declared.response.Check.TheVariants.{New, Lacks, Data}
+use Rattle.fl_calls.specs.CheckText.{check_text}
 use Rattle.fl_calls.specs.Answer.{Answer as Said, replied, dropped, text, checked, bad_packet, admitted, unknown}
 use Rattle.fl_turns.specs.Answer.{Answer, silence, said, listed}
-
--- what a packet would bring
-abbrev pub check_text : Check → List ℕ
-check_text (New count) = count_text (codes "new ") count
-check_text (Lacks count) = count_text (codes "lacks ") count
-check_text Data = codes "data\n"
 
 -- what the world says to the line of this number
 abbrev pub said_text : ℕ → Said → List ℕ

@@ -2,6 +2,7 @@ pub mod NameOrder
 pub mod PacketBytes
 pub mod PacketFits
 pub mod PacketSpelled
+pub mod Spelling
 pub mod Fields
 pub mod Faults
 pub mod PacketGrammar

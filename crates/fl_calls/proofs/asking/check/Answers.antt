@@ -3,7 +3,7 @@ use Rattle.fl_wire.specs.PacketBytes.{packet_bytes}
 use Rattle.fl_wire.specs.PacketFits.{HasPacket}
 use Rattle.fl_wire.specs.PacketGrammar.{packet_format}
 use Rattle.fl_wire.specs.declared.packet.Packet.{Packet}
-use Rattle.fl_calls.specs.Calls.{Spells}
+use Rattle.fl_wire.specs.Spelling.{Spells}
 use Rattle.fl_calls.proofs.Failures.{checks_otherwise, says_place, says_starved}
 use Rattle.fl_calls.proofs.AskingLemmas.{checks_bad, checks_starved, checks_tells, checks_refuses}
 use Rattle.fl_calls.proofs.asking.check.Goals as goal
