@@ -3,7 +3,7 @@ use Rattle.std.proofs.Common.{◌≡◌, ℕ, sym, subst, Some, Result, Ok, Err}
 use Rattle.std.specs.FinMap as map
 use Rattle.fl_store.specs.Custody.{Custody}
 use Rattle.fl_store.specs.Kept.{Kept}
-use Rattle.fl_makers.specs.Making.{Making}
+use Rattle.fl_makers.specs.Making.{AllowsNoMore, Making}
 use Rattle.fl_system.specs.declared.answer.Fault.{Fault}
 use Rattle.fl_system.specs.declared.reply.Reply.TheVariants.{Refused}
 use Rattle.fl_system.specs.World.{World}
@@ -97,19 +97,27 @@ module _ {K M : Type 0} (custody : Custody K) (making : Making M K) where
     refuses_less = λ n fault why. enters.refuses_less n fault (then_.refuses_less n fault why);
   }
 
+  -- what a second maker allows no more than the first, a third that allows no more than it does not
+  pub no_more_then : (one two three : M) → AllowsNoMore making one two
+      → AllowsNoMore making two three → AllowsNoMore making one three
+  no_more_then one two three first second = record {
+    makes = λ n keeper h. first.makes n keeper (second.makes n keeper h);
+    finds = λ n k h. first.finds n k (second.finds n k h);
+    unmade = λ n fault h. first.unmade n fault (second.unmade n fault h);
+    refuses = λ n fault h. first.refuses n fault (second.refuses n fault h);
+  }
+
   -- a keeper is asked for, and the world goes on
   pub opens_as : (old : ClusterOver K M) (here new : WorldOver K) (maker maker' : M) (number : ℕ)
       (result : Result (Unit {0}) Fault) → record { world = here; maker = maker } ≡ old
       → Goes custody here new (λ w w'. Enters (openings_of custody making maker) w number result w')
-      → ((n : ℕ) (keeper : K) → making.makes maker' n keeper → making.makes maker n keeper)
-      → ((n : ℕ) (k : Kept) → making.finds maker' n k → making.finds maker n k)
-      → ((n : ℕ) (fault : Fault) → making.refuses maker' n fault → making.refuses maker n fault)
+      → AllowsNoMore making maker maker'
       → GoesOn custody making old (record { world = new; maker = maker' })
       (λ openings w w'. Enters openings w number result w')
-  opens_as old here new maker maker' number result is goes same_makes same_finds same_refuses =
+  opens_as old here new maker maker' number result is goes same =
       subst (λ o. GoesOn custody making o (record { world = new; maker = maker' })
       (λ openings w w'. Enters openings w number result w')) is
-      (record { goes = goes; makes_less = same_makes; finds_less = same_finds; refuses_less = same_refuses })
+      (record { goes = goes; makes_less = same.makes; finds_less = same.finds; refuses_less = same.refuses })
 
   -- a node that is there is not opened
   pub entered_as : (old : ClusterOver K M) (number : ℕ) (n : NodeOver K) → map.get old.world.nodes number ≡ Some n

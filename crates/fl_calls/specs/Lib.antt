@@ -1,8 +1,10 @@
 pub mod Answer
+pub mod CheckText
 pub mod Entering
 pub mod Completing
 pub mod Calls
 pub mod Over
+pub mod Closing
 pub mod Failing
 pub mod parts
 pub mod laws

@@ -1,5 +1,5 @@
 //! A world with who makes the keepers of its nodes.
-ghost use Rattle.std.specs.Prelude.{◌≡◌, ◌≢◌, ◌<◌, None, Some, Ok, Err};
+ghost use Rattle.std.specs.Prelude.{◌≡◌, ◌≢◌, ◌<◌, ℕ, None, Some, Ok, Err};
 ghost use Rattle.std.specs.Prelude.{MatchOption, IfOk, IfErr, OnErr};
 ghost use Rattle.std.specs.FinMap as map;
 ghost use Rattle.fl_opset.specs.RegistryText.{registry_text};
@@ -11,7 +11,10 @@ ghost use Rattle.fl_system.specs.WorldSteps.{node_of};
 ghost use Rattle.fl_node.specs.Over.{NodeOver};
 ghost use Rattle.fl_nodes.specs.Failing.{FailsIn, IsBrokenAt};
 ghost use Rattle.fl_nodes.specs.Goes.{MayBe};
+ghost use Rattle.fl_makers.specs.Making.{AllowsNoMore};
+ghost use Rattle.fl_store.specs.Kept.{Kept};
 ghost use Rattle.fl_calls.specs.Answer.{registry_of, replied, shown};
+ghost use Rattle.fl_calls.specs.Closing.{MayBeLeft};
 ghost use Rattle.fl_calls.specs.Entering.{Enters};
 ghost use Rattle.fl_calls.specs.Over.{begun_over, GoesOn};
 ghost use Rattle.fl_calls.specs.Failing.{FailsCompleting, FailsOnceOpen, SaysFailed};
@@ -39,14 +42,22 @@ use std::alloc::Global;
 use std::marker::Model;
 use std::mem::replace;
 
-// Whether a node joined, or why not. A keeper that is given back goes.
-fn outcome<K: Drop>(joined: Result<u32, (Fault, K)>) -> Result<(), Fault>
+// Whether a node joined, or why not. A keeper that is given back goes to the maker.
+fn outcome<M: MakesKeepers>(
+    maker: &mut M,
+    number: NodeNumber,
+    joined: Result<u32, (Fault, M::K)>,
+) -> Result<(), Fault>
     ensures ok { IfOk joined (λ boot. result ≡ Ok tt) }
     ensures err { IfErr joined (λ e. result ≡ Err e.0) }
+    ensures same { AllowsNoMore M.making maker.old maker.new }
 {
     match joined {
         Ok(_) => Ok(()),
-        Err((fault, _)) => Err(fault),
+        Err((fault, keeper)) => {
+            maker.take_back(number, keeper, fault);
+            Err(fault)
+        }
     }
 }
 
@@ -143,6 +154,22 @@ impl<M: MakesKeepers> Cluster<M> {
         &self.world
     }
 
+    /// Gives each node's keeper back to the maker, by rising numbers, and gives the maker. What was
+    /// on its way, and all processes, are forgotten. What the maker finds from then on it found
+    /// before, or the keeper of that number may hold it. So a second run can begin with what this
+    /// one left.
+    pub fn close(self) -> M
+        ensures { (number : ℕ) (k : Kept) → M.making.finds result number k
+            → MayBeLeft M.K.custody M.making self number k }
+    {
+        let Cluster { world, mut maker } = self;
+        let mut keepers = world.into_keepers();
+        while let Some((number, keeper)) = keepers.pop() {
+            maker.close(number, keeper);
+        }
+        maker
+    }
+
     // Opens the node of this number, which is not there. An error leaves the world.
     fn open(&mut self, alloc: Global, number: NodeNumber) -> Result<(), Fault>
         requires known { 0 < number }
@@ -153,7 +180,10 @@ impl<M: MakesKeepers> Cluster<M> {
             → M.making.refuses self.old.maker number Fault.KeeperFailed }
     {
         match self.maker.make(alloc, number) {
-            Ok(keeper) => outcome(self.world.join(alloc, number, keeper)),
+            Ok(keeper) => {
+                let joined = self.world.join(alloc, number, keeper);
+                outcome(&mut self.maker, number, joined)
+            }
             Err(fault) => Err(fault),
         }
     }

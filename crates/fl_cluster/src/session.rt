@@ -1,6 +1,8 @@
 //! What the lines of a script made, and the aliases of it.
 ghost use Rattle.std.specs.Prelude.{◌≡◌, ◌<◌, ℕ, All, IfOk, IsSome, List, None, OnErr, Some, length, true};
 ghost use Rattle.fl_aliases.specs.Table.{Table, target_of};
+ghost use Rattle.fl_calls.specs.Closing.{MayBeLeft};
+ghost use Rattle.fl_store.specs.Kept.{Kept};
 ghost use Rattle.fl_script.specs.Grammar.{nodes_of};
 ghost use Rattle.fl_script.specs.Reading.{IsReading, ReadingTakesMemory, makes};
 ghost use Rattle.fl_script.specs.declared.reading.Reading.TheVariants as reading;
@@ -96,6 +98,19 @@ impl<M: MakesKeepers> Session<M> {
             aliases: Aliases::new(alloc),
             text: String::new(alloc),
         }
+    }
+
+    /// Gives each node's keeper back to the maker, and gives that, as [`Cluster::close`] has it.
+    pub fn close(self) -> M
+        ensures { (number : ℕ) (k : Kept) → M.making.finds result number k
+            → MayBeLeft M.K.custody M.making self.cluster number k }
+    {
+        let Session {
+            cluster,
+            aliases: _,
+            text: _,
+        } = self;
+        cluster.close()
     }
 
     /// Its world, with who makes the keepers of its nodes.

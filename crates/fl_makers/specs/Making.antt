@@ -1,6 +1,7 @@
 -- What is promised of a maker of keepers, and of those that are made.
 use Rattle.std.specs.Prelude.{◌≡◌, ◌⊎◌, ℕ}
 use Rattle.fl_labels.specs.SetBy as set
+use Rattle.fl_store.specs.Custody.{Custody}
 use Rattle.fl_store.specs.Kept.{Kept}
 use Rattle.fl_jobs.specs.declared.answer.Refusal.TheVariants.{Memory}
 use Rattle.fl_system.specs.declared.answer.Fault.{Fault}
@@ -25,3 +26,16 @@ pub record Making (M K : Type 0) : Type 1 where
   pub unmade : M → ℕ → Fault → Type 0
   -- why it may not be opened for its keeper's sake: none is made, or the one that is made fails
   pub refuses : M → ℕ → Fault → Type 0
+
+-- from the second maker on nothing is possible that was not from the first
+pub record AllowsNoMore {M K : Type 0} (making : Making M K) (old new : M) : Type 0 where
+  pub makes : (n : ℕ) (keeper : K) → making.makes new n keeper → making.makes old n keeper
+  pub finds : (n : ℕ) (k : Kept) → making.finds new n k → making.finds old n k
+  pub unmade : (n : ℕ) (fault : Fault) → making.unmade new n fault → making.unmade old n fault
+  pub refuses : (n : ℕ) (fault : Fault) → making.refuses new n fault
+      → making.refuses old n fault
+
+-- The maker found this before, or it is what the keeper that was closed may hold, if that is honest.
+abbrev pub MayBeFound : {M K : Type 0} → Custody K → Making M K → M → ℕ → K → ℕ → Kept → Type 0
+MayBeFound custody making maker number keeper n k =
+    making.finds maker n k ⊎ ((n ≡ number) × (custody.is_honest keeper → custody.may_hold keeper k))

@@ -2,7 +2,7 @@
 ghost use Rattle.std.specs.Prelude.{◌⊎◌, ◌<◌, ℕ, IfOk, IfErr, IsTrue};
 ghost use Rattle.fl_store.specs.Breaking.{IsLeftBroken};
 ghost use Rattle.fl_store.specs.Kept.{Kept};
-ghost use Rattle.fl_makers.specs.Making.{Making};
+ghost use Rattle.fl_makers.specs.Making.{AllowsNoMore, Making, MayBeFound};
 ghost use Rattle.fl_system.specs.declared.answer.Fault.{Fault};
 
 use fl_labels::name::NodeNumber;
@@ -39,12 +39,15 @@ pub trait MakesKeepers {
             ⊎ (Self.K.custody.is_honest left → Self.K.custody.has_bad_row keeper)
             → making.refuses self.old number Fault.KeeperFailed) }
         ensures why { IfErr result (λ fault. making.unmade self.old number fault) }
-        ensures same_makes { (n : ℕ) (keeper : Self.K) → making.makes self.new n keeper
-            → making.makes self.old n keeper }
-        ensures same_finds { (n : ℕ) (k : Kept) → making.finds self.new n k
-            → making.finds self.old n k }
-        ensures same_unmade { (n : ℕ) (fault : Fault) → making.unmade self.new n fault
-            → making.unmade self.old n fault }
-        ensures same_refuses { (n : ℕ) (fault : Fault) → making.refuses self.new n fault
-            → making.refuses self.old n fault };
+        ensures same { AllowsNoMore making self.old self.new };
+
+    /// Takes a keeper back that it made for this node, over which the node was not opened, and why.
+    fn take_back(&mut self, number: NodeNumber, keeper: Self::K, fault: Fault)
+        ensures { AllowsNoMore making self.old self.new };
+
+    /// Takes the keeper of this node back, which is served no longer. What is found from now on is
+    /// what was found before, or what the keeper may hold.
+    fn close(&mut self, number: NodeNumber, keeper: Self::K)
+        ensures { (n : ℕ) (k : Kept) → making.finds self.new n k
+            → MayBeFound Self.K.custody making self.old number keeper n k };
 }

@@ -22,4 +22,8 @@ impl MakesKeepers for MemMaker {
     fn make(&mut self, alloc: Global, number: NodeNumber) -> Result<MemKeeper, Fault> {
         Ok(MemKeeper::new(alloc, number))
     }
+
+    fn take_back(&mut self, _number: NodeNumber, _keeper: MemKeeper, _fault: Fault) {}
+
+    fn close(&mut self, _number: NodeNumber, _keeper: MemKeeper) {}
 }

@@ -9,5 +9,6 @@ pub mod TellLemmas
 pub mod DeliverLemmas
 pub mod JoinLemmas
 pub mod Meets
+pub mod Popping
 pub mod Newcomers
 pub mod Unsaved

@@ -1,5 +1,6 @@
 pub mod Over
 pub mod Goes
+pub mod Closing
 pub mod Failing
 pub mod Texts
 pub mod Joining

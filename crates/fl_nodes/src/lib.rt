@@ -5,5 +5,6 @@
 mod delivering;
 mod highest;
 mod joining;
+pub mod keepers;
 pub mod nodes;
 mod sending;

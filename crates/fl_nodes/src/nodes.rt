@@ -14,6 +14,7 @@ ghost use Rattle.fl_nodes.specs.parts.There.{IsNoSuch, IsThere};
 ghost use Rattle.fl_nodes.specs.parts.Published.{published_reply};
 
 use crate::highest::raised;
+use crate::keepers::Keepers;
 use fl_jobs::job::Job;
 use fl_labels::name::NodeNumber;
 use fl_node::node::Node;
@@ -116,6 +117,20 @@ impl<K: Keeper> Nodes<K> {
             audit: Vec::new(alloc),
             highest: 0,
         }
+    }
+
+    /// The nodes alone, to be closed for their keepers.
+    pub fn into_keepers(self) -> Keepers<K>
+        ensures { result ≡ self.nodes }
+    {
+        let Nodes {
+            desks: _,
+            all,
+            sent: _,
+            audit: _,
+            highest: _,
+        } = self;
+        Keepers { all }
     }
 
     /// The node of this number, or none where it is not there.

@@ -39,6 +39,10 @@ impl MakesKeepers for RefusingMaker<'_> {
         }
         Ok(MemKeeper::new(alloc, number))
     }
+
+    fn take_back(&mut self, _number: NodeNumber, _keeper: MemKeeper, _fault: Fault) {}
+
+    fn close(&mut self, _number: NodeNumber, _keeper: MemKeeper) {}
 }
 
 /// Makes keepers of one node, whichever it is asked for.
@@ -62,6 +66,10 @@ impl MakesKeepers for OneNodeMaker {
     fn make(&mut self, alloc: Global, number: NodeNumber) -> Result<MemKeeper, Fault> {
         Ok(MemKeeper::new(alloc, self.node))
     }
+
+    fn take_back(&mut self, _number: NodeNumber, _keeper: MemKeeper, _fault: Fault) {}
+
+    fn close(&mut self, _number: NodeNumber, _keeper: MemKeeper) {}
 }
 
 /// Makes keepers in memory. Those of the nodes up to this number break at their first save.
@@ -89,6 +97,10 @@ impl MakesKeepers for BreakingMaker {
         }
         Ok(keeper)
     }
+
+    fn take_back(&mut self, _number: NodeNumber, _keeper: MemKeeper, _fault: Fault) {}
+
+    fn close(&mut self, _number: NodeNumber, _keeper: MemKeeper) {}
 }
 
 /// Makes keepers in which nothing is kept, of nodes that were booted so many times.
@@ -116,4 +128,8 @@ impl MakesKeepers for BootedMaker {
             Err(AllocError) => Err(Fault::Refused(Refusal::Memory)),
         }
     }
+
+    fn take_back(&mut self, _number: NodeNumber, _keeper: MemKeeper, _fault: Fault) {}
+
+    fn close(&mut self, _number: NodeNumber, _keeper: MemKeeper) {}
 }

@@ -29,6 +29,7 @@ use fl_jobs::answer::Refusal;
 use fl_jobs::job::Job;
 use fl_labels::name::NodeNumber;
 use fl_node::node::Node;
+use fl_nodes::keepers::Keepers;
 use fl_nodes::nodes::Nodes;
 use fl_notes::working::Look;
 use fl_sink::sink::WriteFault;
@@ -111,6 +112,14 @@ impl<K: Keeper> World<K> {
     {
         let _nodes = &self.nodes;
         law_lasting();
+    }
+
+    /// Its nodes alone, to be closed for their keepers.
+    pub fn into_keepers(self) -> Keepers<K>
+        ensures { result ≡ self.nodes }
+    {
+        let World { nodes } = self;
+        nodes.into_keepers()
     }
 
     /// The node of this number, or none where it is not there.
