@@ -2,3 +2,4 @@ pub mod KeepLemmas
 pub mod FoundLemmas
 pub mod CauseLemmas
 pub mod RewriteLemmas
+pub mod CloseLemmas

@@ -1,3 +1,4 @@
 pub mod SqlKeeping
 pub mod Opening
 pub mod Breaking
+pub mod Closing

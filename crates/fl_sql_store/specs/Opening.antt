@@ -1,5 +1,5 @@
 -- What an opening makes of a database, and why it is refused.
-use Rattle.std.specs.Prelude.{◌≡◌, ◌≢◌, ◌⊎◌, ℕ, List, [], IsTrue}
+use Rattle.std.specs.Prelude.{◌≡◌, ◌≢◌, ◌⊎◌, ℕ, List, [], false, IsTrue}
 use Rattle.sqlite.specs.declared.error.Error.{Error}
 use Rattle.sqlite.specs.declared.error.Error.TheVariants.{SqliteFailure}
 use Rattle.sqlite.specs.declared.error.ErrorCode.TheVariants.{OutOfMemory}
@@ -15,6 +15,8 @@ use Rattle.fl_ops.specs.OpOrder.{op_cmp}
 use Rattle.fl_sql_tables.specs.Stored.{ops_in, HasBadRow, HasReadGood}
 use Rattle.fl_sql_tables.specs.Founding.{Founds, FoundsTo, IsOwn, IsOwnIn, IsOthers}
 use Rattle.fl_sql_tables.specs.Failing.{FailsToFound, FailsToLoad, RunsOut}
+use Rattle.fl_sql_store.specs.declared.there.NotThere.{NotThere}
+use Rattle.fl_sql_store.specs.declared.there.NotThere.TheVariants.{Empty, Refused}
 use Rattle.fl_sql_tables.specs.Migrating.{Migrates, MigratesTo, FailsToMigrate}
 
 -- an error for another cause than want of memory
@@ -28,13 +30,19 @@ pub record Rewrites (number : ℕ) (old new : State) : Type 0 where
   pub good : ¬ HasBadRow (old.now.trees 1)
   pub migrates : Migrates number ops old new
 
--- the database is this node's, and stays as it was; or it was so in the first format, and is rewritten; or it had no table, and has
--- become this node's
-abbrev pub OpensAs : ℕ → State → State → Type 0
-OpensAs number old new =
+-- the database is this node's, and stays as it was; or it was so in the first format, and is rewritten
+abbrev pub OpensThere : ℕ → State → State → Type 0
+OpensThere number old new =
     ((old.now.schema ≡ keeper_schema) × IsOwnIn Two number (old.now.trees 0) × IsUnchanged old new)
-    ⊎ (((old.now.schema ≡ keeper_schema) × IsOwnIn One number (old.now.trees 0) × Rewrites number old new)
-    ⊎ ((old.now.schema ≡ no_schema) × Founds number old new))
+    ⊎ ((old.now.schema ≡ keeper_schema) × IsOwnIn One number (old.now.trees 0) × Rewrites number old new)
+
+-- it is opened so; or it had no table, and has become this node's
+abbrev pub OpensAs : ℕ → State → State → Type 0
+OpensAs number old new = OpensThere number old new ⊎ ((old.now.schema ≡ no_schema) × Founds number old new)
+
+-- there is no database yet: it has no table, and no transaction is under way
+abbrev pub IsNotThere : State → Type 0
+IsNotThere s = (s.now.schema ≡ no_schema) × (s.in_transaction ≡ false)
 
 -- it has a keeper's tables, and its one row is another node's
 abbrev pub IsAnothers : ℕ → State → Type 0
@@ -105,3 +113,8 @@ RefusesFormer number old new fault =
 -- why no keeper was opened
 abbrev pub RefusesToOpen : ℕ → State → State → KeeperFault → Type 0
 RefusesToOpen number old new fault = RefusesToServe number old new fault ⊎ RefusesFormer number old new fault
+
+-- why no keeper was opened over a database that was to be there: there is none yet, or it was refused as any is
+abbrev pub RefusesThere : ℕ → State → State → NotThere → Type 0
+RefusesThere number old new Empty = IsNotThere old
+RefusesThere number old new (Refused fault) = (¬ IsNotThere old) × RefusesToOpen number old new fault

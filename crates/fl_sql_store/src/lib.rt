@@ -2,6 +2,8 @@
 #![tactic(auto)]
 
 pub mod calls;
+mod closing;
 mod fault;
 mod open;
 pub mod sql_keeper;
+pub mod there;

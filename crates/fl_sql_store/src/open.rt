@@ -1,5 +1,5 @@
 //! Opening a keeper over a database.
-ghost use Rattle.std.specs.Prelude.{◌≡◌, ◌<◌, ◌≤◌, ◌⊎◌, false, IfOk, IfErr, OnOk, OnErr, Err};
+ghost use Rattle.std.specs.Prelude.{◌≡◌, ◌<◌, ◌≤◌, ◌⊎◌, ◌↔◌, false, IfOk, IfErr, OnOk, OnErr, Err};
 ghost use Rattle.fl_labels.specs.SetBy as set;
 ghost use Rattle.fl_store.specs.Kept.{HasNamesOnce};
 ghost use Rattle.sqlite.specs.Held.{state};
@@ -15,7 +15,9 @@ ghost use Rattle.fl_sql_store.specs.SqlKeeping.{held_in};
 ghost use Rattle.fl_sql_store.specs.Opening.{IsFailure, FailsToShowItself, OpensAs, OpensTo};
 ghost use Rattle.fl_sql_store.specs.Opening.{RefusesToServe, RefusesToRewrite, RefusesToOpen};
 ghost use Rattle.fl_sql_store.specs.Opening.{Rewrites, RewritesTo};
+ghost use Rattle.fl_sql_store.specs.Opening.{IsNotThere, OpensThere, RefusesThere};
 
+use crate::there::NotThere;
 use fl_labels::name::NodeNumber;
 use fl_ops::format::Format;
 use fl_ops::op::Op;
@@ -204,7 +206,7 @@ fn own_on<S: Alter>(
     ensures ready { HasCleanDisk (state S.Store conn.new)
         → OnOk result (IsReady number (state S.Store conn.new)) }
     ensures opens { HasCleanDisk (state S.Store conn.new)
-        → OnOk result (OpensAs number (state S.Store conn.old) (state S.Store conn.new)) }
+        → OnOk result (OpensThere number (state S.Store conn.old) (state S.Store conn.new)) }
     ensures refuses { HasCleanDisk (state S.Store conn.new) → IfErr result
         (RefusesToOpen number (state S.Store conn.old) (state S.Store conn.new)) }
     ensures held { HasCleanDisk (state S.Store conn.new)
@@ -217,6 +219,46 @@ fn own_on<S: Alter>(
         Ok(Format::Two) => Ok(()),
         Ok(Format::One) => migrate_on(alloc, conn, number),
         Err(fault) => Err(fault),
+    }
+}
+
+/// Whether the database, which is to be there, can be this node's. One of the first format is
+/// rewritten in the second. One that has no tables is not looked at any further.
+pub fn check_there<S: Alter>(
+    alloc: Global,
+    conn: &mut Connection<S>,
+    number: NodeNumber,
+) -> Result<(), NotThere>
+    ensures idle { OnOk result (conn.new.in_transaction ≡ false) }
+    ensures same { conn.old.in_transaction ≡ false → conn.new.in_transaction ≡ false }
+    ensures empty { IsNotThere (state S.Store conn.old) ↔ (result ≡ Err NotThere.Empty) }
+    ensures unread { result ≡ Err NotThere.Empty → conn.new ≡ conn.old }
+    ensures live { result ≡ Err NotThere.Empty → IsLive (state S.Store conn.new) }
+    ensures settled { result ≡ Err NotThere.Empty → IsSettled (state S.Store conn.new) }
+    ensures ready { HasCleanDisk (state S.Store conn.new)
+        → OnOk result (IsReady number (state S.Store conn.new)) }
+    ensures opens { HasCleanDisk (state S.Store conn.new)
+        → OnOk result (OpensThere number (state S.Store conn.old) (state S.Store conn.new)) }
+    ensures refuses { HasCleanDisk (state S.Store conn.new) → IfErr result
+        (RefusesThere number (state S.Store conn.old) (state S.Store conn.new)) }
+    ensures held { HasCleanDisk (state S.Store conn.new)
+        → Stays (held_in number (state S.Store conn.old))
+        (held_in number (state S.Store conn.new)) }
+    ensures leaves { Survives (state S.Store conn.old) (state S.Store conn.new)
+        (RewritesTo number (state S.Store conn.old)) }
+{
+    if !conn.is_autocommit() {
+        return Err(NotThere::Refused(KeeperFault::Broken));
+    }
+    if is_nothing(conn.schema()) {
+        return Err(NotThere::Empty);
+    }
+    if !is_ours(conn.schema()) {
+        return Err(NotThere::Refused(KeeperFault::BadRow));
+    }
+    match own_on(alloc, conn, number) {
+        Ok(()) => Ok(()),
+        Err(fault) => Err(NotThere::Refused(fault)),
     }
 }
 
@@ -241,14 +283,9 @@ pub fn check<S: Alter>(
     ensures leaves { Survives (state S.Store conn.old) (state S.Store conn.new)
         (OpensTo number (state S.Store conn.old)) }
 {
-    if !conn.is_autocommit() {
-        return Err(KeeperFault::Broken);
+    match check_there(alloc, conn, number) {
+        Ok(()) => Ok(()),
+        Err(NotThere::Empty) => found_on(conn, number),
+        Err(NotThere::Refused(fault)) => Err(fault),
     }
-    if is_nothing(conn.schema()) {
-        return found_on(conn, number);
-    }
-    if !is_ours(conn.schema()) {
-        return Err(KeeperFault::BadRow);
-    }
-    own_on(alloc, conn, number)
 }

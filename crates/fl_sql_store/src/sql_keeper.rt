@@ -1,5 +1,5 @@
 //! A keeper over a database.
-ghost use Rattle.std.specs.Prelude.{◌≡◌, ◌<◌, true, false, not, None, IsTrue, IfOk, IfErr, OnOk, OnErr};
+ghost use Rattle.std.specs.Prelude.{◌≡◌, ◌<◌, ◌↔◌, true, false, not, None, IsTrue, IfOk, IfErr, OnOk, OnErr};
 ghost use Rattle.sqlite.specs.Held.{state};
 ghost use Rattle.sqlite.specs.State.{HasCleanDisk, Survives};
 ghost use Rattle.std.proofs.Common.{ap, ◌∙◌};
@@ -7,10 +7,12 @@ ghost use Rattle.fl_store.specs.Kept.{Kept};
 ghost use Rattle.fl_sql_tables.specs.Stored.{HasBadRow};
 ghost use Rattle.fl_sql_store.specs.SqlKeeping.{held_in, something_held, kept_number};
 ghost use Rattle.fl_sql_store.specs.Opening.{OpensAs, OpensTo, RefusesToOpen};
+ghost use Rattle.fl_sql_store.specs.Opening.{IsNotThere, OpensThere, RefusesThere, RewritesTo};
 ghost use Rattle.fl_sql_store.specs.Breaking.{SqlBreaks, SqlWants};
 
 use crate::calls::{boot_on, load_on, save_on};
-use crate::open::check;
+use crate::open::{check, check_there};
+use crate::there::NotThere;
 use fl_labels::name::NodeNumber;
 use fl_ops::op::Op;
 use fl_opset::set::OpSet;
@@ -127,6 +129,41 @@ impl<S: Alter> SqlKeeper<S> {
         match check(alloc, &mut conn, number) {
             Ok(()) => Ok(SqlKeeper::over(alloc, conn, number)),
             Err(fault) => Err((fault, conn)),
+        }
+    }
+
+    /// Opens a keeper of this node over a database that is there, as `open` does, and never makes
+    /// one: that which has no table is refused as `Empty`, with no transaction under way, and
+    /// handed back untouched. Each other is refused, and left, as by `open`.
+    pub fn open_there(
+        alloc: Global,
+        conn: Connection<S>,
+        number: NodeNumber,
+    ) -> Result<SqlKeeper<S>, (NotThere, Connection<S>)>
+        ensures number { IfOk result (λ k. (k.number ≡ number) × (k.failures ≡ 0)
+            × (k.is_broken ≡ false)) }
+        ensures idle { IfOk result (λ k. k.conn.in_transaction ≡ false) }
+        ensures there { OnOk result (¬ IsNotThere (state S.Store conn)) }
+        ensures empty { IfErr result (λ e.
+            IsNotThere (state S.Store conn) ↔ (e.0 ≡ NotThere.Empty)) }
+        ensures untouched { IfErr result (λ e. e.0 ≡ NotThere.Empty → e.1 ≡ conn) }
+        ensures opens { IfOk result (λ k. HasCleanDisk (state S.Store k.conn)
+            → OpensThere number (state S.Store conn) (state S.Store k.conn)) }
+        ensures held { IfOk result (λ k. HasCleanDisk (state S.Store k.conn)
+            → Stays (held_in number (state S.Store conn)) (held_in number (state S.Store k.conn))) }
+        ensures leaves { IfOk result (λ k. Survives (state S.Store conn) (state S.Store k.conn)
+            (RewritesTo number (state S.Store conn))) }
+        ensures leaves_refused { IfErr result (λ e. Survives (state S.Store conn)
+            (state S.Store e.1) (RewritesTo number (state S.Store conn))) }
+        ensures refuses { IfErr result (λ e. HasCleanDisk (state S.Store e.1)
+            → RefusesThere number (state S.Store conn) (state S.Store e.1) e.0) }
+        ensures stays { IfErr result (λ e. HasCleanDisk (state S.Store e.1)
+            → Stays (held_in number (state S.Store conn)) (held_in number (state S.Store e.1))) }
+    {
+        let mut conn = conn;
+        match check_there(alloc, &mut conn, number) {
+            Ok(()) => Ok(SqlKeeper::over(alloc, conn, number)),
+            Err(why) => Err((why, conn)),
         }
     }
 }

@@ -28,7 +28,7 @@ returns-in-Ok-One-clause-opens g c clean =
     let early : HasCleanDisk mid = omega (arith, c.migrate_on.ensures.clean, clean) in
     let one = rw c.in-Ok-One.field-0-is at (c.in-Ok-One.ensures.own early) in
     on_ok_then c.migrate_on.result (c.migrate_on.ensures.rewrites clean)
-    (λ h. inr (inl (c.requires.ours, one, rewrites_after c.args.number old mid new (c.in-Ok-One.ensures.same early) h)))
+    (λ h. inr (c.requires.ours, one, rewrites_after c.args.number old mid new (c.in-Ok-One.ensures.same early) h))
 
 pub returns-in-Ok-One-clause-refuses : goal.returns-in-Ok-One-clause-refuses
 returns-in-Ok-One-clause-refuses g c clean =
