@@ -1,2 +1,3 @@
 mod Files
-mod Keepers
+pub mod Keepers
+pub mod Closed

@@ -1,9 +1,10 @@
 -- A keeper over the files at a path, and why there is none.
-use Rattle.std.specs.Prelude.{◌≡◌, ℕ, false}
+use Rattle.std.specs.Prelude.{◌≡◌, ℕ, [], false}
 use Rattle.sqlite_disk.specs.declared.Disk.{Ghosts}
 use Rattle.sqlite_disk.specs.declared.Files.{Files}
 use Rattle.sqlite_store.specs.declared.store.FileStore.{FileStore}
 use Rattle.sqlite_trees.specs.Tree.{Trees}
+use Rattle.sqlite_wal.specs.Files.{outcomes}
 use Rattle.sqlite_wal.specs.Reads.{AreClean}
 use Rattle.sqlite_wal.specs.Recovery.{Image}
 use Rattle.sqlite.specs.declared.error.Error.{Error}
@@ -33,6 +34,14 @@ pub record IsKeptIn (holds : Image → Type 0) (number : ℕ) (k : Kept) : Type 
   pub db : Trees
   pub found : IsFoundIn image db
   pub same : k ≡ kept_in number db
+
+-- how these files may read after a crash: as they do now is one way
+abbrev pub MayRead : {D : Type 0} → Ghosts D → Files D → Image → Type 0
+MayRead g files = outcomes g files.log files.db
+
+-- how the database file may read, if its log is lost
+abbrev pub MayReadAlone : {D : Type 0} → Ghosts D → Files D → Image → Type 0
+MayReadAlone g files image = (it : Image) × MayRead g files it × (image ≡ record it { log = [] })
 
 -- how these files read, unless they lie
 abbrev pub Reads : {D : Type 0} (g : Ghosts D) → (Image → Type 0) → Files D → Type 0

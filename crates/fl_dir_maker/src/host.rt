@@ -149,4 +149,16 @@ impl<'a> MakesKeepers for HostMaker<'a> {
         }
         made
     }
+
+    /// Lets the keeper go, as [`DirMaker`] does.
+    fn take_back(&mut self, number: NodeNumber, keeper: SqlKeeper<FileStore<File>>, fault: Fault) {
+        let HostMaker { maker } = self;
+        maker.take_back(number, keeper, fault);
+    }
+
+    /// Lets the keeper go, as [`DirMaker`] does.
+    fn close(&mut self, number: NodeNumber, keeper: SqlKeeper<FileStore<File>>) {
+        let HostMaker { maker } = self;
+        maker.close(number, keeper);
+    }
 }

@@ -1,10 +1,11 @@
 //! A maker of keepers over the database files of a directory.
 #![tactic(auto)]
 
+mod failure;
 pub mod fault;
-mod file;
+pub mod file;
 pub mod host;
 pub mod laws;
 pub mod maker;
 pub mod opener;
-mod opening;
+pub mod opening;

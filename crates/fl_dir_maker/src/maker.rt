@@ -3,6 +3,7 @@ ghost use Rattle.std.specs.Prelude.{◌≡◌, false};
 ghost use Rattle.std.proofs.Common.{inl};
 ghost use Rattle.fl_dir_maker.specs.DirMaking.{dir_making};
 
+use crate::failure::{Failure, failure_of};
 use crate::fault::Cause;
 use crate::file::file_of;
 use crate::opener::OpensFiles;
@@ -40,6 +41,18 @@ impl<'a, O> DirMaker<'a, O> {
         }
     }
 
+    // Whether standard error has a line of the node, which has one from now on.
+    fn was_told(&mut self, number: NodeNumber) -> bool
+        ensures { self.new ≡ record self.old { told = self.new.told } }
+    {
+        if self.told.contains(&number) {
+            return true;
+        }
+        // Without room for its number it is told again.
+        let _ = self.told.push(number);
+        false
+    }
+
     // Writes to standard error why there is no keeper of the node, but once only, and not where
     // memory was wanting.
     fn tell(&mut self, number: NodeNumber, path: &str, cause: &Cause)
@@ -48,12 +61,19 @@ impl<'a, O> DirMaker<'a, O> {
         if let Cause::Memory = cause {
             return;
         }
-        if self.told.contains(&number) {
+        if self.was_told(number) {
             return;
         }
-        // Without room for its number it is told again.
-        let _ = self.told.push(number);
         let _ = eprintln!(self.rt; "flume-tags: {path}: {cause}");
+    }
+
+    // Writes to standard error what went wrong with the node's keeper.
+    fn tell_failure(&self, number: NodeNumber, failure: &Failure) {
+        let Ok(path) = file_of(self.rt.alloc(), self.dir, number) else {
+            return;
+        };
+        let path = path.as_str();
+        let _ = eprintln!(self.rt; "flume-tags: {path}: {failure}");
     }
 }
 
@@ -85,6 +105,24 @@ impl<'a, O: OpensFiles> MakesKeepers for DirMaker<'a, O> {
                 self.tell(number, path.as_str(), &cause);
                 Err(cause.fault())
             }
+        }
+    }
+
+    /// Lets the keeper go. The first time that something is told of a node, the path and why it was
+    /// not opened are written to standard error, but not where memory was wanting.
+    fn take_back(&mut self, number: NodeNumber, keeper: SqlKeeper<FileStore<O::D>>, fault: Fault) {
+        let Some(failure) = failure_of(fault, keeper.why()) else {
+            return;
+        };
+        if !self.was_told(number) {
+            self.tell_failure(number, &failure);
+        }
+    }
+
+    /// Lets the keeper go. Where it broke, the path and the error are written to standard error.
+    fn close(&mut self, number: NodeNumber, keeper: SqlKeeper<FileStore<O::D>>) {
+        if let Some(error) = keeper.why() {
+            self.tell_failure(number, &Failure::Database(error));
         }
     }
 }

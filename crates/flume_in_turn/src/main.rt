@@ -4,6 +4,7 @@
 
 use fl_cluster::fault::RunFault;
 use fl_cluster::run::converse;
+use fl_cluster::session::Session;
 use fl_cluster::standard::{exit_code, tell_length};
 use fl_cluster::watched::Watched;
 use fl_dir_maker::host::HostMaker;
@@ -14,14 +15,31 @@ use std::mem::forget;
 use std::process::ExitCode;
 use std::{env, io};
 
-/// Answers the script of standard input over these keepers, by one call after another.
-fn answered_in_turn<M: MakesKeepers + Drop>(rt: &HostRuntime, keepers: M) -> Result<u8, RunFault> {
+/// Answers the script of standard input over these keepers, by one call after another, and gives
+/// what is left of it too.
+fn answered_in_turn<M: MakesKeepers + Drop>(
+    rt: &HostRuntime,
+    keepers: M,
+) -> (Session<M>, Result<u8, RunFault>) {
     let mut input = Watched::new(rt.reader());
     let mut output = io::writer(rt);
     let (session, result) = converse(rt, &mut input, &mut output, keepers);
     tell_length(rt, &input, result);
+    (session, result)
+}
+
+/// Runs it over nodes in memory.
+fn answered_in_memory(rt: &HostRuntime) -> Result<u8, RunFault> {
+    let (session, result) = answered_in_turn(rt, MemMaker);
     // The program ends here, and all that the session holds goes with it.
     forget(session);
+    result
+}
+
+/// Runs it over nodes that are kept in this directory, whose files are closed in the end.
+fn answered_in_directory(rt: &HostRuntime, dir: &str) -> Result<u8, RunFault> {
+    let (session, result) = answered_in_turn(rt, HostMaker::new(rt, dir));
+    let _closed = session.close();
     result
 }
 
@@ -39,8 +57,8 @@ fn answered(rt: &HostRuntime) -> Result<u8, RunFault> {
         return Ok(BAD_WORDS);
     }
     match place {
-        Place::Memory => answered_in_turn(rt, MemMaker),
-        Place::Directory(dir) => answered_in_turn(rt, HostMaker::new(rt, dir)),
+        Place::Memory => answered_in_memory(rt),
+        Place::Directory(dir) => answered_in_directory(rt, dir),
     }
 }
 

@@ -18,31 +18,24 @@ returns-in-Ok-open-clause-fails g c left why =
     (c.as_str.ensures.value ∙ c.in-Ok.ensures.file) c.in-Ok-open.ensures.keeper in
     inr (refl, (c.in-Ok-open.keeper, left, over, why))
 
-pub returns-in-Ok-open-clause-same_makes : goal.returns-in-Ok-open-clause-same_makes
-returns-in-Ok-open-clause-same_makes g c number =
-    keeper_less g.O.OpensFiles.reach c.args.self.now.dir.now c.open.ensures.same_holds number
+pub returns-in-Ok-open-clause-same : goal.returns-in-Ok-open-clause-same
+returns-in-Ok-open-clause-same g c =
+    record {
+      makes = λ n. keeper_less g.O.OpensFiles.reach c.args.self.now.dir.now c.open.ensures.same_holds n;
+      finds = λ n. kept_more _ _ (c.open.ensures.same_holds _) n;
+      unmade = λ n. unmade_less g.O.OpensFiles.reach c.args.self.now.dir.now
+          c.open.ensures.same_holds n c.open.ensures.same_fails;
+      refuses = λ n. refuses_less g.O.OpensFiles.reach c.args.self.now.dir.now
+          c.open.ensures.same_holds n c.open.ensures.same_fails _;
+    }
 
-pub returns-in-Ok-open-clause-same_finds : goal.returns-in-Ok-open-clause-same_finds
-returns-in-Ok-open-clause-same_finds g c number = kept_more _ _ (c.open.ensures.same_holds _) number
-
-pub returns-in-Ok-open-clause-same_unmade : goal.returns-in-Ok-open-clause-same_unmade
-returns-in-Ok-open-clause-same_unmade g c number =
-    unmade_less g.O.OpensFiles.reach c.args.self.now.dir.now c.open.ensures.same_holds number c.open.ensures.same_fails
-
-pub returns-in-Ok-open-clause-same_refuses : goal.returns-in-Ok-open-clause-same_refuses
-returns-in-Ok-open-clause-same_refuses g c number =
-    refuses_less g.O.OpensFiles.reach c.args.self.now.dir.now c.open.ensures.same_holds number c.open.ensures.same_fails _
-
-pub returns-clause-same_makes : goal.returns-clause-same_makes
-returns-clause-same_makes g c number =
-    rw c.tell.ensures (keeper_less g.O.OpensFiles.reach c.args.self.now.dir.now c.open.ensures.same_holds number)
-
-pub returns-clause-same_unmade : goal.returns-clause-same_unmade
-returns-clause-same_unmade g c number =
-    rw c.tell.ensures
-    (unmade_less g.O.OpensFiles.reach c.args.self.now.dir.now c.open.ensures.same_holds number c.open.ensures.same_fails)
-
-pub returns-clause-same_refuses : goal.returns-clause-same_refuses
-returns-clause-same_refuses g c number =
-    rw c.tell.ensures
-    (refuses_less g.O.OpensFiles.reach c.args.self.now.dir.now c.open.ensures.same_holds number c.open.ensures.same_fails _)
+pub returns-clause-same : goal.returns-clause-same
+returns-clause-same g c =
+    rw c.tell.ensures (record {
+      makes = λ n. keeper_less g.O.OpensFiles.reach c.args.self.now.dir.now c.open.ensures.same_holds n;
+      finds = λ n. kept_more _ _ (c.open.ensures.same_holds _) n;
+      unmade = λ n. unmade_less g.O.OpensFiles.reach c.args.self.now.dir.now
+          c.open.ensures.same_holds n c.open.ensures.same_fails;
+      refuses = λ n. refuses_less g.O.OpensFiles.reach c.args.self.now.dir.now
+          c.open.ensures.same_holds n c.open.ensures.same_fails _;
+    })
