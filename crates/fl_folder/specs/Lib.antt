@@ -1,0 +1,3 @@
+pub mod Usable
+pub mod Lying
+pub mod FolderMaking
