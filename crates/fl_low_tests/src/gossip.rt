@@ -13,6 +13,7 @@ use fl_labels::name::{Name, NodeNumber};
 use fl_ops::op::{Body, Op, Policy};
 use fl_opset::intervals::Intervals;
 use fl_opset::set::OpSet;
+use fl_sealed_packets::ours::least_not_ours;
 use fl_wire::packet::Packet;
 use fl_wire::reading::decode;
 use std::alloc::{AllocError, Global};
@@ -97,6 +98,7 @@ pub fn say(alloc: Global, out: &mut String, what: &str, rest: &str) -> Result<()
         "copy" => compare(out, &saved.copy(alloc)?, &saved),
         "take" => take_all(alloc, out, &saved, second),
         "front" => push_front(alloc, out, &saved, second),
+        "ours" => ours(alloc, out, &saved, second),
         _ => answer_other(alloc, out, &saved, second),
     }
 }
@@ -265,6 +267,54 @@ take tag 2 f2030202020000000100000002 02020000000200000009 => impostor 2.9
 take tag 2 f2030202020000000100000001 02020000000200000009 => clash 1.1
 take wide 1 f2030202020000000100000002 02020001117000000001 => impostor 1.2
 take none 1 f20340 64*0202000000020000% => 64 2.1 2.64";
+
+// The least name of a number that the window of these bytes has and the set has not.
+fn ours(alloc: Global, out: &mut String, saved: &OpSet, rest: &str) -> Result<(), AllocError>
+    requires { HaveNoClash (In saved.now) (In saved.now) }
+{
+    let (number, digits) = parts(rest);
+    let bytes = bytes_of(alloc, digits)?;
+    match &decode(alloc, &bytes) {
+        Ok(Packet::Have(window)) => push_ours(out, number.parse().unwrap_or(0), saved, window),
+        _ => out.push_str("no window"),
+    }
+}
+
+fn push_ours(
+    out: &mut String,
+    number: NodeNumber,
+    saved: &OpSet,
+    window: &Intervals,
+) -> Result<(), AllocError>
+    requires { HaveNoClash (In saved.now) (In saved.now) }
+{
+    match least_not_ours(number, saved, window) {
+        Some(name) => write!(out, "{name}"),
+        None => out.push_str("none"),
+    }
+}
+
+/// Which name of a number a window has that a set has not: none, one too many, or the least.
+pub const OURS: &str = "\
+ours none 1 f2020000000100000001ffffffffffffffff0000 => none
+ours gap 1 f2020000000100000001ffffffffffffffff0002 00000001000000010000000100000001000000030000\
+0003 => none
+ours whole 1 f2020000000100000001ffffffffffffffff0001 000000010000000200000003 => none
+ours whole 1 f2020000000100000001ffffffffffffffff0001 000000010000000100000004 => 1.4
+ours gap 1 f2020000000100000001ffffffffffffffff0001 000000010000000100000004 => 1.2
+ours gap 1 f2020000000100000001ffffffffffffffff0002 00000001000000010000000100000001000000030000\
+0005 => 1.4
+ours tag 1 f2020000000100000001ffffffffffffffff0003 00000001000000010000000100000001000000030000\
+0003000000010000000500000005 => 1.3
+ours tag 1 f2020000000100000001ffffffffffffffff0002 00000001000000010000000100000002000000010000\
+0009 => none
+ours tag 2 f2020000000100000001ffffffffffffffff0002 00000001000000010000000100000002000000010000\
+0009 => 2.1
+ours none 1 f2020000000100000001ffffffffffffffff0001 00000001000000070000000c => 1.7
+ours wide 70000 f2020000000100000001ffffffffffffffff0001 000111700000000100000002 => 70000.2
+ours all 1 f2020000000100000001ffffffffffffffff0001 000000010000000200000401 => none
+ours all 1 f2020000000100000001ffffffffffffffff0001 000000010000000200000402 => 1.1026
+ours odd 1 f2020000000100000001ffffffffffffffff0001 00000001000001ff00000402 => 1.512";
 
 /// What one set replies to another, which then has all of it or not.
 pub const REPLIES: &str = "\

@@ -46,7 +46,8 @@ fn push_parts(out: &mut String, sent: &Data) -> Result<(), AllocError> {
     push_hex(out, sent.message.payload.as_slice())
 }
 
-fn push_fault(out: &mut String, fault: ReadFault) -> Result<(), AllocError> {
+/// The place of the fault.
+pub fn push_fault(out: &mut String, fault: ReadFault) -> Result<(), AllocError> {
     match fault {
         ReadFault::BadPacket { place } => write!(out, "{place}"),
         ReadFault::Memory => Err(AllocError),

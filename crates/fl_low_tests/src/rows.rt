@@ -1,5 +1,5 @@
 //! Rows of a question, ` => ` and its answer.
-use crate::{bytes, caps, gossip, labels, operations, registries, words};
+use crate::{bytes, caps, gossip, labels, operations, registries, seals, words};
 use std::alloc::{AllocError, AllocGlobal, Global};
 use std::process::Abort;
 
@@ -30,6 +30,7 @@ fn say(alloc: Global, out: &mut String, question: &str) -> Result<(), AllocError
         "cut" => bytes::cut(alloc, out, rest),
         "change" => bytes::change(alloc, out, rest),
         "set" => registries::say(alloc, out, rest),
+        "send" => seals::send(alloc, out, rest),
         _ => gossip::say(alloc, out, what, rest),
     }
 }
@@ -92,9 +93,11 @@ fn rows_have_their_answers(rt: HostRuntime) -> Result<(), AllocError> {
         registries::CLASHING,
         registries::LOGINS,
         gossip::TAKEN,
+        gossip::OURS,
         gossip::WINDOWS,
         gossip::REPLIES,
         gossip::FRONTS,
+        seals::SENT,
     ] {
         check(&rt, rows)?;
     }

@@ -1,7 +1,13 @@
-//! Tests of seals.
+//! Tests of seals, and of packets that are sent sealed or bare.
+use crate::bytes::bytes_of;
+use crate::packets::{push_fault, push_packet};
+use crate::rows::parts;
 use fl_seal::seal::{Key, hmac_of, put_seal, unsealed};
+use fl_sealed_packets::coming::read_packet;
+use fl_sealed_packets::going::each_to_send;
+use fl_wire::reading::decode;
 use sha2::{Digest, Sha256};
-use std::alloc::AllocError;
+use std::alloc::{AllocError, Global};
 
 // The key of 32 bytes that stands for one of any length: zeros behind it change nothing, and a long
 // one stands for its digest.
@@ -108,3 +114,57 @@ fn packets_are_sealed(rt: HostRuntime) -> Result<(), AllocError> {
     assert!(rt; opens(&[one], &bytes));
     Ok(())
 }
+
+// The keys of some words, between which a comma stands; none of `-`.
+fn keys_of(alloc: Global, words: &str) -> Result<Vec<Key>, AllocError> {
+    let mut keys = Vec::new(alloc);
+    if words == "-" {
+        return Ok(keys);
+    }
+    for word in words.split(',') {
+        keys.push(key_of(word.as_bytes()))?;
+    }
+    Ok(keys)
+}
+
+/// What is read by the second keys of the packet of these bytes, which is sent by the first ones:
+/// `same` and how many bytes it has, or the place of the fault.
+pub fn send(alloc: Global, out: &mut String, rest: &str) -> Result<(), AllocError> {
+    let (first, rest) = parts(rest);
+    let (second, digits) = parts(rest);
+    let bytes = bytes_of(alloc, digits)?;
+    let mut packets = Vec::new(alloc);
+    if let Ok(packet) = decode(alloc, &bytes) {
+        packets.push(packet)?;
+    }
+    let keys = keys_of(alloc, second)?;
+    for sent in each_to_send(alloc, &keys_of(alloc, first)?, &packets)? {
+        push_read(alloc, out, &keys, &sent, &bytes)?;
+    }
+    Ok(())
+}
+
+fn push_read(
+    alloc: Global,
+    out: &mut String,
+    keys: &[Key],
+    sent: &[u8],
+    bytes: &[u8],
+) -> Result<(), AllocError> {
+    match read_packet(alloc, keys, sent) {
+        Ok(packet) => push_packet(alloc, out, &packet, bytes),
+        Err(fault) => push_fault(out, fault),
+    }
+}
+
+/// Packets of 13 bytes, sent by some keys, or bare, and read by others.
+pub const SENT: &str = "\
+send - - f2030102020000000100000001 => same 13
+send one one f2030102020000000100000001 => same 13
+send one,two one,two f2030102020000000100000001 => same 13
+send one,two two,one f2030102020000000100000001 => same 13
+send one,two one f2030102020000000100000001 => same 13
+send one,two two f2030102020000000100000001 => 0
+send one,two three,four f2030102020000000100000001 => 0
+send - one f2030102020000000100000001 => 0
+send one - f2030102020000000100000001 => 13";

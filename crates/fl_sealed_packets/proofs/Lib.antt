@@ -1,0 +1,3 @@
+mod Openings
+mod Rows
+mod NotOurs

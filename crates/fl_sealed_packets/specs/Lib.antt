@@ -1,0 +1,4 @@
+pub mod Sealing
+pub mod Coming
+pub mod Ours
+pub mod parts
