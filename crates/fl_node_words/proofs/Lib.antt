@@ -1,0 +1,2 @@
+pub mod OneFault
+pub mod Parsed
