@@ -278,8 +278,12 @@ fn put_few<W: Writer>(bytes: &[u8], sink: &mut Sink, output: &mut W) -> Result<(
     sink.put(output, digits)
 }
 
-// Two digits for each byte.
-fn put_digits<W: Writer>(bytes: &[u8], sink: &mut Sink, output: &mut W) -> Result<(), WriteFault>
+/// Puts two digits for each byte into the sink, in lower case: `f202` for two. Linear.
+pub fn put_digits<W: Writer>(
+    bytes: &[u8],
+    sink: &mut Sink,
+    output: &mut W,
+) -> Result<(), WriteFault>
     ensures puts { let text = encode_lower bytes.now in
         Puts (W.contents output.old) (W.contents output.new) sink.old text sink.new result }
     ensures cause { OnErr result (W.has_failed output.new) }
