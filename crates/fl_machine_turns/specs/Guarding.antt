@@ -1,6 +1,6 @@
 -- What an order asks first, where orders are guarded: everybody reads them, so who may let nothing
 -- out gives none.
-use Rattle.std.specs.Prelude.{◌≡◌, ◌≢◌, ◌⊎◌, ℕ, true, false, List, [], ◌∷◌}
+use Rattle.std.specs.Prelude.{◌≡◌, ◌≢◌, ◌⊎◌, ℕ, Bool, true, false, List, [], ◌∷◌}
 use Rattle.std.specs.declared.option.Option.{Option}
 use Rattle.std.specs.declared.option.Option.TheVariants.{None, Some}
 use Rattle.fl_labels.specs.declared.pid.Pid.{Pid}
@@ -15,7 +15,6 @@ use Rattle.fl_machine_model.specs.Acts.{Act, Saying, Replies, Outcome}
 use Rattle.fl_machine_model.specs.Acts as acts
 use Rattle.fl_machine_model.specs.Alone.{MachineStep}
 use Rattle.fl_machine_turns.specs.Done.{Did, did}
-use Rattle.fl_machine_turns.specs.Settings.{Settings}
 
 -- at the only desk of the node, which sees all that is published
 abbrev pub job_at : Job → Act
@@ -36,20 +35,20 @@ let_out = Replies (Answered (Emitted []))
 
 -- The job is done so, unless it is an order whose process may let nothing out: of such a one only
 -- the emission is done, and its refusal is what is said.
-pub data Guarded (settings : Settings) (s : KeptNode) (job : Job)
+pub data Guarded (number : ℕ) (guards : Bool) (s : KeptNode) (job : Job)
     (Does : KeptNode → Act → List Did → Saying → KeptNode → Type 0)
     : List Did → Saying → KeptNode → Type 0 where
   free : {ds : List Did} {saying : Saying} {s' : KeptNode}
-      → (settings.guards ≡ false) ⊎ (maker_of job ≡ None) → Does s (job_at job) ds saying s'
-      → Guarded settings s job Does ds saying s'
-  held_back : {pid : Pid} {o : Outcome} → settings.guards ≡ true → maker_of job ≡ Some pid
-      → MachineStep settings.number s (emits_nothing pid) o → o.says ≢ let_out
-      → Guarded settings s job Does (did (emits_nothing pid) o ∷ []) o.says o.after
+      → (guards ≡ false) ⊎ (maker_of job ≡ None) → Does s (job_at job) ds saying s'
+      → Guarded number guards s job Does ds saying s'
+  held_back : {pid : Pid} {o : Outcome} → guards ≡ true → maker_of job ≡ Some pid
+      → MachineStep number s (emits_nothing pid) o → o.says ≢ let_out
+      → Guarded number guards s job Does (did (emits_nothing pid) o ∷ []) o.says o.after
   passes : {pid : Pid} {o : Outcome} {ds : List Did} {saying : Saying} {s' : KeptNode}
-      → settings.guards ≡ true → maker_of job ≡ Some pid
-      → MachineStep settings.number s (emits_nothing pid) o → o.says ≡ let_out
+      → guards ≡ true → maker_of job ≡ Some pid
+      → MachineStep number s (emits_nothing pid) o → o.says ≡ let_out
       → Does o.after (job_at job) ds saying s'
-      → Guarded settings s job Does (did (emits_nothing pid) o ∷ ds) saying s'
+      → Guarded number guards s job Does (did (emits_nothing pid) o ∷ ds) saying s'
   -- there is no room for the emission
-  no_room : {pid : Pid} → settings.guards ≡ true → maker_of job ≡ Some pid
-      → Guarded settings s job Does [] (Replies starved) s
+  no_room : {pid : Pid} → guards ≡ true → maker_of job ≡ Some pid
+      → Guarded number guards s job Does [] (Replies starved) s

@@ -9,3 +9,6 @@ pub record Settings : Type 0 where
   pub keys : List Key
   -- whether an order asks first what an emission asks
   pub guards : Bool
+
+abbrev pub settings_of : ℕ → List Key → Bool → Settings
+settings_of number keys guards = record { number = number; keys = keys; guards = guards }
