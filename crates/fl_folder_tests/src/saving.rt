@@ -1,7 +1,7 @@
 //! Saving a group in a keeper, and looking for it.
 ghost use Rattle.std.specs.Prelude.{[], ◌∷◌, IsTrue};
 ghost use Rattle.fl_store.specs.Kept.{AreNew};
-ghost use Rattle.fl_folder_tests.specs.Unused.{IsUnused};
+ghost use Rattle.fl_store.specs.laws.Unused.{IsUnused};
 
 use fl_labels::name::Name;
 use fl_ops::op::{Body, Op};

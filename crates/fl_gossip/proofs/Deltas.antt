@@ -1,101 +1,30 @@
 -- Operations cut into deltas.
 use Rattle.std.proofs.Common.{◌≡◌, ◌<◌, ◌≤◌, ◌+◌, ◌-◌, ◌*◌, ◌^◌, ℕ, inl, inr, min, get_or, nat_le, ◌&&◌, not, Bool, true, false, cond, List, [], ◌∷◌, ◌++◌, length, take, drop, refl, sym, ap, subst, ◌∙◌, arith, append_assoc, append-nil, Result, Ok, Err, OnErr, Ordering, Less, Equal, Greater}
-use Rattle.std.specs.Cmp.{tied_itself}
-use Rattle.std.specs.List.{Contains, filter, flat_map, list_any, AllByRecursion}
+use Rattle.std.specs.List.{filter, flat_map, list_any}
 use Rattle.std.specs.List.Sorted.{IsStrictlySortedBy}
-use Rattle.std.specs.Ordering.{ordering_then}
 use Rattle.std.proofs.lemmas.Grind.{flat_map-append}
 use Rattle.std.proofs.lemmas.List.{take-append-drop, take_all, take_more, length-append, length-take-le, flat_map_more, nil_from_length}
-use Rattle.std.proofs.lemmas.List.Elements.{recursion_from_All, All-contains_itself}
 use Rattle.std.proofs.lemmas.Bool.{le-leb, cases_lt}
 use Rattle.std.proofs.Math.Nat.{min-eq_left, min-eq_right}
 use Rattle.std.proofs.Math.Seq.{take-nil}
-use Rattle.fl_labels.specs.NameOrder.{name_exact}
-use Rattle.fl_labels.specs.SetBy.{SetBy, In, members, members_rise, len}
+use Rattle.fl_labels.specs.SetBy.{SetBy, members, len}
 use Rattle.fl_ops.specs.declared.op.Op.{Op}
 use Rattle.fl_ops.specs.OpOrder.{op_cmp}
-use Rattle.fl_ops.specs.OpLaws.{op_total}
 use Rattle.fl_opset.specs.ByNode.{all_ops}
 use Rattle.fl_opset.specs.declared.node_ops.NodeOps.{NodeOps}
 use Rattle.fl_opset.specs.declared.intervals.Intervals.{Intervals}
-use Rattle.fl_opset.specs.Catching.{HaveNoClash}
 use Rattle.fl_opset.specs.Rank.{name_rank}
 use Rattle.fl_opset.specs.Spans.{in_span}
 use Rattle.fl_opset.specs.Windows.{is_lacking, lacking}
-use Rattle.fl_opset.specs.laws.Members.{lacking_member}
 use Rattle.fl_opset.proofs.Front.{front_kept, front_grows, front_short, front_full, front_added}
 use Rattle.fl_wire.specs.declared.packet.Packet.{Packet}
 use Rattle.fl_wire.specs.NameOrder.{by_name}
 use Rattle.fl_gossip.specs.Taking.{ops_of}
 use Rattle.fl_gossip.specs.Replying.{IsDelta, AreDeltas, AreInDeltas}
+use Rattle.fl_gossip.specs.laws.Cutting.{front_rises, back_rises}
 use Rattle.fl_gossip.specs.laws.Wanted.{lacking_few, all_wanted}
 use Rattle.fl_gossip.specs.parts.Filling.{AreFull, AreFilled, filled}
 use Rattle.fl_gossip.specs.parts.Nothing.{IsOfNothing}
-
--- what rises, in part
-module _ {K : Type 0} (R : K → K → Ordering) where
-  all_front : (P : K → Type 0) (xs ys : List K) → AllByRecursion P (xs ++ ys) → AllByRecursion P xs
-  all_front P [] ys h = tt
-  all_front P (x ∷ xs) ys h = (h.0, all_front P xs ys h.1)
-
-  pub front_rises : (xs ys : List K) → IsStrictlySortedBy R (xs ++ ys) → IsStrictlySortedBy R xs
-  unfolding IsStrictlySortedBy
-  front_rises [] ys h = tt
-  front_rises (x ∷ xs) ys h = (all_front (λ y. R x y ≡ Less) xs ys h.0, front_rises xs ys h.1)
-
-  pub back_rises : (xs ys : List K) → IsStrictlySortedBy R (xs ++ ys) → IsStrictlySortedBy R ys
-  unfolding IsStrictlySortedBy
-  back_rises [] ys h = h
-  back_rises (x ∷ xs) ys h = back_rises xs ys h.1
-
-  all_kept : (P : K → Type 0) (p : K → Bool) (xs : List K) → AllByRecursion P xs → AllByRecursion P (filter p xs)
-  all_kept P p [] h = tt
-  all_kept P p (x ∷ xs) h = either (p x) h.0 (all_kept P p xs h.1)
-    where
-      either : (b : Bool) → P x → AllByRecursion P (filter p xs) → AllByRecursion P (cond b (x ∷ filter p xs) (filter p xs))
-      either true px rest = (px, rest)
-      either false px rest = rest
-
-  either_rises : (p : K → Bool) (x : K) (ys : List K) (b : Bool) → AllByRecursion (λ y. R x y ≡ Less) ys → IsStrictlySortedBy R ys → IsStrictlySortedBy R (cond b (x ∷ ys) ys)
-  unfolding IsStrictlySortedBy
-  either_rises p x ys true above rest = (above, rest)
-  either_rises p x ys false above rest = rest
-
-  pub kept_rises : (p : K → Bool) (xs : List K) → IsStrictlySortedBy R xs → IsStrictlySortedBy R (filter p xs)
-  unfolding IsStrictlySortedBy
-  kept_rises p [] h = tt
-  kept_rises p (x ∷ xs) h = either_rises p x (filter p xs) (p x) (all_kept (λ y. R x y ≡ Less) p xs h.0) (kept_rises p xs h.1)
-
--- of operations with a name of their own each, the names rise where the operations do
-module _ (U : Op → Type 0) (single : HaveNoClash U U) where
-  not_less : (x : Op) → op_cmp x x ≡ Less → ⊥
-  not_less x h = let e : op_cmp x x ≡ Equal = tied_itself op_total x in cc
-
-  by_level : (x y : Op) (o p : Ordering) → by_name x y ≡ o → ordering_then o p ≡ Less → (o ≡ Equal → ⊥) → by_name x y ≡ Less
-  by_level x y Less p e h not_same = e
-  by_level x y Equal p e h not_same = absurd (not_same refl)
-  by_level x y Greater p e h not_same = absurd (cc)
-
-  name_less : (x y : Op) → U x → U y → op_cmp x y ≡ Less → by_name x y ≡ Less
-  name_less x y ux uy h = by_level x y (by_name x y) _ refl h (λ tie. not_less x (ap (op_cmp x) (single x y ux uy (name_exact x.name y.name tie)) ∙ h))
-
-  names_above : (x : Op) (ys : List Op) → U x → AllByRecursion U ys → AllByRecursion (λ y. op_cmp x y ≡ Less) ys → AllByRecursion (λ y. by_name x y ≡ Less) ys
-  names_above x [] ux us h = tt
-  names_above x (y ∷ ys) ux us h = (name_less x y ux us.0 h.0, names_above x ys ux us.1 h.1)
-
-  pub names_rise : (xs : List Op) → AllByRecursion U xs → IsStrictlySortedBy op_cmp xs → IsStrictlySortedBy by_name xs
-  unfolding IsStrictlySortedBy
-  names_rise [] us h = tt
-  names_rise (x ∷ xs) us h = (names_above x xs us.0 us.1 h.0, names_rise xs us.1 h.1)
-
-all_weaker : (P Q : Op → Type 0) → ((x : Op) → P x → Q x) → (xs : List Op) → AllByRecursion P xs → AllByRecursion Q xs
-all_weaker P Q f [] h = tt
-all_weaker P Q f (x ∷ xs) h = (f x h.0, all_weaker P Q f xs h.1)
-
-pub lacking_rises : (s : SetBy op_cmp) (w : Intervals) → HaveNoClash (In s) (In s) → IsStrictlySortedBy by_name (lacking s w)
-lacking_rises s w single =
-    let all = all_weaker (Contains (lacking s w)) (In s) (lacking_member s w) (lacking s w) (recursion_from_All (Contains (lacking s w)) (lacking s w) (All-contains_itself (lacking s w))) in
-    names_rise (In s) single (lacking s w) all (kept_rises op_cmp (is_lacking w) (members s) (members_rise s))
 
 -- the window of nothing lacks each operation
 module _ (w : Intervals) (nothing : IsOfNothing w) where

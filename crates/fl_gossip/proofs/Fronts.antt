@@ -25,7 +25,7 @@ use Rattle.fl_gossip.specs.declared.fault.GossipFault.{GossipFault}
 use Rattle.fl_gossip.specs.declared.fault.GossipFault.TheVariants.{Impostor, Clash, Memory}
 use Rattle.fl_gossip.specs.Taking.{Offends}
 use Rattle.fl_gossip.specs.parts.Ahead.{NotBelow, IsFrom, IsAhead, BeginsWith, IsNewAmong}
-use Rattle.fl_gossip.proofs.Deltas.{back_rises}
+use Rattle.fl_gossip.specs.laws.Cutting.{back_rises}
 use Rattle.fl_gossip.proofs.Meetings.{first_part}
 
 pub ge_not_lt : (r : Ordering) → is_ge r ≡ true → is_lt r ≡ false

@@ -3,3 +3,4 @@ pub mod Leasts
 pub mod Rising
 pub mod OneCutting
 pub mod Wanted
+pub mod Cutting

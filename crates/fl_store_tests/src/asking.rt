@@ -1,7 +1,8 @@
 //! A keeper that is asked by lines.
 ghost use Rattle.std.specs.Prelude.{[], ◌∷◌, IsTrue};
 ghost use Rattle.fl_store.specs.Kept.{AreNew};
-ghost use Rattle.fl_store_tests.specs.Unused.{AreApart, IsUnused};
+ghost use Rattle.fl_store.specs.laws.Unused.{IsUnused};
+ghost use Rattle.fl_store_tests.specs.Unused.{AreApart};
 
 use fl_labels::name::Name;
 use fl_ops::op::{Body, Op};

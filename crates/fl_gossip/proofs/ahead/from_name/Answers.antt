@@ -4,7 +4,7 @@ use Rattle.std.specs.Ordering.{is_lt}
 use Rattle.std.proofs.lemmas.List.Sorted.{IsPartitionPoint-from_clause}
 use Rattle.fl_labels.specs.Name.{name_cmp}
 use Rattle.fl_ops.specs.OpOrder.{op_cmp}
-use Rattle.fl_gossip.proofs.Deltas.{front_rises}
+use Rattle.fl_gossip.specs.laws.Cutting.{front_rises}
 use Rattle.fl_gossip.proofs.Fronts.{names_parted, from_there}
 use Rattle.fl_gossip.proofs.ahead.from_name.Goals as goal
 

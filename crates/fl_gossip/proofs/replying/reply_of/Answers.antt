@@ -3,7 +3,8 @@ use Rattle.std.specs.List.Sorted.{IsStrictlySortedBy}
 use Rattle.fl_opset.specs.Windows.{lacking}
 use Rattle.fl_wire.specs.NameOrder.{by_name}
 use Rattle.fl_gossip.specs.Replying.{AreInDeltas}
-use Rattle.fl_gossip.proofs.Deltas.{lacking_rises, taken_rises, nothing_lacks, none_filled}
+use Rattle.fl_gossip.specs.laws.Cutting.{lacking_rises}
+use Rattle.fl_gossip.proofs.Deltas.{taken_rises, nothing_lacks, none_filled}
 use Rattle.fl_gossip.proofs.replying.reply_of.Goals as goal
 
 pub first_of-requires : goal.first_of-requires

@@ -1,4 +1,4 @@
-use Rattle.fl_store_tests.proofs.NewLemmas.{new_one}
+use Rattle.fl_store.specs.laws.Unused.{new_one}
 use Rattle.fl_store_tests.proofs.asking.is_new.Goals as goal
 
 pub returns : goal.returns
