@@ -11,6 +11,10 @@ pub enum Failure {
     /// The database failed as it was read or written.
     #[error("the database failed: {0}")]
     Database(sqlite::Error),
+    /// Its log was not copied into it as it was closed. Nothing that was saved is lost: the log has
+    /// it.
+    #[error("its log was not copied into it: {0}")]
+    Unmerged(sqlite::Error),
     /// One of its rows is no operation that a keeper writes.
     #[error("a row of it is damaged")]
     BadRow,

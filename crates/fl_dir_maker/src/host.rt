@@ -156,7 +156,7 @@ impl<'a> MakesKeepers for HostMaker<'a> {
         maker.take_back(number, keeper, fault);
     }
 
-    /// Lets the keeper go, as [`DirMaker`] does.
+    /// Closes the keeper, as [`DirMaker`] does.
     fn close(&mut self, number: NodeNumber, keeper: SqlKeeper<FileStore<File>>) {
         let HostMaker { maker } = self;
         maker.close(number, keeper);

@@ -15,7 +15,19 @@ use fl_sql_store::sql_keeper::SqlKeeper;
 use fl_store::keeper::Keeper;
 use fl_system::answer::Fault;
 use sqlite::FileStore;
+use sqlite_disk::Disk;
 use std::alloc::Global;
+
+// Closes a keeper, but for one that broke, and says what went wrong with it.
+fn closed<D: Disk + Drop>(keeper: SqlKeeper<FileStore<D>>) -> Option<Failure> {
+    if let Some(error) = keeper.why() {
+        return Some(Failure::Database(error));
+    }
+    match keeper.close() {
+        Ok(_files) => None,
+        Err(error) => Some(Failure::Unmerged(error)),
+    }
+}
 
 /// Makes keepers over the files of a directory: node 3 is kept in its `node-3.db`.
 #[derive(Drop)]
@@ -119,10 +131,12 @@ impl<'a, O: OpensFiles> MakesKeepers for DirMaker<'a, O> {
         }
     }
 
-    /// Lets the keeper go. Where it broke, the path and the error are written to standard error.
+    /// Copies the log into the database file, so that this alone has what was saved, and lets the
+    /// keeper go. Where that fails, or the keeper broke, the path and the error are written to
+    /// standard error. Costs what was saved since the log was copied last.
     fn close(&mut self, number: NodeNumber, keeper: SqlKeeper<FileStore<O::D>>) {
-        if let Some(error) = keeper.why() {
-            self.tell_failure(number, &Failure::Database(error));
+        if let Some(failure) = closed(keeper) {
+            self.tell_failure(number, &failure);
         }
     }
 }
