@@ -1,0 +1,11 @@
+pub mod Statuses
+pub mod Sinks
+pub mod Responses
+pub mod Coming
+pub mod Jobs
+pub mod Lines
+pub mod Texts
+pub mod Hearing
+pub mod Turning
+pub mod Runs
+pub mod Starting

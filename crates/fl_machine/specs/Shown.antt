@@ -1,0 +1,48 @@
+-- What a response of the program says.
+use Rattle.std.specs.Prelude.{◌≡◌, ℕ, List, map as list_map, Vec}
+use Rattle.std.specs.Borrow.{Bor}
+use Rattle.std.specs.declared.alloc.Global.{Global}
+use Rattle.fl_seal.specs.declared.seal.Key.{Key}
+use Rattle.fl_sealed_packets.specs.Sealing.{sent_bytes}
+use Rattle.fl_wire.specs.declared.packet.Packet.{Packet}
+use Rattle.fl_system.specs.declared.answer.Fault.{Fault}
+use Rattle.fl_system.specs.declared.reply.Reply.{Reply}
+use Rattle.fl_system.specs.declared.reply.Reply.TheVariants.{Refused}
+use Rattle.fl_system.specs.State.{NodeState}
+use Rattle.fl_system.specs.Waiting.{IsRunning}
+use Rattle.fl_calls.specs.Answer as says
+use Rattle.fl_calls.specs.declared.response.Check.{Check}
+use Rattle.fl_turns.specs.Answer.{fault_status}
+use Rattle.fl_machine_turns.specs.Answer.{Answer}
+use Rattle.fl_machine_turns.specs.Answer as answers
+use Rattle.fl_machine.specs.declared.response.Response.{Response}
+use Rattle.fl_machine.specs.declared.response.Response.TheVariants as response
+
+-- of a node in this state, whose process has these keys
+pub data Shows (keys : List Key) (n : NodeState) : Response → Answer → Type 0 where
+  silence : Shows keys n response.Silence answers.silence
+  replied : {reply : Reply}
+      → Shows keys n (response.Reply reply) (answers.said (says.replied reply))
+  dropped : {fault : Fault}
+      → Shows keys n (response.Dropped fault) (answers.said (says.dropped fault))
+  sent : {bytes : Vec ℕ Global} {packet : Packet} → bytes.items ≡ sent_bytes keys packet
+      → Shows keys n (response.Sent bytes) (answers.sent packet)
+  told : {all : Vec (Vec ℕ Global) Global} {packets : List Packet}
+      → list_map (λ bytes. bytes.items) all.items ≡ list_map (sent_bytes keys) packets
+      → Shows keys n (response.Told all) (answers.told packets)
+  text : IsRunning n.state → Shows keys n response.Text (answers.listed n.published)
+  checked : {check : Check}
+      → Shows keys n (response.Checked check) (answers.said (says.checked check))
+  bad_packet : {place : ℕ}
+      → Shows keys n (response.BadPacket place) (answers.said (says.bad_packet place))
+  admitted : {count : ℕ}
+      → Shows keys n (response.Admitted count) (answers.said (says.admitted count))
+  echoed : {word : Bor (List ℕ)} → Shows keys n (response.Echo word) (answers.echoed word.now)
+  unknown : Shows keys n response.Unknown (answers.said says.unknown)
+
+-- the status of its line, whatever it shows
+abbrev pub status_said : Response → ℕ
+status_said (response.Reply (Refused fault)) = fault_status fault
+status_said (response.Dropped fault) = fault_status fault
+status_said response.Unknown = 1
+status_said other = 0

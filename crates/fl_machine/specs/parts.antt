@@ -1,0 +1,3 @@
+-- Relations that join the private functions.
+pub mod Hearing
+pub mod Responding

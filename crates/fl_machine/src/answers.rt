@@ -1,0 +1,126 @@
+//! The text of the answers. Writing takes no memory but the sink's, and does without.
+ghost use Rattle.std.specs.Prelude.{◌≡◌, ◌++◌, List, OnErr, codes, length};
+ghost use Rattle.std.specs.List.{flat_map};
+ghost use Rattle.fl_labels.specs.SetBy as set;
+ghost use Rattle.fl_machine.specs.Shown.{Shows};
+ghost use Rattle.fl_machine_turns.specs.Answer.{Answer};
+ghost use Rattle.fl_machine_turns.specs.AnswerText.{head_text, text_of};
+ghost use Rattle.fl_opset.specs.RegistryText.{registry_text};
+ghost use Rattle.fl_seal.specs.declared.seal.Key.{Key};
+ghost use Rattle.fl_sink.specs.Sink.{Puts};
+ghost use Rattle.fl_system.specs.Waiting.{IsRunning};
+ghost use Rattle.hex.specs.Hex.{encode_lower};
+
+use crate::response::Response;
+use fl_answers::text::put_digits;
+use fl_calls::text::write_check;
+use fl_node::node::Node;
+use fl_replies::text::{write_count, write_dropped_fault, write_world_reply};
+use fl_sink::sink::{Sink, WriteFault};
+use fl_sink::writer::Writer;
+use fl_store::keeper::Keeper;
+
+// A line of these bytes and two digits for each byte of a packet.
+fn put_packet<W: Writer>(
+    front: &[u8],
+    bytes: &[u8],
+    sink: &mut Sink,
+    output: &mut W,
+) -> Result<(), WriteFault>
+    ensures puts { let text = front.now ++ (encode_lower bytes.now ++ codes "\n") in
+        Puts (W.contents output.old) (W.contents output.new) sink.old text sink.new result }
+    ensures cause { OnErr result (W.has_failed output.new) }
+{
+    sink.put(output, front)?;
+    put_digits(bytes, sink, output)?;
+    sink.put(output, b"\n")
+}
+
+// A line for each packet.
+fn put_lines<W: Writer>(
+    packets: &[Vec<u8>],
+    sink: &mut Sink,
+    output: &mut W,
+) -> Result<(), WriteFault>
+    ensures puts { let text = flat_map (λ bytes. encode_lower bytes.items ++ codes "\n")
+        packets.now in
+        Puts (W.contents output.old) (W.contents output.new) sink.old text sink.new result }
+    ensures cause { OnErr result (W.has_failed output.new) }
+{
+    for packet in packets {
+        put_packet(b"", packet, sink, output)?;
+    }
+    Ok(())
+}
+
+// How many packets there are, and a line for each.
+fn put_packets<W: Writer>(
+    packets: &[Vec<u8>],
+    sink: &mut Sink,
+    output: &mut W,
+) -> Result<(), WriteFault>
+    ensures puts { let lines = flat_map (λ bytes. encode_lower bytes.items ++ codes "\n")
+        packets.now in
+        let text = head_text (length packets.now) ++ lines in
+        Puts (W.contents output.old) (W.contents output.new) sink.old text sink.new result }
+    ensures cause { OnErr result (W.has_failed output.new) }
+{
+    write_count(b"lines ", packets.len() as u64, sink, output)?;
+    put_lines(packets, sink, output)
+}
+
+// How many operations a node that runs has published, and a line for each.
+fn put_text<K: Keeper, W: Writer>(
+    node: &Node<K>,
+    sink: &mut Sink,
+    output: &mut W,
+) -> Result<(), WriteFault>
+    requires { IsRunning node.now.node.state }
+    ensures puts { let ops = node.now.node.published in
+        let text = head_text (length ops) ++ registry_text (set.of_list ops) in
+        Puts (W.contents output.old) (W.contents output.new) sink.old text sink.new result }
+    ensures cause { OnErr result (W.has_failed output.new) }
+{
+    write_count(b"lines ", node.published().len() as u64, sink, output)?;
+    node.write_text(sink, output)
+}
+
+// A line of the word.
+fn put_echo<W: Writer>(word: &str, sink: &mut Sink, output: &mut W) -> Result<(), WriteFault>
+    ensures puts { let text = codes "echo " ++ (word.now ++ codes "\n") in
+        Puts (W.contents output.old) (W.contents output.new) sink.old text sink.new result }
+    ensures cause { OnErr result (W.has_failed output.new) }
+{
+    sink.put_all(output, &[b"echo ", word.as_bytes(), b"\n"])
+}
+
+/// Puts the text of what is answered to the line of this number into the sink. A node whose
+/// operations are to be written runs.
+pub fn write_response<K: Keeper, W: Writer>(
+    node: &Node<K>,
+    number: u64,
+    response: &Response,
+    sink: &mut Sink,
+    output: &mut W,
+) -> Result<(), WriteFault>
+    requires { response.now ≡ Response.Text → IsRunning node.now.node.state }
+    ensures puts { (keys : List Key) (answer : Answer)
+        → Shows keys node.now.node response.now answer
+        → let text = text_of keys number answer in
+        Puts (W.contents output.old) (W.contents output.new) sink.old text sink.new result }
+    ensures cause { OnErr result (W.has_failed output.new) }
+{
+    match response {
+        Response::Silence => sink.put_all(output, &[]),
+        Response::Reply(reply) => write_world_reply(reply, sink, output),
+        Response::Dropped(fault) => write_dropped_fault(fault, sink, output),
+        Response::Sent(bytes) => put_packet(b"sent ", bytes, sink, output),
+        Response::Told(packets) => put_packets(packets, sink, output),
+        Response::Text => put_text(node, sink, output),
+        Response::Checked(check) => write_check(*check, sink, output),
+        Response::BadPacket(place) => write_count(b"refused F18 ", *place, sink, output),
+        Response::Admitted(count) => write_count(b"admitted ", *count, sink, output),
+        Response::Echo(word) => put_echo(word, sink, output),
+        Response::Unknown => write_count(b"refused F19 ", number, sink, output),
+    }
+}

@@ -1,0 +1,188 @@
+//! What a line asks of a machine's node.
+ghost use Rattle.std.specs.Prelude.{◌≡◌, [], ◌∷◌, List, false};
+ghost use Rattle.fl_machine.specs.parts.Hearing.{Hears};
+ghost use Rattle.fl_machine.specs.parts.Responding.{Responds, ShowsSaying};
+ghost use Rattle.fl_machine_calls.specs.Saying.{saying_of};
+ghost use Rattle.fl_machine_model.specs.Acts.{Sends};
+ghost use Rattle.fl_machine_turns.specs.Answer.{answered_of_job};
+ghost use Rattle.fl_machine_turns.specs.Completing.{Begins, Completes};
+ghost use Rattle.fl_machine_turns.specs.Guarding.{Guarded};
+ghost use Rattle.fl_machine_turns.specs.Saying.{Says};
+ghost use Rattle.fl_machine_turns.specs.Settings.{settings_of};
+ghost use Rattle.fl_machine_turns.specs.Turn.{AnswersLine, AsksNode, IsText, Tells};
+ghost use Rattle.fl_node.specs.Desks.{IsDeskOf};
+ghost use Rattle.fl_seal.specs.declared.seal.Key.{Key};
+ghost use Rattle.fl_system.specs.State.{NodeState};
+ghost use Rattle.fl_system.specs.declared.sent.Sent.{Sent as AnySent};
+
+use crate::packets::{begin_to_bring, bring_packet, check, tell};
+use crate::response::{Response, refused, starved};
+use fl_jobs::job::{Act, Job};
+use fl_machine_calls::calls::{cancel, publish, save};
+use fl_machine_calls::guarding::{begin, work};
+use fl_machine_calls::said::Said;
+use fl_machine_calls::scratch::Scratch;
+use fl_machine_lines::asked::Asked;
+use fl_machine_lines::line::{MachineLine, read_machine_line};
+use fl_node::node::Node;
+use fl_seal::seal::Key;
+use fl_sealed_packets::going::bytes_to_send;
+use fl_store::keeper::Keeper;
+use fl_system::sent::Sent;
+use std::alloc::{AllocError, Global};
+
+// The message that was sent goes, as far as there is memory for its bytes.
+fn sent<'a>(alloc: Global, keys: &[Key], sent: &Sent) -> Response<'a>
+    ensures { (n : NodeState) → ShowsSaying keys.now n answered_of_job
+        (Sends (sent.now.packet ∷ [])) result }
+{
+    match bytes_to_send(alloc, keys, &sent.packet) {
+        Ok(bytes) => Response::Sent(bytes),
+        Err(_) => starved(),
+    }
+}
+
+// What is responded to a job. The packet that it sent, if it did, is the only one.
+fn said_of_job<'a>(alloc: Global, keys: &[Key], packets: &[Sent], said: Said) -> Response<'a>
+    requires { said ≡ Said.Sent → (one : AnySent) × (packets.now ≡ one ∷ []) }
+    ensures { (n : NodeState) → ShowsSaying keys.now n answered_of_job
+        (saying_of packets.now said) result }
+{
+    match (said.into_reply(), packets) {
+        (Some(reply), _) => Response::Reply(reply),
+        (None, [packet, ..]) => sent(alloc, keys, packet),
+        (None, []) => unreachable!("it stands there"),
+    }
+}
+
+// Does the job, and saves and publishes what it begins. Says too how much was admitted.
+fn do_job<'a, K: Keeper>(
+    alloc: Global,
+    node: &mut Node<K>,
+    keys: &[Key],
+    guards: bool,
+    job: Job,
+    scratch: &mut Scratch,
+) -> (Response<'a>, u64)
+    requires { IsDeskOf node.old.node 1 }
+    ensures { let number = node.old.node.number in Responds K.custody keys.now node.old
+        (λ s. Says answered_of_job (Guarded number guards s job (Completes number)))
+        result.0 result.1 node.new }
+{
+    let mut job = job;
+    let said = work(alloc, node, guards, &mut job, scratch);
+    let response = said_of_job(alloc, keys, &scratch.sent, said);
+    (response, scratch.audit.len() as u64)
+}
+
+// Does the job. What it begins is to be saved and published by further lines.
+fn begin_job<'a, K: Keeper>(
+    alloc: Global,
+    node: &mut Node<K>,
+    keys: &[Key],
+    guards: bool,
+    job: Job,
+    scratch: &mut Scratch,
+) -> (Response<'a>, u64)
+    requires { IsDeskOf node.old.node 1 }
+    ensures { let number = node.old.node.number in Responds K.custody keys.now node.old
+        (λ s. Says answered_of_job (Guarded number guards s job (Begins number)))
+        result.0 result.1 node.new }
+{
+    let mut job = job;
+    let said = begin(alloc, node, guards, &mut job, scratch);
+    let response = said_of_job(alloc, keys, &scratch.sent, said);
+    (response, scratch.audit.len() as u64)
+}
+
+// The operations that the node has published are to be written, where it runs.
+fn text<'a, K: Keeper>(node: &Node<K>) -> Response<'a>
+    ensures { (keys : List Key) → Responds K.custody keys node.now (λ s. Tells s (IsText s))
+        result 0 node.now }
+{
+    match node.runs() {
+        Ok(()) => Response::Text,
+        Err(fault) => refused(fault),
+    }
+}
+
+// Does what is asked of the node, and says what is responded, and how much was admitted.
+fn respond_to<'a, K: Keeper>(
+    alloc: Global,
+    node: &mut Node<K>,
+    keys: &[Key],
+    guards: bool,
+    asked: Asked,
+    scratch: &mut Scratch,
+) -> (Response<'a>, u64)
+    requires { IsDeskOf node.old.node 1 }
+    ensures { let settings = settings_of node.old.node.number keys.now guards in
+        Responds K.custody keys.now node.old (λ s. AsksNode settings s asked)
+        result.0 result.1 node.new }
+{
+    match asked {
+        Asked::Job(job) => do_job(alloc, node, keys, guards, job, scratch),
+        Asked::Begin(pid, order) => {
+            let job = Job::By(pid, Act::Order(order));
+            begin_job(alloc, node, keys, guards, job, scratch)
+        }
+        Asked::Receive(bytes) => bring_packet(alloc, node, keys, bytes.as_slice(), scratch),
+        Asked::BeginReceive(bytes) => (begin_to_bring(alloc, node, keys, bytes.as_slice()), 0),
+        Asked::Tell => (tell(alloc, node, keys), 0),
+        Asked::Save => (Response::Reply(save(node)), 0),
+        Asked::Publish => (Response::Reply(publish(alloc, node)), 0),
+        Asked::Cancel => (Response::Reply(cancel(node)), 0),
+        Asked::Text => (text(node), 0),
+        Asked::Check(bytes) => (check(alloc, node, keys, bytes.as_slice()), 0),
+    }
+}
+
+// Does what the line says to the node, of which so much was admitted before, and says what is
+// responded, and how much was admitted now.
+fn respond<'a, K: Keeper>(
+    alloc: Global,
+    node: &mut Node<K>,
+    keys: &[Key],
+    guards: bool,
+    admitted: u64,
+    line: MachineLine<'a>,
+    scratch: &mut Scratch,
+) -> (Response<'a>, u64)
+    requires { IsDeskOf node.old.node 1 }
+    ensures { let settings = settings_of node.old.node.number keys.now guards in
+        Responds K.custody keys.now node.old
+        (λ s. AnswersLine settings (record { s = s; admitted = admitted; over = false })
+        line.entry)
+        result.0 result.1 node.new }
+{
+    match line {
+        MachineLine::Quiet => (Response::Silence, 0),
+        MachineLine::Bad => (Response::Unknown, 0),
+        MachineLine::Echo(word) => (Response::Echo(word), 0),
+        MachineLine::Audit => (Response::Admitted(admitted), 0),
+        MachineLine::Asks(asked) => respond_to(alloc, node, keys, guards, asked, scratch),
+    }
+}
+
+/// Does what the bytes of a line say to the node, of which so much was admitted before, and says
+/// what is responded, and how much was admitted now. There may be no memory to read them.
+pub fn hear<'a, K: Keeper>(
+    alloc: Global,
+    node: &mut Node<K>,
+    keys: &[Key],
+    guards: bool,
+    admitted: u64,
+    bytes: &'a [u8],
+    scratch: &mut Scratch,
+) -> (Response<'a>, u64)
+    requires { IsDeskOf node.old.node 1 }
+    ensures { let settings = settings_of node.old.node.number keys.now guards in
+        Responds K.custody keys.now node.old
+        (λ s. Hears settings (record { s = s; admitted = admitted; over = false }) bytes.now)
+        result.0 result.1 node.new }
+{
+    match read_machine_line(alloc, node.number(), bytes) {
+        Ok(line) => respond(alloc, node, keys, guards, admitted, line, scratch),
+        Err(AllocError) => (starved(), 0),
+    }
+}
