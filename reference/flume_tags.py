@@ -7,9 +7,9 @@
 
 It is written from docs/SCRIPT.md, docs/FORMATS.md and docs/REFUSALS.md, and where these are silent
 from the rows of examples/rows, but not from the sources that are proved. It is what a reader judges
-the semantics by, and what reference/compare holds the program against. It takes no care of time. It
-reads the whole script first, and has no limit on its bytes. Memory is never wanted, and no keeper
-fails but where there is no directory.
+the semantics by, and what reference/compare holds the program against. It takes no care of time,
+and has no limit on the bytes of a script. Each line is answered before the next one is read. Memory
+is never wanted, and no keeper fails but where there is no directory.
 
 Over a directory it keeps what nodes saved in files of its own, node-<n>.json.
 
@@ -23,6 +23,7 @@ So Python's order of tuples is the order of names, of capabilities and of pids.
 import argparse
 import dataclasses
 import hashlib
+import io
 import json
 import pathlib
 import re
@@ -297,6 +298,7 @@ class Operations:
 @dataclasses.dataclass
 class Message:
     sender: tuple
+    sender_end: int
     receiver: tuple
     receiver_end: int
     S: frozenset
@@ -408,12 +410,12 @@ class Reader:
         return it, found[0] - 1
 
     def message(self):
-        (sender, _), (receiver, receiver_end) = self.end(), self.end()
+        ends = *self.end(), *self.end()
         S = self.rising(self.number(2, 0, LABEL_TAGS), self.name)
         I = self.rising(self.number(2, 0, LABEL_TAGS), self.name)
         rights = self.rising(self.number(1, 0, MESSAGE_CAPS), self.cap)
         content = self.bytes(self.number(2, 0, MESSAGE_BYTES))
-        return Message(sender, receiver, receiver_end, S, I, rights, content)
+        return Message(*ends, S, I, rights, content)
 
     def packet(self):
         form = self.number(1, 0xF1, 0xF2) - 0xF0
@@ -532,15 +534,36 @@ class Node:
                 raise Refused(17, name_text(it))
 
 
-# What a line does. Each is a function of the world, of its node and of what its words say.
+# What a line does. Each is a function of the session, which is called the world here, of its node
+# and of what its words say.
 
 
-class World:
-    """All nodes of a script, the packets that were sent, what was admitted, and the aliases."""
+class Session:
+    """What is common to the lines of a run: how packets are read, and how much was admitted.
+
+    Where a packet goes is a matter of the kind of session: `send` answers the line that sent a
+    message, and `tell` one that told packets.
+    """
+
+    def __init__(self):
+        self.admitted = 0
+
+    def admit(self, answer):
+        self.admitted += 1
+        return answer
+
+    def read(self, content):
+        """The packet of these bytes."""
+        return Reader(content).packet()
+
+
+class World(Session):
+    """All nodes of a script, the packets that were sent, and the aliases."""
 
     def __init__(self, directory, workers=0):
+        super().__init__()
         self.directory, self.workers, self.nodes, self.packets = directory, workers, {}, []
-        self.admitted, self.aliases = 0, {}
+        self.aliases = {}
 
     def enter(self, it):
         """The node of a number, which is opened where it is not yet."""
@@ -586,15 +609,15 @@ class World:
             if names:
                 raise Refused(refusal, name_text(min(names)))
 
-    def send(self, packets):
+    def tell(self, packets):
         """The numbers of new packets."""
         first = len(self.packets) + 1
         self.packets += packets
-        return " ".join(["sent", *map(str, range(first, len(self.packets) + 1))])
+        numbers = map(str, range(first, len(self.packets) + 1))
+        return " ".join(["sent", *numbers] if packets else ["sent none"])
 
-    def admit(self, answer):
-        self.admitted += 1
-        return answer
+    def send(self, message):
+        return self.tell([message])
 
     def sent(self, k):
         if k > len(self.packets):
@@ -675,8 +698,8 @@ def send(world, node, it, at, receiver, receiver_end, rights, content):
     if end.mode == "r":
         raise Refused(6, f"e{at}")
     take(rights, node.has(process.owned))
-    message = Message(it, receiver, receiver_end, end.S, end.I, rights, content)
-    return world.admit(world.send([message]))
+    message = Message(it, at, receiver, receiver_end, end.S, end.I, rights, content)
+    return world.admit(world.send(message))
 
 
 def take_message(_world, node, it):
@@ -775,13 +798,14 @@ def begin_order(world, node, order, *words):
 
 
 def tell(world, node):
-    return world.send(windows_of(node.saved))
+    return world.tell([*windows_of(node.saved)])
 
 
-def answer_window(world, node, window):
+def reply(node, window):
+    """The packets with all that the sender of a window lacks."""
     lacked = list(window.lacks(node.saved).items())
     parts = [lacked[at:at + DELTA] for at in range(0, len(lacked), DELTA)]
-    return world.send([Operations(dict(part)) for part in parts]) if parts else "sent none"
+    return [Operations(dict(part)) for part in parts]
 
 
 def begin_operations(node, packet):
@@ -793,7 +817,7 @@ def begin_operations(node, packet):
     return len(new)
 
 
-def take_operations(_world, node, packet):
+def take_operations(node, packet):
     return (node.save(), node.publish())[1] if begin_operations(node, packet) else "took 0"
 
 
@@ -813,21 +837,30 @@ def arrive(world, node, message):
     return world.admit(f"arrived {pid_text(message.receiver)}")
 
 
-def deliver(world, node, k):
-    packet = world.sent(k)
+def bring(world, node, packet):
+    """A packet comes in."""
     if isinstance(packet, Window):
-        return answer_window(world, node, packet)
+        return world.tell(reply(node, packet))
     if isinstance(packet, Operations):
-        return take_operations(world, node, packet)
+        return take_operations(node, packet)
     try:
         return arrive(world, node, packet)
     except Refused as why:
         return f"dropped {why.text}"
 
 
-def begin_deliver(world, node, k):
-    count = begin_operations(node, world.sent(k))
+def deliver(world, node, k):
+    return bring(world, node, world.sent(k))
+
+
+def begin_to_bring(node, packet):
+    """A packet of operations comes in, and what is new stays pending."""
+    count = begin_operations(node, packet)
     return f"begun {count}" if count else "took 0"
+
+
+def begin_deliver(world, node, k):
+    return begin_to_bring(node, world.sent(k))
 
 
 # The other lines of nodes.
@@ -841,8 +874,8 @@ def text(_world, node):
     return "\n".join(registry_text(node.published.items()))
 
 
-def check(_world, node, content):
-    packet = Reader(content).packet()
+def check(world, node, content):
+    packet = world.read(content)
     if node.is_stopped:
         raise Refused(21)
     if isinstance(packet, Window):
@@ -886,28 +919,37 @@ def read_words(readers, words):
     return [read(word) for read, word in zip(readers, words)]
 
 
+def read_known(forms, words):
+    """What stands in a table for the first of these words, and what the others say."""
+    if not words or words[0] not in forms:
+        raise BadLine
+    does, *readers = forms[words[0]]
+    return does, read_words(readers, words[1:])
+
+
+def read_order(words):
+    """An order, and what its words say, in one list."""
+    order, found = read_known(ORDERS, words)
+    return [order, *found]
+
+
 def read_line(world, words):
     """What a line of a node does: a function of the world and the node, and what its words say."""
     kind, rest = words[0], words[1:]
     if world.workers and kind in STEPS:
         raise BadLine
     if kind in ORDERS:
-        order, *readers = ORDERS[kind]
-        return give_order, [order, *read_words(readers, rest)]
-    if kind == "begin" and rest and rest[0] in ORDERS:
-        order, *readers = ORDERS[rest[0]]
-        return begin_order, [order, *read_words(readers, rest[1:])]
-    if kind == "begin" and rest[:1] == ["deliver"]:
+        return give_order, read_order(words)
+    if kind == "begin" and rest[:1] != ["deliver"]:
+        return begin_order, read_order(rest)
+    if kind == "begin":
         found = read_words([number], rest[1:])
         if not isinstance(world.sent(*found), Operations):
             raise BadLine
         return begin_deliver, found
     if kind == "restart":
         return restart, read_words([the_word_kept] if rest else [], rest)
-    if kind not in LINES:
-        raise BadLine
-    does, *readers = LINES[kind]
-    found = read_words(readers, rest)
+    does, found = read_known(LINES, words)
     if kind == "deliver":
         world.sent(*found)
     return does, found
@@ -954,15 +996,19 @@ def replace_aliases(world, word):
     return re.sub(r"\$([a-z0-9_]*)", target, word)
 
 
-def answer(world, line):
-    """The answer to the bytes of a line."""
+def words_of(line):
+    """The words of the bytes of a line."""
     if len(line) > LINE_BYTES:
         raise BadLine
     try:
-        words = [word for word in line.decode().split(" ") if word]
+        return [word for word in line.decode().split(" ") if word]
     except UnicodeDecodeError:
         raise BadLine from None
-    alias = None
+
+
+def answer_line(world, line):
+    """The answer to the bytes of a line."""
+    words, alias = words_of(line), None
     if words[-2:-1] == ["as"] and re.fullmatch(r"\$[a-z0-9_]{1,32}", words[-1]):
         words, alias = words[:-2], words[-1][1:]
         if words[1:2] == [] or words[1] not in MAKING or len(world.aliases) == ALIASES:
@@ -974,14 +1020,15 @@ def answer(world, line):
 
 
 def lines_of(script):
-    """The lines of a script. One carriage return before a line feed belongs to the line's end."""
-    *lines, rest = script.split(b"\n")
-    yield from (line.removesuffix(b"\r") for line in lines)
-    if rest:
-        yield rest
+    """The lines of a stream of bytes, as they come.
+
+    One carriage return before a line feed belongs to the line's end.
+    """
+    for line in script:
+        yield line[:-1].removesuffix(b"\r") if line.endswith(b"\n") else line
 
 
-def respond(world, count, line):
+def respond(world, count, line, answer=answer_line):
     """The text of the answer to a line, which may be none, and its status."""
     front = line.lstrip(b" ")
     if not front or front.startswith(b"#"):
@@ -995,12 +1042,18 @@ def respond(world, count, line):
         return f"refused {why.text}\n", 3 if why.text == "F15" else 0
 
 
-def run(script, directory, workers=0):
-    """The answers to the lines of a script, and the status."""
+def play(script, directory, workers=0):
+    """The text of the answer to each line of a stream, and its status, as the lines come."""
     world = World(directory, workers)
-    answers = [respond(world, count, line) for count, line in enumerate(lines_of(script), 1)]
+    for count, line in enumerate(lines_of(script), 1):
+        yield respond(world, count, line)
     for node in world.nodes.values():
         world.keep(node)
+
+
+def run(script, directory, workers=0):
+    """The answers to the lines of a script, and the status."""
+    answers = [*play(io.BytesIO(script), directory, workers)]
     return [given for given, _ in answers], max((status for _, status in answers), default=0)
 
 
@@ -1008,10 +1061,12 @@ def main(words):
     parser = argparse.ArgumentParser()
     parser.add_argument("--workers", type=int, choices=range(17), default=0)
     parser.add_argument("--dir", type=pathlib.Path)
-    asked = parser.parse_args(words)
-    answers, status = run(sys.stdin.buffer.read(), asked.dir, asked.workers)
-    sys.stdout.write("".join(answers))
-    return status
+    asked, worst = parser.parse_args(words), 0
+    for given, status in play(sys.stdin.buffer, asked.dir, asked.workers):
+        sys.stdout.write(given)
+        sys.stdout.flush()
+        worst = max(worst, status)
+    return worst
 
 
 if __name__ == "__main__":
