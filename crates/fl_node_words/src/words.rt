@@ -219,17 +219,55 @@ fn settings_in<'a>(alloc: Global, matches: &ArgMatches<'a>) -> Result<Settings<'
     })
 }
 
-// Tells the user what the parser says, if there was memory to say it, and the caller which fault it
-// is.
-fn told<RT: Print + Eprint>(rt: &RT, error: &Error) -> WordsFault
+// What the parser says first of what is wrong, in one line: how the words are used comes behind an
+// empty line, and is told by help.
+fn in_one_line(alloc: Global, error: &Error) -> Result<String, AllocError> {
+    let text = format!(in alloc; "{error}")?;
+    let mut line = String::new(alloc);
+    for part in text.lines() {
+        if part.is_empty() {
+            break;
+        }
+        for word in part.split_whitespace() {
+            line.push(' ')?;
+            line.push_str(word)?;
+        }
+    }
+    Ok(line)
+}
+
+// Says on standard error, in one line, why the words are refused.
+fn tell_refused<RT: AllocGlobal + Eprint>(rt: &RT, error: &Error) {
+    let _ = match in_one_line(rt.alloc(), error) {
+        Ok(line) => eprintln!(rt; "flume-node:{line}"),
+        Err(_) => eprintln!(rt; "flume-node: its words are refused"),
+    };
+}
+
+// Which fault it is for which the parser found nothing.
+fn fault_in(error: &Error) -> WordsFault
     ensures { result ≡ fault_by (kind_of error.now) }
 {
-    let fault = match error.kind() {
-        ErrorKind::OutOfMemory => return WordsFault::Memory,
+    match error.kind() {
+        ErrorKind::OutOfMemory => WordsFault::Memory,
         ErrorKind::DisplayHelp | ErrorKind::DisplayVersion => WordsFault::Shown,
         _ => WordsFault::Refused,
-    };
-    let _ = error.print(rt);
+    }
+}
+
+// Tells the user what the parser says, and the caller which fault it is. Nothing is said where
+// there was no memory.
+fn told<RT: AllocGlobal + Print + Eprint>(rt: &RT, error: &Error) -> WordsFault
+    ensures { result ≡ fault_by (kind_of error.now) }
+{
+    let fault = fault_in(error);
+    match fault {
+        WordsFault::Memory => {}
+        WordsFault::Refused => tell_refused(rt, error),
+        WordsFault::Shown => {
+            let _ = error.print(rt);
+        }
+    }
     fault
 }
 
@@ -240,7 +278,7 @@ fn told<RT: Print + Eprint>(rt: &RT, error: &Error) -> WordsFault
 /// the parser finds, for its texts, and for the list of the keys.
 ///
 /// - `Shown`: the words ask for the program's help or version. That was printed, to standard output.
-/// - `Refused`: they are not the program's. Why was printed, to standard error.
+/// - `Refused`: they are not the program's. Why was printed in one line, to standard error.
 /// - `Memory`: there was not enough. Nothing was printed.
 pub fn read_words<'a, RT: AllocGlobal + Print + Eprint>(
     rt: &RT,
