@@ -23,7 +23,8 @@ use Rattle.fl_dir_maker.specs.declared.fault.Cause.{Cause}
 use Rattle.fl_dir_maker.specs.DirMaking.{HoldsAt, IsUnmade, FailsAtOpening}
 use Rattle.fl_dir_maker.specs.Reach.{Reach}
 use Rattle.fl_dir_maker.specs.Keeping.{IsKeptIn, Connects, IsKeeperOver}
-use Rattle.fl_dir_maker.specs.Keeping.{IsUnopened, no_room, no_files, no_database, no_keeper}
+use Rattle.fl_dir_maker.specs.Keeping.{IsUnconnected, no_files, no_database}
+use Rattle.fl_dir_maker.specs.Keeping.{IsUnopened, no_room, unconnected, no_keeper}
 
 module _ {D : Type 0} {g : Ghosts D} (stays : SeenMayStay g) (holds : Image → Type 0) (number : ℕ) (c : Held (FileStore D g)) (keeper : SqlKept (FileStore D g)) where
   -- what leaves no more than another, and was not lied to, leaves something that the other left, which was not lied to then
@@ -75,10 +76,13 @@ module _ {D : Type 0} {g : Ghosts D} (holds more : Image → Type 0) (wider : (i
   connects_more c (files, reads, it) = (files, (λ clean. wider _ (reads clean)), it)
 
   module _ (fails fails_more : Cause → Type 0) (rarer : (cause : Cause) → fails cause → fails_more cause) (number : ℕ) where
+    unconnected_more : (cause : Cause) → IsUnconnected g holds fails cause → IsUnconnected g more fails_more cause
+    unconnected_more _ (no_files of_files why) = no_files of_files (rarer _ why)
+    unconnected_more _ (no_database error (files, reads, left, why)) = no_database error (files, (λ clean. wider _ (reads clean)), left, why)
+
     pub unopened_more : (cause : Cause) → IsUnopened g holds fails number cause → IsUnopened g more fails_more number cause
     unopened_more _ no_room = no_room
-    unopened_more _ (no_files of_files why) = no_files of_files (rarer _ why)
-    unopened_more _ (no_database error (files, reads, left, why)) = no_database error (files, (λ clean. wider _ (reads clean)), left, why)
+    unopened_more _ (unconnected why) = unconnected (unconnected_more _ why)
     unopened_more _ (no_keeper fault (c, left, connects, why)) = no_keeper fault (c, left, connects_more c connects, why)
 
 module _ {O D : Type 0} {g : Ghosts D} (reach : Reach O) {old new : O} (dir : List ℕ)

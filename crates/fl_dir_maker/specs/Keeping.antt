@@ -77,15 +77,20 @@ module _ {D : Type 0} (g : Ghosts D) (holds : Image → Type 0) where
       × (HasCleanDisk (file_state left)
       → RefusesToOpen number (file_state c) (file_state left) fault)
 
--- Why no keeper of the node is opened over files that may read so, or may not be opened for some
--- cause.
+-- Why no database is open over files that may read so, or may not be opened for some cause.
+pub data IsUnconnected {D : Type 0} (g : Ghosts D) (holds : Image → Type 0)
+    (fails : Cause → Type 0) : Cause → Type 0 where
+  no_files : {cause : Cause} → IsOfFiles cause → fails cause
+      → IsUnconnected g holds fails cause
+  no_database : (error : Error) → NoDatabase g holds error
+      → IsUnconnected g holds fails (database_cause error)
+
+-- Why no keeper of the node is opened over such files.
 pub data IsUnopened {D : Type 0} (g : Ghosts D) (holds : Image → Type 0) (fails : Cause → Type 0)
     (number : ℕ) : Cause → Type 0 where
   -- for the path of the files
   no_room : IsUnopened g holds fails number causes.Memory
-  no_files : {cause : Cause} → IsOfFiles cause → fails cause
+  unconnected : {cause : Cause} → IsUnconnected g holds fails cause
       → IsUnopened g holds fails number cause
-  no_database : (error : Error) → NoDatabase g holds error
-      → IsUnopened g holds fails number (database_cause error)
   no_keeper : (fault : KeeperFault) → NoKeeper g holds number fault
       → IsUnopened g holds fails number (cause_of fault)

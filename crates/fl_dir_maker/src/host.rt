@@ -66,23 +66,37 @@ enum Missing {
     Log,
 }
 
+/// Whether a file was not found for this error.
+pub fn is_missing(error: &io::Error) -> bool {
+    matches!(error.kind(), ErrorKind::NotFound | ErrorKind::NotADirectory)
+}
+
+/// The path of the log of the database at this path, which may be missing. It stands beside the
+/// file itself, where the path is a link to it. Refused where the system does not tell where that
+/// is, or there is not enough memory.
+pub fn log_of(rt: &HostRuntime, path: &str) -> io::Result<String> {
+    match fs::canonicalize(rt, path) {
+        Ok(real) => Ok(format!(in rt.alloc(); "{}-wal", real.as_str())?),
+        Err(error) if is_missing(&error) => Ok(format!(in rt.alloc(); "{path}-wal")?),
+        Err(error) => Err(error),
+    }
+}
+
 // Whether there is a file at the path, and has some bytes. Where the system does not tell, it is
 // taken to be so.
 fn has_some(rt: &HostRuntime, path: &str) -> bool {
     match fs::metadata(rt, path) {
         Ok(found) => found.len() > 0,
-        Err(error) => error.kind() != ErrorKind::NotFound,
+        Err(error) => !is_missing(&error),
     }
 }
 
-// Whether there is a log of the database at the path. It stands beside the file itself, where the
-// path is a link to it.
+// Whether there is a log of the database at the path.
 fn has_log(rt: &HostRuntime, path: &str) -> io::Result<bool> {
-    let real = fs::canonicalize(rt, path)?;
-    let log = format!(in rt.alloc(); "{}-wal", real.as_str())?;
+    let log = log_of(rt, path)?;
     match fs::metadata(rt, log.as_str()) {
         Ok(_) => Ok(true),
-        Err(error) => Ok(error.kind() != ErrorKind::NotFound),
+        Err(error) => Ok(!is_missing(&error)),
     }
 }
 
@@ -107,8 +121,9 @@ fn tell_missing(rt: &HostRuntime, path: &str, missing: Missing) {
     let _ = eprintln!(rt; "flume-tags: {path}: {what}");
 }
 
-/// Makes keepers over the files of a directory of the host, as [`DirMaker`] does over [`HostFiles`].
-/// A program calls what is generic over makers at this type, whose keepers it can name.
+/// Makes keepers over the files of a directory of the host, as [`DirMaker`] does over
+/// [`HostFiles`]. A program calls what is generic over makers at this type, whose keepers it can
+/// name.
 #[derive(Drop)]
 pub struct HostMaker<'a> {
     maker: DirMaker<'a, HostFiles<'a>>,

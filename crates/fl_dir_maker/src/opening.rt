@@ -1,7 +1,7 @@
 //! Opening a keeper over files.
 ghost use Rattle.std.specs.Prelude.{ℕ, List, IfOk, IfErr};
 ghost use Rattle.sqlite_wal.specs.Recovery.{Image};
-ghost use Rattle.fl_dir_maker.specs.Keeping.{Connects, IsKeeperOver, IsUnopened};
+ghost use Rattle.fl_dir_maker.specs.Keeping.{Connects, IsKeeperOver, IsUnconnected, IsUnopened};
 ghost use Rattle.fl_dir_maker.specs.declared.fault.Cause.{Cause};
 
 use crate::fault::{Cause, of_database, of_keeper};
@@ -14,15 +14,18 @@ use std::alloc::Global;
 // How many pages of a file are kept in memory. A node reads all of it once, and then adds to it.
 const CACHE_PAGES: usize = 64;
 
-// The database of the files at a path, which are made if they are missing.
-fn connect<O: OpensFiles>(
+/// The database of the files at a path, which are made if they are missing.
+///
+/// Refused with the cause that the opener gives; with `Database` where the files are no database, or
+/// are not read or written; and with `Memory`.
+pub fn connect<O: OpensFiles>(
     opener: &mut O,
     alloc: Global,
     path: &str,
 ) -> Result<Connection<FileStore<O::D>>, Cause>
     ensures connects { IfOk result (Connects (O.reach.holds opener.old path.now)) }
-    ensures unopened { IfErr result (λ cause. (number : ℕ) → IsUnopened O.D.Disk
-        (O.reach.holds opener.old path.now) (O.reach.fails opener.old path.now) number cause) }
+    ensures unconnected { IfErr result (IsUnconnected O.D.Disk
+        (O.reach.holds opener.old path.now) (O.reach.fails opener.old path.now)) }
     ensures same_holds { (at : List ℕ) (image : Image) → O.reach.holds opener.new at image
         → O.reach.holds opener.old at image }
     ensures same_fails { (at : List ℕ) (cause : Cause) → O.reach.fails opener.new at cause

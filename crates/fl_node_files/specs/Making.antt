@@ -21,10 +21,9 @@ use Rattle.fl_sql_tables.specs.Stored.{HasSelf, kept_in}
 use Rattle.fl_sql_store.specs.SqlKeeping.{held_in}
 use Rattle.fl_dir_maker.specs.declared.fault.Cause.{Cause}
 use Rattle.fl_dir_maker.specs.Failing.{cause_of}
-use Rattle.fl_dir_maker.specs.Keeping.{IsKeptIn, NoKeeper}
+use Rattle.fl_dir_maker.specs.Keeping.{IsKeptIn, IsUnconnected, NoKeeper}
 use Rattle.fl_node_files.specs.declared.fault.Unserved.{Unserved}
 use Rattle.fl_node_files.specs.declared.fault.Unserved.TheVariants.{ThereAlready}
-use Rattle.fl_node_files.specs.Serving.{IsUnconnected}
 use Rattle.fl_node_files.specs.Unserving.{cause_unserved, error_unserved}
 
 -- why a database that serves as the node's is not one that was never opened: its boot is above 0,
@@ -60,8 +59,8 @@ pub record IsMade {D : Type 0} (g : Ghosts D) (holds : Image → Type 0) (number
 -- Why the node was not made in files that may read so, or may not be opened for some cause.
 pub data IsUnmade {D : Type 0} (g : Ghosts D) (holds : Image → Type 0) (fails : Cause → Type 0)
     (number : ℕ) : Unserved → Type 0 where
-  unconnected : {why : Unserved} → IsUnconnected g holds fails why
-      → IsUnmade g holds fails number why
+  unconnected : {cause : Cause} → IsUnconnected g holds fails cause
+      → IsUnmade g holds fails number (cause_unserved cause)
   no_keeper : (fault : KeeperFault) → NoKeeper g holds number fault
       → IsUnmade g holds fails number (cause_unserved (cause_of fault))
   not_new : {why : Unserved} (c left : Held (FileStore D g)) → IsNodeOver holds number c

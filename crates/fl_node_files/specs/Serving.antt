@@ -3,25 +3,15 @@ use Rattle.std.specs.Prelude.{ℕ}
 use Rattle.sqlite_disk.specs.declared.Disk.{Ghosts}
 use Rattle.sqlite_store.specs.declared.store.FileStore.{FileStore}
 use Rattle.sqlite_wal.specs.Recovery.{Image}
-use Rattle.sqlite.specs.declared.error.Error.{Error}
 use Rattle.sqlite.specs.Files.{file_state}
 use Rattle.sqlite.specs.Held.{Held}
 use Rattle.sqlite.specs.State.{HasCleanDisk}
 use Rattle.fl_sql_store.specs.Opening.{IsNotThere, RefusesThere}
 use Rattle.fl_sql_store.specs.declared.there.NotThere.{NotThere}
 use Rattle.fl_dir_maker.specs.declared.fault.Cause.{Cause}
-use Rattle.fl_dir_maker.specs.Failing.{IsOfFiles, database_cause}
-use Rattle.fl_dir_maker.specs.Keeping.{Connects, NoDatabase}
+use Rattle.fl_dir_maker.specs.Keeping.{Connects, IsUnconnected}
 use Rattle.fl_node_files.specs.declared.fault.Unserved.{Unserved}
 use Rattle.fl_node_files.specs.Unserving.{cause_unserved, there_unserved}
-
--- Why no database is open over files that may read so, or may not be opened for some cause.
-pub data IsUnconnected {D : Type 0} (g : Ghosts D) (holds : Image → Type 0)
-    (fails : Cause → Type 0) : Unserved → Type 0 where
-  no_files : {cause : Cause} → IsOfFiles cause → fails cause
-      → IsUnconnected g holds fails (cause_unserved cause)
-  no_database : (error : Error) → NoDatabase g holds error
-      → IsUnconnected g holds fails (cause_unserved (database_cause error))
 
 -- files that read so hold a database with tables
 abbrev pub IsThere : {D : Type 0} → Ghosts D → (Image → Type 0) → Type 0
@@ -32,10 +22,10 @@ abbrev pub NoneIsKept : {D : Type 0} → Ghosts D → (Image → Type 0) → ℕ
 NoneIsKept {D} g holds number why = (c left : Held (FileStore D g)) × Connects holds c
     × (HasCleanDisk (file_state left) → RefusesThere number (file_state c) (file_state left) why)
 
--- Why the node is not served from them.
+-- Why the node is not served from files that may read so, or may not be opened for some cause.
 pub data IsUnserved {D : Type 0} (g : Ghosts D) (holds : Image → Type 0) (fails : Cause → Type 0)
     (number : ℕ) : Unserved → Type 0 where
-  unconnected : {why : Unserved} → IsUnconnected g holds fails why
-      → IsUnserved g holds fails number why
+  unconnected : {cause : Cause} → IsUnconnected g holds fails cause
+      → IsUnserved g holds fails number (cause_unserved cause)
   no_keeper : (why : NotThere) → NoneIsKept g holds number why
       → IsUnserved g holds fails number (there_unserved why)

@@ -5,7 +5,7 @@ use crate::opening::open_there;
 use crate::sizes::{Standing, standing_of};
 use fl_dir_maker::fault::of_system;
 use fl_dir_maker::file::file_of;
-use fl_dir_maker::host::HostFiles;
+use fl_dir_maker::host::{HostFiles, is_missing, log_of};
 use fl_labels::name::NodeNumber;
 use fl_sql_store::sql_keeper::SqlKeeper;
 use sqlite::{File, FileStore};
@@ -22,11 +22,6 @@ fn of_refusal(error: io::Error) -> Unserved {
     of_cause(of_system(error))
 }
 
-// Whether a file was not found for this error.
-fn is_missing(error: &io::Error) -> bool {
-    matches!(error.kind(), ErrorKind::NotFound | ErrorKind::NotADirectory)
-}
-
 // How many bytes the file at the path has, where there is one. What is no file is no node's.
 fn size_at(rt: &HostRuntime, path: &str) -> Result<Option<u64>, Unserved> {
     match fs::metadata(rt, path) {
@@ -37,20 +32,9 @@ fn size_at(rt: &HostRuntime, path: &str) -> Result<Option<u64>, Unserved> {
     }
 }
 
-// The path of the log of the database at this path. It stands beside the file itself, where the
-// path is a link to it.
-fn log_of(rt: &HostRuntime, path: &str) -> Result<String, Unserved> {
-    let log = match fs::canonicalize(rt, path) {
-        Ok(real) => format!(in rt.alloc(); "{}-wal", real.as_str()),
-        Err(error) if is_missing(&error) => format!(in rt.alloc(); "{path}-wal"),
-        Err(error) => return Err(of_refusal(error)),
-    };
-    log.map_err(|_| Unserved::Memory)
-}
-
 // What stands at the path of a node's database.
 fn standing_at(rt: &HostRuntime, path: &str) -> Result<Standing, Unserved> {
-    let log = log_of(rt, path)?;
+    let log = log_of(rt, path).map_err(of_refusal)?;
     standing_of(size_at(rt, path)?, size_at(rt, log.as_str())?)
 }
 
@@ -62,7 +46,7 @@ fn give_to_owner(rt: &HostRuntime, path: &str) -> Result<(), Unserved> {
 // The same of the database at the path and of its log.
 fn give_both_to_owner(rt: &HostRuntime, path: &str) -> Result<(), Unserved> {
     give_to_owner(rt, path)?;
-    let log = log_of(rt, path)?;
+    let log = log_of(rt, path).map_err(of_refusal)?;
     give_to_owner(rt, log.as_str())
 }
 

@@ -11,9 +11,9 @@ ghost use Rattle.fl_dir_maker.specs.declared.fault.Cause.{Cause};
 ghost use Rattle.fl_node_files.specs.Making.{IsMade, IsNodeOver, IsNotNew, IsUnmade, IsUnmerged};
 
 use crate::fault::{Unserved, of_cause, of_error};
-use crate::opening::connect;
 use fl_dir_maker::fault::of_keeper;
 use fl_dir_maker::opener::OpensFiles;
+use fl_dir_maker::opening::connect;
 use fl_labels::name::NodeNumber;
 use fl_sql_store::sql_keeper::SqlKeeper;
 use fl_sql_tables::boot::read_boot;
@@ -39,7 +39,7 @@ fn found<O: OpensFiles>(
 {
     let conn = match connect(opener, alloc, path) {
         Ok(conn) => conn,
-        Err(why) => return Err(why),
+        Err(cause) => return Err(of_cause(cause)),
     };
     match SqlKeeper::open(alloc, conn, number) {
         Ok(keeper) => Ok(keeper.into_connection()),

@@ -1,7 +1,10 @@
 use Rattle.std.proofs.Common.{sym, subst}
-use Rattle.fl_dir_maker.specs.Keeping.{IsUnopened, no_keeper}
+use Rattle.fl_dir_maker.specs.Keeping.{IsUnopened, no_keeper, unconnected}
 use Rattle.fl_dir_maker.proofs.Keepers.{is_keeper}
 use Rattle.fl_dir_maker.proofs.opening.open.Goals as goal
+
+pub returns-in-Err-clause-unopened : goal.returns-in-Err-clause-unopened
+returns-in-Err-clause-unopened g c = unconnected c.in-Err.ensures.unconnected
 
 pub returns-in-Ok-open-clause-keeper : goal.returns-in-Ok-open-clause-keeper
 returns-in-Ok-open-clause-keeper g c =

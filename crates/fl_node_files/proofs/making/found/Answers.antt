@@ -5,7 +5,9 @@ use Rattle.fl_node_files.proofs.Nodes.{node_over}
 use Rattle.fl_node_files.proofs.making.found.Goals as goal
 
 pub returns-in-Err-clause-unmade : goal.returns-in-Err-clause-unmade
-returns-in-Err-clause-unmade g c = unconnected c.in-Err.ensures.unconnected
+returns-in-Err-clause-unmade g c =
+    subst (IsUnmade _ _ _ c.args.number) (sym c.of_cause.ensures)
+    (unconnected c.in-Err.ensures.unconnected)
 
 pub returns-in-Ok-open-clause-node : goal.returns-in-Ok-open-clause-node
 returns-in-Ok-open-clause-node g c =
@@ -16,6 +18,6 @@ returns-in-Ok-open-clause-node g c =
 
 pub returns-in-Err-open-clause-unmade : goal.returns-in-Err-open-clause-unmade
 returns-in-Err-open-clause-unmade g c =
-    subst (IsUnmade _ _ _ c.args.number) (sym (c.of_cause.ensures ∙ ap cause_unserved c.of_keeper.ensures))
+    subst (IsUnmade _ _ _ c.args.number) (sym (c.of_cause-in-Err-open.ensures ∙ ap cause_unserved c.of_keeper.ensures))
     (no_keeper c.in-Err-open.fault
     (c.in-Ok.conn, c.in-Err-open._conn, c.in-Ok.ensures.connects, c.in-Err-open.ensures.refuses))

@@ -4,7 +4,9 @@ use Rattle.fl_node_files.specs.Serving.{IsUnserved, no_keeper, unconnected}
 use Rattle.fl_node_files.proofs.opening.open_there.Goals as goal
 
 pub returns-in-Err-clause-unserved : goal.returns-in-Err-clause-unserved
-returns-in-Err-clause-unserved g c = unconnected c.in-Err.ensures.unconnected
+returns-in-Err-clause-unserved g c =
+    subst (IsUnserved _ _ _ c.args.number) (sym c.of_cause.ensures)
+    (unconnected c.in-Err.ensures.unconnected)
 
 pub returns-in-Ok-open_there-clause-keeper : goal.returns-in-Ok-open_there-clause-keeper
 returns-in-Ok-open_there-clause-keeper g c =
