@@ -16,6 +16,8 @@ use Rattle.fl_message.specs.declared.message.Data.{Data}
 use Rattle.fl_store.specs.Custody.{Custody}
 use Rattle.fl_node.specs.Checking.{AreRefused, Checks, Counts}
 use Rattle.fl_node.specs.Over.{NodeOver}
+use Rattle.fl_system.specs.declared.admission.Admission.{Admission}
+use Rattle.fl_system.specs.declared.admission.Party.{Party}
 use Rattle.fl_system.specs.declared.answer.Fault.{Fault}
 use Rattle.fl_system.specs.declared.answer.Fault.TheVariants.{Impostor, KeeperFailed}
 use Rattle.fl_system.specs.declared.reply.Reply.{Reply}
@@ -113,8 +115,9 @@ unread_three Memory e = no_three e
 
 -- ---- a message begins nothing
 
-message_ends : {s : KeptNode} {d : Data} {o : Outcome} → MessageAlone s d o
-    → says_begun o.says ≡ false
+message_ends : {n n' : NodeState} {sender : Option Party} {d : Data} {reply : Reply}
+    {admitted : List Admission} → MessageAlone n sender d reply n' admitted
+    → says_begun (Replies reply) ≡ false
 message_ends (MessageAlone.arrives does) = refl
 message_ends (MessageAlone.refused does) = refl
 message_ends (MessageAlone.no_room running) = refl
@@ -124,7 +127,7 @@ packet_ends : {number : ℕ} {s : KeptNode} {packet : Packet} {d : Data} {o : Ou
 packet_ends (PacketAlone.have is does) e = absurd (cc)
 packet_ends (PacketAlone.ops (inl is) does) e = absurd (cc)
 packet_ends (PacketAlone.ops (inr is) does) e = absurd (cc)
-packet_ends (PacketAlone.message is does) e = message_ends does
+packet_ends (PacketAlone.message is does) e = message_ends (does None)
 
 step_ends : {number : ℕ} {s : KeptNode} {d : Data} {o : Outcome}
     → MachineStep number s (Receive (packets.Data d)) o → says_begun o.says ≡ false

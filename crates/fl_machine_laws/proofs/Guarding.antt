@@ -14,7 +14,10 @@ use Rattle.fl_bench.specs.Jobs.{Does, passed}
 use Rattle.fl_bench.specs.declared.process.Process.{Process}
 use Rattle.fl_ops.specs.Registry.{Registry}
 use Rattle.fl_system.specs.declared.answer.Answer.TheVariants as answer
+use Rattle.fl_system.specs.declared.admission.Admission.{Admission}
+use Rattle.fl_system.specs.declared.reply.Reply.{Reply}
 use Rattle.fl_system.specs.declared.reply.Reply.TheVariants.{Job as Answered}
+use Rattle.fl_system.specs.declared.sent.Sent.{Sent}
 use Rattle.fl_system.specs.Jobs.{Jobs, bench_of, worked}
 use Rattle.fl_system.specs.Numbered.{item_at, with_item}
 use Rattle.fl_system.specs.Processes.{process_at, process_of}
@@ -22,7 +25,7 @@ use Rattle.fl_system.specs.State.{NodeState}
 use Rattle.fl_system.specs.World.{KeptNode}
 use Rattle.fl_system_laws.specs.laws.Numbered.{changed_at, length-with}
 use Rattle.fl_world_laws.specs.laws.Nodes.{Stays, is_replaced, is_still, stays_there, at_key}
-use Rattle.fl_machine_model.specs.Acts.{Act, Job, Saying, Replies, Outcome}
+use Rattle.fl_machine_model.specs.Acts.{Act, Job, Saying, Replies, Outcome, said_of}
 use Rattle.fl_machine_model.specs.Alone.{MachineStep, JobAlone}
 use Rattle.fl_machine_model.specs.Machines.{Machine, Up, Down, Machines, Deed, Acts, Happens, Turn}
 use Rattle.fl_machine_model.specs.Machines.{AreTurns}
@@ -142,6 +145,16 @@ from_jobs {n} {desk} {pid = pid} {bytes} (Jobs.replied {v} {left = left} look d)
           still = stands_still n pid d.bench left f.0 d.stands f.1 f.2.1;
         }
 
+emitted_by : {number desk upto : ℕ} {n n' : NodeState} {pid : Pid} {bytes : List ℕ} {told : Reply}
+    {reply : JobReply} {sent : List Sent} {admitted : List Admission}
+    → JobAlone number n desk upto (By pid (Emit bytes)) 0 told n' sent admitted
+    → said_of told sent ≡ Replies (Answered reply) → Emitter n n' pid
+emitted_by (JobAlone.refused does) e = absurd (cc)
+emitted_by (JobAlone.replied does) e = from_jobs does
+emitted_by (JobAlone.begun does) e = absurd (cc)
+emitted_by (JobAlone.sends does) e = absurd (cc)
+emitted_by (JobAlone.no_room look seen noted) e = absurd (cc)
+
 pub emitted : {number : ℕ} {s : KeptNode} {desk upto : ℕ} {pid : Pid} {bytes : List ℕ}
     {reply : JobReply} {o : Outcome}
     → MachineStep number s (Job desk upto (By pid (Emit bytes))) o
@@ -149,11 +162,7 @@ pub emitted : {number : ℕ} {s : KeptNode} {desk upto : ℕ} {pid : Pid} {bytes
     → Emitter s.node o.after.node pid
 emitted (MachineStep.no_desk none) e = absurd (cc)
 emitted (MachineStep.no_such_job is) e = absurd (cc)
-emitted (MachineStep.job real (JobAlone.refused does)) e = absurd (cc)
-emitted (MachineStep.job real (JobAlone.replied does)) e = from_jobs does
-emitted (MachineStep.job real (JobAlone.begun does)) e = absurd (cc)
-emitted (MachineStep.job real (JobAlone.sends does)) e = absurd (cc)
-emitted (MachineStep.job real (JobAlone.no_room look seen noted)) e = absurd (cc)
+emitted (MachineStep.job real does) e = emitted_by does e
 
 -- what a machine did
 pub record Acted (m : Machines) (number : ℕ) (act : Act) (saying : Saying) (m' : Machines)

@@ -39,7 +39,8 @@ use Rattle.fl_node.specs.Over.{NodeOver}
 use Rattle.fl_node.specs.Telling.{AnswersNothing}
 use Rattle.fl_nodes.specs.Over.{WorldOver}
 use Rattle.fl_nodes.specs.Goes.{MayBe, Goes}
-use Rattle.fl_notes.specs.Bringing.{Brings, Brought, Takes}
+use Rattle.fl_machine_model.specs.Alone.{BatchAlone, MessageAlone}
+use Rattle.fl_notes.specs.Bringing.{Brought}
 use Rattle.fl_nodes.specs.parts.Delivering.{Sends, packet_of}
 use Rattle.fl_nodes.proofs.Lifting.{lifts_kept, over_went, stays, with_kept}
 use Rattle.fl_nodes.proofs.Entries.{changed, held, of_entries}
@@ -69,19 +70,19 @@ same_world w number n k at =
     λ i. record { desks = w.desks; nodes = nodes i; packets = append-nil w.packets i; audit = append-nil w.audit i }
 
 message_at : (w : World) (number : ℕ) (n n' : NodeState) (k : Kept) (s : Sent) (d : Data) (result : Reply) (admitted : List Admission)
-    → IsAt w number (with_kept n k) → Brings n s.sender d result n' admitted
+    → IsAt w number (with_kept n k) → MessageAlone n s.sender d result n' admitted
     → MessageAt w number (with_kept n k) s d result (went w number n' k [] admitted)
-message_at w number n n' k s d result admitted at (Brings.arrives h) = MessageAt.arrives h
-message_at w number n n' k s d result admitted at (Brings.refused h) = MessageAt.refused h
-message_at w number n n' k s d result admitted at (Brings.no_room running) =
+message_at w number n n' k s d result admitted at (MessageAlone.arrives h) = MessageAt.arrives h
+message_at w number n n' k s d result admitted at (MessageAlone.refused h) = MessageAt.refused h
+message_at w number n n' k s d result admitted at (MessageAlone.no_room running) =
     subst (λ w'. MessageAt w number (with_kept n k) s d (reply.Refused (faults.Refused Memory)) w') (sym (same_world w number n k at))
     (MessageAt.no_room running)
 
-batch_at : (w : World) (number : ℕ) (n n' : NodeState) (k : Kept) (ops : List Op) (result : Reply) → Takes n (set.of_list {R = op_cmp} ops) result n'
+batch_at : (w : World) (number : ℕ) (n n' : NodeState) (k : Kept) (ops : List Op) (result : Reply) → BatchAlone n (set.of_list {R = op_cmp} ops) result n'
     → BatchAt w number (with_kept n k) ops result (went w number n' k [] [])
-batch_at w number n n' k ops result (Takes.nothing_new h) = BatchAt.nothing_new h
-batch_at w number n n' k ops result (Takes.takes h more) = BatchAt.takes h more
-batch_at w number n n' k ops result (Takes.refused h) = BatchAt.refused h
+batch_at w number n n' k ops result (BatchAlone.nothing_new h) = BatchAt.nothing_new h
+batch_at w number n n' k ops result (BatchAlone.takes h more) = BatchAt.takes h more
+batch_at w number n n' k ops result (BatchAlone.refused h) = BatchAt.refused h
 
 -- no such packet was sent
 no_such_packet : {K : Type 0} (custody : Custody K) (old new : WorldOver K) (k number : ℕ) → new ≡ old
@@ -143,13 +144,13 @@ module _ {K : Type 0} (custody : Custody K) {desks : ℕ} (es fs : List (ℕ × 
     ops_are batch (inr e) = ap ops_of e
 
     pub delivers_ops : (batch : Batch) (result : Reply) → (s.packet ≡ packet.Full batch) ⊎ (s.packet ≡ packet.Delta batch) → y.keeper ≡ x.keeper
-        → Takes x.node (set.of_list {R = op_cmp} (ops_of s.packet)) result y.node
+        → BatchAlone x.node (set.of_list {R = op_cmp} (ops_of s.packet)) result y.node
         → Goes custody old (of_entries desks fs packets audit) (λ w w'. Step w (event.Deliver k number) result w')
     delivers_ops batch result kind same h =
         lifts_kept custody old number x y [] [] at_old (of_entries desks fs packets audit) _ (is_new [] audit (sym (append-nil audit))) same
         (λ w kept at may_be. Step.deliver (found w may_be) at
         (DeliverAt.ops kind (batch_at w number x.node y.node kept batch.ops result
-        (subst (λ ops. Takes x.node (set.of_list {R = op_cmp} ops) result y.node) (ops_are batch kind) h))))
+        (subst (λ ops. BatchAlone x.node (set.of_list {R = op_cmp} ops) result y.node) (ops_are batch kind) h))))
 
     pub delivers_window : (window : Intervals) (told : List Packet) (result : Reply) (packets_after : List Sent) → s.packet ≡ packet.Have window → y ≡ x
         → IsRunning x.node.state → IsAnswer x.node.saved window told → Sends number told packets result packets_after

@@ -30,7 +30,8 @@ use Rattle.fl_node.specs.Over.{NodeOver}
 use Rattle.fl_nodes.specs.Over.{WorldOver}
 use Rattle.fl_nodes.specs.Goes.{Goes}
 use Rattle.fl_nodes.specs.parts.There.{IsNoSuch, IsThere}
-use Rattle.fl_notes.specs.Working.{Works, Worked}
+use Rattle.fl_machine_model.specs.Alone.{JobAlone}
+use Rattle.fl_notes.specs.Working.{Worked}
 use Rattle.fl_nodes.proofs.Lifting.{StandsAs, lifts_kept, node_there, over_went, stays, with_kept}
 use Rattle.fl_nodes.proofs.Entries.{changed, held, of_entries}
 
@@ -59,23 +60,23 @@ no_both o x none some = cc
 
 -- a node that is there always answers something
 pub answers_always : {number desk upto count : ℕ} {n n' : NodeState} {job : Job} {result : Reply} {sent : List Sent} {admitted : List Admission}
-    → Works number n desk upto job count result n' sent admitted → result ≡ reply.NoSuch → ⊥
-answers_always (Works.refused h) e = cc
-answers_always (Works.replied h) e = cc
-answers_always (Works.begun h) e = cc
-answers_always (Works.sends h) e = cc
-answers_always (Works.no_room look seen noted) e = cc
+    → JobAlone number n desk upto job count result n' sent admitted → result ≡ reply.NoSuch → ⊥
+answers_always (JobAlone.refused h) e = cc
+answers_always (JobAlone.replied h) e = cc
+answers_always (JobAlone.begun h) e = cc
+answers_always (JobAlone.sends h) e = cc
+answers_always (JobAlone.no_room look seen noted) e = cc
 
 job_at : (w : World) (number desk upto count : ℕ) (n n' : NodeState) (k : Kept) (job : Job) (result : Reply) (sent : List Sent) (admitted : List Admission)
-    → count ≡ length w.packets → Works number n desk upto job count result n' sent admitted
+    → count ≡ length w.packets → JobAlone number n desk upto job count result n' sent admitted
     → JobAt w number (with_kept n k) desk upto job result (went w number n' k sent admitted)
-job_at w number desk upto count n n' k job result sent admitted e (Works.refused h) = JobAt.refused h
-job_at w number desk upto count n n' k job result sent admitted e (Works.replied h) = JobAt.replied h
-job_at w number desk upto count n n' k job result sent admitted e (Works.begun h) = JobAt.begun h
-job_at w number desk upto count n n' k job result sent admitted e (Works.sends {d} h) =
+job_at w number desk upto count n n' k job result sent admitted e (JobAlone.refused h) = JobAt.refused h
+job_at w number desk upto count n n' k job result sent admitted e (JobAlone.replied h) = JobAt.replied h
+job_at w number desk upto count n n' k job result sent admitted e (JobAlone.begun h) = JobAt.begun h
+job_at w number desk upto count n n' k job result sent admitted e (JobAlone.sends {d} h) =
     subst (λ c. JobAt w number (with_kept n k) desk upto job (reply.Sent (suc c) 1)
     (went w number n' k (sent_message number n d ∷ []) (entries n job (answers.Out d)))) (sym e) (JobAt.sends h)
-job_at w number desk upto count n n' k job result sent admitted e (Works.no_room look seen noted) = JobAt.no_room look seen noted
+job_at w number desk upto count n n' k job result sent admitted e (JobAlone.no_room look seen noted) = JobAt.no_room look seen noted
 
 module _ {K : Type 0} (custody : Custody K) {desks : ℕ} (es fs : List (ℕ × NodeOver K)) (packets : List Sent)
     (audit : List Admission) (old : WorldOver K) (is : of_entries desks es packets audit ≡ old) (number desk upto : ℕ) (job : Job)

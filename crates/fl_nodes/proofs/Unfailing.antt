@@ -28,8 +28,10 @@ use Rattle.fl_opset.specs.declared.intervals.Intervals.{Intervals}
 use Rattle.fl_system.specs.State.{NodeState}
 use Rattle.fl_system.specs.Waiting.{NotRunning, IsTaken, NoneUnsaved, NoneDue}
 use Rattle.fl_node.specs.Telling.{TellsNothing, AnswersNothing}
-use Rattle.fl_notes.specs.Bringing.{Brings, Brought, Takes}
-use Rattle.fl_notes.specs.Working.{Works, Worked}
+use Rattle.fl_machine_model.specs.Alone.{BatchAlone, MessageAlone}
+use Rattle.fl_notes.specs.Bringing.{Brought}
+use Rattle.fl_machine_model.specs.Alone.{JobAlone}
+use Rattle.fl_notes.specs.Working.{Worked}
 use Rattle.fl_nodes.specs.parts.Delivering.{Sends}
 use Rattle.fl_nodes.specs.parts.Published.{published_reply}
 use Rattle.fl_nodes.proofs.FailLemmas.{same_fault}
@@ -98,15 +100,15 @@ arrives n n' d (Arrives.stopped h) = not_running n.state h
 -- ---- by what is replied
 
 works : (number : ℕ) (n n' : NodeState) (desk upto : ℕ) (job : Job) (count : ℕ) (sent : List Sent) (admitted : List Admission)
-    → Works number n desk upto job count (reply.Refused faults.KeeperFailed) n' sent admitted → ⊥
-works number n n' desk upto job count sent admitted (Works.refused h) = jobs n n' desk upto job h
+    → JobAlone number n desk upto job count (reply.Refused faults.KeeperFailed) n' sent admitted → ⊥
+works number n n' desk upto job count sent admitted (JobAlone.refused h) = jobs n n' desk upto job h
 
-takes : (n n' : NodeState) (ops : SetBy op_cmp) → Takes n ops (reply.Refused faults.KeeperFailed) n' → ⊥
-takes n n' ops (Takes.refused h) = receives n n' ops h
+takes : (n n' : NodeState) (ops : SetBy op_cmp) → BatchAlone n ops (reply.Refused faults.KeeperFailed) n' → ⊥
+takes n n' ops (BatchAlone.refused h) = receives n n' ops h
 
 brings : (n n' : NodeState) (sender : Option Party) (d : Data) (admitted : List Admission)
-    → Brings n sender d (reply.Refused faults.KeeperFailed) n' admitted → ⊥
-brings n n' sender d admitted (Brings.refused h) = arrives n n' d h
+    → MessageAlone n sender d (reply.Refused faults.KeeperFailed) n' admitted → ⊥
+brings n n' sender d admitted (MessageAlone.refused h) = arrives n n' d h
 
 sends : (number : ℕ) (told : List Packet) (before after : List Sent)
     → Sends number told before (reply.Refused faults.KeeperFailed) after → ⊥
@@ -148,16 +150,16 @@ pub job_replied : (number : ℕ) (n n' : NodeState) (desk upto : ℕ) (job : Job
     → result ≢ reply.Refused faults.KeeperFailed
 job_replied number n n' desk upto job result packets packets_after audit audit_after worked e =
     works number n n' desk upto job (length packets) worked.sent worked.admitted
-    (subst (λ r. Works number n desk upto job (length packets) r n' worked.sent worked.admitted) e worked.works)
+    (subst (λ r. JobAlone number n desk upto job (length packets) r n' worked.sent worked.admitted) e worked.works)
 
-pub taking_replied : (n n' : NodeState) (ops : SetBy op_cmp) (result : Reply) → Takes n ops result n'
+pub taking_replied : (n n' : NodeState) (ops : SetBy op_cmp) (result : Reply) → BatchAlone n ops result n'
     → result ≢ reply.Refused faults.KeeperFailed
-taking_replied n n' ops result taken e = takes n n' ops (subst (λ r. Takes n ops r n') e taken)
+taking_replied n n' ops result taken e = takes n n' ops (subst (λ r. BatchAlone n ops r n') e taken)
 
 pub bringing_replied : (n n' : NodeState) (sender : Option Party) (d : Data) (result : Reply) (audit audit_after : List Admission)
     → Brought n sender d result n' audit audit_after → result ≢ reply.Refused faults.KeeperFailed
 bringing_replied n n' sender d result audit audit_after brought e =
-    brings n n' sender d brought.admitted (subst (λ r. Brings n sender d r n' brought.admitted) e brought.brings)
+    brings n n' sender d brought.admitted (subst (λ r. MessageAlone n sender d r n' brought.admitted) e brought.brings)
 
 pub sending_replied : (number : ℕ) (told : List Packet) (before after : List Sent) (result : Reply) → Sends number told before result after
     → result ≢ reply.Refused faults.KeeperFailed

@@ -13,7 +13,8 @@ use Rattle.fl_system.specs.Begins.{Begins}
 use Rattle.fl_system.specs.Jobs.{Jobs}
 use Rattle.fl_system.specs.Publishes.{Cancels, Publishes}
 use Rattle.fl_system.specs.State.{NodeState}
-use Rattle.fl_notes.specs.Working.{Works, Worked}
+use Rattle.fl_machine_model.specs.Alone.{JobAlone}
+use Rattle.fl_notes.specs.Working.{Worked}
 
 begins_saved : (n n' : NodeState) (body : Body) (maker : Option Pid) (desk : Option ℕ) (result : Result Name Fault)
     → Begins n body maker desk result n' → n'.saved ≡ n.saved
@@ -32,12 +33,12 @@ jobs_saved n n' desk upto job result (Jobs.begun look decides on) = begins_saved
 jobs_saved n n' desk upto job result (Jobs.not_begun look decides on) = refl
 
 works_saved : (number : ℕ) (n n' : NodeState) (desk upto : ℕ) (job : Job) (count : ℕ) (result : Reply) (sent : List Sent) (admitted : List Admission)
-    → Works number n desk upto job count result n' sent admitted → n'.saved ≡ n.saved
-works_saved number n n' desk upto job count result sent admitted (Works.refused h) = jobs_saved n n' desk upto job _ h
-works_saved number n n' desk upto job count result sent admitted (Works.replied h) = jobs_saved n n' desk upto job _ h
-works_saved number n n' desk upto job count result sent admitted (Works.begun h) = jobs_saved n n' desk upto job _ h
-works_saved number n n' desk upto job count result sent admitted (Works.sends h) = jobs_saved n n' desk upto job _ h
-works_saved number n n' desk upto job count result sent admitted (Works.no_room look seen noted) = refl
+    → JobAlone number n desk upto job count result n' sent admitted → n'.saved ≡ n.saved
+works_saved number n n' desk upto job count result sent admitted (JobAlone.refused h) = jobs_saved n n' desk upto job _ h
+works_saved number n n' desk upto job count result sent admitted (JobAlone.replied h) = jobs_saved n n' desk upto job _ h
+works_saved number n n' desk upto job count result sent admitted (JobAlone.begun h) = jobs_saved n n' desk upto job _ h
+works_saved number n n' desk upto job count result sent admitted (JobAlone.sends h) = jobs_saved n n' desk upto job _ h
+works_saved number n n' desk upto job count result sent admitted (JobAlone.no_room look seen noted) = refl
 
 pub worked_saved : (number : ℕ) (n n' : NodeState) (desk upto : ℕ) (job : Job) (result : Reply)
     (packets packets_after : List Sent) (audit audit_after : List Admission)

@@ -18,24 +18,25 @@ use Rattle.fl_system.specs.Receives.{Receives}
 use Rattle.fl_system.specs.State.{NodeState}
 use Rattle.fl_audit.specs.Drafts.{listed}
 use Rattle.fl_node.specs.Telling.{TellsNothing}
-use Rattle.fl_notes.specs.Bringing.{Brings, Brought, Takes}
+use Rattle.fl_machine_model.specs.Alone.{BatchAlone, MessageAlone}
+use Rattle.fl_notes.specs.Bringing.{Brought}
 
 -- ---- messages
 
 module _ (n : NodeState) (sender : Option Party) (d : Data) (audit audit_after : List Admission) where
   -- nothing is noted
-  unnoted : (fault : Fault) (n' : NodeState) → audit_after ≡ audit → Brings n sender d (reply.Refused fault) n' []
+  unnoted : (fault : Fault) (n' : NodeState) → audit_after ≡ audit → MessageAlone n sender d (reply.Refused fault) n' []
       → Brought n sender d (reply.Refused fault) n' audit audit_after
   unnoted fault n' same brings = record { admitted = []; admitted_is = same ∙ sym (append-nil audit); brings = brings }
 
   pub unready : (fault : Fault) → audit_after ≡ audit → TellsNothing n.state fault → Brought n sender d (reply.Refused fault) n audit audit_after
-  unready fault same (inl h) = unnoted fault n same (Brings.refused (Arrives.stopped h))
+  unready fault same (inl h) = unnoted fault n same (MessageAlone.refused (Arrives.stopped h))
   unready fault same (inr h) =
-      subst (λ f. Brought n sender d (reply.Refused f) n audit audit_after) (sym h.1) (unnoted (faults.Refused Memory) n same (Brings.no_room h.0))
+      subst (λ f. Brought n sender d (reply.Refused f) n audit audit_after) (sym h.1) (unnoted (faults.Refused Memory) n same (MessageAlone.no_room h.0))
 
   pub not_brought : (copy : Data) (fault : Fault) (n' : NodeState) → copy ≡ d → audit_after ≡ audit → Arrives n copy (Err fault) n'
       → Brought n sender d (reply.Refused fault) n' audit audit_after
-  not_brought copy fault n' is same h = unnoted fault n' same (Brings.refused (subst (λ m. Arrives n m (Err fault) n') is h))
+  not_brought copy fault n' is same h = unnoted fault n' same (MessageAlone.refused (subst (λ m. Arrives n m (Err fault) n') is h))
 
   pub brought : (copy : Data) (answer : jobs.Reply) (n' : NodeState) (entry : Option Admission) → copy ≡ d
       → listed entry ≡ message_entries sender d.receiver (process_of n d.receiver) → audit_after ≡ audit ++ listed entry → Arrives n copy (Ok answer) n'
@@ -43,15 +44,15 @@ module _ (n : NodeState) (sender : Option Party) (d : Data) (audit audit_after :
   brought copy answer n' entry is entry_is noted h = record {
     admitted = message_entries sender d.receiver (process_of n d.receiver);
     admitted_is = noted ∙ ap (λ l. audit ++ l) entry_is;
-    brings = Brings.arrives (subst (λ m. Arrives n m (Ok answer) n') is h);
+    brings = MessageAlone.arrives (subst (λ m. Arrives n m (Ok answer) n') is h);
   }
 
 -- ---- operations
 
-pub takes_none : (n : NodeState) (ops : SetBy op_cmp) (n' : NodeState) (count : ℕ) → count ≡ 0 → Receives n ops (Ok count) n' → Takes n ops (reply.Took 0) n'
-takes_none n ops n' count e h = Takes.nothing_new (subst (λ k. Receives n ops (Ok k) n') e h)
+pub takes_none : (n : NodeState) (ops : SetBy op_cmp) (n' : NodeState) (count : ℕ) → count ≡ 0 → Receives n ops (Ok count) n' → BatchAlone n ops (reply.Took 0) n'
+takes_none n ops n' count e h = BatchAlone.nothing_new (subst (λ k. Receives n ops (Ok k) n') e h)
 
-pub takes_some : (n : NodeState) (ops : SetBy op_cmp) (n' : NodeState) (count : ℕ) → count ≢ 0 → Receives n ops (Ok count) n' → Takes n ops (reply.Taking count) n'
+pub takes_some : (n : NodeState) (ops : SetBy op_cmp) (n' : NodeState) (count : ℕ) → count ≢ 0 → Receives n ops (Ok count) n' → BatchAlone n ops (reply.Taking count) n'
 takes_some n ops n' count some h =
     let more : 0 < count = omega (arith, some) in
-    Takes.takes h more
+    BatchAlone.takes h more

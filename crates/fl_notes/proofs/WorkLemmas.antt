@@ -44,7 +44,8 @@ use Rattle.fl_audit.specs.Noted.{asker_noted}
 use Rattle.fl_audit.specs.Senders.{sender_of}
 use Rattle.fl_audit.specs.declared.draft.Draft.{Draft}
 use Rattle.fl_node.specs.Desks.{IsDeskOf}
-use Rattle.fl_notes.specs.Working.{IsUnready, Shows, Works, Worked, is_sending, is_tuning}
+use Rattle.fl_machine_model.specs.Alone.{JobAlone}
+use Rattle.fl_notes.specs.Working.{IsUnready, Shows, Worked, is_sending, is_tuning}
 
 -- ---- what is shared
 
@@ -192,7 +193,7 @@ not_running s doubt e = subst (λ s. NotRunning s faults.Stopped) (sym e) refl
 
 module _ (number : ℕ) (n : NodeState) (desk upto : ℕ) (job : Job) (packets : List Sent) (audit : List Admission) where
   unsent : (packets_after : List Sent) (audit_after : List Admission) (result : Reply) (n' : NodeState) → packets_after ≡ packets → audit_after ≡ audit
-      → Works number n desk upto job (length packets) result n' [] [] → Worked number n desk upto job result n' packets packets_after audit audit_after
+      → JobAlone number n desk upto job (length packets) result n' [] [] → Worked number n desk upto job result n' packets packets_after audit audit_after
   unsent packets_after audit_after result n' same_packets same_audit works = record {
     sent = [];
     admitted = [];
@@ -208,20 +209,20 @@ module _ (number : ℕ) (n : NodeState) (desk upto : ℕ) (job : Job) (packets :
       let view = has_view n desk is in
       let look : Looks n desk upto (max view.seen (min upto (length n.published))) = record { running = running; seen = view.seen; has_seen = view.at; sees = refl } in
       unsent packets_after audit_after _ n same_packets same_audit
-      (subst (λ (views : List ℕ). Works number n desk upto job (length packets) (reply.Refused (faults.Refused Memory)) (record n { views = views }) [] [])
-      view.same (Works.no_room look (inl refl) noted))
+      (subst (λ (views : List ℕ). JobAlone number n desk upto job (length packets) (reply.Refused (faults.Refused Memory)) (record n { views = views }) [] [])
+      view.same (JobAlone.no_room look (inl refl) noted))
 
   pub unready : (packets_after : List Sent) (audit_after : List Admission) (fault : Fault) → packets_after ≡ packets → audit_after ≡ audit
       → IsDeskOf n desk → IsUnready n job fault
       → Worked number n desk upto job (reply.Refused fault) n packets packets_after audit audit_after
   unready packets_after audit_after fault same_packets same_audit is (IsUnready.stopped h) =
-      unsent packets_after audit_after _ n same_packets same_audit (Works.refused (Jobs.stopped h))
+      unsent packets_after audit_after _ n same_packets same_audit (JobAlone.refused (Jobs.stopped h))
   unready packets_after audit_after fault same_packets same_audit is (IsUnready.no_room running noted) =
       no_room packets_after audit_after same_packets same_audit running is noted
 
   pub not_done : (packets_after : List Sent) (audit_after : List Admission) (fault : Fault) (n' : NodeState) → packets_after ≡ packets → audit_after ≡ audit
       → Jobs n desk upto job (Err fault) n' → Worked number n desk upto job (reply.Refused fault) n' packets packets_after audit audit_after
-  not_done packets_after audit_after fault n' same_packets same_audit h = unsent packets_after audit_after _ n' same_packets same_audit (Works.refused h)
+  not_done packets_after audit_after fault n' same_packets same_audit h = unsent packets_after audit_after _ n' same_packets same_audit (JobAlone.refused h)
 
   pub done : (packets_room packets_after : List Sent) (audit_after : List Admission) (a : Answer) (n' : NodeState) (result : Reply) (sender : Option Party)
       → packets_room ≡ packets → Jobs n desk upto job (Ok a) n' → sender ≡ sender_of (asker_of n job) job
@@ -233,7 +234,7 @@ module _ (number : ℕ) (n : NodeState) (desk upto : ℕ) (job : Job) (packets :
         admitted = entries n job (answers.Reply r);
         sent_is = shown.1 ∙ same ∙ sym (append-nil packets);
         admitted_is = noted;
-        works = Works.replied did;
+        works = JobAlone.replied did;
       })
   done packets_room packets_after audit_after (answers.Begun name) n' result sender same did known noted shown =
       subst (λ x. Worked number n desk upto job x n' packets packets_after audit audit_after) (sym shown.0) (record {
@@ -241,7 +242,7 @@ module _ (number : ℕ) (n : NodeState) (desk upto : ℕ) (job : Job) (packets :
         admitted = entries n job (answers.Begun name);
         sent_is = shown.1 ∙ same ∙ sym (append-nil packets);
         admitted_is = noted;
-        works = Works.begun did;
+        works = JobAlone.begun did;
       })
   done packets_room packets_after audit_after (answers.Out d) n' result sender same did known noted shown =
       let party_is : sender ≡ party_at d.sender (process_of n d.sender) = known ∙ sender_is n desk upto job d n' did in
@@ -251,5 +252,5 @@ module _ (number : ℕ) (n : NodeState) (desk upto : ℕ) (job : Job) (packets :
         admitted = entries n job (answers.Out d);
         sent_is = shown.1 ∙ (λ i. same i ++ record { from = number; packet = packet.Data d; sender = party_is i } ∷ []);
         admitted_is = noted;
-        works = Works.sends did;
+        works = JobAlone.sends did;
       })

@@ -1,15 +1,11 @@
 -- What a job does at a node, and what it sends and has noted.
-use Rattle.std.specs.Prelude.{◌≡◌, ◌⊎◌, ◌++◌, ℕ, suc, List, [], ◌∷◌, length, Bool, true, false}
+use Rattle.std.specs.Prelude.{◌≡◌, ◌++◌, ℕ, suc, List, [], ◌∷◌, length, Bool, true, false}
 use Rattle.std.specs.declared.option.Option.{Option}
-use Rattle.std.specs.declared.result.Result.TheVariants.{Ok, Err}
-use Rattle.fl_labels.specs.declared.name.Name.{Name}
-use Rattle.fl_message.specs.declared.message.Data.{Data}
 use Rattle.fl_wire.specs.declared.packet.Packet.TheVariants as packet
 use Rattle.fl_jobs.specs.declared.job.Act.TheVariants.{Mail}
 use Rattle.fl_jobs.specs.declared.job.Job.{Job}
 use Rattle.fl_jobs.specs.declared.job.Job.TheVariants.{By}
 use Rattle.fl_jobs.specs.declared.job.Mail.TheVariants.{Tune, Send}
-use Rattle.fl_jobs.specs.declared.answer.Reply as jobs
 use Rattle.fl_jobs.specs.declared.answer.Refusal.TheVariants.{Memory}
 use Rattle.fl_system.specs.declared.admission.Admission.{Admission}
 use Rattle.fl_system.specs.declared.admission.Party.{Party}
@@ -20,11 +16,10 @@ use Rattle.fl_system.specs.declared.answer.Fault.TheVariants as faults
 use Rattle.fl_system.specs.declared.reply.Reply.{Reply}
 use Rattle.fl_system.specs.declared.reply.Reply.TheVariants.{Job as Answered, Begun, Sent as HasSent, Refused}
 use Rattle.fl_system.specs.declared.sent.Sent.{Sent}
-use Rattle.fl_system.specs.Audit.{entries}
-use Rattle.fl_system.specs.Jobs.{Jobs, Looks, looking}
 use Rattle.fl_system.specs.State.{NodeState}
 use Rattle.fl_system.specs.Waiting.{IsRunning, NotRunning}
-use Rattle.fl_system.specs.WorldJobs.{MayBeNoted, sent_message}
+use Rattle.fl_system.specs.WorldJobs.{MayBeNoted}
+use Rattle.fl_machine_model.specs.Alone.{JobAlone}
 
 -- by the job a message may be sent
 abbrev pub is_sending : Job → Bool
@@ -51,28 +46,11 @@ Shows number sender packets (answers.Out d) shown after =
     (shown ≡ HasSent (suc (length packets)) 1)
     × (after ≡ packets ++ record { from = number; packet = packet.Data d; sender = sender } ∷ [])
 
--- The job at a desk of the node n, of this number, where so many packets were sent: the answer, the node after it, what is
--- sent, and what is noted.
-pub data Works (number : ℕ) (n : NodeState) (desk upto : ℕ) (job : Job) (count : ℕ)
-    : Reply → NodeState → List Sent → List Admission → Type 0 where
-  refused : {fault : Fault} {n' : NodeState} → Jobs n desk upto job (Err fault) n'
-      → Works number n desk upto job count (Refused fault) n' [] []
-  replied : {reply : jobs.Reply} {n' : NodeState} → Jobs n desk upto job (Ok (answers.Reply reply)) n'
-      → Works number n desk upto job count (Answered reply) n' [] (entries n job (answers.Reply reply))
-  begun : {name : Name} {n' : NodeState} → Jobs n desk upto job (Ok (answers.Begun name)) n'
-      → Works number n desk upto job count (Begun name) n' [] (entries n job (answers.Begun name))
-  sends : {d : Data} {n' : NodeState} → Jobs n desk upto job (Ok (answers.Out d)) n'
-      → Works number n desk upto job count (HasSent (suc count) 1) n'
-      (sent_message number n d ∷ []) (entries n job (answers.Out d))
-  no_room : {v seen : ℕ} (look : Looks n desk upto v) → (seen ≡ look.seen) ⊎ (seen ≡ v)
-      → MayBeNoted n job
-      → Works number n desk upto job count (Refused (faults.Refused Memory)) (looking n desk seen) [] []
-
--- with the packets and what was noted before and after
+-- what a job does at a node alone, with the packets and what was noted before and after
 pub record Worked (number : ℕ) (n : NodeState) (desk upto : ℕ) (job : Job) (result : Reply) (after : NodeState)
     (packets packets_after : List Sent) (audit audit_after : List Admission) : Type 0 where
   pub sent : List Sent
   pub admitted : List Admission
   pub sent_is : packets_after ≡ packets ++ sent
   pub admitted_is : audit_after ≡ audit ++ admitted
-  pub works : Works number n desk upto job (length packets) result after sent admitted
+  pub works : JobAlone number n desk upto job (length packets) result after sent admitted

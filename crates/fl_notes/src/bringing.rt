@@ -9,7 +9,8 @@ ghost use Rattle.fl_system.specs.Processes.{process_of};
 ghost use Rattle.fl_audit.specs.Drafts.{listed};
 ghost use Rattle.fl_node.specs.Telling.{TellsNothing};
 ghost use Rattle.fl_node.specs.Desks.{IsDeskOf};
-ghost use Rattle.fl_notes.specs.Bringing.{Brought, Takes};
+ghost use Rattle.fl_machine_model.specs.Alone.{BatchAlone};
+ghost use Rattle.fl_notes.specs.Bringing.{Brought};
 
 use fl_audit::message::arrival;
 use fl_jobs::answer::Refusal;
@@ -143,7 +144,7 @@ pub fn bring<K: Keeper>(
 pub fn receive<K: Keeper>(alloc: Global, node: &mut Node<K>, packet: &Packet) -> Reply
     ensures desks { length node.new.node.views ≡ length node.old.node.views }
     ensures takes { let ops = set.of_list {R = op_cmp} (ops_of packet.now) in
-        Takes node.old.node ops result node.new.node }
+        BatchAlone node.old.node ops result node.new.node }
     ensures keeper { node.new.keeper ≡ node.old.keeper }
 {
     let count = match node.receive(alloc, packet) {
