@@ -56,6 +56,7 @@ fn said_of_job<'a>(alloc: Global, keys: &[Key], packets: &[Sent], said: Said) ->
 }
 
 // Does the job, and saves and publishes what it begins. Says too how much was admitted.
+#[inline(always)]
 fn do_job<'a, K: Keeper>(
     alloc: Global,
     node: &mut Node<K>,
@@ -76,6 +77,7 @@ fn do_job<'a, K: Keeper>(
 }
 
 // Does the job. What it begins is to be saved and published by further lines.
+#[inline(never)]
 fn begin_job<'a, K: Keeper>(
     alloc: Global,
     node: &mut Node<K>,

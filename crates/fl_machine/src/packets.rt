@@ -51,6 +51,7 @@ fn told<'a>(alloc: Global, keys: &[Key], packets: &[Packet]) -> Response<'a>
 }
 
 /// Tells what the node has saved, in windows.
+#[inline(never)]
 pub fn tell<'a, K: Keeper>(alloc: Global, node: &Node<K>, keys: &[Key]) -> Response<'a>
     ensures { let number = node.now.node.number in Responds K.custody keys.now node.now
         (λ s. Says answered (Begins number s Tell)) result 0 node.now }
@@ -108,6 +109,7 @@ fn arrived<'a>(reply: Reply) -> (Response<'a>, u64)
 
 /// Has the packet of these bytes come to the node: a window is answered, operations are taken,
 /// saved and published, and a message is handed to its receiver. Says too how much was admitted.
+#[inline(never)]
 pub fn bring_packet<'a, K: Keeper>(
     alloc: Global,
     node: &mut Node<K>,
@@ -136,6 +138,7 @@ pub fn bring_packet<'a, K: Keeper>(
 
 /// Has the packet of these bytes come to the node, where it is one of operations: what is new is to
 /// be saved and published by further lines.
+#[inline(never)]
 pub fn begin_to_bring<'a, K: Keeper>(
     alloc: Global,
     node: &mut Node<K>,
@@ -159,6 +162,7 @@ pub fn begin_to_bring<'a, K: Keeper>(
 }
 
 /// What the packet of these bytes would bring to the node, were it to come now.
+#[inline(never)]
 pub fn check<'a, K: Keeper>(
     alloc: Global,
     node: &Node<K>,

@@ -61,6 +61,8 @@ fn begun(said: &Said) -> bool
 
 // Lets out nothing by this process, which everybody who reads orders would read too. An error is
 // what is said where that is not admitted, or there is no room for it.
+#[cold]
+#[inline(never)]
 fn emit_nothing<K: Keeper>(
     alloc: Global,
     node: &mut Node<K>,
@@ -92,6 +94,7 @@ fn emit_nothing<K: Keeper>(
 
 // What a job asks first: nothing, or that its process may let out something, where it is an order
 // and orders are guarded. An error is what is said where it may not. Without anything noted before.
+#[inline(always)]
 fn ask_first<K: Keeper>(
     alloc: Global,
     node: &mut Node<K>,
@@ -147,6 +150,7 @@ pub fn begin<K: Keeper>(
 
 /// Does a job as [`begin`] has it, and saves and publishes what it begins. `KeeperFailed` only
 /// where the keeper is broken then.
+#[inline(always)]
 pub fn work<K: Keeper>(
     alloc: Global,
     node: &mut Node<K>,
