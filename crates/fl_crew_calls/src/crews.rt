@@ -1,5 +1,8 @@
 //! The crews of a script, and the packets that they sent.
-ghost use Rattle.std.specs.Prelude.{◌≡◌, ◌<◌, ◌≤◌, ◌+◌, IfOk, length, vec_len, vec_capacity};
+ghost use Rattle.std.specs.Prelude.{◌≡◌, ◌<◌, ◌≤◌, ◌+◌, ℕ, IfOk, length, vec_len};
+ghost use Rattle.std.specs.Prelude.{vec_capacity};
+ghost use Rattle.fl_crew_calls.specs.Closing.{MayBeLeft};
+ghost use Rattle.fl_store.specs.Kept.{Kept};
 ghost use Rattle.fl_system.specs.Waiting.{IsRunning};
 
 use crate::manned::Manned;
@@ -59,6 +62,29 @@ impl<R: Threads + Wait + Sync + Send + Copy + Drop + 'static, M: MakesKeepers> C
             all: BTreeMap::new(alloc),
             sent: Vec::new(alloc),
         }
+    }
+
+    /// Ends each crew, gives its keeper back to the maker, by rising numbers, and gives the maker.
+    /// What was on its way, and all processes, are forgotten. What the maker finds from then on it
+    /// found before, or the keeper of the crew of that number may hold it.
+    pub fn close(self) -> M
+        ensures { (number : ℕ) (k : Kept) → M.making.finds result number k
+            → MayBeLeft M.K.custody M.making self.maker self.all.entries
+            (λ manned. manned.crew.node.keeper) number k }
+    {
+        let Crews {
+            rt: _,
+            mut maker,
+            workers: _,
+            mut all,
+            sent: _,
+        } = self;
+        while let Some((number, place)) = all.pop_first() {
+            if let Some(manned) = place {
+                maker.close(number, manned.into_keeper());
+            }
+        }
+        maker
     }
 
     /// The crew of this node, or none where no line has opened it.

@@ -63,6 +63,14 @@ impl<R: Threads + Wait + Sync + Send + Copy + Drop + 'static, K: Keeper + Drop> 
         self.crew.batch(self.rt, alloc, jobs, packets)
     }
 
+    /// Ends the crew, and gives its keeper, as [`Crew::close`] has it.
+    pub(crate) fn into_keeper(self) -> K
+        ensures { result ≡ self.crew.node.keeper }
+    {
+        let Manned { rt, crew } = self;
+        crew.close(&rt)
+    }
+
     /// Restarts the crew, as [`Crew::restart`] has it.
     pub(crate) fn restart(self, alloc: Global, kept: bool) -> (Self, Result<u32, Fault>) {
         let Manned { rt, crew } = self;

@@ -102,6 +102,18 @@ impl<R: Threads + Wait + Sync + Send + Copy + Drop + 'static, M: MakesKeepers> S
         }
     }
 
+    /// Ends each crew, gives its keeper back to the maker, and gives that, as [`Crews::close`] has
+    /// it. Lines whose batch has not ended are forgotten.
+    pub fn close(self) -> M {
+        let Session {
+            crews,
+            aliases: _,
+            text: _,
+            held: _,
+        } = self;
+        crews.close()
+    }
+
     // Has the jobs of a batch be done. Room for its aliases is made before. An error is what each
     // of its lines is refused with.
     fn run(

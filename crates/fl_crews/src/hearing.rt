@@ -84,6 +84,19 @@ impl<R: Threads + Wait + Sync + Send + Copy + Drop + 'static, M: MakesKeepers> H
         }
     }
 
+    /// The session, without what was heard and not answered.
+    pub(crate) fn into_session(self) -> Session<R, M> {
+        let Hearing {
+            session,
+            held: _,
+            number: _,
+            status: _,
+            sink: _,
+            room: _,
+        } = self;
+        session
+    }
+
     // Answers the next line, or has it wait.
     fn answer<W: Writer>(
         &mut self,

@@ -56,6 +56,29 @@ fn hear_all<
     hearing.close(alloc, input, output)
 }
 
+// The same, with room for what is heard at once, which is made first.
+fn hear_script<
+    R: Threads + Wait + Sync + Send + Copy + Drop + 'static,
+    M: MakesKeepers,
+    C: Conversation<W>,
+    W: Writer,
+>(alloc: Global, hearing: &mut Hearing<R, M>, input: &mut C, output: &mut W) -> Result<u8, RunFault>
+    requires status { IsStatus hearing.old.status }
+    requires room { hearing.old.room ≡ 16777216 }
+    requires unheard { C.hearings input.old ≡ 0 }
+    requires said { C.said output.old ≡ W.contents output.old }
+    requires due { (heard : List ℕ) (said : Option (List ℕ)) →
+        Grows (W.contents output.old) said → C.may_hear heard said }
+    ensures status { IfOk result IsStatus }
+    ensures grows { Grows (W.contents output.old) (W.contents output.new) }
+    ensures said { OnOk result (C.said output.new ≡ W.contents output.new) }
+    ensures seldom { C.hearings input.new ≤ 16777217 }
+    ensures cause { IfErr result (λ e. e ≡ RunFault.Write → W.has_failed output.new) }
+{
+    let mut chunk = zeros(alloc, AT_ONCE)?;
+    hear_all(alloc, hearing, input, output, chunk.as_mut_slice())
+}
+
 /// Hears a script of at most 16,777,216 bytes, whose nodes are crews of so many workers, and says
 /// the answers to its lines.
 ///
@@ -74,30 +97,36 @@ fn hear_all<
 /// where hearing fails or the script is longer; `Write` where a write fails or takes no bytes, or
 /// sending fails; `Memory` where there is no room for the 64 KiB that are heard at once, or for a
 /// line that has not ended. Want of memory in a line's own work, or in its batch, is that line's
-/// answer. Each crew is closed in the end, also at a fault.
+/// answer. The session is given back, also at a fault; its crews end where it is let go or closed.
 pub fn converse<
     R: AllocGlobal + Threads + Wait + Sync + Send + Copy + Drop + 'static,
     C: Conversation<W>,
     W: Writer,
     M: MakesKeepers + Drop,
->(rt: R, input: &mut C, output: &mut W, workers: u8, keepers: M) -> Result<u8, RunFault>
+>(
+    rt: R,
+    input: &mut C,
+    output: &mut W,
+    workers: u8,
+    keepers: M,
+) -> (Session<R, M>, Result<u8, RunFault>)
     requires some { 1 ≤ workers }
     requires few { workers ≤ 16 }
     requires fresh { C.hearings input.old ≡ 0 }
     requires said { C.said output.old ≡ W.contents output.old }
     requires due { (heard : List ℕ) (said : Option (List ℕ)) →
         Grows (W.contents output.old) said → C.may_hear heard said }
-    ensures status { IfOk result IsStatus }
+    ensures status { IfOk result.1 IsStatus }
     ensures grows { Grows (W.contents output.old) (W.contents output.new) }
-    ensures said { OnOk result (C.said output.new ≡ W.contents output.new) }
+    ensures said { OnOk result.1 (C.said output.new ≡ W.contents output.new) }
     ensures seldom { C.hearings input.new ≤ 16777217 }
-    ensures cause { IfErr result (λ e. e ≡ RunFault.Write → W.has_failed output.new) }
+    ensures cause { IfErr result.1 (λ e. e ≡ RunFault.Write → W.has_failed output.new) }
 {
     let alloc = rt.alloc();
-    let mut chunk = zeros(alloc, AT_ONCE)?;
     let crews = Crews::new(rt, alloc, workers, keepers);
     let mut hearing = Hearing::new(alloc, Session::new(alloc, crews));
-    hear_all(alloc, &mut hearing, input, output, chunk.as_mut_slice())
+    let result = hear_script(alloc, &mut hearing, input, output);
+    (hearing.into_session(), result)
 }
 
 /// Reads a script of at most 16,777,216 bytes, whose nodes are crews of so many workers, by at most
@@ -116,10 +145,16 @@ pub fn run<
     R: Read,
     W: Write,
     M: MakesKeepers + Drop,
->(rt: RT, input: &mut R, output: &mut W, workers: u8, keepers: M) -> Result<u8, RunFault>
+>(
+    rt: RT,
+    input: &mut R,
+    output: &mut W,
+    workers: u8,
+    keepers: M,
+) -> (Session<RT, M>, Result<u8, RunFault>)
     requires some { 1 ≤ workers }
     requires few { workers ≤ 16 }
-    ensures status { IfOk result IsStatus }
+    ensures status { IfOk result.1 IsStatus }
     ensures grows { Grows (W.contents output.old) (W.contents output.new) }
 {
     converse(rt, input, output, workers, keepers)

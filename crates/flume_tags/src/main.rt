@@ -33,7 +33,8 @@ fn answered_in_turn<M: MakesKeepers + Drop>(
     (session, result)
 }
 
-/// Answers the script of standard input over these keepers, by crews of so many workers.
+/// Answers the script of standard input over these keepers, by crews of so many workers, and has
+/// their maker close them.
 fn answered_by_crews<
     R: AllocGlobal + Threads + Wait + Sync + Send + Copy + Drop + 'static,
     M: MakesKeepers + Drop,
@@ -43,8 +44,15 @@ fn answered_by_crews<
 {
     let mut input = Watched::new(rt.reader());
     let mut output = io::writer(rt);
-    let result = fl_crews::run::converse(waits, &mut input, &mut output, workers, keepers);
+    let (session, result) = fl_crews::run::converse(
+        waits,
+        &mut input,
+        &mut output,
+        workers,
+        keepers,
+    );
     tell_length(rt, &input, result);
+    let _closed = session.close();
     result
 }
 
