@@ -1,22 +1,20 @@
--- Capabilities in braces.
+-- Items in braces.
 use Rattle.std.proofs.Common.{◌≡◌, ◌∙◌, ◌++◌, [], ◌∷◌, List, ℕ, sym, ap, map}
 use Rattle.std.proofs.lemmas.List.{append_assoc, append-nil}
 use Rattle.std.specs.List.{flat_map, join_with_byte}
-use Rattle.fl_labels.specs.declared.cap.Cap.{Cap}
-use Rattle.fl_labels.specs.Cap.{cap_cmp}
-use Rattle.fl_labels.specs.SetBy.{SetBy, members}
-use Rattle.fl_labels.specs.Text.{braces, cap_text, caps_text}
+use Rattle.fl_labels.specs.Text.{braces}
 
-abbrev pub behind_comma : Cap → List ℕ
-behind_comma c = 44 ∷ cap_text c
+module _ {A : Type 0} (text : A → List ℕ) where
+  abbrev pub behind_comma : A → List ℕ
+  behind_comma a = 44 ∷ text a
 
-joined : (c : Cap) (caps : List Cap) → join_with_byte 44 (map cap_text (c ∷ caps)) ≡ cap_text c ++ flat_map behind_comma caps
-joined c [] = sym (append-nil _)
-joined c (d ∷ caps) = ap (λ text. cap_text c ++ 44 ∷ text) (joined d caps)
+  joined : (a : A) (items : List A)
+      → join_with_byte 44 (map text (a ∷ items)) ≡ text a ++ flat_map behind_comma items
+  joined a [] = sym (append-nil _)
+  joined a (b ∷ items) = ap (λ bytes. text a ++ 44 ∷ bytes) (joined b items)
 
-pub caps_none : (s : SetBy cap_cmp) → members s ≡ [] → caps_text s ≡ 123 ∷ 125 ∷ []
-caps_none s none = ap (braces cap_text) none
-
-pub caps_some : (s : SetBy cap_cmp) (c : Cap) (caps : List Cap) → members s ≡ c ∷ caps → caps_text s ≡ (123 ∷ cap_text c) ++ (flat_map behind_comma caps ++ 125 ∷ [])
-caps_some s c caps some =
-    ap (braces cap_text) some ∙ ap (λ text. 123 ∷ (text ++ 125 ∷ [])) (joined c caps) ∙ ap (λ text. 123 ∷ text) (append_assoc (cap_text c) (flat_map behind_comma caps) (125 ∷ []))
+  pub braces_some : (a : A) (items : List A)
+      → braces text (a ∷ items) ≡ (123 ∷ text a) ++ (flat_map behind_comma items ++ 125 ∷ [])
+  braces_some a items =
+      ap (λ bytes. 123 ∷ (bytes ++ 125 ∷ [])) (joined a items)
+      ∙ ap (λ bytes. 123 ∷ bytes) (append_assoc (text a) (flat_map behind_comma items) (125 ∷ []))

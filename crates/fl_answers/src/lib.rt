@@ -1,4 +1,5 @@
 //! The text of what jobs are answered.
 #![tactic(auto)]
 
+pub mod listed;
 pub mod text;

@@ -2,15 +2,14 @@
 //! a fault a front of what waited and of the line was written, and the sink may not be used again.
 ghost use Rattle.std.specs.Prelude.{◌≤◌, ◌++◌, ◌∷◌, codes, length, OnErr};
 ghost use Rattle.std.specs.Fmt.{decimal};
-ghost use Rattle.std.specs.List.{flat_map};
 ghost use Rattle.hex.specs.Hex.{encode_lower};
 ghost use Rattle.fl_labels.specs.Text.{cap_text, caps_text, endpoint_text, name_text, pid_text};
 ghost use Rattle.fl_sink.specs.Sink.{Puts};
 ghost use Rattle.fl_answers.specs.AnswerText.{bytes_text, dropped_text, letter_text, refusal_text, refused_text, reply_text, sent_text};
 
+use crate::listed::put_caps;
 use fl_jobs::answer::{Refusal, Reply};
 use fl_labels::cap::Cap;
-use fl_labels::cap_set::CapSet;
 use fl_labels::endpoint::Endpoint;
 use fl_labels::name::Name;
 use fl_labels::pid::Pid;
@@ -175,8 +174,8 @@ fn put_signed<'a, W: Writer>(
     )
 }
 
-// These bytes and a capability.
-fn put_cap<W: Writer>(
+/// Puts these bytes and a capability into the sink.
+pub fn put_cap<W: Writer>(
     front: &[u8],
     cap: Cap,
     sink: &mut Sink,
@@ -189,8 +188,8 @@ fn put_cap<W: Writer>(
     put_signed(front, cap.sign().as_bytes(), cap.name(), sink, output)
 }
 
-// These bytes and a name.
-fn put_name<W: Writer>(
+/// Puts these bytes and a name into the sink.
+pub fn put_name<W: Writer>(
     front: &[u8],
     name: Name,
     sink: &mut Sink,
@@ -203,8 +202,8 @@ fn put_name<W: Writer>(
     put_signed(front, b"", name, sink, output)
 }
 
-// These bytes and an endpoint.
-fn put_endpoint<W: Writer>(
+/// Puts these bytes and an endpoint into the sink.
+pub fn put_endpoint<W: Writer>(
     front: &[u8],
     endpoint: Endpoint,
     sink: &mut Sink,
@@ -237,8 +236,8 @@ fn put_unsafe<W: Writer>(
     put_name(b" ", tag, sink, output)
 }
 
-// These bytes and a pid.
-fn put_pid<W: Writer>(
+/// Puts these bytes and a pid into the sink.
+pub fn put_pid<W: Writer>(
     front: &[u8],
     pid: Pid,
     sink: &mut Sink,
@@ -321,34 +320,6 @@ fn put_bytes<W: Writer>(
 {
     sink.put(output, front)?;
     put_word(bytes, sink, output)
-}
-
-// Capabilities, each after a comma.
-fn put_more<W: Writer>(caps: &[Cap], sink: &mut Sink, output: &mut W) -> Result<(), WriteFault>
-    ensures puts { let text = flat_map (λ cap. 44 ∷ cap_text cap) caps.now in
-        Puts (W.contents output.old) (W.contents output.new) sink.old text sink.new result }
-    ensures cause { OnErr result (W.has_failed output.new) }
-{
-    for cap in caps {
-        put_cap(b",", *cap, sink, output)?;
-    }
-    Ok(())
-}
-
-// A set of capabilities.
-fn put_caps<W: Writer>(caps: &CapSet, sink: &mut Sink, output: &mut W) -> Result<(), WriteFault>
-    ensures puts { let text = caps_text caps.now in
-        Puts (W.contents output.old) (W.contents output.new) sink.old text sink.new result }
-    ensures cause { OnErr result (W.has_failed output.new) }
-{
-    match caps.as_slice().split_first() {
-        None => sink.put(output, b"{}"),
-        Some((first, rest)) => {
-            put_cap(b"{", *first, sink, output)?;
-            put_more(rest, sink, output)?;
-            sink.put(output, b"}")
-        }
-    }
 }
 
 // The capabilities of a message, and its bytes.

@@ -13,6 +13,6 @@ mod search;
 pub mod set;
 pub mod span;
 mod spans;
-mod text;
+pub mod text;
 pub mod walks;
 mod windows;

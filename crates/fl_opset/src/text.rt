@@ -1,4 +1,4 @@
-//! The text of a registry.
+//! The text of a registry, and of operations one after the other.
 ghost use Rattle.std.specs.Prelude.{◌≡◌, ◌∷◌, ◌++◌, [], OnErr};
 ghost use Rattle.std.specs.List.{flat_map, filter};
 ghost use Rattle.fl_labels.specs.Text.{name_text};
@@ -134,8 +134,9 @@ fn write_open<W: Writer>(
     sink.put_all(output, &pieces)
 }
 
-// The line of an operation.
-fn write_line<W: Writer>(op: &Op, sink: &mut Sink, output: &mut W) -> Result<(), WriteFault>
+/// Puts the line of an operation into the sink, with its line feed. Takes no memory but the sink's.
+/// At a fault a front of what waited and the line was written.
+pub fn write_line<W: Writer>(op: &Op, sink: &mut Sink, output: &mut W) -> Result<(), WriteFault>
     ensures puts { let text = op_line op.now in
         Puts (W.contents output.old) (W.contents output.new) sink.old text sink.new result }
     ensures cause { OnErr result (W.has_failed output.new) }
@@ -151,7 +152,8 @@ fn write_line<W: Writer>(op: &Op, sink: &mut Sink, output: &mut W) -> Result<(),
     }
 }
 
-/// Puts the line of each operation into the sink.
+/// Puts the line of each operation into the sink, in this order. Takes no memory but the sink's. At
+/// a fault a front of what waited and the lines was written.
 pub fn write_lines<W: Writer>(ops: &[Op], sink: &mut Sink, output: &mut W) -> Result<(), WriteFault>
     ensures puts { let text = flat_map op_line ops.now in
         Puts (W.contents output.old) (W.contents output.new) sink.old text sink.new result }
