@@ -239,6 +239,13 @@ impl Owned {
 }
 
 impl RoomyOwned {
+    /// The capabilities, rising.
+    pub fn as_slice(&self) -> &[Cap]
+        ensures { result.now ≡ set.members self.now }
+    {
+        self.caps.as_slice()
+    }
+
     /// The capabilities with these labels, for one more holder, as `Owned::share` has it.
     pub fn share(&mut self, alloc: Global, labels: &Labels) -> Result<Shared<Standing>, AllocError>
         ensures shared { IfOk result (λ made.

@@ -44,6 +44,23 @@ impl Drop for Process {
 }
 
 impl Holding {
+    /// The capabilities that are held, rising.
+    pub fn as_slice(&self) -> &[Cap]
+        ensures { result.now ≡ set.members (held self.now) }
+    {
+        match self {
+            Holding::Idle(owned) => owned.caps().as_slice(),
+            Holding::Ordering(owned) => owned.as_slice(),
+        }
+    }
+
+    /// Whether an operation of the process is under way.
+    pub fn is_under_way(&self) -> bool
+        ensures { result ≡ is_under_way self.now }
+    {
+        matches!(self, Holding::Ordering(_))
+    }
+
     // What is held, which leaves nothing.
     fn take(&mut self, alloc: Global) -> Self
         ensures { result ≡ self.old }

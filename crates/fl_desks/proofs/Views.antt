@@ -1,5 +1,5 @@
 -- What desks see of a list.
-use Rattle.std.proofs.Common.{◌≡◌, ◌≤◌, ◌<◌, ◌+◌, ◌-◌, ◌++◌, ◌∙◌, refl, sym, ap, subst, arith, ℕ, zero, suc, List, [], ◌∷◌, length, take, drop, get_or, set, All, Result, Some, inl, inr}
+use Rattle.std.proofs.Common.{◌≡◌, ◌≤◌, ◌<◌, ◌+◌, ◌-◌, ◌++◌, ◌∙◌, refl, sym, ap, subst, arith, ℕ, zero, suc, List, [], ◌∷◌, length, take, drop, get_or, set, All, Result, None, Some, inl, inr}
 use Rattle.std.proofs.Common.{length-append, Bool, true, false, cond}
 use Rattle.std.proofs.Math.Seq.{take-length}
 use Rattle.std.proofs.lemmas.List.{take-append-le}
@@ -52,6 +52,18 @@ with_item_length f (x ∷ xs) (suc (suc k)) = ap suc (with_item_length f xs (suc
 -- the item at a place, by its number
 pub item_here : {A : Type 0} (xs : List A) (k number : ℕ) (x : A) → suc k ≡ number → k < length xs → x ≡ get_or xs k x → item_at xs number ≡ Some x
 item_here xs k number x is less at = ap (item_at xs) (sym is) ∙ item_is xs k x less ∙ ap (λ y. Some y) (sym at)
+
+-- no item has the number 0, nor one beyond the last
+pub none_at_zero : {A : Type 0} (xs : List A) → item_at xs 0 ≡ None
+none_at_zero [] = refl
+none_at_zero (x ∷ xs) = refl
+
+pub none_beyond : {A : Type 0} (xs : List A) (number : ℕ) → length xs < number
+    → item_at xs number ≡ None
+none_beyond [] number beyond = refl
+none_beyond (x ∷ xs) zero beyond = refl
+none_beyond (x ∷ xs) (suc zero) beyond = absurd (omega (arith, beyond))
+none_beyond (x ∷ xs) (suc (suc k)) beyond = none_beyond xs (suc k) (omega (arith, beyond))
 
 set_change : {A : Type 0} (f : A → A) (xs : List A) (k : ℕ) (x : A) → k < length xs → x ≡ get_or xs k x → set xs k (f x) ≡ change_item f xs (suc k)
 set_change f [] k x less at = absurd (omega (arith, less))

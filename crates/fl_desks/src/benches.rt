@@ -163,6 +163,19 @@ impl Benches {
         bench.cancel(pid)
     }
 
+    /// The bench of this number, from 1 on, or none where there is none.
+    pub fn bench(&self, number: u8) -> Option<&Bench>
+        ensures { option_copied result ≡ item_at self.now.benches number }
+    {
+        if number == 0 {
+            return None;
+        }
+        if number as usize > self.all.len() {
+            return None;
+        }
+        Some(&self.all[number as usize - 1])
+    }
+
     /// The process, or none where it does not stand here.
     pub fn process(&self, pid: Pid) -> Option<&Process>
         ensures { let bench = bench_of (length self.now.benches) pid.serial in

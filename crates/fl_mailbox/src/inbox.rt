@@ -1,5 +1,8 @@
 //! The messages that wait for a process.
 ghost use Rattle.std.specs.Prelude.{◌≡◌, ◌++◌, ◌∷◌, [], length, nat_le, OnOk, OnErr};
+ghost use Rattle.std.specs.Iterator.Runs.{YieldsRefsInOrder};
+ghost use Rattle.std.specs.VecDeque.Iter.{deque_iter_rest, deque_iter_steps};
+ghost use Rattle.fl_message.specs.declared.message.Letter.{Letter as LetterValue};
 ghost use Rattle.fl_mailbox.specs.Mailbox.{oldest, without_oldest};
 ghost use Rattle.fl_mailbox.specs.Pushes.{Pushes};
 
@@ -7,6 +10,7 @@ use fl_message::boxed::Boxed;
 use fl_message::message::Letter;
 use std::alloc::{AllocError, Global};
 use std::collections::VecDeque;
+use std::collections::vec_deque::Iter;
 use std::marker::Model;
 
 /// How many messages wait at most.
@@ -78,6 +82,14 @@ impl Inbox {
             unreachable!("there is room");
         };
         Ok(())
+    }
+
+    /// The messages that wait, the oldest first. Each step takes the same time.
+    pub fn iter(&self) -> Iter<'_, Boxed<Letter>>
+        ensures rest { deque_iter_rest result ≡ self.now }
+        ensures runs { YieldsRefsInOrder (deque_iter_steps {X = LetterValue}) deque_iter_rest }
+    {
+        self.letters.iter()
     }
 
     /// Takes out the oldest message, or nothing where none waits. Takes no memory.

@@ -1,6 +1,7 @@
 pub mod Looks
 pub mod Given
 pub mod SlotLemmas
+pub mod Keys
 pub mod ActLemmas
 pub mod JobLemmas
 pub mod Entries

@@ -99,6 +99,14 @@ impl Bench {
         self.processes.get(pid)
     }
 
+    /// The pids of all processes, rising. Fails only where there is not enough memory. Costs a pass
+    /// over all.
+    pub fn pids(&self, alloc: Global) -> Result<Vec<Pid>, AllocError>
+        ensures { IfOk result (λ made. made.items ≡ map.keys self.now.processes) }
+    {
+        self.processes.pids(alloc)
+    }
+
     /// How the process stands, for whoever notes it, or none where it does not stand here. Fails
     /// only where there is not enough memory. Costs a search for the process, and what
     /// `Owned::share` does.

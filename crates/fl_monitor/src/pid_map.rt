@@ -183,6 +183,20 @@ impl<T> PidMap<T> {
         self.slots[place].get_mut()
     }
 
+    /// The pids that have a value, rising. Fails only where there is not enough memory. Costs a pass
+    /// over all slots.
+    pub fn pids(&self, alloc: Global) -> Result<Vec<Pid>, AllocError>
+        ensures { IfOk result (λ made. made.items ≡ map.keys self.now) }
+    {
+        let mut pids = Vec::new(alloc);
+        for slot in &self.slots {
+            if slot.value.is_some() {
+                pids.push(slot.pid)?;
+            }
+        }
+        Ok(pids)
+    }
+
     /// Puts a value, in the place of one of that pid. An error leaves them. Costs a search where
     /// the pid is not above all others, and moves the slots of greater pids.
     pub fn insert(&mut self, pid: Pid, value: Boxed<T>) -> Result<(), AllocError>

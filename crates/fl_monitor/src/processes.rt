@@ -66,6 +66,13 @@ impl Processes {
         self.all.get(pid)
     }
 
+    /// The pids of all, rising. Fails only where there is not enough memory. Costs a pass over all.
+    pub fn pids(&self, alloc: Global) -> Result<Vec<Pid>, AllocError>
+        ensures { IfOk result (λ made. made.items ≡ map.keys self.now) }
+    {
+        self.all.pids(alloc)
+    }
+
     /// Puts a process, in the place of one of that name. An error leaves them.
     pub fn insert(&mut self, pid: Pid, process: Boxed<Process>) -> Result<(), AllocError>
         ensures ok { OnOk result (self.new ≡ map.insert self.old pid process) }

@@ -36,6 +36,7 @@ use fl_jobs::job::Job;
 use fl_labels::name::{Name, NodeNumber};
 use fl_labels::pid::Pid;
 use fl_message::shared::Shared;
+use fl_monitor::bench::Bench;
 use fl_ops::op::{Body, Op};
 use fl_opset::set::OpSet;
 use fl_store::keeper::Keeper;
@@ -204,6 +205,14 @@ impl<K: Keeper> Node<K> {
         ensures { result.now ≡ self.now.node.published }
     {
         self.listing.list()
+    }
+
+    /// The bench of this number, from 1 on, or none where there is none. A stopped node lends it
+    /// too.
+    pub fn bench(&self, number: u8) -> Option<&Bench>
+        ensures { option_copied result ≡ item_at self.now.node.benches number }
+    {
+        self.benches.bench(number)
     }
 
     /// The process, or none where it does not stand here. A stopped node lends it too.
