@@ -1,0 +1,11 @@
+mod Members
+mod Equal
+mod StepOrder
+mod Leasts
+mod Gifts
+mod Rooting
+mod Parting
+mod Searching
+mod Orders
+mod Walking
+mod LawLemmas
