@@ -1,0 +1,5 @@
+pub mod Parts
+pub mod Entries
+pub mod Passed
+pub mod Processes
+pub mod Overviews

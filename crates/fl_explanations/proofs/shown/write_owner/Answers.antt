@@ -1,0 +1,11 @@
+use Rattle.fl_sink.specs.laws.Passing.{puts_then, puts_stop}
+use Rattle.fl_explanations.proofs.shown.write_owner.Goals as goal
+
+pub returns-in_err-write_sides-clause-puts : goal.returns-in_err-write_sides-clause-puts
+returns-in_err-write_sides-clause-puts g c =
+    puts_stop _ _ c.in_err-write_sides.ensures.puts.is c.from_residual.ensures.0
+
+pub returns-clause-puts : goal.returns-clause-puts
+returns-clause-puts g c =
+    rw (← c.as_slice.ensures)
+    (puts_then c.in_ok-write_sides.ensures.puts.is c.write_list.ensures.puts)

@@ -1,0 +1,2 @@
+-- What private functions write.
+pub mod Pieces

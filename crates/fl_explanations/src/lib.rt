@@ -1,0 +1,8 @@
+//! What a node explains of the operations that it has published.
+#![tactic(auto)]
+
+pub mod log;
+pub mod overview;
+pub mod shown;
+pub mod text;
+pub mod why;
