@@ -9,3 +9,4 @@ pub mod Hearing
 pub mod Turning
 pub mod Runs
 pub mod Starting
+pub mod Explanations

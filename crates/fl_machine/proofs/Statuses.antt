@@ -1,5 +1,9 @@
 -- The statuses of lines: which of them say that the keeper failed.
-use Rattle.std.proofs.Common.{◌≡◌, ◌≢◌, ◌∙◌, refl, sym, ap, ℕ, List, [], ◌∷◌, arith}
+use Rattle.std.proofs.Common.{◌≡◌, ◌≢◌, ◌∙◌, refl, sym, ap, ℕ, List, [], ◌∷◌, Option, None, Some, arith}
+use Rattle.fl_labels.specs.declared.pid.Pid.{Pid}
+use Rattle.fl_bench.specs.declared.process.Process.{Process}
+use Rattle.fl_system.specs.Processes.{process_of}
+use Rattle.fl_machine_turns.specs.Explaining.{told_of}
 use Rattle.fl_seal.specs.declared.seal.Key.{Key}
 use Rattle.fl_message.specs.declared.message.Data.{Data}
 use Rattle.fl_wire.specs.declared.packet.Packet.TheVariants as packets
@@ -44,6 +48,10 @@ replied_status : (reply : Reply)
 replied_status (Refused fault) = refl
 replied_status other = refl
 
+told_status : (pid : Pid) (found : Option Process) → 0 ≡ status_of (told_of pid found)
+told_status pid (Some p) = refl
+told_status pid None = refl
+
 -- the status of a response is that of what it shows
 pub same_status : {keys : List Key} {n : NodeState} {r : Response} {answer : Answer}
     → Shows keys n r answer → status_said r ≡ status_of answer
@@ -57,6 +65,9 @@ same_status Shows.checked = refl
 same_status Shows.bad_packet = refl
 same_status Shows.admitted = refl
 same_status Shows.echoed = refl
+same_status Shows.log = refl
+same_status Shows.because = refl
+same_status {n = n} (Shows.process {pid}) = told_status pid (process_of n pid)
 same_status Shows.unknown = refl
 
 -- where a response says that the keeper failed, so does what is said

@@ -3,12 +3,17 @@ use Rattle.std.proofs.Common.{◌≡◌, ◌++◌, ◌∙◌, refl, sym, ap, ℕ
 use Rattle.std.proofs.Common.{map as list_map, Vec}
 use Rattle.std.proofs.lemmas.List.{length-map}
 use Rattle.std.proofs.lemmas.List.Folds.{flat_map-map}
+use Rattle.std.proofs.Common.{Option, None, Some}
 use Rattle.std.specs.Borrow.{Bor}
 use Rattle.std.specs.List.{flat_map}
 use Rattle.std.specs.declared.alloc.Global.{Global}
 use Rattle.hex.specs.Hex.{encode_lower}
 use Rattle.fl_labels.specs.SetBy as set
-use Rattle.fl_opset.specs.RegistryText.{registry_text}
+use Rattle.fl_labels.specs.declared.pid.Pid.{Pid}
+use Rattle.fl_bench.specs.declared.process.Process.{Process}
+use Rattle.fl_explanations.specs.Lines.{logged, why_lines}
+use Rattle.fl_explanations.specs.declared.why.Why.{Why}
+use Rattle.fl_opset.specs.RegistryText.{op_line, registry_text}
 use Rattle.fl_seal.specs.declared.seal.Key.{Key}
 use Rattle.fl_sealed_packets.specs.Sealing.{sent_bytes}
 use Rattle.fl_wire.specs.declared.packet.Packet.{Packet}
@@ -17,10 +22,12 @@ use Rattle.fl_calls.specs.CheckText.{check_text}
 use Rattle.fl_calls.specs.declared.response.Check.{Check}
 use Rattle.fl_system.specs.declared.answer.Fault.{Fault}
 use Rattle.fl_system.specs.declared.reply.Reply.{Reply}
+use Rattle.fl_system.specs.Processes.{process_of}
 use Rattle.fl_system.specs.State.{NodeState}
 use Rattle.fl_system.specs.Waiting.{IsRunning}
 use Rattle.fl_machine_turns.specs.Answer.{Answer}
 use Rattle.fl_machine_turns.specs.AnswerText.{head_text, packet_text, text_of}
+use Rattle.fl_machine_turns.specs.Explaining.{told_of}
 use Rattle.fl_machine.specs.Shown.{Shows}
 use Rattle.fl_machine.specs.declared.response.Response.{Response}
 use Rattle.fl_machine.specs.declared.response.Response.TheVariants as response
@@ -97,6 +104,29 @@ module _ (keys : List Key) (n : NodeState) (number : ℕ) where
       → Shows keys n (response.Echo word) answer
       → text_of keys number answer ≡ codes "echo " ++ (word.now ++ codes "\n")
   echoed_text word answer Shows.echoed = refl
+
+  pub log_text : (place : ℕ) (answer : Answer) → Shows keys n (response.Log place) answer
+      → text_of keys number answer
+      ≡ head_text (length (logged place n.published)) ++ flat_map op_line (logged place n.published)
+  log_text place answer Shows.log =
+      let ops = logged place n.published in
+      ap (λ count. head_text count ++ flat_map (λ line. line) (list_map op_line ops))
+      (length-map ops op_line)
+      ∙ ap (λ l. head_text (length ops) ++ l) (flat_map-map (λ line. line) op_line ops)
+
+  pub why_text : (why : Why) (answer : Answer) → Shows keys n (response.Why why) answer
+      → text_of keys number answer
+      ≡ head_text (length (why_lines why)) ++ flat_map (λ line. line) (why_lines why)
+  why_text why answer Shows.because = refl
+
+  pub process_text : (pid : Pid) (answer : Answer) → Shows keys n (response.Process pid) answer
+      → text_of keys number answer ≡ text_of [] 0 (told_of pid (process_of n pid))
+  process_text pid answer Shows.process = told_text_of pid (process_of n pid)
+    where
+      told_text_of : (pid : Pid) (found : Option Process)
+          → text_of keys number (told_of pid found) ≡ text_of [] 0 (told_of pid found)
+      told_text_of pid (Some p) = refl
+      told_text_of pid None = refl
 
   pub unknown_text : (answer : Answer) → Shows keys n response.Unknown answer
       → text_of keys number answer ≡ count_text (codes "refused F19 ") number

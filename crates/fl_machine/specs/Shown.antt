@@ -1,20 +1,33 @@
 -- What a response of the program says.
 use Rattle.std.specs.Prelude.{◌≡◌, ℕ, List, map as list_map, Vec}
 use Rattle.std.specs.Borrow.{Bor}
+use Rattle.std.specs.declared.alloc.AllocError.{AllocError}
 use Rattle.std.specs.declared.alloc.Global.{Global}
+use Rattle.std.specs.declared.option.Option.{Option}
+use Rattle.std.specs.declared.option.Option.TheVariants.{None, Some}
+use Rattle.std.specs.declared.result.Result.{Result}
+use Rattle.std.specs.declared.result.Result.TheVariants.{Ok, Err}
 use Rattle.fl_seal.specs.declared.seal.Key.{Key}
 use Rattle.fl_sealed_packets.specs.Sealing.{sent_bytes}
 use Rattle.fl_wire.specs.declared.packet.Packet.{Packet}
 use Rattle.fl_system.specs.declared.answer.Fault.{Fault}
 use Rattle.fl_system.specs.declared.reply.Reply.{Reply}
-use Rattle.fl_system.specs.declared.reply.Reply.TheVariants.{Refused}
+use Rattle.fl_system.specs.declared.reply.Reply.TheVariants.{Job, Refused}
 use Rattle.fl_system.specs.State.{NodeState}
 use Rattle.fl_system.specs.Waiting.{IsRunning}
+use Rattle.fl_jobs.specs.declared.answer.Reply.TheVariants.{NotYet}
 use Rattle.fl_calls.specs.Answer as says
+use Rattle.fl_calls.specs.Completing.{starved}
+use Rattle.fl_explanations.specs.Lines.{logged, why_lines}
+use Rattle.fl_explanations.specs.declared.why.Why.{Why}
+use Rattle.fl_opset.specs.RegistryText.{op_line}
 use Rattle.fl_calls.specs.declared.response.Check.{Check}
 use Rattle.fl_turns.specs.Answer.{fault_status}
 use Rattle.fl_machine_turns.specs.Answer.{Answer}
 use Rattle.fl_machine_turns.specs.Answer as answers
+use Rattle.fl_machine_turns.specs.Explaining.{told_of}
+use Rattle.fl_labels.specs.declared.pid.Pid.{Pid}
+use Rattle.fl_system.specs.Processes.{process_of}
 use Rattle.fl_machine.specs.declared.response.Response.{Response}
 use Rattle.fl_machine.specs.declared.response.Response.TheVariants as response
 
@@ -38,7 +51,17 @@ pub data Shows (keys : List Key) (n : NodeState) : Response → Answer → Type 
   admitted : {count : ℕ}
       → Shows keys n (response.Admitted count) (answers.said (says.admitted count))
   echoed : {word : Bor (List ℕ)} → Shows keys n (response.Echo word) (answers.echoed word.now)
+  log : {place : ℕ} → Shows keys n (response.Log place)
+      (answers.explained (list_map op_line (logged place n.published)))
+  because : {found : Why} → Shows keys n (response.Why found) (answers.explained (why_lines found))
+  process : {pid : Pid} → Shows keys n (response.Process pid) (told_of pid (process_of n pid))
   unknown : Shows keys n response.Unknown (answers.said says.unknown)
+
+-- what is responded where a chain was looked for
+abbrev pub why_response : Result (Option Why) AllocError → Response
+why_response (Ok (Some found)) = response.Why found
+why_response (Ok None) = response.Reply (Job NotYet)
+why_response (Err error) = response.Reply starved
 
 -- the status of its line, whatever it shows
 abbrev pub status_said : Response → ℕ

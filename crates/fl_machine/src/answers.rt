@@ -1,20 +1,30 @@
 //! The text of the answers. Writing takes no memory but the sink's, and does without.
-ghost use Rattle.std.specs.Prelude.{◌≡◌, ◌++◌, List, OnErr, codes, length};
+ghost use Rattle.std.specs.Prelude.{◌≡◌, ◌++◌, [], List, OnErr, codes, length};
 ghost use Rattle.std.specs.List.{flat_map};
 ghost use Rattle.fl_labels.specs.SetBy as set;
 ghost use Rattle.fl_machine.specs.Shown.{Shows};
 ghost use Rattle.fl_machine_turns.specs.Answer.{Answer};
 ghost use Rattle.fl_machine_turns.specs.AnswerText.{head_text, text_of};
-ghost use Rattle.fl_opset.specs.RegistryText.{registry_text};
+ghost use Rattle.fl_machine_turns.specs.Explaining.{told_of};
+ghost use Rattle.fl_system.specs.Processes.{process_of};
+ghost use Rattle.fl_explanations.specs.Lines.{logged, why_lines};
+ghost use Rattle.fl_opset.specs.RegistryText.{op_line, registry_text};
 ghost use Rattle.fl_seal.specs.declared.seal.Key.{Key};
 ghost use Rattle.fl_sink.specs.Sink.{Puts};
 ghost use Rattle.fl_system.specs.Waiting.{IsRunning};
 ghost use Rattle.hex.specs.Hex.{encode_lower};
 
 use crate::response::Response;
-use fl_answers::text::put_digits;
+use fl_answers::text::{put_digits, write_refusal};
 use fl_calls::text::write_check;
+use fl_explanations::log::logged;
+use fl_explanations::shown::write_process;
+use fl_explanations::text::{count_of, write_why};
+use fl_explanations::why::Why;
+use fl_jobs::answer::Refusal;
+use fl_labels::pid::Pid;
 use fl_node::node::Node;
+use fl_opset::text::write_lines;
 use fl_replies::text::{write_count, write_dropped_fault, write_world_reply};
 use fl_sink::sink::{Sink, WriteFault};
 use fl_sink::writer::Writer;
@@ -85,6 +95,51 @@ fn put_text<K: Keeper, W: Writer>(
     node.write_text(sink, output)
 }
 
+// How many operations there are from this place of the list on, at most 1,000, and a line for each.
+fn put_log<K: Keeper, W: Writer>(
+    node: &Node<K>,
+    place: u32,
+    sink: &mut Sink,
+    output: &mut W,
+) -> Result<(), WriteFault>
+    ensures puts { let ops = logged place node.now.node.published in
+        let text = head_text (length ops) ++ flat_map op_line ops in
+        Puts (W.contents output.old) (W.contents output.new) sink.old text sink.new result }
+    ensures cause { OnErr result (W.has_failed output.new) }
+{
+    let ops = logged(node.published(), place);
+    write_count(b"lines ", ops.len() as u64, sink, output)?;
+    write_lines(ops, sink, output)
+}
+
+// How many lines say why somebody has a capability, and these lines.
+fn put_why<W: Writer>(why: &Why, sink: &mut Sink, output: &mut W) -> Result<(), WriteFault>
+    ensures puts { let lines = why_lines why.now in
+        let text = head_text (length lines) ++ flat_map (λ line. line) lines in
+        Puts (W.contents output.old) (W.contents output.new) sink.old text sink.new result }
+    ensures cause { OnErr result (W.has_failed output.new) }
+{
+    write_count(b"lines ", count_of(why), sink, output)?;
+    write_why(why, sink, output)
+}
+
+// What the process has, or that there is none.
+fn put_process<K: Keeper, W: Writer>(
+    node: &Node<K>,
+    pid: Pid,
+    sink: &mut Sink,
+    output: &mut W,
+) -> Result<(), WriteFault>
+    ensures puts { let text = text_of [] 0 (told_of pid (process_of node.now.node pid)) in
+        Puts (W.contents output.old) (W.contents output.new) sink.old text sink.new result }
+    ensures cause { OnErr result (W.has_failed output.new) }
+{
+    match node.process(pid) {
+        Some(process) => write_process(process, sink, output),
+        None => write_refusal(Refusal::NoProcess(pid), sink, output),
+    }
+}
+
 // A line of the word.
 fn put_echo<W: Writer>(word: &str, sink: &mut Sink, output: &mut W) -> Result<(), WriteFault>
     ensures puts { let text = codes "echo " ++ (word.now ++ codes "\n") in
@@ -121,6 +176,9 @@ pub fn write_response<K: Keeper, W: Writer>(
         Response::BadPacket(place) => write_count(b"refused F18 ", *place, sink, output),
         Response::Admitted(count) => write_count(b"admitted ", *count, sink, output),
         Response::Echo(word) => put_echo(word, sink, output),
+        Response::Log(place) => put_log(node, *place, sink, output),
+        Response::Why(why) => put_why(why, sink, output),
+        Response::Process(pid) => put_process(node, *pid, sink, output),
         Response::Unknown => write_count(b"refused F19 ", number, sink, output),
     }
 }

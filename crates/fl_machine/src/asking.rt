@@ -15,6 +15,7 @@ ghost use Rattle.fl_seal.specs.declared.seal.Key.{Key};
 ghost use Rattle.fl_system.specs.State.{NodeState};
 ghost use Rattle.fl_system.specs.declared.sent.Sent.{Sent as AnySent};
 
+use crate::explaining::explain;
 use crate::packets::{begin_to_bring, bring_packet, check, tell};
 use crate::response::{Response, refused, starved};
 use fl_jobs::job::{Act, Job};
@@ -136,6 +137,7 @@ fn respond_to<'a, K: Keeper>(
         Asked::Cancel => (Response::Reply(cancel(node)), 0),
         Asked::Text => (text(node), 0),
         Asked::Check(bytes) => (check(alloc, node, keys, bytes.as_slice()), 0),
+        Asked::Explain(what) => (explain(alloc, node, what), 0),
     }
 }
 

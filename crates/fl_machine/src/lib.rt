@@ -4,6 +4,7 @@
 
 mod answers;
 mod asking;
+mod explaining;
 mod greeting;
 mod packets;
 mod response;

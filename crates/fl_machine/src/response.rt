@@ -5,7 +5,9 @@ ghost use Rattle.fl_machine.specs.Shown.{status_said};
 ghost use Rattle.fl_turns.specs.Answer.{fault_status};
 
 use fl_calls::response::Check;
+use fl_explanations::why::Why;
 use fl_jobs::answer::Refusal;
+use fl_labels::pid::Pid;
 use fl_system::answer::Fault;
 use fl_system::reply::Reply;
 
@@ -32,6 +34,12 @@ pub enum Response<'a> {
     Admitted(u64),
     /// The word comes back.
     Echo(&'a str),
+    /// Operations that are published, from this place of the list on.
+    Log(u32),
+    /// Why somebody has a capability.
+    Why(Why),
+    /// What the process has, or that there is none, which is written from the node itself.
+    Process(Pid),
     /// The line is none of this machine.
     Unknown,
 }

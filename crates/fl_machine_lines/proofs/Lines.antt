@@ -11,10 +11,12 @@ use Rattle.fl_script.specs.laws.OneLine.{one_line}
 use Rattle.fl_script.specs.parts.Reads.{Reads, StarvesIf}
 use Rattle.fl_machine_lines.specs.Grammar.{BringsBytes, IsEchoed, Spells, SpellsAsked}
 use Rattle.fl_machine_lines.specs.laws.AsScript.{Sort, sort_of, from_script}
-use Rattle.fl_machine_lines.specs.laws.AsScript.Sort.{script, receive, begin_receive}
-use Rattle.fl_machine_lines.specs.laws.OneReading.{not_echo, not_audit}
-use Rattle.fl_machine_lines.specs.parts.Asking.{AsksAsScript, asked_of}
+use Rattle.fl_machine_lines.specs.laws.AsScript.Sort.{script, receive, begin_receive, explain}
+use Rattle.fl_machine_lines.specs.laws.OneReading.{not_echo, not_audit, no_bringing}
+use Rattle.fl_machine_lines.specs.parts.Asking.{AsksAsScript, ExplainsOf, asked_of}
 use Rattle.fl_machine_lines.specs.declared.asked.Asked.{Asked}
+use Rattle.fl_machine_lines.specs.declared.asked.Asked.TheVariants.{Explain}
+use Rattle.fl_machine_lines.specs.declared.explaining.Explanation.{Explanation}
 use Rattle.fl_machine_lines.specs.declared.line.MachineLine.{MachineLine}
 use Rattle.fl_machine_lines.specs.declared.line.MachineLine.TheVariants.{Quiet, Bad, Echo, Audit, Asks}
 
@@ -54,20 +56,11 @@ pub record NotReceived (words : List Word) : Type 0 where
   pub begun : (node : Word) (behind : List Word)
       → words ≡ node ∷ codes "begin" ∷ codes "receive" ∷ behind → ⊥
 
-second : (words : List (Bor Word)) (d : Bor Word) → 2 ≤ length words
-    → (node verb : Word) (behind : List Word) → map (λ w. w.now) words ≡ node ∷ verb ∷ behind
-    → (get_or words 1 d).now ≡ verb
-second words d long node verb behind e =
-    sym (get_or-map (λ w. w.now) words 1 d [] (omega (arith, long))) ∙ ap (λ l. get_or l 1 []) e
-
-pub other_verb : (words : List (Bor Word)) (d : Bor Word) → 2 ≤ length words
-    → (get_or words 1 d).now ≢ codes "receive" → (get_or words 1 d).now ≢ codes "begin"
-    → NotReceived (map (λ w. w.now) words)
-other_verb words d long no_receive no_begin = record {
-  at_once = λ node behind e. no_receive (second words d long node (codes "receive") behind e);
-  begun =
-      λ node behind e. no_begin
-      (second words d long node (codes "begin") (codes "receive" ∷ behind) e);
+pub other_verb : (node verb : Word) (behind : List Word) → verb ≢ codes "receive"
+    → verb ≢ codes "begin" → NotReceived (node ∷ verb ∷ behind)
+other_verb node verb behind no_receive no_begin = record {
+  at_once = λ other rest e. let is : verb ≡ codes "receive" = cc e in no_receive is;
+  begun = λ other rest e. let is : verb ≡ codes "begin" = cc e in no_begin is;
 }
 
 first : (rest : List (Bor Word)) (d : Bor Word) → 1 ≤ length rest
@@ -86,27 +79,52 @@ other_begun words node rest d is long no_receive = record {
       no_receive (first rest d long (codes "receive") behind words);
 }
 
+-- the words ask for no explanation
+abbrev pub Unexplained : ℕ → List Word → Type 0
+Unexplained number words = (what : Explanation) → SpellsAsked number (Explain what) words → ⊥
+
 -- what is received is spelled by no such words
 none_received : (number : ℕ) (words : List Word) → NotReceived words → {asked : Asked} → Sort asked
-    → ((asked : Asked) → AsksAsScript number asked words → ⊥) → SpellsAsked number asked words → ⊥
-none_received number [] not kind none s = absurd s
-none_received number (node ∷ words) not (script asked request e f) none s =
+    → ((asked : Asked) → AsksAsScript number asked words → ⊥) → Unexplained number words
+    → SpellsAsked number asked words → ⊥
+none_received number [] not kind none plain s = absurd s
+none_received number (node ∷ words) not (script asked request e f) none plain s =
     none asked (record { request = request; alike = e; spelled = (s.0, f words s.1) })
-none_received number (node ∷ []) not (receive bytes) none s = absurd s.1
-none_received number (node ∷ verb ∷ words) not (receive bytes) none s =
+none_received number (node ∷ []) not (receive bytes) none plain s = absurd s.1
+none_received number (node ∷ verb ∷ words) not (receive bytes) none plain s =
     not.at_once node words (ap (λ v. node ∷ v ∷ words) s.1.0)
-none_received number (node ∷ []) not (begin_receive bytes) none s = absurd s.1
-none_received number (node ∷ verb ∷ []) not (begin_receive bytes) none s = absurd s.1.1
-none_received number (node ∷ verb ∷ word ∷ words) not (begin_receive bytes) none s =
+none_received number (node ∷ []) not (begin_receive bytes) none plain s = absurd s.1
+none_received number (node ∷ verb ∷ []) not (begin_receive bytes) none plain s = absurd s.1.1
+none_received number (node ∷ verb ∷ word ∷ words) not (begin_receive bytes) none plain s =
     not.begun node words (λ i. node ∷ s.1.0 i ∷ s.1.1.0 i ∷ words)
+none_received number (node ∷ words) not (explain what) none plain s = plain what s
 
 -- so what a script asks by them is all that they ask
 pub reads_script : (r : Result Asked Unread) (number : ℕ) (words : List Word) → NotReceived words
-    → Reads r (λ asked. AsksAsScript number asked words)
+    → Unexplained number words → Reads r (λ asked. AsksAsScript number asked words)
     → Reads r (λ asked. SpellsAsked number asked words)
-reads_script (Ok asked) number words not s = from_script number asked words s
-reads_script (Err e) number words not none =
-    λ bad asked s. none_received number words not (sort_of asked) (none bad) s
+reads_script (Ok asked) number words not plain s = from_script number asked words s
+reads_script (Err e) number words not plain none =
+    λ bad asked s. none_received number words not (sort_of asked) (none bad) plain s
+
+-- words that a script asks nothing by ask for an explanation, or nothing
+pub finds_explained : (found : Option Asked) (number : ℕ) (words : List Word) → NotReceived words
+    → ((asked : Asked) → AsksAsScript number asked words → ⊥)
+    → Finds found (λ asked. ExplainsOf number asked words)
+    → Finds found (λ asked. SpellsAsked number asked words)
+finds_explained (Some asked) number words not none e =
+    subst (λ a. SpellsAsked number a words) e.alike e.spelled
+finds_explained None number words not none plain =
+    λ asked s. none_received number words not (sort_of asked) none
+    (λ what t. plain (Explain what) (record { what = what; alike = refl; spelled = t })) s
+
+-- what begins with `begin` asks for none
+pub unexplained : (number : ℕ) (words : List Word) (node : Word) (behind : List Word)
+    → words ≡ node ∷ codes "begin" ∷ behind → Unexplained number words
+unexplained number [] node behind e what s = absurd (cc e)
+unexplained number (word ∷ words) node behind e what s =
+    let rest : words ≡ codes "begin" ∷ behind = cc e in
+    no_bringing what words s.1 (codes "begin") behind rest (inr refl)
 
 -- what is asked of the node that the words name is asked of the machine of this number
 pub asked_by : (number node : ℕ) (request : Request) (words : List Word)

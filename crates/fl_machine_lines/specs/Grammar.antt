@@ -1,14 +1,32 @@
 -- The lines of one machine, each by the words that spell it.
-use Rattle.std.specs.Prelude.{◌≡◌, ◌≤◌, ◌⊎◌, ℕ, List, [], ◌∷◌, ◌++◌, length, codes}
+use Rattle.std.specs.Prelude.{◌≡◌, ◌<◌, ◌≤◌, ◌^◌, ◌⊎◌, ℕ, List, [], ◌∷◌, ◌++◌, length, codes}
+use Rattle.std.specs.Fmt.{decimal}
+use Rattle.fl_labels.specs.Text.{cap_text, pid_text}
+use Rattle.fl_labels.specs.declared.cap.Cap.TheVariants.{Use}
 use Rattle.fl_labels.specs.Words.{IsNumber}
 use Rattle.fl_aliases.specs.Words.{Word}
 use Rattle.fl_script.specs.Grammar.{Is, Never, Matches, HoldsBlock, job_forms, request_forms}
 use Rattle.fl_script.specs.Words.{IsBytesWord}
 use Rattle.fl_script.specs.declared.request.Request.TheVariants as requests
 use Rattle.fl_machine_lines.specs.declared.asked.Asked.{Asked}
-use Rattle.fl_machine_lines.specs.declared.asked.Asked.TheVariants.{Job, Begin, Receive, BeginReceive, Tell, Save, Publish, Cancel, Text, Check}
+use Rattle.fl_machine_lines.specs.declared.asked.Asked.TheVariants.{Job, Begin, Receive, BeginReceive, Tell, Save, Publish, Cancel, Text, Check, Explain}
+use Rattle.fl_machine_lines.specs.declared.explaining.Explanation.{Explanation}
+use Rattle.fl_machine_lines.specs.declared.explaining.Explanation.TheVariants.{Log, Why, WhyGroup, ShowProcess}
 use Rattle.fl_machine_lines.specs.declared.line.MachineLine.{MachineLine}
 use Rattle.fl_machine_lines.specs.declared.line.MachineLine.TheVariants.{Quiet, Bad, Echo, Audit, Asks}
+
+-- the word is the decimal of a place in a list, a number from 0 to 4294967295
+pub record IsPlace (place : ℕ) (word : Word) : Type 0 where
+  pub in_range : place < 2 ^ 32
+  pub written : word ≡ decimal place
+
+-- the table of what is to be explained of a node, after its number
+abbrev pub explanation_forms : Explanation → List (Word → Type 0)
+explanation_forms (Log place) = Is (codes "log") ∷ IsPlace place ∷ []
+explanation_forms (Why pid cap) = Is (codes "why") ∷ Is (pid_text pid) ∷ Is (cap_text cap) ∷ []
+explanation_forms (WhyGroup group cap) =
+    Is (codes "why") ∷ Is (cap_text (Use group)) ∷ Is (cap_text cap) ∷ []
+explanation_forms (ShowProcess pid) = Is (codes "show") ∷ Is (pid_text pid) ∷ []
 
 -- the table of what is asked of a machine's node, after its number: as in a script, but for what
 -- is received
@@ -24,6 +42,7 @@ asked_forms Publish = request_forms requests.Publish
 asked_forms Cancel = request_forms requests.Cancel
 asked_forms Text = request_forms requests.Text
 asked_forms (Check bytes) = request_forms (requests.Check bytes)
+asked_forms (Explain what) = explanation_forms what
 
 -- the word is this one, which is not too long to come back
 pub record IsEchoed (text : List ℕ) (word : Word) : Type 0 where

@@ -1,12 +1,13 @@
 //! What a line asks of a machine's node.
-ghost use Rattle.std.specs.Prelude.{◌≡◌, ◌∷◌, Some, codes, map};
+ghost use Rattle.std.specs.Prelude.{◌≡◌, ◌≢◌, ◌∷◌, Some, codes, map};
 ghost use Rattle.fl_labels.specs.Found.{Finds, Tells};
 ghost use Rattle.fl_labels.specs.Words.{IsNumber};
 ghost use Rattle.fl_machine_lines.specs.Grammar.{BringsBytes, SpellsAsked, TakesBlock};
-ghost use Rattle.fl_machine_lines.specs.parts.Asking.{AsksAsScript, asked_of};
+ghost use Rattle.fl_machine_lines.specs.parts.Asking.{AsksAsScript, ExplainsOf, asked_of};
 ghost use Rattle.fl_script.specs.Grammar.{HoldsBlock};
 ghost use Rattle.fl_script.specs.parts.Reads.{Reads, StarvesIf};
 
+use crate::explaining::{Explanation, explanation_from_words};
 use fl_jobs::job::{Job, Order};
 use fl_labels::name::NodeNumber;
 use fl_labels::pid::Pid;
@@ -42,6 +43,8 @@ pub enum Asked {
     Text,
     /// What a packet of these bytes would bring to it is to be written.
     Check(Boxed<Payload>),
+    /// This is to be written of it.
+    Explain(Explanation),
 }
 
 // Whether the word is the machine's own number.
@@ -158,6 +161,40 @@ fn begin_asked(
     }
 }
 
+// What the words ask to be explained of the machine of this number.
+fn explained(number: NodeNumber, node: &str, verb: &str, rest: &[&str]) -> Option<Asked>
+    ensures { let words = verb.now ∷ map (λ w. w.now) rest.now in
+        Finds result (λ asked. ExplainsOf number asked (node.now ∷ words)) }
+{
+    let what = explanation_from_words(verb, rest)?;
+    if !is_own(number, node) {
+        return None;
+    }
+    Some(Asked::Explain(what))
+}
+
+// What the words ask of the machine of this number, where they are a line of a script too, or ask
+// to be explained something, which fewer lines do.
+fn other_asked(
+    alloc: Global,
+    number: NodeNumber,
+    words: &[&str],
+    node: &str,
+    verb: &str,
+    rest: &[&str],
+) -> Result<Asked, Unread>
+    requires are { map (λ w. w.now) words.now ≡ node.now ∷ verb.now ∷ map (λ w. w.now) rest.now }
+    requires loud { verb.now ≢ codes "receive" }
+    requires whole { verb.now ≢ codes "begin" }
+    ensures ok { Reads result (λ asked. SpellsAsked number asked (map (λ w. w.now) words.now)) }
+    ensures memory { StarvesIf result (HoldsBlock (map (λ w. w.now) words.now)) }
+{
+    match script_asked(alloc, number, words) {
+        Err(Unread::Bad) => explained(number, node, verb, rest).ok_or(Unread::Bad),
+        read => read,
+    }
+}
+
 /// What the words ask of the machine of this number. `Bad` where they ask nothing of it. Takes
 /// memory for what they hold alone: for bytes, for capabilities, for the labels of an endpoint, and
 /// for a label of two tags at least.
@@ -175,6 +212,6 @@ pub(crate) fn asked_from_words(
     match *verb {
         "receive" => receive_asked(alloc, number, node, rest),
         "begin" => begin_asked(alloc, number, words, node, rest),
-        _ => script_asked(alloc, number, words),
+        _ => other_asked(alloc, number, words, node, verb, rest),
     }
 }

@@ -2,5 +2,6 @@
 #![tactic(auto)]
 
 pub mod asked;
+pub mod explaining;
 pub mod laws;
 pub mod line;

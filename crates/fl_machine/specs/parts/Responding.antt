@@ -21,6 +21,14 @@ pub data ShowsSaying (keys : List Key) (n : NodeState) (shown : Saying → Answe
   no_room : {packet : Packet} {packets : List Packet} → saying ≡ Sends (packet ∷ packets)
       → ShowsSaying keys n shown saying (response.Reply starved)
 
+-- The response shows an answer of these, and does not say that a keeper failed.
+pub record ShowsOne (keys : List Key) (n : NodeState) (these : Answer → Type 0) (r : Response)
+    : Type 0 where
+  pub answer : Answer
+  pub shows : Shows keys n r answer
+  pub is : these answer
+  pub quiet : status_said r ≡ 3 → ⊥
+
 -- The response shows an answer: this is done, with so much noted, and answered so. Where it says
 -- that the keeper failed, that is broken.
 pub record Responds {K : Type 0} (custody : Custody K) (keys : List Key) (old : NodeOver K)

@@ -1,4 +1,5 @@
--- What is asked of a machine's node: what a script asks in the same words, and what is received.
+-- What is asked of a machine's node: what a script asks in the same words, what is received, and what
+-- is to be explained.
 use Rattle.std.proofs.Common.{◌≡◌, ◌≤◌, ap, refl, subst, suc, ℕ, List, [], ◌∷◌, Option, Some, length, codes, arith, rules}
 use Rattle.fl_jobs.specs.declared.job.Act.TheVariants.{Order as Orders}
 use Rattle.fl_jobs.specs.declared.job.Job.TheVariants.{By}
@@ -10,10 +11,12 @@ use Rattle.fl_script.specs.declared.request.Request.TheVariants as requests
 use Rattle.fl_script.specs.laws.JobKinds.{kind_of}
 use Rattle.fl_script.specs.laws.NoAs.{few_spell}
 use Rattle.fl_script.specs.laws.OneLine.{no_verb}
-use Rattle.fl_machine_lines.specs.Grammar.{Spells, SpellsAsked, asked_forms, line_forms}
+use Rattle.fl_machine_lines.specs.Grammar.{Spells, SpellsAsked, asked_forms, explanation_forms, line_forms}
 use Rattle.fl_machine_lines.specs.parts.Asking.{AsksAsScript, asked_of}
 use Rattle.fl_machine_lines.specs.declared.asked.Asked.{Asked}
-use Rattle.fl_machine_lines.specs.declared.asked.Asked.TheVariants.{Job, Begin, Receive, BeginReceive, Tell, Save, Publish, Cancel, Text, Check}
+use Rattle.fl_machine_lines.specs.declared.asked.Asked.TheVariants.{Job, Begin, Receive, BeginReceive, Tell, Save, Publish, Cancel, Text, Check, Explain}
+use Rattle.fl_machine_lines.specs.declared.explaining.Explanation.{Explanation}
+use Rattle.fl_machine_lines.specs.declared.explaining.Explanation.TheVariants.{Log, Why, WhyGroup, ShowProcess}
 use Rattle.fl_machine_lines.specs.declared.line.MachineLine.{MachineLine}
 use Rattle.fl_machine_lines.specs.declared.line.MachineLine.TheVariants.{Quiet, Bad, Echo, Audit, Asks}
 
@@ -24,6 +27,7 @@ pub data Sort : Asked → Type 0 where
       → Sort asked
   receive : (bytes : List ℕ) → Sort (Receive bytes)
   begin_receive : (bytes : List ℕ) → Sort (BeginReceive bytes)
+  explain : (what : Explanation) → Sort (Explain what)
 
 pub sort_of : (asked : Asked) → Sort asked
 sort_of (Job job) = script (Job job) (requests.Job job) refl (λ words s. s)
@@ -36,6 +40,7 @@ sort_of Publish = script Publish requests.Publish refl (λ words s. s)
 sort_of Cancel = script Cancel requests.Cancel refl (λ words s. s)
 sort_of Text = script Text requests.Text refl (λ words s. s)
 sort_of (Check bytes) = script (Check bytes) (requests.Check bytes) refl (λ words s. s)
+sort_of (Explain what) = explain what
 
 same : {a b : Asked} → ◌≡◌ {A = Option Asked} (Some a) (Some b) → a ≡ b
 same e = cc e
@@ -83,12 +88,74 @@ no_begin_receive (requests.BeginDeliver packet) words s = absurd (search (rules,
 no_begin_receive requests.Tell words s = absurd (search (rules, s.0))
 no_begin_receive request words s = absurd (search (rules, s.0))
 
+-- nor with what the words begin with that ask for an explanation
+abbrev pub verb_of : Explanation → Word
+verb_of (Log place) = codes "log"
+verb_of (Why pid cap) = codes "why"
+verb_of (WhyGroup group cap) = codes "why"
+verb_of (ShowProcess pid) = codes "show"
+
+no_why : (request : Request) (words : List Word) → SpellsRequest request (codes "why" ∷ words) → ⊥
+no_why (requests.Job job) words s = no_verb (codes "why") refl (kind_of job) words s
+no_why requests.Tell words s = absurd (search (rules, s.0))
+no_why request words s = absurd (search (rules, s.0))
+
+no_log : (request : Request) (words : List Word) → SpellsRequest request (codes "log" ∷ words) → ⊥
+no_log (requests.Job job) words s = no_verb (codes "log") refl (kind_of job) words s
+no_log requests.Tell words s = absurd (search (rules, s.0))
+no_log request words s = absurd (search (rules, s.0))
+
+no_show : (request : Request) (words : List Word) → SpellsRequest request (codes "show" ∷ words)
+    → ⊥
+no_show (requests.Job job) words s = no_verb (codes "show") refl (kind_of job) words s
+no_show requests.Tell words s = absurd (search (rules, s.0))
+no_show request words s = absurd (search (rules, s.0))
+
+no_verb_of : (request : Request) (what : Explanation) (words : List Word)
+    → SpellsRequest request (verb_of what ∷ words) → ⊥
+no_verb_of request (Log place) words s = no_log request words s
+no_verb_of request (Why pid cap) words s = no_why request words s
+no_verb_of request (WhyGroup group cap) words s = no_why request words s
+no_verb_of request (ShowProcess pid) words s = no_show request words s
+
+pub begins_with : (what : Explanation) (verb : Word) (words : List Word)
+    → Matches (explanation_forms what) (verb ∷ words) → verb ≡ verb_of what
+begins_with (Log place) verb words s = s.0
+begins_with (Why pid cap) verb words s = s.0
+begins_with (WhyGroup group cap) verb words s = s.0
+begins_with (ShowProcess pid) verb words s = s.0
+
+pub no_words : (what : Explanation) → Matches (explanation_forms what) [] → ⊥
+no_words (Log place) s = absurd s
+no_words (Why pid cap) s = absurd s
+no_words (WhyGroup group cap) s = absurd s
+no_words (ShowProcess pid) s = absurd s
+
+-- so the words that ask for an explanation are no request
+pub no_explanation : (request : Request) (what : Explanation) (words : List Word)
+    → Matches (explanation_forms what) words → SpellsRequest request words → ⊥
+no_explanation request what [] s t = no_words what s
+no_explanation request what (verb ∷ words) s t =
+    no_verb_of request what words
+    (subst (λ v. SpellsRequest request (v ∷ words)) (begins_with what verb words s) t)
+
 same_length : (ps : List (Word → Type 0)) (words : List Word) → Matches ps words
     → length words ≡ length ps
 same_length [] [] s = refl
 same_length [] (word ∷ words) s = absurd s
 same_length (p ∷ ps) [] s = absurd s
 same_length (p ∷ ps) (word ∷ words) s = ap suc (same_length ps words s.1)
+
+few_explain : (what : Explanation) (words : List Word) → Matches (explanation_forms what) words
+    → length words ≤ 3
+few_explain (Why pid cap) words s =
+    omega (arith, same_length (explanation_forms (Why pid cap)) words s)
+few_explain (WhyGroup group cap) words s =
+    omega (arith, same_length (explanation_forms (WhyGroup group cap)) words s)
+few_explain (Log place) words s =
+    omega (arith, same_length (explanation_forms (Log place)) words s)
+few_explain (ShowProcess pid) words s =
+    omega (arith, same_length (explanation_forms (ShowProcess pid)) words s)
 
 few_asked : (number : ℕ) {asked : Asked} → Sort asked → (words : List Word)
     → SpellsAsked number asked words → length words ≤ 8
@@ -99,6 +166,7 @@ few_asked number (receive bytes) (word ∷ words) s =
     omega (arith, same_length (asked_forms (Receive bytes)) words s.1)
 few_asked number (begin_receive bytes) (word ∷ words) s =
     omega (arith, same_length (asked_forms (BeginReceive bytes)) words s.1)
+few_asked number (explain what) (word ∷ words) s = omega (arith, few_explain what words s.1)
 
 -- a line to a machine has at most 8 words
 pub few_spell_line : (number : ℕ) (line : MachineLine) (words : List Word)

@@ -1,18 +1,22 @@
 -- Bytes say one thing at most to a machine.
-use Rattle.std.proofs.Common.{◌≡◌, refl, ap, subst, ℕ, List, [], ◌∷◌, codes, arith, rules}
+use Rattle.std.proofs.Common.{◌≡◌, ◌∙◌, ◌⊎◌, inl, inr, refl, sym, ap, subst, ℕ, List, [], ◌∷◌, codes, arith, rules}
 use Rattle.fl_labels.specs.Words.{IsNumber}
 use Rattle.fl_aliases.specs.Words.{Word, words_of}
 use Rattle.fl_script.specs.Grammar.{Matches, SpellsRequest, request_forms}
 use Rattle.fl_script.specs.declared.request.Request.{Request}
-use Rattle.fl_script.specs.laws.Agreement.{agree}
+use Rattle.fl_script.specs.laws.Agreement.{Agree, Both, agree}
 use Rattle.fl_script.specs.laws.OneLine.{one_request}
-use Rattle.fl_script.specs.laws.OneWord.{no_letter, same_bytes}
-use Rattle.fl_machine_lines.specs.Grammar.{Spells, asked_forms, line_forms}
+use Rattle.fl_script.specs.laws.OneWord.{no_letter, same_bytes, same_cap, same_pid}
+use Rattle.fl_labels.specs.declared.cap.Cap.TheVariants.{Use}
+use Rattle.fl_labels.specs.laws.OneReading.{same_number}
+use Rattle.fl_machine_lines.specs.Grammar.{IsPlace, Spells, asked_forms, explanation_forms, line_forms}
 use Rattle.fl_machine_lines.specs.Reading.{AreAlike, IsReading, SaysLine, SaysNone}
-use Rattle.fl_machine_lines.specs.laws.AsScript.{Sort, sort_of, no_receive, no_begin_receive}
-use Rattle.fl_machine_lines.specs.laws.AsScript.Sort.{script, receive, begin_receive}
+use Rattle.fl_machine_lines.specs.laws.AsScript.{Sort, sort_of, begins_with, no_receive, no_begin_receive, no_explanation, verb_of}
+use Rattle.fl_machine_lines.specs.laws.AsScript.Sort.{script, receive, begin_receive, explain}
 use Rattle.fl_machine_lines.specs.declared.asked.Asked.{Asked}
-use Rattle.fl_machine_lines.specs.declared.asked.Asked.TheVariants.{Receive, BeginReceive}
+use Rattle.fl_machine_lines.specs.declared.asked.Asked.TheVariants.{Receive, BeginReceive, Explain}
+use Rattle.fl_machine_lines.specs.declared.explaining.Explanation.{Explanation}
+use Rattle.fl_machine_lines.specs.declared.explaining.Explanation.TheVariants.{Log, Why, WhyGroup, ShowProcess}
 use Rattle.fl_machine_lines.specs.declared.line.MachineLine.{MachineLine}
 use Rattle.fl_machine_lines.specs.declared.line.MachineLine.TheVariants.{Quiet, Bad, Echo, Audit, Asks}
 
@@ -29,6 +33,65 @@ not_begun request bytes [] s t = absurd s
 not_begun request bytes (verb ∷ []) s t = absurd s.1
 not_begun request bytes (verb ∷ word ∷ words) s t =
     no_begin_receive request words (subst (SpellsRequest request) (λ i. s.0 i ∷ s.1.0 i ∷ words) t)
+
+same_place : (m n : ℕ) → Both (IsPlace m) (IsPlace n) → m ≡ n
+same_place m n both =
+    same_number m n both.left.in_range both.right.in_range (sym both.left.written ∙ both.right.written)
+
+-- words ask for one explanation at most
+one_explanation : (a b : Explanation) → Agree (explanation_forms a) (explanation_forms b) → a ≡ b
+one_explanation (Why p c) (Why q d) g =
+    let pids = same_pid p q g.1.0 in
+    let caps = same_cap c d g.1.1.0 in cc
+one_explanation (Why p c) (WhyGroup h d) g = absurd (search (rules, g.1.0.left, g.1.0.right))
+one_explanation (Why p c) other g = absurd (search (rules, g.0.left, g.0.right))
+one_explanation (WhyGroup f c) (Why q d) g = absurd (search (rules, g.1.0.left, g.1.0.right))
+one_explanation (WhyGroup f c) (WhyGroup h d) g =
+    let uses = same_cap (Use f) (Use h) g.1.0 in
+    let groups : f ≡ h = cc uses in
+    let caps = same_cap c d g.1.1.0 in cc
+one_explanation (WhyGroup f c) other g = absurd (search (rules, g.0.left, g.0.right))
+one_explanation (Log m) (Log n) g = ap Log (same_place m n g.1.0)
+one_explanation (Log m) other g = absurd (search (rules, g.0.left, g.0.right))
+one_explanation (ShowProcess p) (ShowProcess q) g = ap ShowProcess (same_pid p q g.1.0)
+one_explanation (ShowProcess p) other g = absurd (search (rules, g.0.left, g.0.right))
+
+-- and do not bring anything then
+not_receive : (what : Explanation) → verb_of what ≡ codes "receive" → ⊥
+not_receive (Log place) e = absurd (cc e)
+not_receive (Why pid cap) e = absurd (cc e)
+not_receive (WhyGroup group cap) e = absurd (cc e)
+not_receive (ShowProcess pid) e = absurd (cc e)
+
+not_begin : (what : Explanation) → verb_of what ≡ codes "begin" → ⊥
+not_begin (Log place) e = absurd (cc e)
+not_begin (Why pid cap) e = absurd (cc e)
+not_begin (WhyGroup group cap) e = absurd (cc e)
+not_begin (ShowProcess pid) e = absurd (cc e)
+
+pub no_bringing : (what : Explanation) (words : List Word) → Matches (explanation_forms what) words
+    → (verb : Word) (behind : List Word) → words ≡ verb ∷ behind
+    → ((verb ≡ codes "receive") ⊎ (verb ≡ codes "begin")) → ⊥
+no_bringing what [] s verb behind e which = absurd (cc e)
+no_bringing what (word ∷ words) s verb behind e which =
+    let same : word ≡ verb = cc e in
+    let begins : verb ≡ verb_of what = sym same ∙ begins_with what word words s in
+    elim which [
+      | inl is ↦ not_receive what (sym begins ∙ is)
+      | inr is ↦ not_begin what (sym begins ∙ is)
+    ]
+
+not_both : (what : Explanation) (bytes : List ℕ) (words : List Word)
+    → Matches (explanation_forms what) words → Matches (asked_forms (Receive bytes)) words → ⊥
+not_both what bytes [] s t = absurd t
+not_both what bytes (verb ∷ words) s t =
+    no_bringing what (verb ∷ words) s verb words refl (inl t.0)
+
+not_begun_both : (what : Explanation) (bytes : List ℕ) (words : List Word)
+    → Matches (explanation_forms what) words → Matches (asked_forms (BeginReceive bytes)) words → ⊥
+not_begun_both what bytes [] s t = absurd t
+not_begun_both what bytes (verb ∷ words) s t =
+    no_bringing what (verb ∷ words) s verb words refl (inr t.0)
 
 -- words ask one thing at most
 one_asked : {a b : Asked} → Sort a → Sort b → (words : List Word) → Matches (asked_forms a) words
@@ -50,6 +113,16 @@ one_asked (receive x) (receive y) words s t =
 one_asked (begin_receive x) (begin_receive y) words s t =
     let both = agree (asked_forms (BeginReceive x)) (asked_forms (BeginReceive y)) words s t in ap
     BeginReceive (same_bytes x y both.1.1.0)
+one_asked (script a x e f) (explain b) words s t =
+    absurd (no_explanation x b words t (f words s))
+one_asked (explain a) (script b y g h) words s t =
+    absurd (no_explanation y a words s (h words t))
+one_asked (explain a) (explain b) words s t =
+    ap Explain (one_explanation a b (agree (explanation_forms a) (explanation_forms b) words s t))
+one_asked (explain a) (receive y) words s t = absurd (not_both a y words s t)
+one_asked (receive x) (explain b) words s t = absurd (not_both b x words t s)
+one_asked (explain a) (begin_receive y) words s t = absurd (not_begun_both a y words s t)
+one_asked (begin_receive x) (explain b) words s t = absurd (not_begun_both b x words t s)
 one_asked (receive x) (begin_receive y) words s t =
     let both = agree (asked_forms (Receive x)) (asked_forms (BeginReceive y)) words s t in absurd
     (search (rules, both.0.left, both.0.right))

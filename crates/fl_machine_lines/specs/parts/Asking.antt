@@ -1,4 +1,4 @@
--- What a script's requests ask of a machine's node.
+-- What a script's requests ask of a machine's node, and what is asked to be explained of it.
 use Rattle.std.specs.Prelude.{◌≡◌, ℕ, List, Option, None, Some}
 use Rattle.fl_aliases.specs.Words.{Word}
 use Rattle.fl_script.specs.Grammar.{Spells}
@@ -6,7 +6,9 @@ use Rattle.fl_script.specs.declared.line.Line.TheVariants.{Node as OfNode}
 use Rattle.fl_script.specs.declared.request.Request.{Request}
 use Rattle.fl_script.specs.declared.request.Request.TheVariants as requests
 use Rattle.fl_machine_lines.specs.declared.asked.Asked.{Asked}
-use Rattle.fl_machine_lines.specs.declared.asked.Asked.TheVariants.{Job, Begin, Tell, Save, Publish, Cancel, Text, Check}
+use Rattle.fl_machine_lines.specs.declared.asked.Asked.TheVariants.{Job, Begin, Tell, Save, Publish, Cancel, Text, Check, Explain}
+use Rattle.fl_machine_lines.specs.declared.explaining.Explanation.{Explanation}
+use Rattle.fl_machine_lines.specs.Grammar.{SpellsAsked}
 
 -- what the request asks, where a machine's node is asked it too
 abbrev pub asked_of : Request → Option Asked
@@ -27,3 +29,9 @@ pub record AsksAsScript (number : ℕ) (asked : Asked) (words : List Word) : Typ
   pub request : Request
   pub alike : asked_of request ≡ Some asked
   pub spelled : Spells (OfNode number request) words
+
+-- the words ask the machine of this number to explain something
+pub record ExplainsOf (number : ℕ) (asked : Asked) (words : List Word) : Type 0 where
+  pub what : Explanation
+  pub alike : Explain what ≡ asked
+  pub spelled : SpellsAsked number (Explain what) words

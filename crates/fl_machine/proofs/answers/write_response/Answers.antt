@@ -1,6 +1,6 @@
 use Rattle.fl_machine.proofs.Texts.{admitted_text, bad_packet_text, checked_text, dropped_text}
 use Rattle.fl_machine.proofs.Texts.{echoed_text, listed_text, replied_text, sent_text, silence_text}
-use Rattle.fl_machine.proofs.Texts.{told_text, unknown_text}
+use Rattle.fl_machine.proofs.Texts.{log_text, process_text, told_text, unknown_text, why_text}
 use Rattle.fl_machine.proofs.answers.write_response.Goals as goal
 
 pub returns-in-Silence-clause-puts : goal.returns-in-Silence-clause-puts
@@ -61,3 +61,18 @@ pub returns-in-Unknown-clause-puts : goal.returns-in-Unknown-clause-puts
 returns-in-Unknown-clause-puts g c = λ keys answer shows.
     rw (unknown_text keys _ c.args.number answer (rw c.in-Unknown.is at shows))
     c.write_count-in-Unknown.ensures.puts
+
+pub returns-in-Log-clause-puts : goal.returns-in-Log-clause-puts
+returns-in-Log-clause-puts g c = λ keys answer shows.
+    rw (log_text keys _ c.args.number c.in-Log.place answer (rw c.in-Log.is at shows))
+    c.put_log.ensures.puts
+
+pub returns-in-Why-clause-puts : goal.returns-in-Why-clause-puts
+returns-in-Why-clause-puts g c = λ keys answer shows.
+    rw (why_text keys _ c.args.number c.in-Why.why answer (rw c.in-Why.is at shows))
+    c.put_why.ensures.puts
+
+pub returns-in-Process-clause-puts : goal.returns-in-Process-clause-puts
+returns-in-Process-clause-puts g c = λ keys answer shows.
+    rw (process_text keys _ c.args.number c.in-Process.pid answer (rw c.in-Process.is at shows))
+    c.put_process.ensures.puts

@@ -51,3 +51,6 @@ pub returns-in-Check : goal.returns-in-Check
 returns-in-Check g c =
     rw (c.in-Check.is, ← (c.as_slice-in-Check.ensures ∙ c.deref-in-Check.ensures))
     (c.check.ensures c.args.guards)
+
+pub returns-in-Explain : goal.returns-in-Explain
+returns-in-Explain g c = rw c.in-Explain.is (c.explain.ensures c.args.keys.now)
