@@ -1,3 +1,4 @@
 mod Going
 mod Received
 mod Sent
+mod There

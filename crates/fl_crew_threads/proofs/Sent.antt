@@ -45,6 +45,9 @@ use Rattle.fl_jobs.specs.contracts.job.Job as job
 use Rattle.fl_worker.specs.contracts.task.Task as task
 use Rattle.fl_crew_model.specs.contracts.record.Told as told
 use Rattle.fl_crew_model.specs.contracts.record.Entry as entry
+use Rattle.fl_worker.specs.contracts.ask.Ask as ask
+use Rattle.fl_worker.specs.contracts.ask.Ordered as ordered
+use Rattle.fl_worker.specs.contracts.ask.Ruled as ruled
 use Rattle.fl_worker.specs.contracts.line.Out as out
 use Rattle.fl_worker.specs.contracts.line.In as into
 use Rattle.fl_worker.specs.contracts.ends.Ends as ends
@@ -154,8 +157,21 @@ out_send T s = declared_send (out.the_type T) (search (sendable, crosses, table)
 into_send : (T : RattleType) → IsSend T → IsSend (into.the_row T)
 into_send T s = declared_send (into.the_type T) (search (sendable, crosses, table) depth 40 fits 100000)
 
+ordered_send : IsSend ordered.the_row
+ordered_send = search apart depth 40 fits 100000
+
+ruled_send : IsSend ruled.the_row
+ruled_send = search apart depth 40 fits 100000
+
+answers_send : IsSend (out.the_row ruled.the_row)
+answers_send = out_send ruled.the_row ruled_send
+
+ask_send : IsSend ask.the_row
+ask_send = variants_send ask.enum (search (ordered_send, answers_send) depth 20)
+
 ends_send : IsSend ends.the_row
-ends_send = declared_send ends.the_type (search (apart, out_send, into_send) depth 40 fits 100000)
+ends_send = declared_send ends.the_type (
+    search (apart, out_send, into_send, ask_send, ruled_send) depth 40 fits 100000)
 
 pub worker_send : IsSend worker.the_row
 worker_send = declared_send worker.the_type (

@@ -1,41 +1,47 @@
 //! The channels of a crew.
 ghost use Rattle.std.specs.Prelude.{◌≡◌, IfOk, length};
 
-use fl_worker::ask::{Ask, Ruled};
+use fl_worker::ask::Ask;
 use fl_worker::ends::Ends;
-use fl_worker::line::{In, Out, line};
+use fl_worker::hearing::Hearing;
+use fl_worker::line::line;
 use std::alloc::{AllocError, Global};
 
 // How many messages may wait to be heard by the registrar: what one worker asks, and that it is
 // done, of each.
 const ASKS: usize = 64;
 
-// How many may wait to be heard by a worker, which asks for one ruling at a time.
-const RULINGS: usize = 4;
-
-/// The ends that the registrar of a crew has: on one it hears what the workers ask, on the others
-/// it answers each of them.
+/// What the registrar of a crew has of its channels.
 #[derive(Drop)]
 pub struct Lines {
-    pub asks: In<Ask>,
-    /// One for each worker.
-    pub rulings: Vec<Out<Ruled>>,
+    /// It hears the workers on it.
+    pub hearing: Hearing,
+    /// How many there are: none where the lines are closed.
+    pub workers: u8,
 }
 
-/// The channels between a registrar and so many workers: its ends, and those of each worker. Fails
-/// only where there is not enough memory.
+impl Lines {
+    /// Lets the end go on which the registrar hears: who asks is told that it is gone, and waits
+    /// for no ruling. To be called while no worker is at work.
+    pub fn close(&mut self)
+        ensures { self.new.workers ≡ 0 }
+    {
+        self.hearing.close();
+        self.workers = 0;
+    }
+}
+
+/// The channels between a registrar and so many workers: what it has of them, and the ends of each
+/// worker. Fails only where there is not enough memory.
 pub fn lines_for(alloc: Global, workers: u8) -> Result<(Lines, Vec<Ends>), AllocError>
-    ensures rulings { IfOk result (λ made. length made.0.rulings.items ≡ workers) }
+    ensures workers { IfOk result (λ made. made.0.workers ≡ workers) }
     ensures ends { IfOk result (λ made. length made.1.items ≡ workers) }
 {
     let (mut first, asks) = line::<Ask>(alloc, ASKS)?;
-    let mut rulings = Vec::new(alloc);
     let mut ends = Vec::new(alloc);
     for _ in 0..workers {
-        let (ruling, from) = line::<Ruled>(alloc, RULINGS)?;
-        let to = first.another()?;
-        rulings.push(ruling)?;
-        ends.push(Ends { to, from })?;
+        ends.push(Ends::new(alloc, first.another()?)?)?;
     }
-    Ok((Lines { asks, rulings }, ends))
+    let hearing = Hearing::new(asks);
+    Ok((Lines { hearing, workers }, ends))
 }

@@ -1,16 +1,20 @@
 //! The registrar's side of a batch, which stays in the thread of who called.
-ghost use Rattle.std.specs.Prelude.{◌≡◌, ◌≤◌, ◌+◌, ◌++◌, length, map, vec_len, vec_capacity};
+ghost use Rattle.std.specs.Prelude.{◌≡◌, ◌≤◌, ◌+◌, ◌++◌, ◌↔◌, IsTrue, length, map, vec_len};
+ghost use Rattle.std.specs.Prelude.{vec_capacity};
 ghost use Rattle.fl_crew_model.specs.Crews.{IsWorker};
+ghost use Rattle.fl_registrar.specs.Ruling.{Awaits};
 ghost use Rattle.fl_crew_threads.specs.Receiving.{place_of, place_at, Takes, Receives, Decides};
 ghost use Rattle.fl_crew_threads.specs.Registers.{Registers};
-ghost use Rattle.fl_crew_threads.specs.Told.{IsTold};
+ghost use Rattle.fl_crew_threads.specs.Told.{IsTold, IsToldThere};
 
 use crate::lines::Lines;
 use fl_dealing::entry::Taken;
 use fl_registrar::parcel::Parcel;
 use fl_registrar::registrar::Registrar;
 use fl_store::keeper::Keeper;
-use fl_worker::ask::{Ask, Ordered, Ruled};
+use fl_system::answer::Fault;
+use fl_worker::ask::{Ordered, Ruled};
+use fl_worker::hearing::Heard;
 use std::alloc::Global;
 use std::sync::Wait;
 
@@ -77,7 +81,7 @@ pub(crate) fn take_all<K: Keeper, R: Wait>(
     }
 }
 
-// Rules on what a worker orders.
+// Rules on an order of this worker.
 fn rule<K: Keeper, R: Wait>(
     rt: &R,
     alloc: Global,
@@ -88,6 +92,9 @@ fn rule<K: Keeper, R: Wait>(
     ensures rules { (workers : _) → IsWorker workers worker
         → Registers K.custody workers registrar.old registrar.new }
     ensures told { IsTold registrar.old registrar.new worker ordered.place result }
+    ensures stopped { (result ≡ Ruled.Failed Fault.Stopped)
+        ↔ (¬ Awaits registrar.old worker ordered.place ordered.body) }
+    ensures same { result ≡ Ruled.Failed Fault.Stopped → registrar.new ≡ registrar.old }
     ensures decides { Decides registrar.old registrar.new }
 {
     let Ordered { place, body, pid } = ordered;
@@ -97,52 +104,65 @@ fn rule<K: Keeper, R: Wait>(
     }
 }
 
-// Rules on what a worker orders, and answers it. One that is not there is not answered.
-fn answer<K: Keeper, R: Wait>(
+// Whether it is the number of one of so many workers.
+fn is_worker(workers: u8, worker: u8) -> bool
+    ensures { IsTrue result ↔ IsWorker workers worker }
+{
+    0 < worker && worker <= workers
+}
+
+// Rules on an order for the one of so many workers whose order is awaited at its place. `Stopped`,
+// and nothing is done, where that is nobody, or the order is another one.
+fn rule_there<K: Keeper, R: Wait>(
     rt: &R,
     alloc: Global,
     registrar: &mut Registrar<K>,
-    lines: &mut Lines,
-    worker: u8,
+    workers: u8,
     ordered: Ordered,
-)
-    ensures rules { Registers K.custody (length lines.old.rulings.items) registrar.old
-        registrar.new }
-    ensures count { length lines.new.rulings.items ≡ length lines.old.rulings.items }
+) -> Ruled
+    ensures rules { Registers K.custody workers registrar.old registrar.new }
+    ensures told { IsToldThere workers registrar.old registrar.new ordered.place ordered.body
+        result }
     ensures decides { Decides registrar.old registrar.new }
 {
-    if worker == 0 {
-        return;
+    let Some(worker) = registrar.worker_at(ordered.place) else {
+        return Ruled::Failed(Fault::Stopped);
+    };
+    if !is_worker(workers, worker) {
+        return Ruled::Failed(Fault::Stopped);
     }
-    if worker as usize > lines.rulings.len() {
-        return;
-    }
-    let ruled = rule(rt, alloc, registrar, worker, ordered);
-    lines.rulings[worker as usize - 1].send(rt, ruled);
+    rule(rt, alloc, registrar, worker, ordered)
 }
 
-/// Rules on orders until each worker is done, or all of them are gone.
+/// Rules on orders until each worker is done, or all of them are gone, and answers each on the end
+/// that came with it.
+///
+/// No order is left unheard, on which its worker would wait for ever: a worker tells that it is
+/// done behind its orders, and only once all have told so this ends.
 pub(crate) fn rule_all<K: Keeper, R: Wait>(
     rt: &R,
     alloc: Global,
     registrar: &mut Registrar<K>,
     lines: &mut Lines,
 )
-    ensures rules { Registers K.custody (length lines.old.rulings.items) registrar.old
-        registrar.new }
+    ensures rules { Registers K.custody lines.old.workers registrar.old registrar.new }
     ensures decides { Decides registrar.old registrar.new }
 {
-    let mut working = lines.rulings.len();
+    let workers = lines.workers;
+    let mut working = workers;
     for _ in rt.forever() {
         if working == 0 {
             return;
         }
-        let Some(Ask { worker, order }) = lines.asks.receive(rt) else {
+        let Some(heard) = lines.hearing.hear(rt) else {
             return;
         };
-        match order {
-            None => working -= 1,
-            Some(ordered) => answer(rt, alloc, registrar, lines, worker, ordered),
+        match heard {
+            Heard::Done => working -= 1,
+            Heard::Order(ordered, unanswered) => {
+                let ruled = rule_there(rt, alloc, registrar, workers, ordered);
+                unanswered.answer(rt, ruled);
+            }
         }
     }
 }

@@ -44,9 +44,9 @@ fn has_order(worker: &Worker) -> bool {
 /// Where there is neither an order nor a packet, the registrar has nothing to do, and this thread
 /// is that of a worker: so no thread is made where only one worker has tasks.
 ///
-/// Where no thread can be made, the ends on which the registrar rules are let go first, so that no
-/// worker waits for a ruling: each serves what it can, one after the other, and stops at an order.
-/// The lines serve no further batch then.
+/// Where no thread can be made, the lines are closed first, so that no worker waits for a ruling:
+/// each serves what it can, one after the other, and stops at an order. The lines serve no further
+/// batch then.
 ///
 /// Waits until all workers are done. Takes no memory but what a thread, the jobs of the workers and
 /// the calls of the registrar take.
@@ -67,8 +67,7 @@ pub fn run<
     requires ready { All IsReady workers.items }
     requires room { vec_len taken.old + length packets.items ≤ vec_capacity taken.old }
     ensures done { Each IsDone workers.items result.items }
-    ensures rules { Registers K.custody (length lines.old.rulings.items) registrar.old
-        registrar.new }
+    ensures rules { Registers K.custody lines.old.workers registrar.old registrar.new }
     ensures places { map place_of taken.new.items
         ≡ map place_of taken.old.items ++ map place_at packets.items }
     ensures received { ReceivesThenDecides packets.items taken.old.items taken.new.items
@@ -95,7 +94,7 @@ pub fn run<
             handle.join(&rt)
         }
         Err(refused) => {
-            lines.rulings.clear();
+            lines.close();
             take_all(&rt, alloc, registrar, packets, taken);
             (refused.value)()
         }

@@ -11,6 +11,7 @@ use Rattle.fl_crew_model.specs.declared.record.Decision.{Decision}
 use Rattle.fl_crew_model.specs.declared.record.Ruling.{Ruling}
 use Rattle.fl_crew_model.specs.declared.record.Ruling.TheVariants.{Made, Late, GivenUp}
 use Rattle.fl_crew_model.specs.Compared.{EndBefore, decisions_of}
+use Rattle.fl_registrar.specs.declared.awaited.Awaited.{Awaited}
 use Rattle.fl_registrar.specs.Over.{RegistrarOver}
 
 -- the registrar runs, and its record has a row left
@@ -25,6 +26,12 @@ pub record Awaits {K : Type 0} (r : RegistrarOver K) (worker place : ℕ) (body 
   pub has_room : HasRoom r
   pub awaited : slice_get r.orders place ≡ Some (Some (record { worker = worker; body = body }))
   pub later : EndBefore (decisions_of worker r.deeds) place
+
+-- whose order is awaited at a place where the table has this, if one is
+abbrev pub worker_awaited : Option (Option Awaited) → Option ℕ
+worker_awaited (Some (Some order)) = Some order.worker
+worker_awaited (Some None) = None
+worker_awaited None = None
 
 -- what the ruling publishes
 abbrev pub published_by : Ruling → List Op

@@ -1,6 +1,7 @@
 //! The orders of a batch that are still awaited.
 ghost use Rattle.std.specs.Prelude.{◌≡◌, ◌↔◌, Some, IsTrue, slice_get};
 ghost use Rattle.fl_crew_model.specs.Compared.{EndBefore, decisions_of};
+ghost use Rattle.fl_registrar.specs.Ruling.{worker_awaited};
 
 use fl_crew_model::record::Deed;
 use fl_labels::name::Name;
@@ -37,6 +38,16 @@ pub(crate) fn is_awaited(orders: &[Option<Awaited>], worker: u8, place: usize, b
         return false;
     };
     awaited.worker == worker && is_body(awaited.body, body)
+}
+
+/// Whose order is awaited at the place, or none where none is.
+pub(crate) fn worker_at(orders: &[Option<Awaited>], place: usize) -> Option<u8>
+    ensures { result ≡ worker_awaited (slice_get orders.now place) }
+{
+    let Some(Some(awaited)) = orders.get(place) else {
+        return None;
+    };
+    Some(awaited.worker)
 }
 
 // Whether the last of the decisions on the orders of this worker, if there is one, is on an earlier

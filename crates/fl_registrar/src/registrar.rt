@@ -1,7 +1,7 @@
 //! A registrar, call by call.
 ghost use Rattle.std.specs.Prelude.{◌≡◌, ◌≢◌, ◌↔◌, ◌++◌, ◌∷◌, ℕ, [], Option, None, Some, Ok, Err};
 ghost use Rattle.std.specs.Prelude.{false, IsTrue, IsSome, IfOk, IfErr, OnOk, OnErr};
-ghost use Rattle.std.specs.Prelude.{set as put_at};
+ghost use Rattle.std.specs.Prelude.{set as put_at, slice_get};
 ghost use Rattle.fl_labels.specs.declared.name.Name.{Name};
 ghost use Rattle.fl_store.specs.Kept.{Kept};
 ghost use Rattle.fl_gossip.specs.Taking.{ops_of as brought_by};
@@ -20,14 +20,14 @@ ghost use Rattle.fl_registrar.specs.Publishing.{IsSameButList};
 ghost use Rattle.fl_registrar.specs.Taking.{news_of, gained, due_once, delivery_of};
 ghost use Rattle.fl_registrar.specs.parts.Takes.{Takes};
 ghost use Rattle.fl_registrar.specs.Ruling.{HasRoom, Awaits, decision_of, published_by};
-ghost use Rattle.fl_registrar.specs.Ruling.{due_after, IsOf};
+ghost use Rattle.fl_registrar.specs.Ruling.{due_after, worker_awaited, IsOf};
 ghost use Rattle.fl_registrar.specs.Going.{GoesOn};
 ghost use Rattle.fl_registrar.specs.Listing.{ListsHonestly};
 ghost use Rattle.fl_registrar.specs.Apart.{AreAwaited, AreApart};
 ghost use Rattle.fl_registrar.specs.Stopping.{failed_after, stopped_after, IsHalt, HasFailed};
 ghost use Rattle.fl_registrar.specs.parts.Rules.{Rules};
 
-use crate::awaited::{Awaited, ends_before, is_awaited};
+use crate::awaited::{Awaited, ends_before, is_awaited, worker_at};
 use crate::parcel::{Parcel, Receipt, declined, late, taken};
 use crate::saving::{Saving, news, save};
 use crate::waiting::{Stage, Waiting, publish};
@@ -174,6 +174,13 @@ impl<K: Keeper> Registrar<K> {
         ensures { IsTrue result ↔ HasRoom self.now }
     {
         !self.is_stopped && self.deeds.len() < self.deeds.capacity()
+    }
+
+    /// The worker whose order is awaited at this place, or none where none is.
+    pub fn worker_at(&self, place: usize) -> Option<u8>
+        ensures { result ≡ worker_awaited (slice_get self.now.orders place) }
+    {
+        worker_at(&self.orders, place)
     }
 
     /// Whether an order of this worker for this body is ruled on, where it is given for this place

@@ -1,17 +1,18 @@
 //! What a worker and the registrar say to each other.
 
+use crate::line::Out;
 use fl_crew_model::record::Ruling;
 use fl_labels::pid::Pid;
 use fl_ops::op::Body;
 use fl_system::answer::Fault;
 
-/// What a worker asks of the registrar.
-#[derive(Clone, Copy, Debug)]
-pub struct Ask {
-    /// Who asks.
-    pub worker: u8,
-    /// None where the worker is done.
-    pub order: Option<Ordered>,
+/// What a worker tells the registrar.
+#[derive(Drop)]
+pub enum Ask {
+    /// It is to rule on this order, and to answer it on this end.
+    Order(Ordered, Out<Ruled>),
+    /// The worker is done.
+    Done,
 }
 
 /// An operation of this body is to be saved and published for its maker.

@@ -7,6 +7,7 @@ mod checks;
 mod deciding;
 pub mod ends;
 pub mod gate;
+pub mod hearing;
 pub mod line;
 mod ordering;
 mod serving;

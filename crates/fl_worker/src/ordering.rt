@@ -49,7 +49,6 @@ fn order<R: Wait>(
     rt: &R,
     bench: &mut Bench,
     ends: &mut Ends,
-    worker: u8,
     ordered: Ordered,
 ) -> Result<Answered, Fault>
     ensures ok { IfOk result (λ a.
@@ -57,7 +56,7 @@ fn order<R: Wait>(
     ensures fault { IfErr result IsStop }
     ensures err { OnErr result (bench.new ≡ cancelled bench.old ordered.pid) }
 {
-    match ends.ask(rt, worker, ordered) {
+    match ends.ask(rt, ordered) {
         Ok(ruling) => {
             let told = end_order(bench, ordered.body, ordered.pid, ruling)?;
             let ruling = Some(ruling);
@@ -82,7 +81,6 @@ pub(crate) fn settle<R: Wait>(
     rt: &R,
     bench: &mut Bench,
     ends: &mut Ends,
-    worker: u8,
     place: usize,
     answer: Result<Outcome, Refusal>,
 ) -> Result<Answered, Fault>
@@ -96,7 +94,7 @@ pub(crate) fn settle<R: Wait>(
         Ok(Outcome::Order(body, pid)) => {
             let body = body.into_inner();
             let ordered = Ordered { place, body, pid };
-            order(rt, bench, ends, worker, ordered)
+            order(rt, bench, ends, ordered)
         }
         Err(refusal) => Ok(alone(Told::Refused(Fault::Refused(refusal)))),
     }

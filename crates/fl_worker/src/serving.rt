@@ -42,7 +42,6 @@ pub(crate) fn serve_one<R: Wait>(
     desk: Desk,
     bench: &mut Bench,
     ends: &mut Ends,
-    worker: u8,
     task: Task,
 ) -> (Desk, Result<Entry, Entry>)
     ensures board { result.0.board ≡ desk.board }
@@ -57,7 +56,7 @@ pub(crate) fn serve_one<R: Wait>(
     let Some(answer) = answer else {
         return (desk, Err(undone(place, asked, seen, Fault::Stopped)));
     };
-    match settle(rt, bench, ends, worker, place, answer) {
+    match settle(rt, bench, ends, place, answer) {
         Ok(answered) => {
             let Answered { told, ruling } = answered;
             let entry = Entry {

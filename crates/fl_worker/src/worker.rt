@@ -136,14 +136,14 @@ impl Seat {
         ensures capacity { vec_capacity self.new.entries ≡ vec_capacity self.old.entries }
     {
         let Seat {
-            number,
+            number: _,
             bench,
             ends,
             tasks: _,
             entries,
             good,
         } = self;
-        let (desk, served) = serve_one(rt, alloc, desk, bench, ends, *number, task);
+        let (desk, served) = serve_one(rt, alloc, desk, bench, ends, task);
         *good = keep(entries, *good, served);
         desk
     }
@@ -250,10 +250,10 @@ fn serve_all<R: Wait, G: Gate>(rt: &R, alloc: Global, gate: &G, worker: Worker) 
 /// job one look of the desk, and the job at the bench under that look; an order is sent to the
 /// registrar once the look has ended, and is finished, left due or cancelled as it is ruled.
 ///
-/// The worker stops where its press is gone, where the registrar is gone or cannot rule, or where a
-/// ruling is not on its order: that order is cancelled, and who asked is told `KeeperFailed` where
-/// the registrar said so, and else `Stopped`. Each job behind it is answered `Stopped` and not
-/// done, with no call of the gate.
+/// The worker stops where its press is gone, where the registrar cannot be asked or cannot rule, or
+/// where a ruling is not on its order: that order is cancelled, and who asked is told
+/// `KeeperFailed` where the registrar said so, and else `Stopped`. Each job behind it is answered
+/// `Stopped` and not done, with no call of the gate.
 ///
 /// Waits for the registrar at each order. Takes no memory but what [`Bench::job`] takes.
 ///
@@ -270,5 +270,5 @@ pub fn serve<R: Wait, G: Gate>(rt: &R, alloc: Global, gate: &G, worker: &mut Wor
             ensures { IsDone worker result.0 }
         { (serve_all(rt, alloc, gate, worker), ()) },
     );
-    worker.ends.finish(rt, worker.number);
+    worker.ends.finish(rt);
 }

@@ -2,7 +2,4 @@ use Rattle.std.proofs.Common.{◌≡◌, length}
 use Rattle.fl_crew_threads.proofs.lines.lines_for.Given as goal
 
 abbrev pub invariant-loop : goal.invariant-loop
-invariant-loop l = record {
-  rulings : length l.rulings.items ≡ l.counter;
-  ends : length l.ends.items ≡ l.counter;
-}
+invariant-loop l = length l.ends.items ≡ l.counter

@@ -1,10 +1,11 @@
 use Rattle.std.proofs.Common.{◌≡◌, ◌∙◌, ap, Err, refl}
-use Rattle.fl_system.specs.declared.answer.Fault.TheVariants.{KeeperFailed}
+use Rattle.fl_system.specs.declared.answer.Fault.TheVariants.{KeeperFailed, Stopped}
 use Rattle.fl_registrar.specs.Stopping.{failed_after, stopped_after}
 use Rattle.fl_crew_threads.specs.Registers.{IsStoppedThere}
 use Rattle.fl_crew_model.specs.declared.record.Ruling.{Ruling}
 use Rattle.fl_crew_threads.proofs.Going.{registers_decision, registers_refusal, now_failed}
 use Rattle.fl_crew_threads.proofs.Received.{decides_decision, decides_halt}
+use Rattle.fl_worker.specs.declared.ask.Ruled.TheVariants.{Failed}
 use Rattle.fl_crew_threads.proofs.ruling.rule.Goals as goal
 
 pub returns-in-Ok-clause-rules : goal.returns-in-Ok-clause-rules
@@ -45,3 +46,23 @@ returns-in-Err-clause-decides g c =
     let e = c.in-Err.ensures in
     decides_halt c.args.registrar.now c.decide.new.self c.in-Err.fault e.fault (λ is. e.same (ap Err is))
     (λ is. e.failed (ap Err is))
+
+pub returns-in-Ok-clause-stopped : goal.returns-in-Ok-clause-stopped
+returns-in-Ok-clause-stopped g c =
+    (λ is. absurd (cc), λ no. absurd (no (c.in-Ok.ensures.ruled (λ is. absurd (cc)))))
+
+pub returns-in-Err-clause-stopped : goal.returns-in-Err-clause-stopped
+returns-in-Err-clause-stopped g c =
+    let e = c.in-Err.ensures in (
+      λ is. e.awaited.0 (let same : c.in-Err.fault ≡ Stopped = cc in ap Err same),
+      λ no.
+          let at = e.awaited.1 no in
+          let same : c.in-Err.fault ≡ Stopped = cc in ap Failed same,
+    )
+
+pub returns-in-Ok-clause-same : goal.returns-in-Ok-clause-same
+returns-in-Ok-clause-same g c = λ is. absurd (cc)
+
+pub returns-in-Err-clause-same : goal.returns-in-Err-clause-same
+returns-in-Err-clause-same g c =
+    λ is. c.in-Err.ensures.same (let same : c.in-Err.fault ≡ Stopped = cc in ap Err same)

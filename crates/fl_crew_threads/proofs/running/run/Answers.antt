@@ -1,5 +1,4 @@
 use denote.Param.Send.{sendable}
-use Rattle.std.proofs.Common.{length}
 use Rattle.std.proofs.Crossing.{crosses}
 use Rattle.fl_crew_threads.proofs.Going.{registers_more}
 use Rattle.fl_crew_threads.proofs.Received.{receives_then, decides_nothing}
@@ -17,18 +16,18 @@ spawn_with-requires-send-T g c κs within = search (sendable, crosses, worker_se
 
 pub returns-then-not-any-clause-rules : goal.returns-then-not-any-clause-rules
 returns-then-not-any-clause-rules g c =
-    let count = length c.args.lines.now.rulings.items in
+    let count = c.args.lines.now.workers in
     registers_more g.K.Keeper.custody count c.args.registrar.now c.take_all.new.registrar c.rule_all.new.registrar
     (c.take_all.ensures.rules count) c.rule_all.ensures.rules
 
 pub returns-in-Ok-clause-rules : goal.returns-in-Ok-clause-rules
 returns-in-Ok-clause-rules g c =
-    let count = length c.args.lines.now.rulings.items in
+    let count = c.args.lines.now.workers in
     registers_more g.K.Keeper.custody count c.args.registrar.now c.take_all-in-Ok.new.registrar
     c.rule_all-in-Ok.new.registrar (c.take_all-in-Ok.ensures.rules count) c.rule_all-in-Ok.ensures.rules
 
 pub returns-in-Err-clause-rules : goal.returns-in-Err-clause-rules
-returns-in-Err-clause-rules g c = c.take_all-in-Err.ensures.rules (length c.args.lines.now.rulings.items)
+returns-in-Err-clause-rules g c = c.take_all-in-Err.ensures.rules c.args.lines.now.workers
 
 pub returns-then-not-any-clause-received : goal.returns-then-not-any-clause-received
 returns-then-not-any-clause-received g c =
