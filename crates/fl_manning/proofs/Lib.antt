@@ -1,3 +1,5 @@
 pub mod Places
+pub mod Begun
 pub mod Benches
+pub mod Ends
 pub mod Asked

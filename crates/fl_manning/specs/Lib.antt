@@ -1,2 +1,4 @@
+pub mod Begun
 pub mod Changes
+pub mod Ended
 pub mod Orders

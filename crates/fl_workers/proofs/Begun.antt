@@ -1,10 +1,5 @@
 -- The workers of a batch that has begun.
-use Rattle.std.proofs.Common.{◌≡◌, ◌∙◌, ℕ, zero, suc, ◌<◌, ◌+◌, List, [], ◌∷◌, All, length, get_or, sym, ap, subst, arith}
-use Rattle.fl_ops.specs.declared.op.Op.{Op}
-use Rattle.fl_bench.specs.Bench.{BenchState}
-use Rattle.fl_replica.specs.Boards.{Front}
-use Rattle.fl_dealing.specs.declared.dealing.Queue.{Queue}
-use Rattle.fl_manning.specs.Changes.{IsStill, IsButBench, IsCaughtUp}
+use Rattle.std.proofs.Common.{◌≡◌, ◌∙◌, ℕ, zero, suc, ◌<◌, ◌+◌, List, [], ◌∷◌, length, get_or, sym, ap, subst, arith}
 use Rattle.fl_crew_model.specs.Crews.{IsWorker}
 use Rattle.fl_dealing.specs.Dealt as dealt
 use Rattle.fl_dealing.specs.Dealt.{owners_of, tasks_of}
@@ -12,18 +7,17 @@ use Rattle.fl_dealing.specs.declared.item.Item.{Item}
 use Rattle.fl_settling.specs.Batches as batches
 use Rattle.fl_settling.specs.Batches.{AreBack}
 use Rattle.fl_settling.specs.Each.{Each}
-use Rattle.fl_settling.specs.Numbers.{AreNumbered, bench_by, part_of, tasks_by}
+use Rattle.fl_settling.specs.Numbers.{AreNumbered, part_of, tasks_by}
 use Rattle.fl_settling.proofs.Choosing.{item_get, some_item}
 use Rattle.fl_system.specs.declared.state.Batch.{Batch}
 use Rattle.fl_worker.specs.declared.task.Task.{Task}
 use Rattle.fl_worker.specs.declared.worker.Worker.{Worker}
-use Rattle.fl_worker.specs.Done.{IsDone, IsReady}
+use Rattle.fl_worker.specs.Done.{IsDone}
 use Rattle.std.specs.declared.option.Option.{Option}
-use Rattle.fl_workers.specs.Begun.{AreBegun, IsAtDesk}
-use Rattle.fl_workers.specs.Over.{bench_at, benches_after}
+use Rattle.fl_manning.specs.Begun.{AreBegun, IsAtDesk}
 use Rattle.fl_workers.specs.Plans.{IsPlan}
 use Rattle.fl_workers.specs.declared.planning.Plan.{Plan}
-use Rattle.fl_workers.proofs.Lists.{numbers_kept, bench_same, benches_kept}
+use Rattle.fl_workers.proofs.Lists.{numbers_kept}
 
 home_all : (n w : ℕ) (ts : List Task) → dealt.AreHome n w ts → batches.AreHome n w ts
 home_all n w [] h k d below = absurd (omega arith)
@@ -79,85 +73,3 @@ module _ (procs : ℕ) (is : List Item) (plan : Plan) (due : Option Batch) (old 
       let within : k < length new = omega (arith, below, begun.at.count) in
       let d = some_item new k within in
       ap (part_of (λ (v : Worker). v.tasks.items)) (item_get new k d within) ∙ tasks_are k d below
-
--- ---- how they begin
-
-ready_kept : (v w : Worker) → w.tasks ≡ v.tasks → w.entries ≡ v.entries → w.good ≡ v.good → IsReady v
-    → IsReady w
-ready_kept v w tasks entries good ready = record {
-  empty = rw entries ready.empty;
-  none = good ∙ ready.none;
-  room = rw (tasks, entries) ready.room;
-}
-
-module _ (queues : List Queue) (due : Option Batch) (list : List Op) (ws a b c : List Worker)
-    (still : Each IsStill ws a) (finished : Each IsButBench a b) (caught : Each (IsCaughtUp list) b c)
-  where
-    count_a : length a ≡ length ws
-    count_a = still.count
-
-    count_b : length b ≡ length ws
-    count_b = finished.count ∙ count_a
-
-    count_c : length c ≡ length ws
-    count_c = caught.count ∙ count_b
-
-    ready_all : All IsReady a → All IsReady c
-    ready_all ready k d below =
-        let at_a : k < length a = omega (arith, below, count_c, count_a) in
-        let at_b : k < length b = omega (arith, below, count_c, count_b) in
-        let one = finished.at k d at_a in
-        let two = caught.at k d at_b in
-        ready_kept (get_or b k d) (get_or c k d) two.tasks two.entries two.good
-        (ready_kept (get_or a k d) (get_or b k d) one.tasks one.entries one.good (ready k d at_a))
-
-    tasks_all : ((k : ℕ) (d : Worker) (q : Queue) → k < length ws
-        → (get_or a k d).tasks.items ≡ (get_or queues k q).tasks.items)
-        → (k : ℕ) (d : Worker) (q : Queue) → k < length ws
-        → (get_or c k d).tasks.items ≡ (get_or queues k q).tasks.items
-    tasks_all given k d q below =
-        let at_a : k < length a = omega (arith, below, count_a) in
-        let at_b : k < length b = omega (arith, below, count_b) in
-        let one = (finished.at k d at_a).tasks in
-        let two = (caught.at k d at_b).tasks in
-        let both : (get_or c k d).tasks ≡ (get_or a k d).tasks = two ∙ one in
-        rw both (given k d q below)
-
-    same_first : bench_by a ≡ bench_by ws
-    same_first i w =
-        (bench_same a w
-        ∙ (ap (λ (bs : List BenchState). bench_at bs w)
-        (benches_kept IsStill ws a still (λ u v r. r.bench)) ∙ sym (bench_same ws w))) i
-
-    same_last : (w : ℕ) → bench_by c w ≡ bench_by b w
-    same_last w =
-        bench_same c w
-        ∙ (ap (λ (bs : List BenchState). bench_at bs w)
-        (benches_kept (IsCaughtUp list) b c caught (λ u v r. r.bench)) ∙ sym (bench_same b w))
-
-    pub are_begun : All IsReady a
-        → ((k : ℕ) (d : Worker) (q : Queue) → k < length ws
-        → (get_or a k d).tasks.items ≡ (get_or queues k q).tasks.items)
-        → ((w : ℕ) → IsWorker (length a) w → bench_by b w ≡ benches_after (bench_by a) due w)
-        → AreBegun queues due ws c
-    are_begun ready given bench = record {
-      ready = ready_all ready;
-      tasks = tasks_all given;
-      bench = λ w is_one.
-          same_last w
-          ∙ (bench w (subst (λ (n : ℕ). IsWorker n w) (sym count_a) is_one)
-          ∙ ap (λ (f : ℕ → BenchState). benches_after f due w) same_first);
-      at = record {
-        count = count_c;
-        at = λ k d below.
-            let at_a : k < length a = omega (arith, below, count_a) in
-            let at_b : k < length b = omega (arith, below, count_b) in
-            let zero = still.at k d below in
-            let one = finished.at k d at_a in
-            let two = caught.at k d at_b in
-            record {
-              number = two.number ∙ (one.number ∙ zero.number);
-              board = two.board ∙ ap (λ (x : Front). x.board) (one.desk ∙ zero.desk);
-            };
-      };
-    }

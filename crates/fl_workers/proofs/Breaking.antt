@@ -17,8 +17,8 @@ use Rattle.fl_settling.specs.Settled.{FailsFirst}
 use Rattle.fl_worker.specs.declared.worker.Worker.{Worker}
 use Rattle.fl_worker.specs.Stops.{StopsAt}
 use Rattle.fl_workers.specs.Batches.{BreaksFirst, IsBrokenThere}
-use Rattle.fl_workers.specs.Begun.{IsBegun}
-use Rattle.fl_workers.specs.Ended.{IsClosed}
+use Rattle.fl_manning.specs.Begun.{IsBegun}
+use Rattle.fl_manning.specs.Ended.{IsClosed}
 use Rattle.fl_workers.specs.Seats.{AreSeated, manned_of}
 
 -- ---- the order at which it broke

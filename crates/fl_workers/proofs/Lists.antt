@@ -1,8 +1,6 @@
 -- Workers in a list, and what is mapped over them.
-use Rattle.std.proofs.lemmas.List.{take-append-le, take_all}
-use Rattle.std.proofs.Common.{◌≡◌, ◌∙◌, ℕ, zero, suc, ◌<◌, ◌≤◌, List, [], ◌∷◌, ◌++◌, All, map, take, drop, length, get_or, refl, ap, arith}
+use Rattle.std.proofs.Common.{◌≡◌, ◌∙◌, ℕ, zero, suc, ◌<◌, List, [], ◌∷◌, All, map, length, get_or, refl, ap, arith}
 use Rattle.logbook.specs.Pages.{Book}
-use Rattle.fl_registrar.specs.Over.{RegistrarOver}
 use Rattle.fl_settling.specs.Each.{Each}
 use Rattle.fl_settling.specs.Numbers.{AreNumbered, bench_by}
 use Rattle.fl_worker.specs.declared.worker.Worker.{Worker}
@@ -47,20 +45,3 @@ module _ (R : Worker → Worker → Type 0) (old new : List Worker) (each : Each
   benches_kept bench =
       map_kept bench_of_worker old new each.count
       (λ k d h. bench (get_or old k d) (get_or new k d) (each.at k d h))
-
--- ---- equal registrars
-
-pub same_due : {K : Type 0} (a b : RegistrarOver K) → a ≡ b → a.due ≡ b.due
-same_due {K} a b e = ap (λ (r : RegistrarOver K). r.due) e
-
-pub same_list : {K : Type 0} (a b : RegistrarOver K) → a ≡ b → a.press.list ≡ b.press.list
-same_list {K} a b e = ap (λ (r : RegistrarOver K). r.press.list) e
-
--- ---- what is written to all elements
-
-pub written_back : {A : Type 0} (n : ℕ) (new old : List A) → length new ≡ n
-    → take n (new ++ drop (length new) old) ≡ new
-written_back n new old count =
-    let within : n ≤ length new = omega (arith, count) in
-    let all : length new ≤ n = omega (arith, count) in
-    take-append-le n new (drop (length new) old) within ∙ take_all n new all

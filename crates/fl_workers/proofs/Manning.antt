@@ -20,8 +20,8 @@ use Rattle.fl_worker.specs.Done.{IsDone}
 use Rattle.fl_worker.specs.Tasks.{AreOf}
 use Rattle.fl_dealing.specs.Dealt.{tasks_of}
 use Rattle.fl_workers.specs.Batches.{IsUnbegun, items_for}
-use Rattle.fl_workers.specs.Begun.{AreBegun, IsAtDesk, IsBegun, IsNotBegun, IsUnmoved}
-use Rattle.fl_workers.specs.Ended.{AreAllAnswered, IsClosed, IsKept, IsSame}
+use Rattle.fl_manning.specs.Begun.{AreBegun, IsAtDesk, IsBegun, IsNotBegun, IsUnmoved}
+use Rattle.fl_manning.specs.Ended.{AreAllAnswered, IsClosed, IsKept, IsSame}
 use Rattle.fl_workers.specs.Plans.{IsPlan}
 use Rattle.fl_workers.specs.Seats.{AreSeated, IsManned, manned_of}
 use Rattle.fl_workers.specs.declared.planning.Plan.{Plan}

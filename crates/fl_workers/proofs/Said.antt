@@ -11,7 +11,7 @@ use Rattle.fl_dealing.specs.declared.entry.Reply.{Reply}
 use Rattle.fl_dealing.specs.declared.entry.Taken.{Taken}
 use Rattle.fl_worker.specs.Stops as stops
 use Rattle.fl_workers.specs.Batches.{IsAnswered}
-use Rattle.fl_workers.specs.Ended.{IsRuledOn}
+use Rattle.fl_manning.specs.Ended.{IsRuledOn}
 
 same_number : (n : ℕ) → eqb n n ≡ true
 same_number n = by (eqb_tells n n)

@@ -50,9 +50,10 @@ use Rattle.fl_worker.specs.Tasks.{AreOf}
 use Rattle.fl_workers.specs.Batches.{AreOnce, BreaksFirst, HasMet, IsAnswered, IsLostAt, IsOneRun}
 use Rattle.fl_workers.specs.Batches.{IsServed}
 use Rattle.fl_workers.specs.Batches.{IsTakenAll, Serves}
-use Rattle.fl_workers.specs.Begun.{AreBegun, IsBegun}
-use Rattle.fl_workers.specs.Ended.{IsClosed, IsKept, IsRuledOn, IsSame, said_of}
-use Rattle.fl_workers.specs.Over.{CrewOver, books_of, begun_books, begun_benches, bench_at, benches_after}
+use Rattle.fl_manning.specs.Begun.{AreBegun, IsBegun}
+use Rattle.fl_manning.specs.Ended.{IsClosed, IsKept, IsRuledOn, IsSame, said_of}
+use Rattle.fl_manning.specs.Begun.{benches_after}
+use Rattle.fl_workers.specs.Over.{CrewOver, books_of, begun_books, begun_benches, bench_at}
 use Rattle.fl_workers.specs.Plans.{IsPlan}
 use Rattle.fl_workers.specs.Seats.{AreSeated, manned_of, bench_of_worker}
 use Rattle.fl_workers.specs.declared.planning.Plan.{Plan}

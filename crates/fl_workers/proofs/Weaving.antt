@@ -11,7 +11,7 @@ use Rattle.fl_crew_model.specs.declared.record.Entry.{Entry}
 use Rattle.fl_crew_model.specs.Books.{Books}
 use Rattle.fl_crew_model.specs.Crews.{IsWorker, IsCrew, IsFront, IsBatch, IsWeave, IsCleared, Promises}
 use Rattle.fl_workers.specs.Batches.{Clears}
-use Rattle.fl_workers.specs.Over.{benches_after}
+use Rattle.fl_manning.specs.Begun.{benches_after}
 
 -- what a law of crews says
 abbrev pub Weaves : Type 0

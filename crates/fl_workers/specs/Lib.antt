@@ -2,8 +2,6 @@ pub mod Over
 pub mod Seats
 pub mod Seated
 pub mod Plans
-pub mod Begun
-pub mod Ended
 pub mod Frugal
 pub mod Batches
 pub mod Crews

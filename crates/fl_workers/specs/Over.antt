@@ -15,7 +15,7 @@ use Rattle.fl_node.specs.Over.{NodeOver, coded_over}
 use Rattle.fl_crew_model.specs.contracts.record.FailedOrder as failed_row
 use Rattle.fl_crew_model.specs.declared.record.FailedOrder.{FailedOrder}
 use Rattle.fl_crew_model.specs.Books.{Books}
-use Rattle.fl_crew_model.specs.Crews.{benches_with}
+use Rattle.fl_manning.specs.Begun.{benches_after}
 
 pub record CrewOver (K : Type 0) : Type 0 where
   -- the registrar's
@@ -51,11 +51,6 @@ bench_at bs w = bench_in (item_at bs w)
 
 abbrev pub begun_books : {K : Type 0} → CrewOver K → Books
 begun_books c = record { saved = c.node.node.saved; list = c.list ++ ops_in c.due; due = None }
-
--- its maker, if it has one, has what it gives
-abbrev pub benches_after : (ℕ → BenchState) → Option Batch → ℕ → BenchState
-benches_after benches None w = benches w
-benches_after benches (Some batch) w = benches_with benches batch w
 
 abbrev pub begun_benches : {K : Type 0} → CrewOver K → ℕ → BenchState
 begun_benches c w = benches_after (bench_at c.benches) c.due w

@@ -3,9 +3,7 @@
 //! order.
 #![tactic(auto)]
 
-mod beginning;
 pub mod crew;
-mod ending;
 pub mod entry;
 pub mod fault;
 pub mod gate;

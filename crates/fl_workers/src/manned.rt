@@ -6,8 +6,6 @@ ghost use Rattle.fl_dealing.specs.Gathered.{StandFrom};
 ghost use Rattle.fl_registrar.specs.Passing.{Passes};
 ghost use Rattle.fl_workers.specs.Batches.{IsBrokenThere, IsStill, IsUnbegun, Serves, items_for};
 
-use crate::beginning::begin;
-use crate::ending::{collect, settle};
 use crate::fault::CrewFault;
 use crate::planning::{Plan, Room, plan_for};
 use crate::working::work;
@@ -17,6 +15,8 @@ use fl_crew_threads::lines::Lines;
 use fl_dealing::entry::Entry;
 use fl_dealing::item::items_of;
 use fl_jobs::job::Job;
+use fl_manning::beginning::begin;
+use fl_manning::ending::{collect, settle};
 use fl_node::node::Node;
 use fl_registrar::registrar::Registrar;
 use fl_store::keeper::Keeper;
@@ -39,7 +39,6 @@ pub(crate) struct Manned<K: Keeper> {
 }
 
 impl<K: Keeper> Model for Manned<K> {
-    ghost use Rattle.std.specs.Prelude.{length};
     ghost use Rattle.fl_workers.specs.Over.{CrewOver, coded_crew};
     ghost use Rattle.fl_workers.specs.Seats.{IsManned, manned_of};
 
@@ -49,16 +48,16 @@ impl<K: Keeper> Model for Manned<K> {
 
     ghost view = { λ a. manned_of a.workers.items a.registrar a.procs a.is_stopped };
 
-    ghost invariant = { λ a. IsManned a.workers.items a.registrar (length a.lines.rulings.items)
-        a.procs a.is_stopped };
+    ghost invariant = { λ a. IsManned a.workers.items a.registrar a.lines.workers a.procs
+        a.is_stopped };
 }
 
-// Whether a crew goes on: nothing contradicts, and each worker has its line.
+// Whether a crew goes on: nothing contradicts, and its lines are not closed.
 fn goes_on(fine: bool, lines: &Lines, workers: &[Worker]) -> bool
     ensures fine { IsTrue result → IsTrue fine }
-    ensures lines { IsTrue result → length lines.now.rulings.items ≡ length workers.now }
+    ensures lines { IsTrue result → lines.now.workers ≡ length workers.now }
 {
-    fine && lines.rulings.len() == workers.len()
+    fine && lines.workers as usize == workers.len()
 }
 
 impl<K: Keeper> Manned<K> {

@@ -37,8 +37,7 @@ pub(crate) fn work<
     requires ready { All IsReady workers.old.items }
     requires room { vec_len taken.old + length packets.items ≤ vec_capacity taken.old }
     ensures done { Each IsDone workers.old.items workers.new.items }
-    ensures rules { Registers K.custody (length lines.old.rulings.items) registrar.old
-        registrar.new }
+    ensures rules { Registers K.custody lines.old.workers registrar.old registrar.new }
     ensures places { map place_of taken.new.items
         ≡ map place_of taken.old.items ++ map place_at packets.items }
     ensures received { ReceivesThenDecides packets.items taken.old.items taken.new.items

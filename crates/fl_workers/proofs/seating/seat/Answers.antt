@@ -6,7 +6,7 @@ pub invariant_of-result : goal.invariant_of-result
 invariant_of-result g c =
     let made = c.in-Ok-workers_for.ensures in
     seats_are c.args.node c.args.size _ c.in-Ok-workers_for.workers.items c.new.result
-    c.in-Ok-board.press c.new.ensures c.requires.some c.requires.few c.in-Ok.ensures.rulings
+    c.in-Ok-board.press c.new.ensures c.requires.some c.requires.few c.in-Ok.ensures.workers
     made.count made.numbered
     (made.boards (record { board = c.in-Ok-board.press.board; list = c.published.result.now })
     c.in-Ok-board.ensures.desks)

@@ -4,7 +4,7 @@ use Rattle.fl_dealing.specs.Gathered.{IsGathered}
 use Rattle.fl_dealing.specs.declared.item.Item.{Item}
 use Rattle.fl_replica.specs.Boards.{Pressed}
 use Rattle.fl_workers.specs.Batches.{items_for}
-use Rattle.fl_workers.specs.Ended.{AreAllAnswered, IsRuledOn, said_of}
+use Rattle.fl_manning.specs.Ended.{AreAllAnswered, IsRuledOn, said_of}
 use Rattle.fl_workers.specs.Plans.{IsPlan}
 use Rattle.fl_workers.proofs.Breaking.{broken_there}
 use Rattle.fl_workers.proofs.Manning.{manned_still, unbegun, boards_after, answered_after, manned_after, entries_count, not_not}
@@ -15,7 +15,7 @@ pub invariant_of-self : goal.invariant_of-self
 invariant_of-self g c =
     let i = c.self.inside in
     manned_still i.workers.items c.begin.new.workers.items i.registrar c.begin.new.registrar
-    (length i.lines.rulings.items) i.procs i.is_stopped c.in_default.ensures.unmoved
+    i.lines.workers i.procs i.is_stopped c.in_default.ensures.unmoved
     c.in_default.ensures.err c.self.invariant
 
 pub returns-in_default-clause-err : goal.returns-in_default-clause-err
@@ -23,7 +23,7 @@ returns-in_default-clause-err g c =
     let i = c.self.inside in
     rw (← c.self.view_is)
     (unbegun i.workers.items c.begin.new.workers.items i.registrar c.begin.new.registrar
-    (length i.lines.rulings.items) i.procs i.is_stopped c.in_default.ensures.unmoved
+    i.lines.workers i.procs i.is_stopped c.in_default.ensures.unmoved
     c.in_default.ensures.err)
 
 pub settle-fine-requires-clause-boards : goal.settle-fine-requires-clause-boards
@@ -32,7 +32,7 @@ settle-fine-requires-clause-boards g c =
     let ws = i.workers.items in
     let r2 = c.work.new.registrar in
     boards_after g.K.Keeper.custody ws c.begin.new.workers.items c.work.new.workers.items ws ws
-    i.registrar c.begin.new.registrar r2 r2 (length i.lines.rulings.items) i.procs
+    i.registrar c.begin.new.registrar r2 r2 i.lines.workers i.procs
     c.in_ok-queues.field-0 c.in_ok-items.items.items (c.self.invariant.seated c.if-self.false)
     c.in-Ok.ensures.begun c.in-Ok.ensures.workers c.work.ensures.done
     c.work.ensures.rules
@@ -51,7 +51,7 @@ collect-requires-clause-answered g c =
     (sym c.deref-2.ensures.value)
     (answered_after g.K.Keeper.custody ws c.begin.new.workers.items c.work.new.workers.items
     c.settle-fine.new.workers.items ws i.registrar c.begin.new.registrar r2 r2
-    (length i.lines.rulings.items) i.procs c.in_ok-queues.field-0 c.in_ok-items.items.items
+    i.lines.workers i.procs c.in_ok-queues.field-0 c.in_ok-items.items.items
     (c.self.invariant.seated c.if-self.false) c.in-Ok.ensures.begun
     c.in-Ok.ensures.workers c.work.ensures.done c.work.ensures.rules planned
     c.settle-fine.ensures.settled c.work.new.taken.items _ planned.room.no_taken
@@ -71,10 +71,10 @@ invariant_of-self-2 g c =
     manned_after g.K.Keeper.custody ws c.begin.new.workers.items c.work.new.workers.items
     c.settle-fine.new.workers.items c.collect.new.workers.items i.registrar
     c.begin.new.registrar c.work.new.registrar c.settle-fine.new.registrar
-    (length i.lines.rulings.items) i.procs c.in_ok-queues.field-0 c.in_ok-items.items.items
+    i.lines.workers i.procs c.in_ok-queues.field-0 c.in_ok-items.items.items
     (c.self.invariant.seated c.if-self.false) c.in-Ok.ensures.begun c.in-Ok.ensures.workers
     c.work.ensures.done c.work.ensures.rules planned c.settle-fine.ensures.settled
-    c.in_ok-queues.field-0.procs (length c.work.new.lines.rulings.items) _ next
+    c.in_ok-queues.field-0.procs c.work.new.lines.workers _ next
     c.collect.ensures.same c.settle-fine.ensures.closed
     (λ goes.
     c.goes_on.ensures.lines (not_not c.goes_on.result goes) ∙ ap length c.deref.ensures.value)
@@ -110,7 +110,7 @@ returns-clause-serves g c =
     (serves g.K.Keeper.custody i.procs c.in_ok-queues.field-0.procs c.in_ok-items.items.items
     c.in_ok-queues.field-0 ws c.begin.new.workers.items c.work.new.workers.items
     fine.new.workers.items c.collect.new.workers.items i.registrar c.begin.new.registrar
-    c.work.new.registrar fine.new.registrar (length i.lines.rulings.items)
+    c.work.new.registrar fine.new.registrar i.lines.workers
     (c.self.invariant.seated c.if-self.false) planned c.in-Ok.ensures.begun
     c.in-Ok.ensures.workers c.work.ensures.done c.work.ensures.rules fine.ensures.closed
     fine.ensures.settled c.collect.ensures.same c.work.new.taken.items c.collect.result.items
@@ -135,7 +135,7 @@ returns-clause-broken g c =
     let fine = c.settle-fine in
     broken_there g.K.Keeper.custody c.in_ok-queues.field-0.orders.items i.workers.items i.registrar
     c.begin.new.registrar c.work.new.registrar fine.new.registrar
-    (length i.lines.rulings.items) i.procs (c.self.invariant.seated c.if-self.false)
+    i.lines.workers i.procs (c.self.invariant.seated c.if-self.false)
     c.in-Ok.ensures.begun c.work.ensures.rules fine.ensures.closed c.collect.new.workers.items
     c.in_ok-queues.field-0.procs _
     (λ goes. fine.ensures.runs (c.goes_on.ensures.fine (not_not c.goes_on.result goes)))

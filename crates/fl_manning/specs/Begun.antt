@@ -1,10 +1,11 @@
 -- How a batch begins.
 use Rattle.std.specs.Prelude.{◌≡◌, ◌++◌, ℕ, [], List, length, All, slice_index_or, ◌<◌}
 use Rattle.std.specs.declared.option.Option.{Option}
-use Rattle.std.specs.declared.option.Option.TheVariants.{None}
+use Rattle.std.specs.declared.option.Option.TheVariants.{None, Some}
 use Rattle.fl_system.specs.declared.state.Batch.{Batch}
 use Rattle.fl_system.specs.State.{ops_in}
-use Rattle.fl_crew_model.specs.Crews.{IsWorker}
+use Rattle.fl_bench.specs.Bench.{BenchState}
+use Rattle.fl_crew_model.specs.Crews.{IsWorker, benches_with}
 use Rattle.fl_dealing.specs.declared.dealing.Queue.{Queue}
 use Rattle.fl_registrar.specs.declared.awaited.Awaited.{Awaited}
 use Rattle.fl_registrar.specs.Over.{RegistrarOver}
@@ -13,7 +14,6 @@ use Rattle.fl_settling.specs.Each.{Each}
 use Rattle.fl_settling.specs.Numbers.{bench_by}
 use Rattle.fl_worker.specs.Done.{IsReady}
 use Rattle.fl_worker.specs.declared.worker.Worker.{Worker}
-use Rattle.fl_workers.specs.Over.{benches_after}
 
 -- its number, and the board of its desk
 pub record IsAtDesk (old new : Worker) : Type 0 where
@@ -39,6 +39,11 @@ pub record IsNotBegun {K : Type 0} (old new : RegistrarOver K) : Type 0 where
   pub list : new.press.list ≡ old.press.list
   pub due : new.due ≡ old.due
   pub stopped : new.stopped ≡ old.stopped
+
+-- the maker of what was due, if it has one, has what that gives
+abbrev pub benches_after : (ℕ → BenchState) → Option Batch → ℕ → BenchState
+benches_after benches None w = benches w
+benches_after benches (Some batch) w = benches_with benches batch w
 
 -- the workers have these tasks, and the maker of what was due has gone on
 pub record AreBegun (queues : List Queue) (due : Option Batch) (old new : List Worker)

@@ -1,8 +1,8 @@
 use Rattle.std.proofs.Common.{◌∙◌, List, subst, sym}
 use Rattle.fl_settling.specs.Batches.{AreBack, BatchEnds}
 use Rattle.fl_worker.specs.declared.worker.Worker.{Worker}
-use Rattle.fl_workers.proofs.Lists.{written_back}
-use Rattle.fl_workers.proofs.ending.settle.Goals as goal
+use Rattle.fl_manning.proofs.Ends.{written_back}
+use Rattle.fl_manning.proofs.ending.settle.Goals as goal
 
 pub returns-clause-batch : goal.returns-clause-batch
 returns-clause-batch g c = λ number b b' start e l recorded of back.

@@ -1,10 +1,9 @@
 use Rattle.std.proofs.Common.{◌∙◌, ap, Option}
 use Rattle.fl_system.specs.declared.state.Batch.{Batch}
 use Rattle.fl_settling.specs.Numbers.{bench_by}
-use Rattle.fl_workers.specs.Over.{benches_after}
-use Rattle.fl_workers.proofs.Begun.{are_begun}
-use Rattle.fl_workers.proofs.Lists.{same_due}
-use Rattle.fl_workers.proofs.beginning.begin_all.Goals as goal
+use Rattle.fl_manning.specs.Begun.{benches_after}
+use Rattle.fl_manning.proofs.Begun.{are_begun, same_due}
+use Rattle.fl_manning.proofs.beginning.begin_all.Goals as goal
 
 pub returns-clause-workers : goal.returns-clause-workers
 returns-clause-workers g c =

@@ -1,9 +1,9 @@
 use Rattle.std.proofs.Common.{ℕ, List, subst, sym}
 use Rattle.fl_dealing.specs.Gathered.{IsGathered}
 use Rattle.fl_dealing.specs.declared.entry.Entry.{Entry}
-use Rattle.fl_workers.specs.Ended.{said_of}
-use Rattle.fl_workers.proofs.Ends.{said_same}
-use Rattle.fl_workers.proofs.ending.collect_slice.Goals as goal
+use Rattle.fl_manning.specs.Ended.{said_of}
+use Rattle.fl_manning.proofs.Ends.{said_same}
+use Rattle.fl_manning.proofs.ending.collect_slice.Goals as goal
 
 pub unreachable-requires : goal.unreachable-requires
 unreachable-requires c =

@@ -8,12 +8,12 @@ ghost use Rattle.fl_settling.specs.Batches.{AreBack, BatchEnds};
 ghost use Rattle.fl_settling.specs.Each.{Each};
 ghost use Rattle.fl_settling.specs.Numbers.{lost_by};
 ghost use Rattle.fl_worker.specs.declared.worker.Worker.{Worker as WorkerValue};
-ghost use Rattle.fl_workers.specs.Ended.{AreAllAnswered, IsClosed, IsKept, IsRuledOn, IsSame, said_of};
+ghost use Rattle.fl_manning.specs.Ended.{AreAllAnswered, IsClosed, IsKept, IsRuledOn, IsSame, said_of};
 
+use crate::lanes::lanes_of;
 use fl_dealing::entry::{Entry, Taken};
 use fl_dealing::gathering::{Lane, gather};
 use fl_dealing::laws::law_gathered;
-use fl_manning::lanes::lanes_of;
 use fl_registrar::registrar::Registrar;
 use fl_settling::settle::settle_all;
 use fl_store::keeper::Keeper;
@@ -87,7 +87,7 @@ fn settle_slice<K: Keeper>(
 /// and has their desks learn all that is published. What contradicts is given up. Whoever asked for
 /// what was not done is told why: the order at which the keeper broke, if it did at one, with the
 /// keeper's failure. Answers whether nothing contradicts.
-pub(crate) fn settle<K: Keeper>(
+pub fn settle<K: Keeper>(
     alloc: Global,
     registrar: &mut Registrar<K>,
     workers: &mut Vec<Worker>,
@@ -140,7 +140,7 @@ fn collect_slice(
 /// Takes the entries of the workers, and puts them with what was taken into one list, in the order
 /// of the places, of which `owners` says whose item stands there. The lanes and the list stand in
 /// the room that they are given.
-pub(crate) fn collect(
+pub fn collect(
     alloc: Global,
     workers: &mut Vec<Worker>,
     owners: &[u8],

@@ -1,8 +1,8 @@
 use Rattle.std.proofs.Common.{◌∙◌, ap, inl, inr}
 use Rattle.fl_replica.specs.Boards.{Pressed}
-use Rattle.fl_workers.proofs.Ends.{each_kept, ends_as, none_lost}
-use Rattle.fl_workers.proofs.Lists.{same_list}
-use Rattle.fl_workers.proofs.ending.settle_slice.Goals as goal
+use Rattle.fl_manning.proofs.Ends.{each_kept, ends_as, none_lost}
+use Rattle.fl_manning.proofs.Ends.{same_list}
+use Rattle.fl_manning.proofs.ending.settle_slice.Goals as goal
 
 pub returns-then-not-settle_all-clause-settled : goal.returns-then-not-settle_all-clause-settled
 returns-then-not-settle_all-clause-settled g c =

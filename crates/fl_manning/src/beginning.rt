@@ -4,13 +4,12 @@ ghost use Rattle.fl_crew_model.specs.Crews.{IsWorker};
 ghost use Rattle.fl_settling.specs.Each.{Each};
 ghost use Rattle.fl_settling.specs.Numbers.{bench_by};
 ghost use Rattle.fl_manning.specs.Changes.{IsButBench};
-ghost use Rattle.fl_workers.specs.Over.{benches_after};
-ghost use Rattle.fl_workers.specs.Begun.{AreBegun, IsBegun, IsNotBegun, IsUnmoved};
+ghost use Rattle.fl_manning.specs.Begun.{AreBegun, IsBegun, IsNotBegun, IsUnmoved, benches_after};
 
+use crate::catching_up::catch_up_all;
+use crate::finishing::finish_maker;
+use crate::giving::give_out;
 use fl_dealing::dealing::Queue;
-use fl_manning::catching_up::catch_up_all;
-use fl_manning::finishing::finish_maker;
-use fl_manning::giving::give_out;
 use fl_registrar::awaited::Awaited;
 use fl_registrar::registrar::Registrar;
 use fl_store::keeper::Keeper;
@@ -82,7 +81,7 @@ fn begin_all<K: Keeper, R: Wait>(
 /// Begins a batch: the workers have these tasks, the registrar awaits these orders with so many
 /// rows of its record, and what an earlier batch left due is published. Fails only where there is
 /// not enough memory: what is saved, published and due is as before, and so is each bench.
-pub(crate) fn begin<K: Keeper, R: Wait>(
+pub fn begin<K: Keeper, R: Wait>(
     rt: &R,
     alloc: Global,
     registrar: &mut Registrar<K>,
