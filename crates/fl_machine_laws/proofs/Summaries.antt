@@ -4,16 +4,14 @@ use Rattle.std.specs.FinMap as map
 use Rattle.std.specs.List.{Contains, list_any}
 use Rattle.std.proofs.lemmas.List.Elements.{Contains-append_cases}
 use Rattle.std.proofs.lemmas.List.Folds.{Any-from_list_any}
-use Rattle.fl_labels.specs.SetBy.{SetBy, In}
+use Rattle.fl_labels.specs.SetBy.{In}
 use Rattle.fl_labels.specs.declared.name.Name.{Name}
-use Rattle.fl_ops.specs.OpOrder.{op_cmp}
 use Rattle.fl_ops.specs.Registry.{Registry}
 use Rattle.fl_ops.specs.declared.op.Op.{Op}
 use Rattle.fl_message.specs.declared.message.Data.{Data}
 use Rattle.fl_opset.specs.Spans.{in_span}
 use Rattle.fl_opset.specs.Windows.{IsName}
 use Rattle.fl_opset.specs.declared.intervals.Intervals.{Intervals}
-use Rattle.fl_opset.specs.laws.Members.{Contains-cons}
 use Rattle.fl_wire.specs.declared.packet.Packet.{Packet}
 use Rattle.fl_wire.specs.declared.packet.Packet.TheVariants as packets
 use Rattle.fl_gossip.specs.Replying.{IsDelta, AreDeltas}
@@ -51,7 +49,7 @@ tells_more more packet t window is name held =
 
 -- ---- what a machine sends
 
-abbrev sent_from : ℕ → Packet → Sent
+abbrev pub sent_from : ℕ → Packet → Sent
 sent_from number p = record { from = number; packet = p; sender = None }
 
 -- what the node of this number sent, as it left it
@@ -68,7 +66,7 @@ AreOfNode number o = (sent : Sent) → Contains o.sent sent → IsOfNode number 
 no_data : {d : Data} {window : Intervals} → packets.Data d ≡ packets.Have window → ⊥
 no_data e = cc
 
-same_window : {v w : Intervals} → packets.Have v ≡ packets.Have w → v ≡ w
+pub same_window : {v w : Intervals} → packets.Have v ≡ packets.Have w → v ≡ w
 same_window e = cc
 
 no_delta : (p : Packet) {window : Intervals} → IsDelta p → p ≡ packets.Have window → ⊥
