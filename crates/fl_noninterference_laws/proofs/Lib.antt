@@ -1,0 +1,14 @@
+pub mod Standing
+pub mod BenchSteps
+pub mod Lists
+pub mod Views
+pub mod Nodes
+pub mod Others
+pub mod Settling
+pub mod Steps
+pub mod Replies
+pub mod Veiling
+pub mod Safe
+pub mod Runs
+pub mod Together
+pub mod Emitting
