@@ -29,6 +29,7 @@ import flume_tags as reference  # noqa: E402 (no bytes of it are to be left besi
 import packets  # noqa: E402
 
 FIRST_PACKETS, ECHOED, SEAL_BYTES, MOST_HELD = 64, 256, 32, 1 << 24
+MOST_LOGGED = 1000
 SEALED_AS = b"flume-packet-1\n"
 BAD_WORDS, FAILED, NOT_AS_SAID = 2, 3, 4
 
@@ -244,10 +245,103 @@ def text(_machine, node):
     return listed(reference.registry_text(node.published.items()))
 
 
+def place(word):
+    return 0 if word == "0" else reference.number(word)
+
+
+def log(_machine, node, at):
+    """The published operations from a place of the list on."""
+    named = [*node.published.items()][at:at + MOST_LOGGED]
+    return listed(reference.operation_text(*it) for it in named)
+
+
+def who(word):
+    """Whose capability is asked for: a process's, or that of who may use a group."""
+    if word.startswith("p"):
+        return reference.pid(word)
+    found = reference.cap(word)
+    if found[1] != reference.USE:
+        raise reference.BadLine
+    return found
+
+
+def steps_to(right, operations):
+    """From each capability that leads to this one the puts that lead on, nearest level first."""
+    away, level = {right: 0}, {right}
+    while level:
+        yield away, level
+        level = {(reference.name(op[1]), reference.USE) for op in operations.values()
+                 if op[0] == "put" and reference.cap(op[2]) in level} - away.keys()
+        away.update(dict.fromkeys(level, max(away.values()) + 1))
+
+
+def first_chain(roots, right, operations):
+    """The first of the shortest chains: its root, and the puts behind it. None where there is none.
+    """
+    for away, level in steps_to(right, operations):
+        if level & roots:
+            at = root = min(level & roots)
+            puts = []
+            while at != right:
+                at, it, op = min((reference.cap(op[2]), it, op) for it, op in operations.items()
+                                 if op[:2] == ("put", reference.name_text(at[0]))
+                                 and away.get(reference.cap(op[2])) == away[at] - 1)
+                puts.append(reference.operation_text(it, op))
+            return root, puts
+    return None
+
+
+def giver(right, operations):
+    """The least operation that gives a capability to everybody."""
+    return min(it for it, op in operations.items()
+               if right in reference.everybodys({it: op}))
+
+
+def why(_machine, node, whose, right):
+    owned, first = {whose}, "use"
+    if len(whose) == 3:
+        if whose not in node.processes:
+            raise reference.Refused(1, reference.pid_text(whose))
+        owned, first = node.processes[whose].owned, "owns"
+    others = set(reference.everybodys(node.published)) if first == "owns" else set()
+    found = first_chain(owned | others, right, node.published)
+    if not found:
+        return "not-yet"
+    root, puts = found
+    if root in owned:
+        return listed([f"{first} {reference.cap_text(root)}", *puts])
+    return listed([f"everybody {reference.name_text(giver(root, node.published))}", *puts])
+
+
+def label_text(tags):
+    return "{" + ",".join(map(reference.name_text, sorted(tags))) + "}"
+
+
+def process_lines(process):
+    """What a process has."""
+    yield f"S {label_text(process.S)}"
+    yield f"I {label_text(process.I)}"
+    yield f"owns {reference.caps_text(process.owned)}"
+    for at, end in sorted(process.endpoints.items()):
+        yield f"end e{at} {end.mode} {label_text(end.S)} {label_text(end.I)}"
+    for it in process.inbox:
+        sender = reference.pid_text(it.sender)
+        yield f"waits {sender} {reference.caps_text(it.caps)} {len(it.data)}"
+
+
+def show(_machine, node, it):
+    if it not in node.processes:
+        raise reference.Refused(1, reference.pid_text(it))
+    return listed(process_lines(node.processes[it]))
+
+
 LINES = {
     **{verb: form for verb, form in reference.LINES.items() if verb != "deliver"},
     "receive": (receive, reference.data),
     "text": (text,),
+    "log": (log, place),
+    "why": (why, who, reference.cap),
+    "show": (show, reference.pid),
 }
 
 

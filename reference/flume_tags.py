@@ -447,7 +447,7 @@ class Node:
         self.open()
 
     def open(self):
-        self.published, self.pending = dict(self.saved), None
+        self.published, self.pending = dict(sorted(self.saved.items())), None
         self.processes, self.serial = {}, 0
 
     def find(self, it):
