@@ -1,5 +1,5 @@
 -- The pids of slots that have a value are the keys of their map.
-use Rattle.std.proofs.Common.{arith, ◌≡◌, ◌∙◌, ◌<◌, ℕ, zero, suc, Bool, true, false, cond, List, [], ◌∷◌, ◌++◌, length, map, take, get_or, refl, sym, ap, subst, T, Option, Some, None, Ordering, Less}
+use Rattle.std.proofs.Common.{arith, ◌≡◌, ◌≢◌, ◌∙◌, ◌<◌, ℕ, zero, suc, Bool, true, false, cond, List, [], ◌∷◌, ◌++◌, length, map, take, get_or, refl, sym, ap, subst, T, Option, Some, None, Ordering, Less}
 use Rattle.std.proofs.lemmas.List.{append_assoc, append-nil}
 use Rattle.std.specs.FinMap as finite
 use Rattle.std.specs.FinMap.Entries.{below_all, is_sorted, same_entries}
@@ -21,6 +21,10 @@ both false b x y = absurd x
 
 less : (o : Ordering) → o ≡ Less → T (is_lt o)
 less o e = subst (λ r. T (is_lt r)) (sym e) tt
+
+rest_empty : (xs ys : List Pid) → xs ++ ys ≡ [] → ys ≡ []
+rest_empty [] ys e = e
+rest_empty (x ∷ xs) ys e = absurd (cc e)
 
 module _ {X : Type 0} where
   -- the pid of a slot, where that has a value
@@ -98,3 +102,12 @@ module _ {X : Type 0} where
   keys_more (t ∷ slots) (suc k) s inside =
       ap (λ ks. key t ++ ks) (keys_more slots k s (omega (arith, inside)))
       ∙ sym (append_assoc (key t) (keys (take k slots)) (key (get_or slots k s)))
+
+  -- where one slot has a value there is a key
+  pub some_key : (slots : List (Slot X)) (k : ℕ) (s : Slot X) → k < length slots
+      → key (get_or slots k s) ≡ (get_or slots k s).pid ∷ [] → keys slots ≢ []
+  some_key [] k s inside full none = absurd (omega (arith, inside))
+  some_key (t ∷ slots) zero s inside full none =
+      absurd (cc (sym (ap (λ ks. ks ++ keys slots) full) ∙ none))
+  some_key (t ∷ slots) (suc k) s inside full none =
+      some_key slots k s (omega (arith, inside)) full (rest_empty (key t) (keys slots) none)

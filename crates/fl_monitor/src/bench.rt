@@ -1,6 +1,6 @@
 //! Benches: processes that work under one view.
 ghost use Rattle.std.specs.Option.{option_copied};
-ghost use Rattle.std.specs.Prelude.{◌≡◌, ◌≤◌, ◌<◌, Ok, IfOk, OnErr, IsSome};
+ghost use Rattle.std.specs.Prelude.{◌≡◌, ◌≢◌, ◌≤◌, ◌<◌, [], Ok, IfOk, OnErr, IsSome};
 ghost use Rattle.std.specs.FinMap as map;
 ghost use Rattle.fl_ops.specs.Registry.{Listed};
 ghost use Rattle.fl_jobs.specs.declared.job.Job.TheVariants.{By};
@@ -99,10 +99,11 @@ impl Bench {
         self.processes.get(pid)
     }
 
-    /// The pids of all processes, rising. Fails only where there is not enough memory. Costs a pass
-    /// over all.
+    /// The pids of all processes, rising. Fails only where there is one, and not enough memory.
+    /// Costs a pass over all.
     pub fn pids(&self, alloc: Global) -> Result<Vec<Pid>, AllocError>
-        ensures { IfOk result (λ made. made.items ≡ map.keys self.now.processes) }
+        ensures ok { IfOk result (λ made. made.items ≡ map.keys self.now.processes) }
+        ensures err { OnErr result (map.keys self.now.processes ≢ []) }
     {
         self.processes.pids(alloc)
     }

@@ -1,6 +1,6 @@
 //! Values by pids.
 ghost use Rattle.std.specs.Option.{option_copied, option_copied_mut};
-ghost use Rattle.std.specs.Prelude.{◌≡◌, IsTrue, IfOk, IfErr, OnOk, OnErr};
+ghost use Rattle.std.specs.Prelude.{◌≡◌, ◌≢◌, [], IsTrue, IfOk, IfErr, OnOk, OnErr};
 ghost use Rattle.std.specs.Borrow.{LendsIf, sem};
 ghost use Rattle.std.specs.FinMap as map;
 ghost use Rattle.fl_monitor.specs.parts.Slots.{held, with_held, IsRising, IsAt, IsGapFor, Keeps};
@@ -183,10 +183,11 @@ impl<T> PidMap<T> {
         self.slots[place].get_mut()
     }
 
-    /// The pids that have a value, rising. Fails only where there is not enough memory. Costs a pass
-    /// over all slots.
+    /// The pids that have a value, rising. Fails only where there is one, and not enough memory.
+    /// Costs a pass over all slots.
     pub fn pids(&self, alloc: Global) -> Result<Vec<Pid>, AllocError>
-        ensures { IfOk result (λ made. made.items ≡ map.keys self.now) }
+        ensures ok { IfOk result (λ made. made.items ≡ map.keys self.now) }
+        ensures err { OnErr result (map.keys self.now ≢ []) }
     {
         let mut pids = Vec::new(alloc);
         for slot in &self.slots {

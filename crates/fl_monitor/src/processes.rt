@@ -1,6 +1,6 @@
 //! The processes of one bench.
 ghost use Rattle.std.specs.Option.{option_copied};
-ghost use Rattle.std.specs.Prelude.{◌≡◌, [], IfOk, OnOk, OnErr, IsSome};
+ghost use Rattle.std.specs.Prelude.{◌≡◌, ◌≢◌, [], IfOk, OnOk, OnErr, IsSome};
 ghost use Rattle.std.specs.FinMap as map;
 ghost use Rattle.fl_message.specs.declared.message.Data.{Data};
 ghost use Rattle.fl_ops.specs.Registry.{Listed};
@@ -66,9 +66,11 @@ impl Processes {
         self.all.get(pid)
     }
 
-    /// The pids of all, rising. Fails only where there is not enough memory. Costs a pass over all.
+    /// The pids of all, rising. Fails only where there is one, and not enough memory. Costs a pass
+    /// over all.
     pub fn pids(&self, alloc: Global) -> Result<Vec<Pid>, AllocError>
-        ensures { IfOk result (λ made. made.items ≡ map.keys self.now) }
+        ensures ok { IfOk result (λ made. made.items ≡ map.keys self.now) }
+        ensures err { OnErr result (map.keys self.now ≢ []) }
     {
         self.all.pids(alloc)
     }
