@@ -20,6 +20,8 @@ pub enum Explanation {
     Why(Pid, Cap),
     /// Why the use of a group leads to a capability.
     WhyGroup(Group, Cap),
+    /// How the node stands, and each of its processes.
+    Show,
     /// What a process has.
     ShowProcess(Pid),
 }
@@ -66,13 +68,16 @@ fn why(rest: &[&str]) -> Option<Explanation>
     }
 }
 
-// What the words behind `show` ask.
+// What the words behind `show` ask: of the node where there is none, or else of a process.
 fn show(rest: &[&str]) -> Option<Explanation>
     ensures { let words = codes "show" ∷ map (λ w. w.now) rest.now in
         Finds result (λ asked. Matches (explanation_forms asked) words) }
 {
-    let [pid] = rest else { return None };
-    Some(Explanation::ShowProcess(read_pid(pid)?))
+    match rest {
+        [] => Some(Explanation::Show),
+        [pid] => Some(Explanation::ShowProcess(read_pid(pid)?)),
+        _ => None,
+    }
 }
 
 /// What the words behind the number of a node ask to be explained, or none where they ask nothing
