@@ -1,7 +1,7 @@
 //! How a node stands, with a line for each of its processes. Writing takes no memory but the
 //! sink's. At a fault a front of what waited and of the lines was written, and the sink may not be
 //! used again.
-ghost use Rattle.std.specs.Prelude.{◌≡◌, IfOk, OnErr, length};
+ghost use Rattle.std.specs.Prelude.{◌≡◌, ◌≢◌, [], IfOk, OnErr, length};
 ghost use Rattle.std.specs.List.{flat_map};
 ghost use Rattle.std.specs.Option.{option_copied};
 ghost use Rattle.fl_bench.specs.Process.{is_busy};
@@ -33,9 +33,10 @@ pub struct Overview<'a> {
 }
 
 /// The pids of the processes of a bench, rising; none where there is no bench. Fails only where
-/// there is not enough memory.
+/// there is a process, and not enough memory. Costs a pass over all.
 pub fn pids_of(alloc: Global, bench: Option<&Bench>) -> Result<Vec<Pid>, AllocError>
-    ensures { IfOk result (λ made. made.items ≡ pids_of (option_copied bench.entry)) }
+    ensures ok { IfOk result (λ made. made.items ≡ pids_of (option_copied bench.entry)) }
+    ensures err { OnErr result (processes_at (option_copied bench.entry) ≢ []) }
 {
     match bench {
         Some(bench) => bench.pids(alloc),
