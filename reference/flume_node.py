@@ -329,6 +329,28 @@ def process_lines(process):
         yield f"waits {sender} {reference.caps_text(it.caps)} {len(it.data)}"
 
 
+def pending_text(pending):
+    """What is on its way."""
+    if not pending:
+        return "none"
+    return f"{len(pending.operations)} {'due' if pending.is_saved else 'begun'}"
+
+
+def node_lines(node):
+    """How a node stands, and each of its processes."""
+    yield (f"node {node.number} boot {node.boot} published {len(node.published)} "
+           f"pending {pending_text(node.pending)} processes {len(node.processes)}")
+    for it, process in sorted(node.processes.items()):
+        is_busy = node.pending and node.pending.maker is process
+        yield (f"{reference.pid_text(it)} S {label_text(process.S)} I {label_text(process.I)} "
+               f"owns {len(process.owned)} ends {len(process.endpoints)} "
+               f"waits {len(process.inbox)} {'busy' if is_busy else 'idle'}")
+
+
+def show_node(_machine, node):
+    return listed(node_lines(node))
+
+
 def show(_machine, node, it):
     if it not in node.processes:
         raise reference.Refused(1, reference.pid_text(it))
@@ -351,6 +373,8 @@ def read_line(words):
         return give_order, reference.read_order(words)
     if words[:2] == ["begin", "receive"]:
         return begin_receive, reference.read_words([reference.data], words[2:])
+    if words == ["show"]:
+        return show_node, []
     if words[0] == "begin":
         return begin_order, reference.read_order(words[1:])
     return reference.read_known(LINES, words)
