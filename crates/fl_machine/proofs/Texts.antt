@@ -11,7 +11,7 @@ use Rattle.hex.specs.Hex.{encode_lower}
 use Rattle.fl_labels.specs.SetBy as set
 use Rattle.fl_labels.specs.declared.pid.Pid.{Pid}
 use Rattle.fl_bench.specs.declared.process.Process.{Process}
-use Rattle.fl_explanations.specs.Lines.{logged, why_lines}
+use Rattle.fl_explanations.specs.Lines.{logged, pids_of, why_lines}
 use Rattle.fl_explanations.specs.declared.why.Why.{Why}
 use Rattle.fl_opset.specs.RegistryText.{op_line, registry_text}
 use Rattle.fl_seal.specs.declared.seal.Key.{Key}
@@ -27,7 +27,7 @@ use Rattle.fl_system.specs.State.{NodeState}
 use Rattle.fl_system.specs.Waiting.{IsRunning}
 use Rattle.fl_machine_turns.specs.Answer.{Answer}
 use Rattle.fl_machine_turns.specs.AnswerText.{head_text, packet_text, text_of}
-use Rattle.fl_machine_turns.specs.Explaining.{told_of}
+use Rattle.fl_machine_turns.specs.Explaining.{bench_of, overview_of, told_of}
 use Rattle.fl_machine.specs.Shown.{Shows}
 use Rattle.fl_machine.specs.declared.response.Response.{Response}
 use Rattle.fl_machine.specs.declared.response.Response.TheVariants as response
@@ -119,6 +119,11 @@ module _ (keys : List Key) (n : NodeState) (number : ℕ) where
       ≡ head_text (length (why_lines why)) ++ flat_map (λ line. line) (why_lines why)
   why_text why answer Shows.because = refl
 
+  pub overview_text : (pids : Vec Pid Global) (answer : Answer)
+      → Shows keys n (response.Overview pids) answer
+      → text_of keys number answer ≡ text_of [] 0 (overview_of n)
+  overview_text pids answer (Shows.overview are) = refl
+
   pub process_text : (pid : Pid) (answer : Answer) → Shows keys n (response.Process pid) answer
       → text_of keys number answer ≡ text_of [] 0 (told_of pid (process_of n pid))
   process_text pid answer Shows.process = told_text_of pid (process_of n pid)
@@ -137,3 +142,11 @@ pub text_runs : {keys : List Key} {n : NodeState} {r : Response} {answer : Answe
     → Shows keys n r answer → r ≡ response.Text → IsRunning n.state
 text_runs (Shows.text running) e = running
 text_runs other e = absurd (cc)
+
+-- and pids that stand in a response are those of the node's processes
+pub pids_are : {keys : List Key} {n : NodeState} {r : Response} {answer : Answer}
+    → Shows keys n r answer → (pids : Vec Pid Global) → r ≡ response.Overview pids
+    → pids.items ≡ pids_of (bench_of n)
+pids_are (Shows.overview {pids = shown} are) pids e =
+    let same : shown ≡ pids = cc e in rw (← same) are
+pids_are other pids e = absurd (cc)

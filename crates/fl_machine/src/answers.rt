@@ -5,19 +5,21 @@ ghost use Rattle.fl_labels.specs.SetBy as set;
 ghost use Rattle.fl_machine.specs.Shown.{Shows};
 ghost use Rattle.fl_machine_turns.specs.Answer.{Answer};
 ghost use Rattle.fl_machine_turns.specs.AnswerText.{head_text, text_of};
-ghost use Rattle.fl_machine_turns.specs.Explaining.{told_of};
+ghost use Rattle.fl_machine_turns.specs.Explaining.{bench_of, overview_of, told_of};
 ghost use Rattle.fl_system.specs.Processes.{process_of};
-ghost use Rattle.fl_explanations.specs.Lines.{logged, why_lines};
+ghost use Rattle.fl_explanations.specs.Lines.{logged, pids_of, why_lines};
 ghost use Rattle.fl_opset.specs.RegistryText.{op_line, registry_text};
 ghost use Rattle.fl_seal.specs.declared.seal.Key.{Key};
 ghost use Rattle.fl_sink.specs.Sink.{Puts};
 ghost use Rattle.fl_system.specs.Waiting.{IsRunning};
 ghost use Rattle.hex.specs.Hex.{encode_lower};
 
+use crate::explaining::BENCH;
 use crate::response::Response;
 use fl_answers::text::{put_digits, write_refusal};
 use fl_calls::text::write_check;
 use fl_explanations::log::logged;
+use fl_explanations::overview::{Overview, write_overview};
 use fl_explanations::shown::write_process;
 use fl_explanations::text::{count_of, write_why};
 use fl_explanations::why::Why;
@@ -123,6 +125,27 @@ fn put_why<W: Writer>(why: &Why, sink: &mut Sink, output: &mut W) -> Result<(), 
     write_why(why, sink, output)
 }
 
+// How the node stands, and each of its processes, whose pids these are.
+fn put_overview<K: Keeper, W: Writer>(
+    node: &Node<K>,
+    pids: &[Pid],
+    sink: &mut Sink,
+    output: &mut W,
+) -> Result<(), WriteFault>
+    requires { pids.now ≡ pids_of (bench_of node.now.node) }
+    ensures puts { let text = text_of [] 0 (overview_of node.now.node) in
+        Puts (W.contents output.old) (W.contents output.new) sink.old text sink.new result }
+    ensures cause { OnErr result (W.has_failed output.new) }
+{
+    let overview = Overview {
+        number: node.number(),
+        boot: node.boot(),
+        published: node.published(),
+        state: node.state(),
+    };
+    write_overview(overview, node.bench(BENCH), pids, sink, output)
+}
+
 // What the process has, or that there is none.
 fn put_process<K: Keeper, W: Writer>(
     node: &Node<K>,
@@ -150,7 +173,7 @@ fn put_echo<W: Writer>(word: &str, sink: &mut Sink, output: &mut W) -> Result<()
 }
 
 /// Puts the text of what is answered to the line of this number into the sink. A node whose
-/// operations are to be written runs.
+/// operations are to be written runs, and pids are those of its processes.
 pub fn write_response<K: Keeper, W: Writer>(
     node: &Node<K>,
     number: u64,
@@ -158,7 +181,9 @@ pub fn write_response<K: Keeper, W: Writer>(
     sink: &mut Sink,
     output: &mut W,
 ) -> Result<(), WriteFault>
-    requires { response.now ≡ Response.Text → IsRunning node.now.node.state }
+    requires running { response.now ≡ Response.Text → IsRunning node.now.node.state }
+    requires pids { (pids : _) → response.now ≡ Response.Overview pids
+        → pids.items ≡ pids_of (bench_of node.now.node) }
     ensures puts { (keys : List Key) (answer : Answer)
         → Shows keys node.now.node response.now answer
         → let text = text_of keys number answer in
@@ -178,6 +203,7 @@ pub fn write_response<K: Keeper, W: Writer>(
         Response::Echo(word) => put_echo(word, sink, output),
         Response::Log(place) => put_log(node, *place, sink, output),
         Response::Why(why) => put_why(why, sink, output),
+        Response::Overview(pids) => put_overview(node, pids, sink, output),
         Response::Process(pid) => put_process(node, *pid, sink, output),
         Response::Unknown => write_count(b"refused F19 ", number, sink, output),
     }

@@ -8,6 +8,7 @@ ghost use Rattle.fl_machine_turns.specs.Turn.{Tells};
 ghost use Rattle.fl_seal.specs.declared.seal.Key.{Key as AnyKey};
 
 use crate::response::{Response, refused, starved};
+use fl_explanations::overview::pids_of;
 use fl_explanations::why::{Why, why_group, why_owned};
 use fl_jobs::answer::{Refusal, Reply as JobReply};
 use fl_labels::cap::Cap;
@@ -18,6 +19,9 @@ use fl_store::keeper::Keeper;
 use fl_system::answer::Fault;
 use fl_system::reply::Reply;
 use std::alloc::{AllocError, Global};
+
+/// The only bench of the node.
+pub(crate) const BENCH: u8 = 1;
 
 // What is responded where a chain was looked for.
 fn told<'a>(found: Result<Option<Why>, AllocError>) -> Response<'a>
@@ -42,9 +46,20 @@ fn why_process<'a, K: Keeper>(alloc: Global, node: &Node<K>, pid: Pid, cap: Cap)
     told(why_owned(alloc, node.published(), owned, cap))
 }
 
+// How the node stands, and each of its processes.
+fn overview<'a, K: Keeper>(alloc: Global, node: &Node<K>) -> Response<'a>
+    ensures { (keys : List AnyKey) → let n = node.now.node in
+        ShowsOne keys n (Explains n asked.Show) result }
+{
+    let Ok(pids) = pids_of(alloc, node.bench(BENCH)) else {
+        return starved();
+    };
+    Response::Overview(pids)
+}
+
 /// What is responded where this is to be explained: `Stopped` where the node does not run, `F1`
-/// where there is no such process, and `F14` where there is no memory for a chain that has a step.
-/// Costs what `why_owned` or `why_group` does.
+/// where there is no such process, and `F14` where there is no memory for a chain that has a step,
+/// or for the pids of some processes. Costs what `why_owned`, `why_group` or `pids_of` does.
 #[inline(never)]
 pub(crate) fn explain<'a, K: Keeper>(
     alloc: Global,
@@ -61,6 +76,7 @@ pub(crate) fn explain<'a, K: Keeper>(
         Explanation::Log(place) => Response::Log(place),
         Explanation::Why(pid, cap) => why_process(alloc, node, pid, cap),
         Explanation::WhyGroup(group, cap) => told(why_group(alloc, node.published(), group, cap)),
+        Explanation::Show => overview(alloc, node),
         Explanation::ShowProcess(pid) => Response::Process(pid),
     }
 }

@@ -38,6 +38,9 @@ pub enum Response<'a> {
     Log(u32),
     /// Why somebody has a capability.
     Why(Why),
+    /// How the node stands, and each of its processes, whose pids these are, which is written from
+    /// the node itself.
+    Overview(Vec<Pid>),
     /// What the process has, or that there is none, which is written from the node itself.
     Process(Pid),
     /// The line is none of this machine.

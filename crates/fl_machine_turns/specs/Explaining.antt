@@ -1,5 +1,5 @@
 -- What a node explains of itself. Nothing changes by it.
-use Rattle.std.specs.Prelude.{◌≡◌, List, map}
+use Rattle.std.specs.Prelude.{◌≡◌, ◌≢◌, List, [], length, map}
 use Rattle.std.specs.List.{Contains}
 use Rattle.std.specs.declared.option.Option.{Option}
 use Rattle.std.specs.declared.option.Option.TheVariants.{None, Some}
@@ -11,14 +11,16 @@ use Rattle.fl_labels.specs.declared.pid.Pid.{Pid}
 use Rattle.fl_ops.specs.Registry.{From, Listed, Reach, WithGlobal}
 use Rattle.fl_ops.specs.declared.op.Op.{Op}
 use Rattle.fl_opset.specs.RegistryText.{op_line}
-use Rattle.fl_explanations.specs.Lines.{logged, process_lines, why_lines}
+use Rattle.fl_explanations.specs.Lines.{logged, node_lines, process_lines, processes_at, why_lines}
 use Rattle.fl_explanations.specs.Why.{BeginsOwned, BeginsWithUse, IsWhy}
 use Rattle.fl_explanations.specs.declared.why.First.{First}
 use Rattle.fl_explanations.specs.declared.why.Why.{Why as AnyWhy}
 use Rattle.fl_jobs.specs.declared.answer.Refusal.TheVariants.{NoProcess}
 use Rattle.fl_jobs.specs.declared.answer.Reply.TheVariants.{NotYet}
+use Rattle.fl_bench.specs.Bench.{BenchState}
 use Rattle.fl_bench.specs.Process.{owns}
 use Rattle.fl_bench.specs.declared.process.Process.{Process}
+use Rattle.fl_system.specs.Numbered.{item_at}
 use Rattle.fl_system.specs.Processes.{process_of}
 use Rattle.fl_system.specs.State.{NodeState}
 use Rattle.fl_system.specs.Waiting.{IsRunning, NotRunning}
@@ -28,7 +30,7 @@ use Rattle.fl_system.specs.declared.answer.Fault.TheVariants as faults
 use Rattle.fl_system.specs.declared.reply.Reply.TheVariants.{Job, Refused}
 use Rattle.fl_calls.specs.Answer as says
 use Rattle.fl_machine_lines.specs.declared.explaining.Explanation.{Explanation}
-use Rattle.fl_machine_lines.specs.declared.explaining.Explanation.TheVariants.{Log, Why, WhyGroup, ShowProcess}
+use Rattle.fl_machine_lines.specs.declared.explaining.Explanation.TheVariants.{Log, Why, WhyGroup, Show, ShowProcess}
 use Rattle.fl_machine_turns.specs.Answer.{Answer, said, explained, starved_line}
 
 -- The first of the shortest chains to the capability, or that none leads to it. There may be no
@@ -47,6 +49,15 @@ TellsWhyOf ops p cap =
     let owned = members (owns p) in
     TellsWhy ops (WithGlobal (Listed ops) (Contains owned)) (BeginsOwned ops owned) cap
 
+-- the bench of its processes: a machine has only one
+abbrev pub bench_of : NodeState → Option BenchState
+bench_of n = item_at n.benches 1
+
+-- how it stands, and each of its processes
+abbrev pub overview_of : NodeState → Answer
+overview_of n =
+    explained (node_lines n.number n.boot (length n.published) n.state (processes_at (bench_of n)))
+
 -- what the process has, or that there is none
 abbrev pub told_of : Pid → Option Process → Answer
 told_of pid (Some p) = explained (process_lines p)
@@ -62,6 +73,9 @@ pub data Explains (n : NodeState) : Explanation → Answer → Type 0 where
   why_group : {group : _} {cap : Cap} {answer : Answer}
       → TellsWhy n.published (From (Use group)) (BeginsWithUse group) cap answer
       → Explains n (WhyGroup group cap) answer
+  show : Explains n Show (overview_of n)
+  -- of a node that has a process: there may be no memory for all pids
+  show_no_room : processes_at (bench_of n) ≢ [] → Explains n Show starved_line
   show_process : {pid : _} → Explains n (ShowProcess pid) (told_of pid (process_of n pid))
 
 -- what a node explains, where it runs

@@ -1,6 +1,7 @@
+use Rattle.std.proofs.Common.{◌∙◌}
 use Rattle.fl_machine.proofs.Texts.{admitted_text, bad_packet_text, checked_text, dropped_text}
 use Rattle.fl_machine.proofs.Texts.{echoed_text, listed_text, replied_text, sent_text, silence_text}
-use Rattle.fl_machine.proofs.Texts.{log_text, process_text, told_text, unknown_text, why_text}
+use Rattle.fl_machine.proofs.Texts.{log_text, overview_text, process_text, told_text, unknown_text, why_text}
 use Rattle.fl_machine.proofs.answers.write_response.Goals as goal
 
 pub returns-in-Silence-clause-puts : goal.returns-in-Silence-clause-puts
@@ -71,6 +72,15 @@ pub returns-in-Why-clause-puts : goal.returns-in-Why-clause-puts
 returns-in-Why-clause-puts g c = λ keys answer shows.
     rw (why_text keys _ c.args.number c.in-Why.why answer (rw c.in-Why.is at shows))
     c.put_why.ensures.puts
+
+pub put_overview-requires : goal.put_overview-requires
+put_overview-requires g c =
+    c.deref-in-Overview.ensures.value ∙ c.requires.pids c.in-Overview.pids c.in-Overview.is
+
+pub returns-in-Overview-clause-puts : goal.returns-in-Overview-clause-puts
+returns-in-Overview-clause-puts g c = λ keys answer shows.
+    rw (overview_text keys _ c.args.number c.in-Overview.pids answer (rw c.in-Overview.is at shows))
+    c.put_overview.ensures.puts
 
 pub returns-in-Process-clause-puts : goal.returns-in-Process-clause-puts
 returns-in-Process-clause-puts g c = λ keys answer shows.

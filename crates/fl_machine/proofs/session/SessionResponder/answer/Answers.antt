@@ -2,12 +2,15 @@ use Rattle.std.proofs.Common.{◌∙◌, ap, arith, nat_eq, sym}
 use Rattle.fl_sink.specs.laws.Passing.{on_err_always}
 use Rattle.fl_machine_turns.specs.Over.{SessionOver}
 use Rattle.fl_machine_turns.specs.Settings.{settings_of}
-use Rattle.fl_machine.proofs.Texts.{text_runs}
+use Rattle.fl_machine.proofs.Texts.{pids_are, text_runs}
 use Rattle.fl_machine.proofs.Turning.{cuts_answer, not_true, passes_answer, same_desk}
 use Rattle.fl_machine.proofs.session.SessionResponder.answer.Goals as goal
 
-pub write_response-requires : goal.write_response-requires
-write_response-requires g c = text_runs c.hear-response.ensures.shows
+pub write_response-requires-clause-running : goal.write_response-requires-clause-running
+write_response-requires-clause-running g c = text_runs c.hear-response.ensures.shows
+
+pub write_response-requires-clause-pids : goal.write_response-requires-clause-pids
+write_response-requires-clause-pids g c = pids_are c.hear-response.ensures.shows
 
 pub invariant_of-self : goal.invariant_of-self
 invariant_of-self g c = same_desk c.hear-response.ensures.same c.self.invariant
