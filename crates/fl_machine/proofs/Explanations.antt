@@ -1,6 +1,5 @@
 -- What is responded where something is to be explained.
-use Rattle.std.proofs.Common.{◌≡◌, ◌≢◌, refl, List, Option, None, Some, Result, Ok, Err, IfOk, OnErr}
-use Rattle.std.proofs.Common.{Global}
+use Rattle.std.proofs.Common.{List, Option, None, Some, Result, Ok, Err, IfOk, OnErr}
 use Rattle.std.specs.declared.alloc.AllocError.{AllocError}
 use Rattle.fl_labels.specs.Caps.{Caps}
 use Rattle.fl_labels.specs.declared.cap.Cap.{Cap}

@@ -1,7 +1,5 @@
-use Rattle.std.proofs.Common.{ap, length}
-use Rattle.std.specs.List.{flat_map}
+use Rattle.std.proofs.Common.{ap}
 use Rattle.fl_explanations.specs.Lines.{logged}
-use Rattle.fl_opset.specs.RegistryText.{op_line}
 use Rattle.fl_sink.specs.laws.Passing.{puts_then, puts_stop}
 use Rattle.fl_machine.proofs.answers.put_log.Goals as goal
 
