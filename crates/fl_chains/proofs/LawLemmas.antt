@@ -22,15 +22,9 @@ use Rattle.fl_ops.specs.Registry.{Registry, Reach, IsGlobal}
 use Rattle.fl_chains.specs.declared.step.Step.{Step}
 use Rattle.fl_chains.specs.declared.chain.Chain as chains
 use Rattle.fl_chains.specs.Giver.{IsGiver}
-use Rattle.fl_chains.specs.Step.{put_op}
 use Rattle.fl_chains.specs.Chain.{ChainBy, here, step, path_of, names_of, path_cmp, IsLeastChain, FindsChain}
 use Rattle.fl_chains.proofs.Gifts.{given_by, by_giver}
-use Rattle.fl_chains.proofs.Searching.{with_steps}
-
-without_steps : {U : Registry} {a c : Cap} {steps : List Step} → ChainBy U a steps c
-    → registry.Chain U a c
-without_steps here = registry.here
-without_steps (step {s} u rest) = registry.into {op = put_op s} u (refl, refl) (without_steps rest)
+use Rattle.fl_chains.proofs.Searching.{with_steps, without_steps}
 
 pub same_chains : (U : Registry) (b c : Cap) → ((steps : List Step) × ChainBy U b steps c)
     ↔ registry.Chain U b c

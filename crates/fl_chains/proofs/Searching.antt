@@ -1,5 +1,5 @@
 -- A search backwards from a capability, step by step.
-use Rattle.std.specs.Prelude.{◌≡◌, ◌↔◌, ◌⊎◌, ◌+◌, ◌||◌, ℕ, List, [], ◌∷◌, length, refl}
+use Rattle.std.specs.Prelude.{◌≡◌, ◌↔◌, ◌⊎◌, ◌+◌, ◌≤◌, ◌||◌, ℕ, zero, suc, List, [], ◌∷◌, length, refl}
 use Rattle.std.proofs.Common.{inl, inr, sym, ap, subst, ◌∙◌, arith}
 use Rattle.std.proofs.lemmas.Bool.{cases_lt, or_cases, false≢true}
 use Rattle.std.specs.Cmp.{Equal-is, eq_by_cmp_equiv}
@@ -19,12 +19,11 @@ use Rattle.fl_ops.specs.Registry.{Registry, Puts, Reach}
 use Rattle.fl_ops.specs.Registry as registry
 use Rattle.fl_chains.specs.declared.step.Step.{Step}
 use Rattle.fl_chains.specs.declared.legs.Leg.{Leg}
-use Rattle.fl_chains.specs.declared.search.Nearest.{Nearest}
 use Rattle.fl_chains.specs.Step.{put_op}
 use Rattle.fl_chains.specs.Least.{IsLeast}
 use Rattle.fl_chains.specs.Chain.{ChainBy, here, step}
 use Rattle.fl_chains.specs.parts.Legs.{AreParts, StartsIn}
-use Rattle.fl_chains.specs.parts.Search.{IsAway, IsNearer, AreLegs, IsNearest}
+use Rattle.fl_chains.specs.parts.Search.{IsAway, IsNearer, AreLegs, AreSteps, IsNearest}
 use Rattle.fl_chains.proofs.Members.{none}
 use Rattle.fl_chains.proofs.Parting.{Adds}
 
@@ -39,7 +38,7 @@ same_put s t e =
     body_parts g h c d e = (cc, cc)
 
 -- the steps of a chain
-by_put : (U : Registry) (name : Name) (body : Body) (group : Name) (b : Cap)
+pub by_put : (U : Registry) (name : Name) (body : Body) (group : Name) (b : Cap)
     → U (record { name = name; body = body }) → Puts body group b
     → U (put_op (record { cap = b; name = name; group = group }))
 by_put U name (MakeTag policy) group b u h = absurd h
@@ -56,6 +55,11 @@ with_steps {U} (registry.into {op} {group} {b} u puts rest) =
     let on = with_steps rest in
     let s : Step = record { cap = b; name = op.name; group = group } in
     (s ∷ on.0, step {s = s} (by_put U op.name op.body group b u puts) on.1)
+
+pub without_steps : {U : Registry} {a c : Cap} {steps : List Step} → ChainBy U a steps c
+    → registry.Chain U a c
+without_steps here = registry.here
+without_steps (step {s} u rest) = registry.into {op = put_op s} u (refl, refl) (without_steps rest)
 
 pub no_steps : {U : Registry} {b c : Cap} {steps : List Step} → ChainBy U b steps c
     → length steps ≡ 0 → b ≡ c
@@ -135,18 +139,18 @@ module _ (U : Registry) (roots : Caps) (c : Cap) where
   }
 
   -- the least root that is so near
-  pub searched_root : (rest : List Op) (near : Caps) (found : Nearest)
-      → IsSearched U roots c found.away found.legs.items rest near
-      → IsLeast cap_cmp (λ b. roots b × near b) found.root → IsNearest U roots c found
-  searched_root rest near found so_far h = record {
+  pub searched_root : (n : ℕ) (legs : List Leg) (rest : List Op) (near : Caps) (root : Cap)
+      → IsSearched U roots c n legs rest near
+      → IsLeast cap_cmp (λ b. roots b × near b) root → IsNearest U roots c root n legs
+  searched_root n legs rest near root so_far h = record {
     rooted = h.member.0;
-    away = so_far.level.sound found.root h.member.1;
+    so_far = so_far.level.sound root h.member.1;
     none_nearer = so_far.none_nearer;
-    least = λ r root away. elim (so_far.level.all r away) [
-      | inl k ↦ h.least r (root, k)
-      | inr k ↦ absurd (so_far.none_nearer r root k)
+    least = λ r is away. elim (so_far.level.all r away) [
+      | inl k ↦ h.least r (is, k)
+      | inr k ↦ absurd (so_far.none_nearer r is k)
     ];
-    legs = so_far.known;
+    lead = so_far.known;
   }
 
   module _ (n : ℕ) (legs : List Leg) (rest : List Op) (near : Caps)
@@ -268,8 +272,52 @@ module _ (U : Registry) (roots : Caps) (c : Cap) where
                 ]
               ]
 
-          pub searched_all : ¬ Reach U roots c
-          searched_all h = let by = with_steps h.2 in none_next h.0 h.1 (all_nearer by.1)
+          -- a step that leads to what is nearer is among the legs
+          is_known : (k : ℕ) → k ≤ n → (s : Step) → U (put_op s) → IsNearer U c k s.cap
+              → (l : Leg) × Contains legs l × (l.step ≡ s)
+          is_known zero below s u h = let e = h.fewer in absurd (omega arith)
+          is_known (suc k) below s u h = elim (cases_lt (length h.steps) k) [
+            | inl few ↦ is_known k (omega (arith, below)) s u
+                (record { steps = h.steps; leads = h.leads; fewer = few })
+            | inr many ↦ elim (so_far.known.all s k (omega (arith, below)) u (record {
+              steps = h.steps;
+              leads = h.leads;
+              count = let e = h.fewer in omega arith;
+            })) [
+              | inl m ↦ (record { step = s; left = k }, m, refl)
+              | inr m ↦ is_known k (omega (arith, below)) s u m
+            ]
+          ]
+
+          -- and a step that leads on at all does
+          is_there : (s : Step) → U (put_op s) → IsNearer U c (n + 1) s.cap
+              → (l : Leg) × Contains legs l × (l.step ≡ s)
+          is_there s u h = elim (cases_lt (length h.steps) n) [
+            | inl few ↦ is_known n (omega arith) s u
+                (record { steps = h.steps; leads = h.leads; fewer = few })
+            | inr many ↦ elim (is_taken s u (record {
+              steps = h.steps;
+              leads = h.leads;
+              count = let e = h.fewer in omega arith;
+            })) [
+              | inl m ↦ absurd (none s (subst (λ x. Contains x s) no_more m))
+              | inr m ↦ is_known n (omega arith) s u m
+            ]
+          ]
+
+          all_steps : AreSteps U c legs
+          all_steps s = (
+            λ h. let p = so_far.known.sound h.0 h.1 in
+                subst (λ (x : Step). U (put_op x) × registry.Chain U x.cap c) h.2
+                (p.0, without_steps p.1.leads),
+            λ h. is_there s h.0 (let by = with_steps h.1 in all_nearer by.1),
+          )
+
+          pub searched_all : (¬ Reach U roots c) × AreSteps U c legs
+          searched_all = (
+            λ h. let by = with_steps h.2 in none_next h.0 h.1 (all_nearer by.1),
+            all_steps,
+          )
 
 -- a set of one capability
 pub only_itself : (c : Cap) (old near : SetBy cap_cmp) → old ≡ empty → near ≡ insert old c

@@ -14,7 +14,7 @@ use Rattle.fl_labels.specs.CapOrder.{cap_total, cap_exact}
 use Rattle.fl_labels.specs.Name.{name_cmp}
 use Rattle.fl_ops.specs.Registry.{Registry}
 use Rattle.fl_chains.specs.declared.step.Step.{Step}
-use Rattle.fl_chains.specs.declared.search.Nearest.{Nearest}
+use Rattle.fl_chains.specs.declared.legs.Leg.{Leg}
 use Rattle.fl_chains.specs.Step.{put_op, step_cmp}
 use Rattle.fl_chains.specs.Least.{IsLeast, FindsLeast}
 use Rattle.fl_chains.specs.Chain.{ChainBy, here, step, path_of, path_cmp, IsLeastChain, FindsChain}
@@ -98,31 +98,31 @@ pub record IsWalk (U : Registry) (roots : Caps) (c root : Cap) (n : ℕ) (at : C
       → length others ≡ length steps → IsAway U c left b
       → is_gt (path_cmp root steps r others) ≡ false
 
-module _ (U : Registry) (roots : Caps) (c : Cap) (found : Nearest)
-    (nearest : IsNearest U roots c found) where
+module _ (U : Registry) (roots : Caps) (c start : Cap) (far : ℕ) (legs : List Leg)
+    (nearest : IsNearest U roots c start far legs) where
   pub walk_none : (steps : List Step) → steps ≡ []
-      → IsWalk U roots c found.root found.away found.root found.away steps
-  walk_none steps e = subst (IsWalk U roots c found.root found.away found.root found.away) (sym e)
+      → IsWalk U roots c start far start far steps
+  walk_none steps e = subst (IsWalk U roots c start far start far) (sym e)
       (record {
         leads = here;
         count = omega arith;
-        away = nearest.away;
+        away = nearest.so_far;
         least = λ r others b root h len away.
             first r others b root h (nil_from_length others len) away;
       })
     where
       first : (r : Cap) (others : List Step) (b : Cap) → roots r → ChainBy U r others b
-          → others ≡ [] → IsAway U c found.away b
-          → is_gt (path_cmp found.root [] r others) ≡ false
+          → others ≡ [] → IsAway U c far b
+          → is_gt (path_cmp start [] r others) ≡ false
       first r others b root h none away =
           let same : r ≡ b = no_steps h (ap length none) in
-          subst (λ l. is_gt (path_cmp found.root [] r l) ≡ false) (sym none)
-          (alone_first found.root r (nearest.least r root
-          (subst (IsAway U c found.away) (sym same) away)))
+          subst (λ l. is_gt (path_cmp start [] r l) ≡ false) (sym none)
+          (alone_first start r (nearest.least r root
+          (subst (IsAway U c far) (sym same) away)))
 
   -- no chain from a root goes on to what is too near
   too_near : (r : Cap) → roots r → {b : Cap} {front : List Step} → ChainBy U r front b → (k : ℕ)
-      → IsNearer U c k b → length front + k ≤ found.away → ⊥
+      → IsNearer U c k b → length front + k ≤ far → ⊥
   too_near r root {b} {front} h k near within = nearest.none_nearer r root (record {
     steps = front ++ near.steps;
     leads = chain_on h near.leads;
@@ -130,34 +130,34 @@ module _ (U : Registry) (roots : Caps) (c : Cap) (found : Nearest)
   })
 
   module _ (at : Cap) (left : ℕ) (steps : List Step)
-      (walk : IsWalk U roots c found.root found.away at (left + 1) steps) where
+      (walk : IsWalk U roots c start far at (left + 1) steps) where
     -- a step of a chain from a root is among the legs
     is_leg : (r : Cap) → roots r → {front : List Step} (s : Step) → ChainBy U r front (Use s.group)
         → length front ≡ length steps → U (put_op s)
-        → IsAway U c left s.cap → Contains found.legs.items (record { step = s; left = left })
+        → IsAway U c left s.cap → Contains legs (record { step = s; left = left })
     is_leg r root {front} s h len u away =
         let count = walk.count in
-        elim (nearest.legs.all s left (omega arith) u away) [
+        elim (nearest.lead.all s left (omega arith) u away) [
           | inl m ↦ m
           | inr m ↦ absurd (too_near r root (chain_push s h u refl) left m
               (let l = length-append front (s ∷ []) in omega arith))
         ]
 
-    pub step_there : (r : Option Step) → FindsLeast step_cmp (LeadsOn found.legs.items at left) r
+    pub step_there : (r : Option Step) → FindsLeast step_cmp (LeadsOn legs at left) r
         → IsSome r
     step_there None none = absurd (by_first U c left (λ b. b ≡ at → ⊥) on at walk.away refl)
       where
         on : (s : Step) → U (put_op s) → IsAway U c left s.cap → Use s.group ≡ at → ⊥
         on s u away e =
-            let m = is_leg found.root nearest.rooted s
-            (subst (ChainBy U found.root steps) (sym e) walk.leads) refl u away in
+            let m = is_leg start nearest.rooted s
+            (subst (ChainBy U start steps) (sym e) walk.leads) refl u away in
             none s (record { step = s; left = left }, m, (refl, e, refl))
     step_there (Some s) h = refl
 
-    pub walk_more : (s : Step) → IsLeast step_cmp (LeadsOn found.legs.items at left) s
+    pub walk_more : (s : Step) → IsLeast step_cmp (LeadsOn legs at left) s
         → (new : List Step) → new ≡ steps ++ s ∷ []
-        → IsWalk U roots c found.root found.away s.cap left new
-    walk_more s h new e = subst (IsWalk U roots c found.root found.away s.cap left) (sym e)
+        → IsWalk U roots c start far s.cap left new
+    walk_more s h new e = subst (IsWalk U roots c start far s.cap left) (sym e)
         (record {
           leads = chain_push s walk.leads rests.0 on;
           count = let k = walk.count in let l = length-append steps (s ∷ []) in omega arith;
@@ -167,14 +167,14 @@ module _ (U : Registry) (roots : Caps) (c : Cap) (found : Nearest)
               let p = pushed chain (omega arith) in
               let m = length-append p.front (p.last ∷ []) in
               let n = ap length p.is in
-              subst (λ x. is_gt (path_cmp found.root (steps ++ s ∷ []) r x) ≡ false) (sym p.is)
+              subst (λ x. is_gt (path_cmp start (steps ++ s ∷ []) r x) ≡ false) (sym p.is)
               (least r root p.front p.last p.leads p.rests (omega arith)
               (subst (IsAway U c left) (sym p.ends) away));
         })
       where
         rests : U (put_op s) × IsAway U c left s.cap
         rests =
-            let both = nearest.legs.sound h.member.0 h.member.1 in
+            let both = nearest.lead.sound h.member.0 h.member.1 in
             let is = h.member.2 in (
               subst (λ x. U (put_op x)) is.2 both.0,
               subst (λ x. IsAway U c left x.cap) is.2
@@ -187,15 +187,15 @@ module _ (U : Registry) (roots : Caps) (c : Cap) (found : Nearest)
         least : (r : Cap) → roots r → (front : List Step) (t : Step)
             → ChainBy U r front (Use t.group) → U (put_op t) → length front ≡ length steps
             → IsAway U c left t.cap → is_gt
-            (path_cmp found.root (steps ++ s ∷ []) r (front ++ t ∷ [])) ≡ false
+            (path_cmp start (steps ++ s ∷ []) r (front ++ t ∷ [])) ≡ false
         least r root front t chain u len away =
-            not_behind found.root r steps front s t len (name_cmp s.group t.group)
+            not_behind start r steps front s t len (name_cmp s.group t.group)
             (walk.least r front (Use t.group) root chain len (away_on U c left t u away))
             (λ tie.
-            let paths = slice_cmp-IsAntisymmetric cap_exact (path_of found.root steps)
+            let paths = slice_cmp-IsAntisymmetric cap_exact (path_of start steps)
             (path_of r front) tie in
             let same : Use t.group ≡ at = ends_with chain
-            ∙ sym (last_same found.root r (caps_along steps) (caps_along front) paths)
+            ∙ sym (last_same start r (caps_along steps) (caps_along front) paths)
             ∙ sym (ends_with walk.leads) in
             h.least t (
               record { step = t; left = left },
@@ -203,13 +203,13 @@ module _ (U : Registry) (roots : Caps) (c : Cap) (found : Nearest)
               (refl, same, refl),
             ))
 
-  pub walk_end : (at : Cap) (steps : List Step) → IsWalk U roots c found.root found.away at 0 steps
-      → IsLeastChain U roots c found.root steps
+  pub walk_end : (at : Cap) (steps : List Step) → IsWalk U roots c start far at 0 steps
+      → IsLeastChain U roots c start steps
   walk_end at steps walk = record {
     rooted = nearest.rooted;
-    leads = subst (ChainBy U found.root steps) (away_itself U c at walk.away) walk.leads;
+    leads = subst (ChainBy U start steps) (away_itself U c at walk.away) walk.leads;
     least = λ r others root chain. shorter_first (length steps) (length others)
-        (path_cmp found.root steps r others)
+        (path_cmp start steps r others)
         (λ few. nearest.none_nearer r root
         (record { steps = others; leads = chain; fewer = let k = walk.count in omega arith }))
         (λ same. walk.least r others c root chain (sym same)

@@ -7,7 +7,7 @@ ghost use Rattle.fl_chains.specs.Roots.{RootsOf};
 
 use crate::legs::least_leg;
 use crate::roots::{Roots, is_root, roots_of};
-use crate::search::nearest_root;
+use crate::search::walk_back;
 use crate::step::Step;
 use fl_labels::cap::Cap;
 use fl_ops::op::Op;
@@ -31,22 +31,20 @@ fn chain_from(
 ) -> Result<Option<Chain>, AllocError>
     ensures { IfOk result (FindsChain (Listed ops.now) (Contains roots.now) cap) }
 {
-    let Some(nearest) = nearest_root(alloc, ops, roots, cap)? else {
+    let walk = walk_back(alloc, ops, roots, cap)?;
+    let Some(root) = walk.root else {
         return Ok(None);
     };
     let mut steps = Vec::new(alloc);
-    let mut at = nearest.root;
-    let mut left = nearest.away;
+    let mut at = root;
+    let mut left = walk.away;
     while left > 0 {
         left -= 1;
-        let step = least_leg(&nearest.legs, at, left).unwrap();
+        let step = least_leg(&walk.legs, at, left).unwrap();
         steps.push(step)?;
         at = step.cap;
     }
-    Ok(Some(Chain {
-        root: nearest.root,
-        steps,
-    }))
+    Ok(Some(Chain { root, steps }))
 }
 
 /// The first of the shortest chains that lead to the capability from what it begins with, or none

@@ -10,20 +10,24 @@ use Rattle.fl_chains.proofs.chain.chain_from.Goals as goal
 
 pub loop-left-init : goal.loop-left-init
 loop-left-init c =
-    walk_none (Listed c.args.ops.now) (Contains c.args.roots.now) c.args.cap c.in-Some.nearest
-    (rw c.in-Some.is at c.in_ok-nearest.ensures) c.new-steps.result.items c.new-steps.ensures.items
+    let walk = c.in_ok-walk.walk in
+    walk_none (Listed c.args.ops.now) (Contains c.args.roots.now) c.args.cap c.in-Some.root
+    walk.away walk.legs.items (rw c.in-Some.is at c.in_ok-walk.ensures)
+    c.new-steps.result.items c.new-steps.ensures.items
 
 pub unwrap-step-requires : goal.unwrap-step-requires
 unwrap-step-requires c =
     let U = Listed c.args.ops.now in
     let roots = Contains c.args.roots.now in
-    let found = c.in-Some.nearest in
+    let root = c.in-Some.root in
+    let walk = c.in_ok-walk.walk in
     let before : c.loop-left.left ≡ c.loop-left.left - 1 + 1 = omega arith in
-    let legs : FindsLeast step_cmp (LeadsOn found.legs.items c.loop-left.at (c.loop-left.left - 1))
+    let legs : FindsLeast step_cmp (LeadsOn walk.legs.items c.loop-left.at (c.loop-left.left - 1))
     c.least_leg.result = rw c.deref.ensures.value at c.least_leg.ensures in
-    step_there U roots c.args.cap found (rw c.in-Some.is at c.in_ok-nearest.ensures) c.loop-left.at
+    step_there U roots c.args.cap root walk.away walk.legs.items
+    (rw c.in-Some.is at c.in_ok-walk.ensures) c.loop-left.at
     (c.loop-left.left - 1) c.loop-left.steps.items
-    (subst (λ left. IsWalk U roots c.args.cap found.root found.away c.loop-left.at left
+    (subst (λ left. IsWalk U roots c.args.cap root walk.away c.loop-left.at left
     c.loop-left.steps.items) before c.loop-left.invariant)
     c.least_leg.result legs
 
@@ -31,16 +35,18 @@ pub loop-left-preserved : goal.loop-left-preserved
 loop-left-preserved c =
     let U = Listed c.args.ops.now in
     let roots = Contains c.args.roots.now in
-    let found = c.in-Some.nearest in
+    let root = c.in-Some.root in
+    let walk = c.in_ok-walk.walk in
     let before : c.loop-left.left ≡ c.loop-left.left - 1 + 1 = omega arith in
-    let legs : FindsLeast step_cmp (LeadsOn found.legs.items c.loop-left.at (c.loop-left.left - 1))
+    let legs : FindsLeast step_cmp (LeadsOn walk.legs.items c.loop-left.at (c.loop-left.left - 1))
     c.least_leg.result = rw c.deref.ensures.value at c.least_leg.ensures in
-    walk_more U roots c.args.cap found (rw c.in-Some.is at c.in_ok-nearest.ensures) c.loop-left.at
+    walk_more U roots c.args.cap root walk.away walk.legs.items
+    (rw c.in-Some.is at c.in_ok-walk.ensures) c.loop-left.at
     (c.loop-left.left - 1) c.loop-left.steps.items
-    (subst (λ left. IsWalk U roots c.args.cap found.root found.away c.loop-left.at left
+    (subst (λ left. IsWalk U roots c.args.cap root walk.away c.loop-left.at left
     c.loop-left.steps.items) before c.loop-left.invariant)
     c.unwrap-step.result (subst (FindsLeast step_cmp
-    (LeadsOn found.legs.items c.loop-left.at (c.loop-left.left - 1))) c.unwrap-step.ensures
+    (LeadsOn walk.legs.items c.loop-left.at (c.loop-left.left - 1))) c.unwrap-step.ensures
     legs)
     c.push.new.self.items c.in_ok-push.ensures.items
 
@@ -48,9 +54,10 @@ pub returns : goal.returns
 returns c =
     let U = Listed c.args.ops.now in
     let roots = Contains c.args.roots.now in
-    let found = c.in-Some.nearest in
+    let root = c.in-Some.root in
+    let walk = c.in_ok-walk.walk in
     let none : c.loop-left.left ≡ 0 = omega arith in
-    walk_end U roots c.args.cap found (rw c.in-Some.is at c.in_ok-nearest.ensures) c.loop-left.at
-    c.loop-left.steps.items
-    (subst (λ left. IsWalk U roots c.args.cap found.root found.away c.loop-left.at left
+    walk_end U roots c.args.cap root walk.away walk.legs.items
+    (rw c.in-Some.is at c.in_ok-walk.ensures) c.loop-left.at c.loop-left.steps.items
+    (subst (λ left. IsWalk U roots c.args.cap root walk.away c.loop-left.at left
     c.loop-left.steps.items) none c.loop-left.invariant)

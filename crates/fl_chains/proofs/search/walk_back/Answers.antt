@@ -6,7 +6,7 @@ use Rattle.fl_ops.specs.Registry.{Listed}
 use Rattle.fl_chains.specs.parts.Legs.{AreParts}
 use Rattle.fl_chains.proofs.Members.{empty_vec, filled_vec}
 use Rattle.fl_chains.proofs.Searching.{searched_none, searched_root, searched_more, searched_all, only_itself}
-use Rattle.fl_chains.proofs.search.nearest_root.Goals as goal
+use Rattle.fl_chains.proofs.search.walk_back.Goals as goal
 
 pub loop-root-init : goal.loop-root-init
 loop-root-init c = (
@@ -53,7 +53,8 @@ loop-root-smaller c =
 pub returns-in-Some : goal.returns-in-Some
 returns-in-Some c =
     searched_root (Listed c.args.ops.now) (Contains c.args.roots.now) c.args.cap
-    c.loop-root.rest.items (In c.loop-root.near) _ c.loop-root.invariant.0 c.in-Some.ensures
+    c.loop-root.away c.loop-root.legs.items c.loop-root.rest.items (In c.loop-root.near)
+    c.in-Some.root c.loop-root.invariant.0 c.in-Some.ensures
 
 pub returns-then-is_empty : goal.returns-then-is_empty
 returns-then-is_empty c =

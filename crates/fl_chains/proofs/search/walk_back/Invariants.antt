@@ -3,7 +3,7 @@ use Rattle.std.specs.List.{Contains}
 use Rattle.fl_labels.specs.SetBy.{In}
 use Rattle.fl_ops.specs.Registry.{Listed}
 use Rattle.fl_chains.proofs.Searching.{IsSearched}
-use Rattle.fl_chains.proofs.search.nearest_root.Given as goal
+use Rattle.fl_chains.proofs.search.walk_back.Given as goal
 
 -- searched so far, and for each step an operation is gone
 abbrev pub invariant-loop-root : goal.invariant-loop-root
