@@ -9,3 +9,5 @@ mod Searching
 mod Orders
 mod Walking
 mod LawLemmas
+mod Ways
+mod Entries

@@ -1,7 +1,9 @@
 -- Members of lists, and of sets made of lists.
 use Rattle.std.specs.Prelude.{◌≡◌, ◌⊎◌, List, [], ◌∷◌, ◌++◌, ℕ, ◌+◌, ◌<◌, ◌≤◌, length, get_or, take, Bool, true, false, ◌==◌, ◌≢◌, Vec}
 use Rattle.std.proofs.Common.{sym, ap, subst, ◌∙◌, arith, vec_len, Global}
-use Rattle.std.specs.Cmp.{Equal-is, eq_by_cmp_equiv}
+use Rattle.std.specs.Cmp.{Equal-is, IsTotalOrder, eq_by_cmp_equiv}
+use Rattle.std.specs.FinMap.{IsAntisymmetric}
+use Rattle.std.specs.declared.cmp.Ordering.{Ordering}
 use Rattle.std.specs.List.{Contains}
 use Rattle.std.specs.Ordering.{eq_by_cmp}
 use Rattle.std.proofs.lemmas.List.{take_more, take_all, nil_from_length}
@@ -11,7 +13,7 @@ use Rattle.std.proofs.lemmas.Map.Views.{Contains-from_any, list_any-from_Contain
 use Rattle.fl_labels.specs.declared.cap.Cap.{Cap}
 use Rattle.fl_labels.specs.Cap.{cap_cmp}
 use Rattle.fl_labels.specs.CapOrder.{cap_total, cap_exact}
-use Rattle.fl_labels.specs.SetBy.{SetBy, In, members, of_list, contains-members, contains-of_list}
+use Rattle.fl_labels.specs.SetBy.{In, of_list, contains-of_list}
 
 module _ {A : Type 0} where
   pub none : (x : A) → ¬ Contains [] x
@@ -50,26 +52,24 @@ module _ {A : Type 0} (xs : List A) (i : ℕ) (x : A) (within : i < length xs)
   pub more_this : (y : A) → x ≡ y → Contains (take (i + 1) xs) y
   more_this y e = subst (λ l. Contains l y) (sym more_is) (push_same (take i xs) x y e)
 
--- capabilities of a set that is made of a list
+-- members of a set that is made of a list
+module _ {K : Type 0} {R : K → K → Ordering} (total : IsTotalOrder R) (exact : IsAntisymmetric R)
+  where
+    pub in_list : (xs : List K) (x : K) → In (of_list {R = R} xs) x → Contains xs x
+    in_list xs x h =
+        Contains-from_any {eq = eq_by_cmp R}
+        (λ y z e. exact y z ((Equal-is (R y z)).0 e)) x xs
+        (sym (contains-of_list total xs x) ∙ h)
+
+    pub list_in : (xs : List K) (x : K) → Contains xs x → In (of_list {R = R} xs) x
+    list_in xs x h = contains-of_list total xs x
+        ∙ list_any-from_Contains (eq_by_cmp_equiv total) x xs h
+
 pub in_made : (xs : List Cap) (c : Cap) → In (of_list {R = cap_cmp} xs) c → Contains xs c
-in_made xs c h =
-    Contains-from_any {eq = eq_by_cmp cap_cmp}
-    (λ x y e. cap_exact x y ((Equal-is (cap_cmp x y)).0 e)) c xs
-    (sym (contains-of_list cap_total xs c) ∙ h)
+in_made xs c h = in_list cap_total cap_exact xs c h
 
 pub made_in : (xs : List Cap) (c : Cap) → Contains xs c → In (of_list {R = cap_cmp} xs) c
-made_in xs c h = contains-of_list cap_total xs c
-    ∙ list_any-from_Contains (eq_by_cmp_equiv cap_total) c xs h
-
-pub in_members : (s : SetBy cap_cmp) (c : Cap) → In s c → Contains (members s) c
-in_members s c h =
-    Contains-from_any {eq = eq_by_cmp cap_cmp}
-    (λ x y e. cap_exact x y ((Equal-is (cap_cmp x y)).0 e)) c (members s)
-    (sym (contains-members s c) ∙ h)
-
-pub members_in : (s : SetBy cap_cmp) (c : Cap) → Contains (members s) c → In s c
-members_in s c h = contains-members s c
-    ∙ list_any-from_Contains (eq_by_cmp_equiv cap_total) c (members s) h
+made_in xs c h = list_in cap_total cap_exact xs c h
 
 -- vectors that have nothing, and others
 pub empty_vec : {A : Type 0} (v : Vec A Global) (b : Bool) → b ≡ (vec_len v == 0) → b ≡ true

@@ -32,7 +32,7 @@ step_or : Step → Option Step → Step
 step_or d None = d
 step_or d (Some s) = s
 
-same_step : {s t : Step} → Some s ≡ Some t → s ≡ t
+pub same_step : {s t : Step} → Some s ≡ Some t → s ≡ t
 unfolding step_or
 same_step {s} e = ap (step_or s) e
 

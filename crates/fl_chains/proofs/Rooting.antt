@@ -16,10 +16,10 @@ use Rattle.fl_chains.proofs.Equal.{same, caps_same, same_caps, caps_other}
 use Rattle.fl_chains.proofs.Gifts.{IsGift, same_cap, given_by, by_giver}
 use Rattle.fl_chains.proofs.Members.{none, push_left, push_same, more_cases, more_before, more_this, all_there, of_all}
 
-told_yes : {P : Type 0} → P → Tells true P
+pub told_yes : {P : Type 0} → P → Tells true P
 told_yes p = record { holds = λ _. p; fails = λ never. absurd (false≢true (sym never)) }
 
-told_no : {P : Type 0} → ¬ P → Tells false P
+pub told_no : {P : Type 0} → ¬ P → Tells false P
 told_no n = record { holds = λ never. absurd (false≢true never); fails = λ _. n }
 
 -- owned, or everybody's

@@ -4,7 +4,9 @@ use Rattle.std.specs.List.{Contains}
 use Rattle.fl_labels.specs.Caps.{Caps}
 use Rattle.fl_labels.specs.declared.cap.Cap.{Cap}
 use Rattle.fl_labels.specs.declared.cap.Cap.TheVariants.{Use}
+use Rattle.fl_labels.specs.declared.name.Name.{Name}
 use Rattle.fl_ops.specs.declared.op.Op.{Op}
+use Rattle.fl_ops.specs.Registry.{Registry}
 use Rattle.fl_chains.specs.declared.step.Step.{Step}
 use Rattle.fl_chains.specs.declared.legs.Leg.{Leg}
 use Rattle.fl_chains.specs.declared.legs.Parts.{Parts}
@@ -36,3 +38,11 @@ IsLegOf at left l s = (l.left ≡ left) × (Use l.step.group ≡ at) × (l.step 
 -- one of the legs is the step
 abbrev pub LeadsOn : List Leg → Cap → ℕ → Step → Type 0
 LeadsOn legs at left s = (l : Leg) × Contains legs l × IsLegOf at left l s
+
+-- an operation of the registry puts the capability into a group
+abbrev pub PutsIt : Registry → Cap → Type 0
+PutsIt U c = (s : Step) × U (put_op s) × (s.cap ≡ c)
+
+-- one of the legs starts from the use of the group
+abbrev pub BeginsLeg : List Leg → Name → Type 0
+BeginsLeg legs group = (l : Leg) × Contains legs l × (l.step.group ≡ group)
