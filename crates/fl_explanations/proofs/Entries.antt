@@ -1,5 +1,6 @@
 -- What a map has at the key of one of its entries.
-use Rattle.std.proofs.Common.{◌≡◌, ◌∙◌, ◌<◌, ◌&&◌, ap, arith, length, sym, ℕ, zero, suc, List, [], ◌∷◌, Bool, true, false, T, None, Some, cond, get_or, refl}
+use Rattle.std.specs.List.{Contains}
+use Rattle.std.proofs.Common.{◌≡◌, ◌∙◌, ◌<◌, ◌&&◌, ap, arith, length, subst, sym, ℕ, zero, suc, List, [], ◌∷◌, Bool, true, false, T, None, Some, cond, get_or, refl}
 use Rattle.std.proofs.lemmas.List.{get_or-map, length-map}
 use Rattle.std.specs.Cmp.{IsTotalOrder, tied_itself}
 use Rattle.std.specs.FinMap as maps
@@ -9,15 +10,15 @@ use Rattle.std.specs.Ordering.{is_eq, is_lt, ordering_reverse}
 use Rattle.std.specs.declared.cmp.Ordering.{Ordering}
 use Rattle.std.specs.declared.cmp.Ordering.TheVariants.{Less, Equal, Greater}
 
-left : (a b : Bool) → T (a && b) → T a
+pub left : (a b : Bool) → T (a && b) → T a
 left true b h = tt
 left false b h = absurd h
 
-right : (a b : Bool) → T (a && b) → T b
+pub right : (a b : Bool) → T (a && b) → T b
 right true b h = h
 right false b h = absurd h
 
-less : (r : Ordering) → T (is_lt r) → r ≡ Less
+pub less : (r : Ordering) → T (is_lt r) → r ≡ Less
 less Less h = refl
 less Equal h = absurd h
 less Greater h = absurd h
@@ -70,3 +71,10 @@ module _ {K X : Type 0} {R : K → K → Ordering} (total : IsTotalOrder R) wher
 
     pub entry_there : X → maps.get m k ≡ None → ⊥
     entry_there x is = no_some (sym is ∙ has (k, x))
+
+  -- an entry is what the map has at its key
+  pub entry_found : (m : maps.FinMap R X) (k : K) (x : X) → Contains (maps.entries m) (k, x)
+      → maps.get m k ≡ Some x
+  entry_found m k x h = get-entries m k
+      ∙ subst (λ (e : K × X). find R e.0 (maps.entries m) ≡ Some e.1) h.2
+      (found_at (maps.entries m) (entries_sorted m) h.0 (k, x) h.1)

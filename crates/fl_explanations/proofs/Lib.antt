@@ -3,3 +3,5 @@ pub mod Entries
 pub mod Passed
 pub mod Processes
 pub mod Overviews
+pub mod Holders
+pub mod Named

@@ -1,3 +1,4 @@
 pub mod Lines
 pub mod Why
+pub mod Who
 pub mod parts

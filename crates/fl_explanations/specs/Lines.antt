@@ -9,6 +9,7 @@ use Rattle.fl_labels.specs.SetBy.{members}
 use Rattle.fl_labels.specs.Text.{cap_text, caps_text, endpoint_text, label_text, name_text, pid_text}
 use Rattle.fl_labels.specs.declared.cap.Cap.TheVariants.{Use}
 use Rattle.fl_labels.specs.declared.endpoint.Endpoint.{Endpoint}
+use Rattle.fl_labels.specs.declared.name.Name.{Name}
 use Rattle.fl_labels.specs.declared.pid.Pid.{Pid}
 use Rattle.fl_ops.specs.declared.op.Op.{Op}
 use Rattle.fl_opset.specs.RegistryText.{op_line}
@@ -25,7 +26,9 @@ use Rattle.fl_system.specs.declared.state.State.{State}
 use Rattle.fl_system.specs.declared.state.State.TheVariants.{Running, Stopped}
 use Rattle.fl_replies.specs.ReplyText.{count_text}
 use Rattle.fl_chains.specs.Step.{put_op}
+use Rattle.fl_chains.specs.declared.logins.Login.{Login}
 use Rattle.fl_chains.specs.declared.step.Step.{Step}
+use Rattle.fl_explanations.specs.declared.who.Who.{Who}
 use Rattle.fl_explanations.specs.declared.why.First.{First}
 use Rattle.fl_explanations.specs.declared.why.First.TheVariants.{Owns, Everybody, Uses}
 use Rattle.fl_explanations.specs.declared.why.Why.{Why}
@@ -47,6 +50,33 @@ step_line step = op_line (put_op step)
 -- what a chain begins with, and its steps
 abbrev pub why_lines : Why → List (List ℕ)
 why_lines why = first_line why.first ∷ map step_line why.steps.items
+
+-- ---- who has a capability
+
+-- `everybody 1.1` where an operation gives it to everybody
+abbrev pub everybody_lines : Option Name → List (List ℕ)
+everybody_lines None = []
+everybody_lines (Some name) = first_line (Everybody name) ∷ []
+
+-- `process p1.1.1`
+abbrev pub process_line : Pid → List ℕ
+process_line pid = codes "process " ++ (pid_text pid ++ codes "\n")
+
+-- `group 1.4`
+abbrev pub group_line : Name → List ℕ
+group_line group = codes "group " ++ (name_text group ++ codes "\n")
+
+-- `login 1.5 *1.4`
+abbrev pub login_line : Login → List ℕ
+login_line login = codes "login "
+    ++ (name_text login.name ++ (codes " " ++ (cap_text login.cap ++ codes "\n")))
+
+-- everybody, the processes, the groups and the logins
+abbrev pub who_lines : Who → List (List ℕ)
+who_lines who = everybody_lines who.everybody ++ (map process_line who.processes.items
+    ++ (map group_line who.groups.items ++ map login_line who.logins.items))
+
+-- ---- parts of a list, and processes
 
 -- from this place of a list on, at most 1,000
 abbrev pub logged : ℕ → List Op → List Op

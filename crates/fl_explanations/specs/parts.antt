@@ -1,2 +1,3 @@
--- What private functions write.
+-- What private functions give and write.
+pub mod Owners
 pub mod Pieces

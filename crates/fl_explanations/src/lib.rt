@@ -2,7 +2,9 @@
 #![tactic(auto)]
 
 pub mod log;
+pub mod naming;
 pub mod overview;
 pub mod shown;
 pub mod text;
+pub mod who;
 pub mod why;

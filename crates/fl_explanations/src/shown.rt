@@ -26,7 +26,11 @@ use fl_sink::writer::Writer;
 use itoa::Buffer;
 
 // That so many lines follow. They may be more than a `u64` counts, as far as is known here.
-fn write_head<W: Writer>(count: u128, sink: &mut Sink, output: &mut W) -> Result<(), WriteFault>
+pub(crate) fn write_head<W: Writer>(
+    count: u128,
+    sink: &mut Sink,
+    output: &mut W,
+) -> Result<(), WriteFault>
     ensures puts { let text = count_text (codes "lines ") count in
         Puts (W.contents output.old) (W.contents output.new) sink.old text sink.new result }
     ensures cause { OnErr result (W.has_failed output.new) }
