@@ -11,7 +11,7 @@ use Rattle.fl_script.specs.declared.request.Request.TheVariants as requests
 use Rattle.fl_machine_lines.specs.declared.asked.Asked.{Asked}
 use Rattle.fl_machine_lines.specs.declared.asked.Asked.TheVariants.{Job, Begin, Receive, BeginReceive, Tell, Save, Publish, Cancel, Text, Check, Explain}
 use Rattle.fl_machine_lines.specs.declared.explaining.Explanation.{Explanation}
-use Rattle.fl_machine_lines.specs.declared.explaining.Explanation.TheVariants.{Log, Why, WhyGroup, Show, ShowProcess}
+use Rattle.fl_machine_lines.specs.declared.explaining.Explanation.TheVariants.{Log, Why, WhyGroup, Who, Show, ShowProcess}
 use Rattle.fl_machine_lines.specs.declared.line.MachineLine.{MachineLine}
 use Rattle.fl_machine_lines.specs.declared.line.MachineLine.TheVariants.{Quiet, Bad, Echo, Audit, Asks}
 
@@ -26,6 +26,7 @@ explanation_forms (Log place) = Is (codes "log") ∷ IsPlace place ∷ []
 explanation_forms (Why pid cap) = Is (codes "why") ∷ Is (pid_text pid) ∷ Is (cap_text cap) ∷ []
 explanation_forms (WhyGroup group cap) =
     Is (codes "why") ∷ Is (cap_text (Use group)) ∷ Is (cap_text cap) ∷ []
+explanation_forms (Who cap) = Is (codes "who") ∷ Is (cap_text cap) ∷ []
 explanation_forms Show = Is (codes "show") ∷ []
 explanation_forms (ShowProcess pid) = Is (codes "show") ∷ Is (pid_text pid) ∷ []
 

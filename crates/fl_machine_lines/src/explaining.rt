@@ -20,6 +20,8 @@ pub enum Explanation {
     Why(Pid, Cap),
     /// Why the use of a group leads to a capability.
     WhyGroup(Group, Cap),
+    /// Who has a capability.
+    Who(Cap),
     /// How the node stands, and each of its processes.
     Show,
     /// What a process has.
@@ -68,6 +70,15 @@ fn why(rest: &[&str]) -> Option<Explanation>
     }
 }
 
+// What the words behind `who` ask.
+fn who(rest: &[&str]) -> Option<Explanation>
+    ensures { let words = codes "who" ∷ map (λ w. w.now) rest.now in
+        Finds result (λ asked. Matches (explanation_forms asked) words) }
+{
+    let [cap] = rest else { return None };
+    Some(Explanation::Who(read_cap(cap)?))
+}
+
 // What the words behind `show` ask: of the node where there is none, or else of a process.
 fn show(rest: &[&str]) -> Option<Explanation>
     ensures { let words = codes "show" ∷ map (λ w. w.now) rest.now in
@@ -89,6 +100,7 @@ pub(crate) fn explanation_from_words(verb: &str, rest: &[&str]) -> Option<Explan
     match verb {
         "log" => logged(rest),
         "why" => why(rest),
+        "who" => who(rest),
         "show" => show(rest),
         _ => None,
     }

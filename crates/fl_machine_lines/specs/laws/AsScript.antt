@@ -16,7 +16,7 @@ use Rattle.fl_machine_lines.specs.parts.Asking.{AsksAsScript, asked_of}
 use Rattle.fl_machine_lines.specs.declared.asked.Asked.{Asked}
 use Rattle.fl_machine_lines.specs.declared.asked.Asked.TheVariants.{Job, Begin, Receive, BeginReceive, Tell, Save, Publish, Cancel, Text, Check, Explain}
 use Rattle.fl_machine_lines.specs.declared.explaining.Explanation.{Explanation}
-use Rattle.fl_machine_lines.specs.declared.explaining.Explanation.TheVariants.{Log, Why, WhyGroup, Show, ShowProcess}
+use Rattle.fl_machine_lines.specs.declared.explaining.Explanation.TheVariants.{Log, Why, WhyGroup, Who, Show, ShowProcess}
 use Rattle.fl_machine_lines.specs.declared.line.MachineLine.{MachineLine}
 use Rattle.fl_machine_lines.specs.declared.line.MachineLine.TheVariants.{Quiet, Bad, Echo, Audit, Asks}
 
@@ -93,6 +93,7 @@ abbrev pub verb_of : Explanation → Word
 verb_of (Log place) = codes "log"
 verb_of (Why pid cap) = codes "why"
 verb_of (WhyGroup group cap) = codes "why"
+verb_of (Who cap) = codes "who"
 verb_of Show = codes "show"
 verb_of (ShowProcess pid) = codes "show"
 
@@ -106,6 +107,11 @@ no_log (requests.Job job) words s = no_verb (codes "log") refl (kind_of job) wor
 no_log requests.Tell words s = absurd (search (rules, s.0))
 no_log request words s = absurd (search (rules, s.0))
 
+no_who : (request : Request) (words : List Word) → SpellsRequest request (codes "who" ∷ words) → ⊥
+no_who (requests.Job job) words s = no_verb (codes "who") refl (kind_of job) words s
+no_who requests.Tell words s = absurd (search (rules, s.0))
+no_who request words s = absurd (search (rules, s.0))
+
 no_show : (request : Request) (words : List Word) → SpellsRequest request (codes "show" ∷ words)
     → ⊥
 no_show (requests.Job job) words s = no_verb (codes "show") refl (kind_of job) words s
@@ -117,6 +123,7 @@ no_verb_of : (request : Request) (what : Explanation) (words : List Word)
 no_verb_of request (Log place) words s = no_log request words s
 no_verb_of request (Why pid cap) words s = no_why request words s
 no_verb_of request (WhyGroup group cap) words s = no_why request words s
+no_verb_of request (Who cap) words s = no_who request words s
 no_verb_of request Show words s = no_show request words s
 no_verb_of request (ShowProcess pid) words s = no_show request words s
 
@@ -125,6 +132,7 @@ pub begins_with : (what : Explanation) (verb : Word) (words : List Word)
 begins_with (Log place) verb words s = s.0
 begins_with (Why pid cap) verb words s = s.0
 begins_with (WhyGroup group cap) verb words s = s.0
+begins_with (Who cap) verb words s = s.0
 begins_with Show verb words s = s.0
 begins_with (ShowProcess pid) verb words s = s.0
 
@@ -132,6 +140,7 @@ pub no_words : (what : Explanation) → Matches (explanation_forms what) [] → 
 no_words (Log place) s = absurd s
 no_words (Why pid cap) s = absurd s
 no_words (WhyGroup group cap) s = absurd s
+no_words (Who cap) s = absurd s
 no_words Show s = absurd s
 no_words (ShowProcess pid) s = absurd s
 
@@ -158,6 +167,7 @@ few_explain (WhyGroup group cap) words s =
     omega (arith, same_length (explanation_forms (WhyGroup group cap)) words s)
 few_explain (Log place) words s =
     omega (arith, same_length (explanation_forms (Log place)) words s)
+few_explain (Who cap) words s = omega (arith, same_length (explanation_forms (Who cap)) words s)
 few_explain Show words s = omega (arith, same_length (explanation_forms Show) words s)
 few_explain (ShowProcess pid) words s =
     omega (arith, same_length (explanation_forms (ShowProcess pid)) words s)

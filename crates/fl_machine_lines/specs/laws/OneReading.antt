@@ -16,7 +16,7 @@ use Rattle.fl_machine_lines.specs.laws.AsScript.Sort.{script, receive, begin_rec
 use Rattle.fl_machine_lines.specs.declared.asked.Asked.{Asked}
 use Rattle.fl_machine_lines.specs.declared.asked.Asked.TheVariants.{Receive, BeginReceive, Explain}
 use Rattle.fl_machine_lines.specs.declared.explaining.Explanation.{Explanation}
-use Rattle.fl_machine_lines.specs.declared.explaining.Explanation.TheVariants.{Log, Why, WhyGroup, Show, ShowProcess}
+use Rattle.fl_machine_lines.specs.declared.explaining.Explanation.TheVariants.{Log, Why, WhyGroup, Who, Show, ShowProcess}
 use Rattle.fl_machine_lines.specs.declared.line.MachineLine.{MachineLine}
 use Rattle.fl_machine_lines.specs.declared.line.MachineLine.TheVariants.{Quiet, Bad, Echo, Audit, Asks}
 
@@ -53,6 +53,8 @@ one_explanation (WhyGroup f c) (WhyGroup h d) g =
 one_explanation (WhyGroup f c) other g = absurd (search (rules, g.0.left, g.0.right))
 one_explanation (Log m) (Log n) g = ap Log (same_place m n g.1.0)
 one_explanation (Log m) other g = absurd (search (rules, g.0.left, g.0.right))
+one_explanation (Who c) (Who d) g = ap Who (same_cap c d g.1.0)
+one_explanation (Who c) other g = absurd (search (rules, g.0.left, g.0.right))
 one_explanation Show Show g = refl
 one_explanation Show (ShowProcess q) g = absurd g.1
 one_explanation Show other g = absurd (search (rules, g.0.left, g.0.right))
@@ -65,6 +67,7 @@ not_receive : (what : Explanation) → verb_of what ≡ codes "receive" → ⊥
 not_receive (Log place) e = absurd (cc e)
 not_receive (Why pid cap) e = absurd (cc e)
 not_receive (WhyGroup group cap) e = absurd (cc e)
+not_receive (Who cap) e = absurd (cc e)
 not_receive Show e = absurd (cc e)
 not_receive (ShowProcess pid) e = absurd (cc e)
 
@@ -72,6 +75,7 @@ not_begin : (what : Explanation) → verb_of what ≡ codes "begin" → ⊥
 not_begin (Log place) e = absurd (cc e)
 not_begin (Why pid cap) e = absurd (cc e)
 not_begin (WhyGroup group cap) e = absurd (cc e)
+not_begin (Who cap) e = absurd (cc e)
 not_begin Show e = absurd (cc e)
 not_begin (ShowProcess pid) e = absurd (cc e)
 
