@@ -255,7 +255,7 @@ def log(_machine, node, at):
     return listed(reference.operation_text(*it) for it in named)
 
 
-def who(word):
+def whose(word):
     """Whose capability is asked for: a process's, or that of who may use a group."""
     if word.startswith("p"):
         return reference.pid(word)
@@ -297,12 +297,12 @@ def giver(right, operations):
                if right in reference.everybodys({it: op}))
 
 
-def why(_machine, node, whose, right):
-    owned, first = {whose}, "use"
-    if len(whose) == 3:
-        if whose not in node.processes:
-            raise reference.Refused(1, reference.pid_text(whose))
-        owned, first = node.processes[whose].owned, "owns"
+def why(_machine, node, holder, right):
+    owned, first = {holder}, "use"
+    if len(holder) == 3:
+        if holder not in node.processes:
+            raise reference.Refused(1, reference.pid_text(holder))
+        owned, first = node.processes[holder].owned, "owns"
     others = set(reference.everybodys(node.published)) if first == "owns" else set()
     found = first_chain(owned | others, right, node.published)
     if not found:
@@ -311,6 +311,29 @@ def why(_machine, node, whose, right):
     if root in owned:
         return listed([f"{first} {reference.cap_text(root)}", *puts])
     return listed([f"everybody {reference.name_text(giver(root, node.published))}", *puts])
+
+
+def who_lines(node, right):
+    """Who has a capability: everybody, processes, groups and logins."""
+    operations, leading = node.published, {right}
+    for _away, level in steps_to(right, operations):
+        leading |= level
+    others = set(reference.everybodys(operations))
+    if right in others:
+        yield f"everybody {reference.name_text(giver(right, operations))}"
+    for it, process in sorted(node.processes.items()):
+        if leading & (process.owned | others):
+            yield f"process {reference.pid_text(it)}"
+    for group in sorted(it for it, sign in leading if sign == reference.USE):
+        yield f"group {reference.name_text(group)}"
+    logins = sorted((it, reference.cap(op[1])) for it, op in operations.items() if op[0] == "login")
+    for it, brought in logins:
+        if brought in leading:
+            yield f"login {reference.name_text(it)} {reference.cap_text(brought)}"
+
+
+def who(_machine, node, right):
+    return listed(who_lines(node, right))
 
 
 def label_text(tags):
@@ -362,7 +385,8 @@ LINES = {
     "receive": (receive, reference.data),
     "text": (text,),
     "log": (log, place),
-    "why": (why, who, reference.cap),
+    "why": (why, whose, reference.cap),
+    "who": (who, reference.cap),
     "show": (show, reference.pid),
 }
 
