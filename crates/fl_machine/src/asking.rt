@@ -13,7 +13,7 @@ ghost use Rattle.fl_machine_turns.specs.Turn.{AnswersLine, AsksNode, IsText, Tel
 ghost use Rattle.fl_node.specs.Desks.{IsDeskOf};
 ghost use Rattle.fl_seal.specs.declared.seal.Key.{Key};
 ghost use Rattle.fl_system.specs.State.{NodeState};
-ghost use Rattle.fl_system.specs.declared.sent.Sent.{Sent as AnySent};
+ghost use Rattle.fl_wire.specs.declared.packet.Packet.TheVariants as packets;
 
 use crate::explaining::explain;
 use crate::packets::{begin_to_bring, bring_packet, check, tell};
@@ -22,37 +22,38 @@ use fl_jobs::job::{Act, Job};
 use fl_machine_calls::calls::{cancel, publish, save};
 use fl_machine_calls::guarding::{begin, work};
 use fl_machine_calls::said::Said;
-use fl_machine_calls::scratch::Scratch;
 use fl_machine_lines::asked::Asked;
 use fl_machine_lines::line::{MachineLine, read_machine_line};
+use fl_message::boxed::Boxed;
+use fl_message::message::Data;
 use fl_node::node::Node;
 use fl_seal::seal::Key;
 use fl_sealed_packets::going::bytes_to_send;
 use fl_store::keeper::Keeper;
-use fl_system::sent::Sent;
+use fl_wire::packet::Packet;
 use std::alloc::{AllocError, Global};
 
-// The message that was sent goes, as far as there is memory for its bytes.
-fn sent<'a>(alloc: Global, keys: &[Key], sent: &Sent) -> Response<'a>
+// The message that is sent goes, as far as there is memory for its bytes.
+#[inline(never)]
+fn sent<'a>(alloc: Global, keys: &[Key], message: Boxed<Data>) -> Response<'a>
     ensures { (n : NodeState) → ShowsSaying keys.now n answered_of_job
-        (Sends (sent.now.packet ∷ [])) result }
+        (Sends (packets.Data message ∷ [])) result }
 {
-    match bytes_to_send(alloc, keys, &sent.packet) {
+    let packet = Packet::Data(message.into_inner());
+    match bytes_to_send(alloc, keys, &packet) {
         Ok(bytes) => Response::Sent(bytes),
         Err(_) => starved(),
     }
 }
 
-// What is responded to a job. The packet that it sent, if it did, is the only one.
-fn said_of_job<'a>(alloc: Global, keys: &[Key], packets: &[Sent], said: Said) -> Response<'a>
-    requires { said ≡ Said.Sent → (one : AnySent) × (packets.now ≡ one ∷ []) }
-    ensures { (n : NodeState) → ShowsSaying keys.now n answered_of_job
-        (saying_of packets.now said) result }
+// What is responded to a job.
+#[inline(always)]
+fn said_of_job<'a>(alloc: Global, keys: &[Key], said: Said) -> Response<'a>
+    ensures { (n : NodeState) → ShowsSaying keys.now n answered_of_job (saying_of said) result }
 {
-    match (said.into_reply(), packets) {
-        (Some(reply), _) => Response::Reply(reply),
-        (None, [packet, ..]) => sent(alloc, keys, packet),
-        (None, []) => unreachable!("it stands there"),
+    match said {
+        Said::Reply(reply) => Response::Reply(reply),
+        Said::Sent(message) => sent(alloc, keys, message),
     }
 }
 
@@ -64,7 +65,6 @@ fn do_job<'a, K: Keeper>(
     keys: &[Key],
     guards: bool,
     job: Job,
-    scratch: &mut Scratch,
 ) -> (Response<'a>, u64)
     requires { IsDeskOf node.old.node 1 }
     ensures { let number = node.old.node.number in Responds K.custody keys.now node.old
@@ -72,9 +72,8 @@ fn do_job<'a, K: Keeper>(
         result.0 result.1 node.new }
 {
     let mut job = job;
-    let said = work(alloc, node, guards, &mut job, scratch);
-    let response = said_of_job(alloc, keys, &scratch.sent, said);
-    (response, scratch.audit.len() as u64)
+    let (said, count) = work(alloc, node, guards, &mut job);
+    (said_of_job(alloc, keys, said), count)
 }
 
 // Does the job. What it begins is to be saved and published by further lines.
@@ -85,7 +84,6 @@ fn begin_job<'a, K: Keeper>(
     keys: &[Key],
     guards: bool,
     job: Job,
-    scratch: &mut Scratch,
 ) -> (Response<'a>, u64)
     requires { IsDeskOf node.old.node 1 }
     ensures { let number = node.old.node.number in Responds K.custody keys.now node.old
@@ -93,9 +91,8 @@ fn begin_job<'a, K: Keeper>(
         result.0 result.1 node.new }
 {
     let mut job = job;
-    let said = begin(alloc, node, guards, &mut job, scratch);
-    let response = said_of_job(alloc, keys, &scratch.sent, said);
-    (response, scratch.audit.len() as u64)
+    let (said, count) = begin(alloc, node, guards, &mut job);
+    (said_of_job(alloc, keys, said), count)
 }
 
 // The operations that the node has published are to be written, where it runs.
@@ -110,13 +107,13 @@ fn text<'a, K: Keeper>(node: &Node<K>) -> Response<'a>
 }
 
 // Does what is asked of the node, and says what is responded, and how much was admitted.
+#[inline(always)]
 fn respond_to<'a, K: Keeper>(
     alloc: Global,
     node: &mut Node<K>,
     keys: &[Key],
     guards: bool,
     asked: Asked,
-    scratch: &mut Scratch,
 ) -> (Response<'a>, u64)
     requires { IsDeskOf node.old.node 1 }
     ensures { let settings = settings_of node.old.node.number keys.now guards in
@@ -124,12 +121,12 @@ fn respond_to<'a, K: Keeper>(
         result.0 result.1 node.new }
 {
     match asked {
-        Asked::Job(job) => do_job(alloc, node, keys, guards, job, scratch),
+        Asked::Job(job) => do_job(alloc, node, keys, guards, job),
         Asked::Begin(pid, order) => {
             let job = Job::By(pid, Act::Order(order));
-            begin_job(alloc, node, keys, guards, job, scratch)
+            begin_job(alloc, node, keys, guards, job)
         }
-        Asked::Receive(bytes) => bring_packet(alloc, node, keys, bytes.as_slice(), scratch),
+        Asked::Receive(bytes) => bring_packet(alloc, node, keys, bytes.as_slice()),
         Asked::BeginReceive(bytes) => (begin_to_bring(alloc, node, keys, bytes.as_slice()), 0),
         Asked::Tell => (tell(alloc, node, keys), 0),
         Asked::Save => (Response::Reply(save(node)), 0),
@@ -143,6 +140,7 @@ fn respond_to<'a, K: Keeper>(
 
 // Does what the line says to the node, of which so much was admitted before, and says what is
 // responded, and how much was admitted now.
+#[inline(always)]
 fn respond<'a, K: Keeper>(
     alloc: Global,
     node: &mut Node<K>,
@@ -150,7 +148,6 @@ fn respond<'a, K: Keeper>(
     guards: bool,
     admitted: u64,
     line: MachineLine<'a>,
-    scratch: &mut Scratch,
 ) -> (Response<'a>, u64)
     requires { IsDeskOf node.old.node 1 }
     ensures { let settings = settings_of node.old.node.number keys.now guards in
@@ -164,7 +161,7 @@ fn respond<'a, K: Keeper>(
         MachineLine::Bad => (Response::Unknown, 0),
         MachineLine::Echo(word) => (Response::Echo(word), 0),
         MachineLine::Audit => (Response::Admitted(admitted), 0),
-        MachineLine::Asks(asked) => respond_to(alloc, node, keys, guards, asked, scratch),
+        MachineLine::Asks(asked) => respond_to(alloc, node, keys, guards, asked),
     }
 }
 
@@ -177,7 +174,6 @@ pub fn hear<'a, K: Keeper>(
     guards: bool,
     admitted: u64,
     bytes: &'a [u8],
-    scratch: &mut Scratch,
 ) -> (Response<'a>, u64)
     requires { IsDeskOf node.old.node 1 }
     ensures { let settings = settings_of node.old.node.number keys.now guards in
@@ -186,7 +182,7 @@ pub fn hear<'a, K: Keeper>(
         result.0 result.1 node.new }
 {
     match read_machine_line(alloc, node.number(), bytes) {
-        Ok(line) => respond(alloc, node, keys, guards, admitted, line, scratch),
+        Ok(line) => respond(alloc, node, keys, guards, admitted, line),
         Err(AllocError) => (starved(), 0),
     }
 }

@@ -22,7 +22,6 @@ use fl_calls::response::counted;
 use fl_jobs::answer::Reply as JobReply;
 use fl_machine_calls::calls::{answer_window, bring, receive, tell as tell_once};
 use fl_machine_calls::completing::take;
-use fl_machine_calls::scratch::Scratch;
 use fl_node::node::Node;
 use fl_opset::intervals::Intervals;
 use fl_seal::seal::Key;
@@ -115,7 +114,6 @@ pub fn bring_packet<'a, K: Keeper>(
     node: &mut Node<K>,
     keys: &[Key],
     bytes: &[u8],
-    scratch: &mut Scratch,
 ) -> (Response<'a>, u64)
     requires { IsDeskOf node.old.node 1 }
     ensures { (guards : Bool)
@@ -132,7 +130,7 @@ pub fn bring_packet<'a, K: Keeper>(
         Packet::Have(window) => (bring_window(alloc, node, keys, window), 0),
         Packet::Full(_) => (Response::Reply(take(alloc, node, &packet)), 0),
         Packet::Delta(_) => (Response::Reply(take(alloc, node, &packet)), 0),
-        Packet::Data(message) => arrived(bring(alloc, node, message, scratch)),
+        Packet::Data(message) => arrived(bring(alloc, node, message)),
     }
 }
 

@@ -12,7 +12,6 @@ ghost use Rattle.fl_machine.specs.laws.Silence.{stays_silent};
 use crate::answers::write_response;
 use crate::asking::hear;
 use fl_labels::name::NodeNumber;
-use fl_machine_calls::scratch::Scratch;
 use fl_node::node::Node;
 use fl_seal::seal::Key;
 use fl_sink::sink::{Sink, WriteFault};
@@ -35,7 +34,6 @@ pub struct Session<K: Keeper> {
     // The guards' emissions too, and no further than the greatest `u64`.
     admitted: u64,
     over: bool,
-    scratch: Scratch,
 }
 
 impl<K: Keeper> Model for Session<K> {
@@ -65,7 +63,6 @@ impl<K: Keeper + Drop> Drop for Session<K> {
             guards: _,
             admitted: _,
             over: _,
-            scratch: _,
         } = self;
     }
 }
@@ -110,7 +107,6 @@ impl<K: Keeper> Session<K> {
                 guards,
                 admitted: 0,
                 over: false,
-                scratch: Scratch::new(alloc),
             }),
             Err(refused) => Err(refused),
         }
@@ -133,7 +129,6 @@ impl<K: Keeper> Session<K> {
             guards: _,
             admitted: _,
             over: _,
-            scratch: _,
         } = self;
         node.into_keeper()
     }
@@ -159,7 +154,6 @@ impl<K: Keeper> Responder for Session<K> {
             self.guards,
             self.admitted,
             line,
-            &mut self.scratch,
         );
         self.admitted = self.admitted.saturating_add(more);
         let status = response.status();

@@ -1,5 +1,5 @@
 -- In these calls no keeper fails: by their definitions nothing of them is refused so.
-use Rattle.std.proofs.Common.{◌≡◌, ◌≢◌, inl, inr, ℕ, subst, List, length, Option, Result}
+use Rattle.std.proofs.Common.{◌≡◌, ◌≢◌, ◌∙◌, inl, inr, ℕ, ap, sym, subst, Option, Result}
 use Rattle.std.proofs.Common.{Ok, Err, IfErr}
 use Rattle.fl_labels.specs.SetBy.{SetBy}
 use Rattle.fl_labels.specs.declared.pid.Pid.{Pid}
@@ -7,14 +7,14 @@ use Rattle.fl_ops.specs.declared.op.Body.{Body}
 use Rattle.fl_ops.specs.OpOrder.{op_cmp}
 use Rattle.fl_message.specs.declared.message.Data.{Data}
 use Rattle.fl_jobs.specs.declared.answer.Refusal.{Refusal}
+use Rattle.fl_jobs.specs.declared.answer.Reply.{Reply as JobReply}
 use Rattle.fl_jobs.specs.declared.job.Job.{Job}
-use Rattle.fl_system.specs.declared.admission.Admission.{Admission}
-use Rattle.fl_system.specs.declared.admission.Party.{Party}
+use Rattle.fl_system.specs.declared.answer.Answer.{Answer}
+use Rattle.fl_system.specs.declared.answer.Answer.TheVariants as answers
 use Rattle.fl_system.specs.declared.answer.Fault.{Fault}
 use Rattle.fl_system.specs.declared.answer.Fault.TheVariants as faults
 use Rattle.fl_system.specs.declared.reply.Reply.{Reply}
 use Rattle.fl_system.specs.declared.reply.Reply.TheVariants as reply
-use Rattle.fl_system.specs.declared.sent.Sent.{Sent}
 use Rattle.fl_system.specs.declared.state.Batch.TheVariants.{Ordered, Received}
 use Rattle.fl_system.specs.declared.state.Pending.TheVariants.{Nothing, Unsaved, Due}
 use Rattle.fl_system.specs.declared.state.State.{State}
@@ -27,12 +27,11 @@ use Rattle.fl_system.specs.Receives.{Receives}
 use Rattle.fl_system.specs.State.{NodeState}
 use Rattle.fl_system.specs.Waiting.{NotRunning, IsTaken, NoneUnsaved, NoneDue}
 use Rattle.fl_node.specs.Telling.{TellsNothing}
-use Rattle.fl_machine_model.specs.Alone.{BatchAlone, MessageAlone}
-use Rattle.fl_notes.specs.Bringing.{Brought}
-use Rattle.fl_machine_model.specs.Alone.{JobAlone}
-use Rattle.fl_notes.specs.Working.{Worked}
+use Rattle.fl_machine_model.specs.Acts.{Replies}
+use Rattle.fl_machine_model.specs.Alone.{BatchAlone}
 use Rattle.fl_calls.specs.Completing.{starved}
-use Rattle.fl_machine_calls.specs.Saying.{published_reply}
+use Rattle.fl_machine_calls.specs.Saying.{published_reply, saying_of, says_of}
+use Rattle.fl_machine_calls.specs.declared.said.Said.{Said}
 use Rattle.fl_machine_calls.specs.declared.said.Said.TheVariants as said
 
 -- ---- by a node's state
@@ -96,18 +95,9 @@ arrives n n' d (Arrives.stopped h) = not_running n.state h
 
 -- ---- by what is replied
 
-works : (number : ℕ) (n n' : NodeState) (desk upto : ℕ) (job : Job) (count : ℕ)
-    (sent : List Sent) (admitted : List Admission)
-    → JobAlone number n desk upto job count (reply.Refused faults.KeeperFailed) n' sent admitted → ⊥
-works number n n' desk upto job count sent admitted (JobAlone.refused h) = jobs n n' desk upto job h
-
 takes : (n n' : NodeState) (ops : SetBy op_cmp)
     → BatchAlone n ops (reply.Refused faults.KeeperFailed) n' → ⊥
 takes n n' ops (BatchAlone.refused h) = receives n n' ops h
-
-brings : (n n' : NodeState) (sender : Option Party) (d : Data) (admitted : List Admission)
-    → MessageAlone n sender d (reply.Refused faults.KeeperFailed) n' admitted → ⊥
-brings n n' sender d admitted (MessageAlone.refused h) = arrives n n' d h
 
 -- ---- in the calls
 
@@ -144,25 +134,25 @@ publish_replied (Running Nothing) e = cc
 publish_replied (Running (Unsaved batch)) e = cc
 publish_replied (Stopped doubt) e = cc
 
-pub job_replied : (number : ℕ) (n n' : NodeState) (desk upto : ℕ) (job : Job) (result : Reply)
-    (packets packets' : List Sent) (audit audit' : List Admission)
-    → Worked number n desk upto job result n' packets packets' audit audit'
-    → result ≢ reply.Refused faults.KeeperFailed
-job_replied number n n' desk upto job result packets packets' audit audit' worked e =
-    works number n n' desk upto job (length packets) worked.sent worked.admitted
-    (subst (λ r. JobAlone number n desk upto job (length packets) r n' worked.sent
-    worked.admitted) e worked.works)
+pub job_refused : (n n' : NodeState) (desk upto : ℕ) (job : Job) (fault : Fault)
+    → Jobs n desk upto job (Err fault) n' → reply.Refused fault ≢ reply.Refused faults.KeeperFailed
+job_refused n n' desk upto job =
+    refused_so (λ fault. Jobs n desk upto job (Err fault) n') (jobs n n' desk upto job)
+
+pub stopped_otherwise : (s : State) (fault : Fault) → NotRunning s fault
+    → reply.Refused fault ≢ reply.Refused faults.KeeperFailed
+stopped_otherwise s = refused_so (NotRunning s) (not_running s)
+
+pub arrival_refused : (n n' : NodeState) (d : Data) (fault : Fault) → Arrives n d (Err fault) n'
+    → reply.Refused fault ≢ reply.Refused faults.KeeperFailed
+arrival_refused n n' d = refused_so (λ fault. Arrives n d (Err fault) n') (arrives n n' d)
+
+pub replied_otherwise : (told : JobReply) → reply.Job told ≢ reply.Refused faults.KeeperFailed
+replied_otherwise told e = cc
 
 pub taking_replied : (n n' : NodeState) (ops : SetBy op_cmp) (result : Reply)
     → BatchAlone n ops result n' → result ≢ reply.Refused faults.KeeperFailed
 taking_replied n n' ops result taken e = takes n n' ops (subst (λ r. BatchAlone n ops r n') e taken)
-
-pub bringing_replied : (n n' : NodeState) (sender : Option Party) (d : Data) (result : Reply)
-    (audit audit' : List Admission) → Brought n sender d result n' audit audit'
-    → result ≢ reply.Refused faults.KeeperFailed
-bringing_replied n n' sender d result audit audit' brought e =
-    brings n n' sender d brought.admitted
-    (subst (λ r. MessageAlone n sender d r n' brought.admitted) e brought.brings)
 
 -- of calls that answer a fault
 module _ {V : Type 0} where
@@ -194,8 +184,12 @@ pub said_otherwise : (r : Reply) → r ≢ reply.Refused faults.KeeperFailed
     → said.Reply r ≢ said.Reply (reply.Refused faults.KeeperFailed)
 said_otherwise r other e = other (said_reply r (reply.Refused faults.KeeperFailed) e)
 
-pub reply_not_sent : (r : Reply) → said.Reply r ≡ said.Sent → ⊥
-reply_not_sent r e = cc
+-- what an admitted job is answered says nothing of a keeper
+pub answer_otherwise : (a : Answer) → says_of a ≢ Replies (reply.Refused faults.KeeperFailed)
+answer_otherwise (answers.Reply told) e = cc
+answer_otherwise (answers.Begun name) e = cc
+answer_otherwise (answers.Out d) e = cc
 
-pub sent_otherwise : said.Sent ≢ said.Reply (reply.Refused faults.KeeperFailed)
-sent_otherwise e = cc
+pub says_otherwise : (s : Said) (a : Answer) → saying_of s ≡ says_of a
+    → s ≢ said.Reply (reply.Refused faults.KeeperFailed)
+says_otherwise s a says e = answer_otherwise a (sym says ∙ ap saying_of e)

@@ -13,7 +13,7 @@ use Rattle.fl_machine_turns.specs.Done.{Did, did, AreCounted}
 use Rattle.fl_machine_turns.specs.Guarding.{Guarded, emits_nothing, job_at, let_out, maker_of}
 use Rattle.fl_machine_calls.specs.Going.{MayGo, GoesAlone, DoesAlone}
 use Rattle.fl_machine_calls.specs.parts.Emitting.{IsHeldBack, MayGoOn, MayNotGoOn}
-use Rattle.fl_machine_calls.proofs.Counting.{one_counted, more_counted}
+use Rattle.fl_machine_calls.proofs.Counts.{one_counted, more_counted}
 
 -- ---- an emission of nothing
 
@@ -37,22 +37,11 @@ module _ {K : Type 0} (custody : Custody K) (x y : NodeOver K) (pid : Pid) (byte
 -- ---- what is asked first
 
 module _ {K : Type 0} (custody : Custody K) (x y : NodeOver K) (guards : Bool) (job : Job)
-    (pid : Pid) (on : guards ≡ true) (makes : maker_of job ≡ Some pid) (count all : ℕ)
-    (is_all : all ≡ count) where
-  pub may_go_on : GoesAlone custody x (emits_nothing pid) count let_out y
-      → MayGoOn custody x guards job all y
-  may_go_on goes =
-      subst (λ n. MayGoOn custody x guards job n y) (sym is_all) (MayGoOn.passes on makes goes)
-
+    (pid : Pid) (on : guards ≡ true) (makes : maker_of job ≡ Some pid) (count : ℕ) where
   pub may_not_go_on : (saying : Saying) → IsHeldBack custody x pid count saying y
-      → MayNotGoOn custody x guards job all saying y
+      → MayNotGoOn custody x guards job count saying y
   may_not_go_on saying held =
-      record {
-        guarded = on;
-        pid = pid;
-        maker = makes;
-        held = subst (λ n. IsHeldBack custody x pid n saying y) (sym is_all) held;
-      }
+      record { guarded = on; pid = pid; maker = makes; held = held }
 
 -- ---- a job behind that
 
@@ -156,11 +145,3 @@ module _ {K : Type 0} (custody : Custody K) (does : Doing) (guards : Bool) (job 
   pub held_back : (y : NodeOver K) (count : ℕ) (saying : Saying)
       → MayNotGoOn custody x guards job count saying y → Does count saying y
   held_back y count saying h = by_cause h.pid y count saying h.guarded h.maker h.held
-
-  -- with as much noted as stands there then
-  pub goes_on_noting : (y z : NodeOver K) (first second all : ℕ) (saying : Saying)
-      → y.node.number ≡ x.node.number → MayGoOn custody x guards job first y
-      → DoesAlone custody y (λ s. does y.node.number s (job_at job)) second saying z
-      → all ≡ first + second → Does all saying z
-  goes_on_noting y z first second all saying same may rest sum =
-      subst (λ n. Does n saying z) (sym sum) (goes_on y z first second saying same may rest)

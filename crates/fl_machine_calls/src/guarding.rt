@@ -1,18 +1,16 @@
 //! Jobs, and what an order asks first.
-ghost use Rattle.std.specs.Prelude.{◌≡◌, ◌≢◌, ◌⊎◌, ◌+◌, [], ◌∷◌, ℕ, IfErr, IsTrue, List};
-ghost use Rattle.std.specs.Prelude.{MatchOption, None, OnOk, Some, false, length, true};
+ghost use Rattle.std.specs.Prelude.{◌≡◌, ◌≢◌, ◌≤◌, ◌⊎◌, IfErr, IfOk, IsTrue};
+ghost use Rattle.std.specs.Prelude.{MatchOption, None, Some, false, true};
 ghost use Rattle.fl_machine_calls.specs.Going.{DoesAlone, GoesAlone, IsSameNode};
 ghost use Rattle.fl_machine_calls.specs.Saying.{saying_of};
 ghost use Rattle.fl_machine_calls.specs.parts.Emitting.{IsHeldBack, MayGoOn, MayNotGoOn};
 ghost use Rattle.fl_machine_turns.specs.Completing.{Begins, Completes, says_begun};
 ghost use Rattle.fl_machine_turns.specs.Guarding.{Guarded, emits_nothing, let_out, maker_of};
 ghost use Rattle.fl_node.specs.Desks.{IsDeskOf};
-ghost use Rattle.fl_system.specs.declared.sent.Sent.{Sent as AnySent};
 
 use crate::calls::job as job_once;
 use crate::completing::{begins, finish};
 use crate::said::Said;
-use crate::scratch::Scratch;
 use fl_jobs::answer::{Refusal, Reply as JobReply};
 use fl_jobs::job::{Act, Job};
 use fl_labels::pid::Pid;
@@ -40,8 +38,8 @@ fn maker(guards: bool, job: &Job) -> Option<Pid>
 
 // Whether an emission of nothing was admitted.
 fn is_out(said: &Said) -> bool
-    ensures yes { result ≡ true → (sent : List AnySent) → saying_of sent said.now ≡ let_out }
-    ensures no { result ≡ false → (sent : List AnySent) → saying_of sent said.now ≢ let_out }
+    ensures yes { result ≡ true → saying_of said.now ≡ let_out }
+    ensures no { result ≡ false → saying_of said.now ≢ let_out }
 {
     match said {
         Said::Reply(Reply::Job(JobReply::Emitted(bytes))) => bytes.as_slice().is_empty(),
@@ -51,72 +49,68 @@ fn is_out(said: &Said) -> bool
 
 // Whether something is to be saved and published.
 fn begun(said: &Said) -> bool
-    ensures { (sent : List AnySent) → result ≡ says_begun (saying_of sent said.now) }
+    ensures { result ≡ says_begun (saying_of said.now) }
 {
     match said {
         Said::Reply(reply) => begins(reply),
-        Said::Sent => false,
+        Said::Sent(_) => false,
     }
 }
 
-// Lets out nothing by this process, which everybody who reads orders would read too. An error is
-// what is said where that is not admitted, or there is no room for it.
+// Lets out nothing by this process, which everybody who reads orders would read too, and says how
+// much is noted of that. An error is what is said where it is not admitted, or there is no room for
+// it.
 #[cold]
 #[inline(never)]
-fn emit_nothing<K: Keeper>(
-    alloc: Global,
-    node: &mut Node<K>,
-    pid: Pid,
-    scratch: &mut Scratch,
-) -> Result<(), Said>
+fn emit_nothing<K: Keeper>(alloc: Global, node: &mut Node<K>, pid: Pid) -> Result<u64, (Said, u64)>
     requires { IsDeskOf node.old.node 1 }
-    ensures out { OnOk result ((count : ℕ)
-        × (length scratch.new.audit.items ≡ length scratch.old.audit.items + count)
-        × GoesAlone K.custody node.old (emits_nothing pid) count let_out node.new) }
-    ensures held { IfErr result (λ said. (count : ℕ)
-        × (length scratch.new.audit.items ≡ length scratch.old.audit.items + count)
-        × IsHeldBack K.custody node.old pid count (saying_of scratch.new.sent.items said)
-        node.new) }
-    ensures one { IfErr result (λ said. said ≡ Said.Sent
-        → (one : AnySent) × (scratch.new.sent.items ≡ one ∷ [])) }
-    ensures cause { IfErr result (λ said. said ≢ Said.Reply (Reply.Refused Fault.KeeperFailed)) }
+    ensures out { IfOk result (λ count.
+        GoesAlone K.custody node.old (emits_nothing pid) count let_out node.new) }
+    ensures few { IfOk result (λ count. count ≤ 1) }
+    ensures held { IfErr result (λ held.
+        IsHeldBack K.custody node.old pid held.1 (saying_of held.0) node.new) }
+    ensures cause { IfErr result (λ held.
+        held.0 ≢ Said.Reply (Reply.Refused Fault.KeeperFailed)) }
     ensures same { IsSameNode node.old.node node.new.node }
     ensures keeper { node.new.keeper ≡ node.old.keeper }
 {
     let Ok(nothing) = Boxed::new(alloc, Payload::new(alloc)) else {
         let starved = Fault::Refused(Refusal::Memory);
-        return Err(Said::Reply(Reply::Refused(starved)));
+        return Err((Said::Reply(Reply::Refused(starved)), 0));
     };
     let mut emission = Job::By(pid, Act::Emit(nothing));
-    let said = job_once(alloc, node, &mut emission, scratch);
-    if is_out(&said) { Ok(()) } else { Err(said) }
+    let (said, count) = job_once(alloc, node, &mut emission);
+    if is_out(&said) {
+        Ok(count)
+    } else {
+        Err((said, count))
+    }
 }
 
 // What a job asks first: nothing, or that its process may let out something, where it is an order
-// and orders are guarded. An error is what is said where it may not. Without anything noted before.
+// and orders are guarded. Says how much is noted of that. An error is what is said where it may
+// not.
 #[inline(always)]
 fn ask_first<K: Keeper>(
     alloc: Global,
     node: &mut Node<K>,
     guards: bool,
     job: &Job,
-    scratch: &mut Scratch,
-) -> Result<(), Said>
+) -> Result<u64, (Said, u64)>
     requires { IsDeskOf node.old.node 1 }
-    ensures passes { OnOk result (MayGoOn K.custody node.old guards job.now
-        (length scratch.new.audit.items) node.new) }
-    ensures held { IfErr result (λ said. MayNotGoOn K.custody node.old guards job.now
-        (length scratch.new.audit.items) (saying_of scratch.new.sent.items said) node.new) }
-    ensures one { IfErr result (λ said. said ≡ Said.Sent
-        → (one : AnySent) × (scratch.new.sent.items ≡ one ∷ [])) }
-    ensures cause { IfErr result (λ said. said ≢ Said.Reply (Reply.Refused Fault.KeeperFailed)) }
+    ensures passes { IfOk result (λ count.
+        MayGoOn K.custody node.old guards job.now count node.new) }
+    ensures few { IfOk result (λ count. count ≤ 1) }
+    ensures held { IfErr result (λ held.
+        MayNotGoOn K.custody node.old guards job.now held.1 (saying_of held.0) node.new) }
+    ensures cause { IfErr result (λ held.
+        held.0 ≢ Said.Reply (Reply.Refused Fault.KeeperFailed)) }
     ensures same { IsSameNode node.old.node node.new.node }
     ensures keeper { node.new.keeper ≡ node.old.keeper }
 {
-    scratch.clear();
     match maker(guards, job) {
-        Some(pid) => emit_nothing(alloc, node, pid, scratch),
-        None => Ok(()),
+        Some(pid) => emit_nothing(alloc, node, pid),
+        None => Ok(0),
     }
 }
 
@@ -124,27 +118,27 @@ fn ask_first<K: Keeper>(
 /// guarded and it is one, an emission of nothing by its process is done first, and where that is
 /// not admitted, nothing else. What the job begins is to be saved and published.
 ///
-/// What is noted of both is then in the scratch and nothing else is, and so is the packet that is
-/// sent. Never answers `KeeperFailed`.
+/// Says too how much is noted of both: two entries at most. Never answers `KeeperFailed`.
 pub fn begin<K: Keeper>(
     alloc: Global,
     node: &mut Node<K>,
     guards: bool,
     job: &mut Job,
-    scratch: &mut Scratch,
-) -> Said
+) -> (Said, u64)
     requires { IsDeskOf node.old.node 1 }
     ensures does { let number = node.old.node.number in
         DoesAlone K.custody node.old (λ s. Guarded number guards s job.old (Begins number))
-        (length scratch.new.audit.items) (saying_of scratch.new.sent.items result) node.new }
-    ensures one { result ≡ Said.Sent → (one : AnySent) × (scratch.new.sent.items ≡ one ∷ []) }
-    ensures cause { result ≢ Said.Reply (Reply.Refused Fault.KeeperFailed) }
+        result.1 (saying_of result.0) node.new }
+    ensures cause { result.0 ≢ Said.Reply (Reply.Refused Fault.KeeperFailed) }
     ensures same { IsSameNode node.old.node node.new.node }
     ensures keeper { node.new.keeper ≡ node.old.keeper }
 {
-    match ask_first(alloc, node, guards, job, scratch) {
-        Ok(()) => job_once(alloc, node, job, scratch),
-        Err(said) => said,
+    match ask_first(alloc, node, guards, job) {
+        Ok(first) => {
+            let (said, count) = job_once(alloc, node, job);
+            (said, first + count)
+        }
+        Err(held) => held,
     }
 }
 
@@ -156,23 +150,23 @@ pub fn work<K: Keeper>(
     node: &mut Node<K>,
     guards: bool,
     job: &mut Job,
-    scratch: &mut Scratch,
-) -> Said
+) -> (Said, u64)
     requires { IsDeskOf node.old.node 1 }
     ensures does { let number = node.old.node.number in
         DoesAlone K.custody node.old (λ s. Guarded number guards s job.old (Completes number))
-        (length scratch.new.audit.items) (saying_of scratch.new.sent.items result) node.new }
-    ensures one { result ≡ Said.Sent → (one : AnySent) × (scratch.new.sent.items ≡ one ∷ []) }
-    ensures cause { result ≡ Said.Reply (Reply.Refused Fault.KeeperFailed)
+        result.1 (saying_of result.0) node.new }
+    ensures cause { result.0 ≡ Said.Reply (Reply.Refused Fault.KeeperFailed)
         → IsTrue (K.custody.is_broken node.new.keeper) }
     ensures same { IsSameNode node.old.node node.new.node }
 {
-    if let Err(said) = ask_first(alloc, node, guards, job, scratch) {
-        return said;
-    }
-    let said = job_once(alloc, node, job, scratch);
+    let first = match ask_first(alloc, node, guards, job) {
+        Ok(count) => count,
+        Err(held) => return held,
+    };
+    let (said, count) = job_once(alloc, node, job);
+    let all = first + count;
     if begun(&said) {
-        return Said::Reply(finish(alloc, node));
+        return (Said::Reply(finish(alloc, node)), all);
     }
-    said
+    (said, all)
 }

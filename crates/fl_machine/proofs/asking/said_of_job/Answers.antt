@@ -1,14 +1,9 @@
-use Rattle.std.proofs.Common.{sym, ◌∙◌}
-use Rattle.fl_machine.proofs.Jobs.{none_replied, reply_shown, sent_shown}
+use Rattle.fl_machine.specs.Shown.{Shows}
+use Rattle.fl_machine.specs.parts.Responding.{ShowsSaying}
 use Rattle.fl_machine.proofs.asking.said_of_job.Goals as goal
 
-pub returns-in-Some-default : goal.returns-in-Some-default
-returns-in-Some-default c = λ n.
-    reply_shown c.args.packets.now c.args.said c.in-Some-default.reply
-    (sym c.into_reply.ensures ∙ c.in-Some-default.is-0)
+pub returns-in-Reply : goal.returns-in-Reply
+returns-in-Reply c = λ n. rw c.in-Reply.is (ShowsSaying.as_said Shows.replied)
 
-pub returns-in-None-len1-up : goal.returns-in-None-len1-up
-returns-in-None-len1-up c = λ n.
-    let none = none_replied c.args.said (sym c.into_reply.ensures ∙ c.in-None-len1-up.is-0) in
-    sent_shown c.sent.result c.args.said c.args.packets.now c.packet-item.result none
-    (c.requires none) c.packet-item.is (c.sent.ensures n)
+pub returns-in-Sent : goal.returns-in-Sent
+returns-in-Sent c = λ n. rw c.in-Sent.is (c.sent.ensures n)

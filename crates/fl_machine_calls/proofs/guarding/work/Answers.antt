@@ -1,12 +1,15 @@
-use Rattle.std.proofs.Common.{◌∙◌, ◌+◌, sym, arith}
+use Rattle.std.proofs.Common.{◌≡◌, ◌∙◌, ◌+◌, ℕ, sym, arith}
 use Rattle.fl_machine_turns.specs.Completing.{Completes}
 use Rattle.fl_machine_turns.specs.Guarding.{job_at}
 use Rattle.fl_machine_calls.specs.Saying.{saying_of}
 use Rattle.fl_machine_calls.proofs.Completions.{completes, ends}
-use Rattle.fl_machine_calls.proofs.Failing.{reply_not_sent, said_reply}
-use Rattle.fl_machine_calls.proofs.Guards.{goes_on_noting, held_back}
+use Rattle.fl_machine_calls.proofs.Failing.{said_reply}
+use Rattle.fl_machine_calls.proofs.Guards.{goes_on, held_back}
 use Rattle.fl_machine_calls.proofs.Numbers.{same_after}
 use Rattle.fl_machine_calls.proofs.guarding.work.Goals as goal
+
+plus_none : (n : ℕ) → n + 0 ≡ n
+plus_none n = omega arith
 
 pub returns-in-Err-clause-does : goal.returns-in-Err-clause-does
 returns-in-Err-clause-does g c =
@@ -18,16 +21,14 @@ returns-in-Err-clause-cause g c failed = absurd (c.in-Err.ensures.cause failed)
 
 pub returns-then-begun-clause-does : goal.returns-then-begun-clause-does
 returns-then-begun-clause-does g c =
-    let goes = c.job-said.ensures.goes in
-    let sent = c.job-said.new.scratch.sent.items in
-    goes_on_noting g.K.Keeper.custody Completes c.args.guards c.args.job.now c.args.node.now
-    c.ask_first.new.node c.finish.new.node _ (goes.0 + 0) _ _
-    c.ask_first.ensures.same.number c.in_default.ensures.passes
-    (completes g.K.Keeper.custody (job_at c.args.job.now) c.ask_first.new.node
-    c.job-said.new.node goes.0 (saying_of sent c.job-said.result) goes.2
-    c.job-said.ensures.same.number c.finish.new.node 0 _
-    (sym (c.begun.ensures sent) ∙ c.if-begun.true) c.finish.ensures.does)
-    (omega (arith, goes.1))
+    let job = c.job-said in
+    goes_on g.K.Keeper.custody Completes c.args.guards c.args.job.now c.args.node.now
+    c.ask_first.new.node c.finish.new.node c.in-Ok.count job.result.1 _
+    c.ask_first.ensures.same.number c.in-Ok.ensures.passes
+    (rw (plus_none job.result.1) at (completes g.K.Keeper.custody (job_at c.args.job.now)
+    c.ask_first.new.node job.new.node job.result.1 (saying_of job.result.0) job.ensures.goes
+    job.ensures.same.number c.finish.new.node 0 _
+    (sym c.begun.ensures ∙ c.if-begun.true) c.finish.ensures.does))
 
 pub returns-then-begun-clause-cause : goal.returns-then-begun-clause-cause
 returns-then-begun-clause-cause g c failed = c.finish.ensures.cause (said_reply _ _ failed)
@@ -39,21 +40,15 @@ returns-then-begun-clause-same g c =
 
 pub returns-clause-does : goal.returns-clause-does
 returns-clause-does g c =
-    let goes = c.job-said.ensures.goes in
-    let sent = c.job-said.new.scratch.sent.items in
-    goes_on_noting g.K.Keeper.custody Completes c.args.guards c.args.job.now c.args.node.now
-    c.ask_first.new.node c.job-said.new.node _ goes.0 _
-    (saying_of sent c.job-said.result)
-    c.ask_first.ensures.same.number c.in_default.ensures.passes
-    (ends g.K.Keeper.custody (job_at c.args.job.now) c.ask_first.new.node
-    c.job-said.new.node goes.0 _ goes.2
-    (sym (c.begun.ensures sent) ∙ c.if-begun.false)) goes.1
+    let job = c.job-said in
+    goes_on g.K.Keeper.custody Completes c.args.guards c.args.job.now c.args.node.now
+    c.ask_first.new.node job.new.node c.in-Ok.count job.result.1 (saying_of job.result.0)
+    c.ask_first.ensures.same.number c.in-Ok.ensures.passes
+    (ends g.K.Keeper.custody (job_at c.args.job.now) c.ask_first.new.node job.new.node
+    job.result.1 _ job.ensures.goes (sym c.begun.ensures ∙ c.if-begun.false))
 
 pub returns-clause-cause : goal.returns-clause-cause
 returns-clause-cause g c failed = absurd (c.job-said.ensures.cause failed)
 
 pub returns-clause-same : goal.returns-clause-same
 returns-clause-same g c = same_after c.ask_first.ensures.same c.job-said.ensures.same
-
-pub returns-then-begun-clause-one : goal.returns-then-begun-clause-one
-returns-then-begun-clause-one g c e = absurd (reply_not_sent _ e)
