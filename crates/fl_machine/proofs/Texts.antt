@@ -11,7 +11,8 @@ use Rattle.hex.specs.Hex.{encode_lower}
 use Rattle.fl_labels.specs.SetBy as set
 use Rattle.fl_labels.specs.declared.pid.Pid.{Pid}
 use Rattle.fl_bench.specs.declared.process.Process.{Process}
-use Rattle.fl_explanations.specs.Lines.{logged, pids_of, why_lines}
+use Rattle.fl_explanations.specs.Lines.{lines_text, logged, pids_of, who_lines, why_lines}
+use Rattle.fl_explanations.specs.declared.who.Who.{Who}
 use Rattle.fl_explanations.specs.declared.why.Why.{Why}
 use Rattle.fl_opset.specs.RegistryText.{op_line, registry_text}
 use Rattle.fl_seal.specs.declared.seal.Key.{Key}
@@ -118,6 +119,10 @@ module _ (keys : List Key) (n : NodeState) (number : ℕ) where
       → text_of keys number answer
       ≡ head_text (length (why_lines why)) ++ flat_map (λ line. line) (why_lines why)
   why_text why answer Shows.because = refl
+
+  pub who_text : (who : Who) (answer : Answer) → Shows keys n (response.Who who) answer
+      → text_of keys number answer ≡ lines_text (who_lines who)
+  who_text who answer Shows.named = refl
 
   pub overview_text : (pids : Vec Pid Global) (answer : Answer)
       → Shows keys n (response.Overview pids) answer

@@ -18,7 +18,8 @@ use Rattle.fl_system.specs.Waiting.{IsRunning}
 use Rattle.fl_jobs.specs.declared.answer.Reply.TheVariants.{NotYet}
 use Rattle.fl_calls.specs.Answer as says
 use Rattle.fl_calls.specs.Completing.{starved}
-use Rattle.fl_explanations.specs.Lines.{logged, pids_of, why_lines}
+use Rattle.fl_explanations.specs.Lines.{logged, pids_of, who_lines, why_lines}
+use Rattle.fl_explanations.specs.declared.who.Who.{Who}
 use Rattle.fl_explanations.specs.declared.why.Why.{Why}
 use Rattle.fl_opset.specs.RegistryText.{op_line}
 use Rattle.fl_calls.specs.declared.response.Check.{Check}
@@ -54,6 +55,7 @@ pub data Shows (keys : List Key) (n : NodeState) : Response → Answer → Type 
   log : {place : ℕ} → Shows keys n (response.Log place)
       (answers.explained (list_map op_line (logged place n.published)))
   because : {found : Why} → Shows keys n (response.Why found) (answers.explained (why_lines found))
+  named : {found : Who} → Shows keys n (response.Who found) (answers.explained (who_lines found))
   overview : {pids : Vec Pid Global} → pids.items ≡ pids_of (bench_of n)
       → Shows keys n (response.Overview pids) (overview_of n)
   process : {pid : Pid} → Shows keys n (response.Process pid) (told_of pid (process_of n pid))

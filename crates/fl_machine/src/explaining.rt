@@ -9,6 +9,7 @@ ghost use Rattle.fl_seal.specs.declared.seal.Key.{Key as AnyKey};
 
 use crate::response::{Response, refused, starved};
 use fl_explanations::overview::pids_of;
+use fl_explanations::who::who_has;
 use fl_explanations::why::{Why, why_group, why_owned};
 use fl_jobs::answer::{Refusal, Reply as JobReply};
 use fl_labels::cap::Cap;
@@ -46,6 +47,17 @@ fn why_process<'a, K: Keeper>(alloc: Global, node: &Node<K>, pid: Pid, cap: Cap)
     told(why_owned(alloc, node.published(), owned, cap))
 }
 
+// Who has the capability, under what the node has published.
+fn named<'a, K: Keeper>(alloc: Global, node: &Node<K>, cap: Cap) -> Response<'a>
+    ensures { (keys : List AnyKey) → let n = node.now.node in
+        ShowsOne keys n (Explains n (asked.Who cap)) result }
+{
+    let Ok(who) = who_has(alloc, node.published(), node.bench(BENCH), cap) else {
+        return starved();
+    };
+    Response::Who(who)
+}
+
 // How the node stands, and each of its processes.
 fn overview<'a, K: Keeper>(alloc: Global, node: &Node<K>) -> Response<'a>
     ensures { (keys : List AnyKey) → let n = node.now.node in
@@ -59,7 +71,8 @@ fn overview<'a, K: Keeper>(alloc: Global, node: &Node<K>) -> Response<'a>
 
 /// What is responded where this is to be explained: `Stopped` where the node does not run, `F1`
 /// where there is no such process, and `F14` where there is no memory for a chain that has a step,
-/// or for the pids of some processes. Costs what `why_owned`, `why_group` or `pids_of` does.
+/// for those who are named, or for the pids of some processes. Costs what `why_owned`, `why_group`,
+/// `who_has` or `pids_of` does.
 #[inline(never)]
 pub(crate) fn explain<'a, K: Keeper>(
     alloc: Global,
@@ -76,6 +89,7 @@ pub(crate) fn explain<'a, K: Keeper>(
         Explanation::Log(place) => Response::Log(place),
         Explanation::Why(pid, cap) => why_process(alloc, node, pid, cap),
         Explanation::WhyGroup(group, cap) => told(why_group(alloc, node.published(), group, cap)),
+        Explanation::Who(cap) => named(alloc, node, cap),
         Explanation::Show => overview(alloc, node),
         Explanation::ShowProcess(pid) => Response::Process(pid),
     }

@@ -5,6 +5,7 @@ ghost use Rattle.fl_machine.specs.Shown.{status_said};
 ghost use Rattle.fl_turns.specs.Answer.{fault_status};
 
 use fl_calls::response::Check;
+use fl_explanations::who::Who;
 use fl_explanations::why::Why;
 use fl_jobs::answer::Refusal;
 use fl_labels::pid::Pid;
@@ -38,6 +39,8 @@ pub enum Response<'a> {
     Log(u32),
     /// Why somebody has a capability.
     Why(Why),
+    /// Who has a capability.
+    Who(Who),
     /// How the node stands, and each of its processes, whose pids these are, which is written from
     /// the node itself.
     Overview(Vec<Pid>),

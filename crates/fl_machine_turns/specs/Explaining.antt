@@ -11,8 +11,10 @@ use Rattle.fl_labels.specs.declared.pid.Pid.{Pid}
 use Rattle.fl_ops.specs.Registry.{From, Listed, Reach, WithGlobal}
 use Rattle.fl_ops.specs.declared.op.Op.{Op}
 use Rattle.fl_opset.specs.RegistryText.{op_line}
-use Rattle.fl_explanations.specs.Lines.{logged, node_lines, process_lines, processes_at, why_lines}
+use Rattle.fl_explanations.specs.Lines.{logged, node_lines, process_lines, processes_at, who_lines, why_lines}
+use Rattle.fl_explanations.specs.Who.{IsWho, MayBeNamed}
 use Rattle.fl_explanations.specs.Why.{BeginsOwned, BeginsWithUse, IsWhy}
+use Rattle.fl_explanations.specs.declared.who.Who.{Who as AnyWho}
 use Rattle.fl_explanations.specs.declared.why.First.{First}
 use Rattle.fl_explanations.specs.declared.why.Why.{Why as AnyWhy}
 use Rattle.fl_jobs.specs.declared.answer.Refusal.TheVariants.{NoProcess}
@@ -30,7 +32,7 @@ use Rattle.fl_system.specs.declared.answer.Fault.TheVariants as faults
 use Rattle.fl_system.specs.declared.reply.Reply.TheVariants.{Job, Refused}
 use Rattle.fl_calls.specs.Answer as says
 use Rattle.fl_machine_lines.specs.declared.explaining.Explanation.{Explanation}
-use Rattle.fl_machine_lines.specs.declared.explaining.Explanation.TheVariants.{Log, Why, WhyGroup, Show, ShowProcess}
+use Rattle.fl_machine_lines.specs.declared.explaining.Explanation.TheVariants.{Log, Why, WhyGroup, Who, Show, ShowProcess}
 use Rattle.fl_machine_turns.specs.Answer.{Answer, said, explained, starved_line}
 
 -- The first of the shortest chains to the capability, or that none leads to it. There may be no
@@ -73,6 +75,11 @@ pub data Explains (n : NodeState) : Explanation → Answer → Type 0 where
   why_group : {group : _} {cap : Cap} {answer : Answer}
       → TellsWhy n.published (From (Use group)) (BeginsWithUse group) cap answer
       → Explains n (WhyGroup group cap) answer
+  who : {cap : Cap} {found : AnyWho} → IsWho n.published (bench_of n) cap found
+      → Explains n (Who cap) (explained (who_lines found))
+  -- where somebody may be named: there may be no memory for all
+  who_no_room : {cap : Cap} → MayBeNamed n.published (bench_of n) cap
+      → Explains n (Who cap) starved_line
   show : Explains n Show (overview_of n)
   -- of a node that has a process: there may be no memory for all pids
   show_no_room : processes_at (bench_of n) ≢ [] → Explains n Show starved_line

@@ -1,7 +1,7 @@
 use Rattle.fl_labels.specs.declared.cap.Cap.TheVariants.{Use}
 use Rattle.fl_ops.specs.Registry.{From}
 use Rattle.fl_explanations.specs.Why.{BeginsWithUse}
-use Rattle.fl_machine_lines.specs.declared.explaining.Explanation.TheVariants.{Log, Why, WhyGroup, Show, ShowProcess}
+use Rattle.fl_machine_lines.specs.declared.explaining.Explanation.TheVariants.{Log, Why, WhyGroup, Who, Show, ShowProcess}
 use Rattle.fl_machine_turns.specs.Explaining.{Explains}
 use Rattle.fl_machine.specs.Shown.{Shows}
 use Rattle.fl_machine.specs.declared.response.Response.TheVariants as response
@@ -36,6 +36,11 @@ returns-in-WhyGroup g c = λ keys.
     (shows_why keys n n.published (From (Use group)) (BeginsWithUse group) c.in-WhyGroup.cap
     c.why_group.result (rw c.published.ensures at c.why_group.ensures.found)
     c.why_group.ensures.memory)))
+
+pub returns-in-Who : goal.returns-in-Who
+returns-in-Who g c = λ keys.
+    rw c.in-Who.is (explains_so g.K.Keeper.custody c.args.node.now keys (Who c.in-Who.cap)
+    c.named.result c.in_default.ensures.ok (c.named.ensures keys))
 
 pub returns-in-Show : goal.returns-in-Show
 returns-in-Show g c = λ keys.
