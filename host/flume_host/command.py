@@ -6,13 +6,14 @@ import os
 import pathlib
 import secrets
 import signal
+import socket
 import subprocess
 import sys
 
 from .config import Config, Unfit, read_config
 from .explain import explain
-from .node import Books, NodeEnded
-from .pauses import attempts
+from .node import Books
+from .outlets import attempts
 from .records import Journal, Vault
 from .sandbox import Running
 from .world import World
@@ -23,6 +24,8 @@ USAGE = """usage: flume-host [--as-root] CONFIG    runs the host of a machine
        flume-host status CONFIG           says what a running host does
        flume-host explain CONFIG SERVICE  says what a service read, sent, and was refused
        flume-host story                   runs the story of the documents, and prints it"""
+# how many words stand behind each
+WORDS = {"run": 1, "check": 1, "init": 1, "status": 1, "explain": 2}
 STORY = pathlib.Path(__file__).resolve().parent.parent / "tests/story/run"
 
 
@@ -45,8 +48,7 @@ class Host:
 
         Raises Unfit where its directory is not there, or another host has it.
         """
-        self.config, self.folder = config, pathlib.Path(config.node.directory)
-        os.umask(0o077)
+        self.config, self.folder, self.starts = config, pathlib.Path(config.node.directory), 0
         try:
             self.lock = open(self.folder / "lock", "a")
             fcntl.flock(self.lock, fcntl.LOCK_EX | fcntl.LOCK_NB)
@@ -60,7 +62,6 @@ class Host:
         self.running, self.vault = Running(self.folder / "running"), Vault(self.folder / "vault")
         self.journal = Journal(self.folder, config.node.journal_bytes, config.node.journal_files)
         self.world: World | None = None
-        self.starts = 0
 
     async def run(self) -> int:
         """Runs until a signal ends it, or its node ends with 2 or 4. Returns the status."""
@@ -80,18 +81,16 @@ class Host:
         """Runs one node, from its greeting to the end of all that lives. Returns its status."""
         self.starts += 1
         keys = [word for it in self.config.node.keys for word in ("--key", it)]
-        words = [*words_of_node(self.config), *keys]
-        node = Books(words, self.config.node.number, self.journal)
+        books = Books([*words_of_node(self.config), *keys], self.config.node.number, self.journal)
         try:
-            node.greet()
-            self.world = World(self.config, node, self.vault, self.running, self.keys)
-            await self.world.live(stop)
-            return node.end()
-        except NodeEnded:
-            return node.wait()
+            self.world = World(self.config, books, self.vault, self.running, self.keys)
+            # a task of its own, since a group that fails leaves its task as one to be cancelled
+            await asyncio.create_task(self.world.run(stop))
+            status = books.end()
+            return status if status in ((0, 1, 2, 4) if stop.is_set() else (2, 4)) else 3
         finally:
             self.world = None
-            node.wait(0)
+            books.program.kill()
 
     async def control(self, reader: asyncio.StreamReader, writer: asyncio.StreamWriter) -> None:
         """Answers a request of the command: its words in JSON, on one line."""
@@ -107,24 +106,23 @@ class Host:
 
     def status(self) -> str:
         """Returns what runs, as JSON."""
-        living, peers = (self.world.living, self.world.peers) if self.world else ({}, {})
+        living, peers = ({}, {}) if not self.world else (
+            self.world.living, self.world.machines.peers)
         return json.dumps({"node": self.config.node.number, "starts": self.starts,
                            "emissions": self.journal.emissions, "undone": len(self.journal.undone),
                            "processes": {pid: it.name for pid, it in living.items()},
                            "peers": {number: it.status() for number, it in peers.items()}})
 
 
-async def ask_host(config: Config, words: list[str]) -> int:
+def ask_host(config: Config, *words: str) -> int:
     """Asks a running host, and prints what it answers. Raises Unfit where none runs."""
-    try:
-        path = pathlib.Path(config.node.directory, "control")
-        reader, writer = await asyncio.open_unix_connection(path)
-    except OSError as why:
-        raise Unfit(f"no host runs here: {why.strerror}") from None
-    writer.write(json.dumps(words).encode() + b"\n")
-    while line := await reader.readline():
-        print(line.decode(), end="")
-    writer.close()
+    with socket.socket(socket.AF_UNIX) as line:
+        try:
+            line.connect(str(pathlib.Path(config.node.directory, "control")))
+        except OSError as why:
+            raise Unfit(f"no host runs here: {why.strerror}") from None
+        line.sendall(json.dumps(words).encode() + b"\n")
+        print(*line.makefile(), sep="", end="")
     return 0
 
 
@@ -132,12 +130,10 @@ def init(config: Config) -> int:
     """Makes the directory, the first key where it is not there, and the node, which says 4 where
     one is there already."""
     pathlib.Path(config.node.directory).mkdir(mode=0o700, parents=True, exist_ok=True)
-    for key in config.node.keys[:1]:
-        if not os.path.exists(key):
-            with open(os.open(key, os.O_WRONLY | os.O_CREAT | os.O_EXCL, 0o600), "w") as file:
-                file.write(secrets.token_hex(32))
-    words = [*words_of_node(config), "--new"]
-    return subprocess.run(words, stdin=subprocess.DEVNULL, umask=0o077).returncode
+    for key in map(pathlib.Path, config.node.keys[:1]):
+        if not key.exists():
+            key.write_text(secrets.token_hex(32))
+    return subprocess.run([*words_of_node(config), "--new"], stdin=subprocess.DEVNULL).returncode
 
 
 def main(words: list[str]) -> int:
@@ -146,24 +142,26 @@ def main(words: list[str]) -> int:
         os.execv(STORY, [str(STORY)])
     as_root = words[:1] == ["--as-root"]
     words = words[as_root:]
-    verb = words.pop(0) if words[:1] and words[0] in ("check", "init", "status", "explain") else ""
-    is_help = words in (["-h"], ["--help"])
-    if is_help or len(words) != (2 if verb == "explain" else 1):
-        print(USAGE, file=sys.stdout if is_help else sys.stderr)
-        return 0 if is_help else 2
-    status = 0
+    verb = words.pop(0) if words[:1] and words[0] in WORDS else "run"
+    if words in (["-h"], ["--help"]):
+        print(USAGE)
+        return 0
+    if len(words) != WORDS[verb]:
+        print(USAGE, file=sys.stderr)
+        return 2
+    os.umask(0o077)
     try:
         config = read_config(pathlib.Path(words[0]).absolute())
         if verb in ("status", "explain"):
-            status = asyncio.run(ask_host(config, [verb, *words[1:]]))
-        elif verb != "check" and os.getuid() == 0 and not as_root:
+            return ask_host(config, verb, *words[1:])
+        if verb != "check" and os.getuid() == 0 and not as_root:
             raise Unfit("root's processes are not limited in number: --as-root insists")
-        elif verb != "check":
-            status = init(config) if verb else asyncio.run(Host(config).run())
+        if verb == "run":
+            return asyncio.run(Host(config).run())
+        return init(config) if verb == "init" else 0
     except* Unfit as group:
         why: BaseException = group
         while isinstance(why, BaseExceptionGroup):
             why = why.exceptions[0]
-        say(why)
-        status = getattr(why, "status", 2)
-    return status
+    say(why)
+    return getattr(why, "status", 2)

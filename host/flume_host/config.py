@@ -26,8 +26,7 @@ class Unfit(Exception):
 
 
 class NodeConfig(NamedTuple):
-    """The node that is served, the files of the keys of its seal, and what the host keeps: its
-    directory, and so much of a journal."""
+    """The node that is served, the files of the keys of its seal, and what the host keeps."""
     number: Number
     directory: str
     program: str = "flume-node"
@@ -37,8 +36,7 @@ class NodeConfig(NamedTuple):
 
 
 class Cluster(NamedTuple):
-    """The broker by which machines meet, how often they tell one another what they have, and for
-    how long a start waits for them, in seconds. Without certificates there is no TLS."""
+    """The broker by which machines meet, and how long they wait for one another, in seconds."""
     name: Annotated[str, NAME]
     broker: Annotated[str, ADDRESS]
     ca: str = ""
@@ -70,8 +68,7 @@ class Owner(NamedTuple):
 
 
 class ServiceConfig(NamedTuple):
-    """A service: what runs, what it sees, its labels and rights as it starts, which other names
-    it may use, and what it may take."""
+    """A service: what runs and what it sees, how it starts, whom it may call, what it may take."""
     command: tuple[str, ...]
     sees: tuple[str, ...] = ()
     secrecy: Tags = ()
@@ -116,28 +113,20 @@ class Config(NamedTuple):
         return [name for peer in self.peers.values() for name in getattr(peer, kind)]
 
 
-def resolved(path: str) -> pathlib.Path:
-    return pathlib.Path(path).resolve()
-
-
 def tags_of(rights: Iterable[str]) -> set[str]:
     return {right[1:] for right in rights}
 
 
 def read_config(path: pathlib.Path) -> Config:
-    """Returns the configuration of a file, whose folder the program is in from here on.
-
-    Raises Unfit with every problem: where it cannot be read, where it is no TOML, with the line,
-    and else by key.
-    """
+    """Returns the configuration of a file, whose folder the program is in from here on. Raises
+    Unfit with every problem: by key, or with the line where it is no TOML."""
+    problems: list[str] = []
     try:
         os.chdir(path.parent)
-        content = tomllib.loads(path.read_text("utf-8"))
+        config: Config = value(Config, tomllib.loads(path.read_text("utf-8")), "", problems)
     except (OSError, ValueError) as why:
         raise Unfit(f"{path}: {why}") from None
-    problems: list[str] = []
-    config: Config = value(Config, content, "", problems)
-    if problems or (problems := [*wrong_processes(config), *wrong_services(config),
+    if problems or (problems := [*wrong_names(config), *wrong_files(config),
                                  *wrong_machines(config)]):
         raise Unfit("\n".join(problems))
     return config
@@ -147,26 +136,24 @@ def value(kind: Any, content: Any, key: str, problems: list[str], form: Any = r"
     """Returns a value of a type, and of named fields as a tuple; or notes what is wrong, by key."""
     if get_origin(kind) is Annotated:
         kind, form = get_args(kind)
-    hints = get_type_hints(kind, include_extras=True) if hasattr(kind, "_fields") else {}
-    outer = dict if hints else list if get_origin(kind) is tuple else get_origin(kind) or kind
+    fields = get_type_hints(kind, include_extras=True) if hasattr(kind, "_fields") else {}
+    outer = dict if fields else list if get_origin(kind) is tuple else get_origin(kind) or kind
     if outer is Literal:
         if content not in get_args(kind):
             problems.append(f"{key}: must be one of {', '.join(get_args(kind))}")
     elif type(content) is not outer:
         problems.append(f"{key}: must be {CALLED[outer]}")
-    elif hints:
-        dot, before = f"{key}." if key else "", len(problems)
-        problems += [f"{dot}{name}: is missing" for name in hints
-                     if name not in content and name not in kind._field_defaults]
-        problems += [f"{dot}{name}: is no key here" for name in content if name not in hints]
-        fields = {name: value(hints[name], it, dot + name, problems)
-                  for name, it in content.items() if name in hints}
-        return kind(**fields) if len(problems) == before else None
     elif outer is dict:
-        problems += [f"{key}.{name}: is no name of lower-case letters, digits and _, at most 32"
-                     for name in content if not re.fullmatch(NAME, name)]
-        return {name: value(get_args(kind)[1], it, f"{key}.{name}", problems)
-                for name, it in content.items()}
+        dot, no_key = f"{key}." if key else "", "is no key here"
+        if not fields:
+            fields = {it: get_args(kind)[1] for it in content if re.fullmatch(NAME, it)}
+            no_key = "is no name of lower-case letters, digits and _, at most 32"
+        needed = {*fields} - {*getattr(kind, "_field_defaults", fields)}
+        problems += [f"{dot}{it}: is missing" for it in needed - {*content}]
+        problems += [f"{dot}{it}: {no_key}" for it in content if it not in fields]
+        found = {it: value(fields[it], content[it], dot + it, problems)
+                 for it in content if it in fields}
+        return kind(**found) if hasattr(kind, "_fields") and not problems else found
     elif outer is list:
         return tuple(value(get_args(kind)[0], it, f"{key}[{at}]", problems, form)
                      for at, it in enumerate(content))
@@ -177,53 +164,55 @@ def value(kind: Any, content: Any, key: str, problems: list[str], form: Any = r"
     return content
 
 
-def wrong_processes(config: Config) -> Iterator[str]:
-    """Yields the problems of what owners give, of outlets, and of the tags that any names."""
+def wrong_names(config: Config) -> Iterator[str]:
+    """Yields the problems of tags and services that are named, but are not there."""
     here, far = config.tags(), {*config.far("tags")}
     started = {name for name, it in config.services.items() if it.starts}
     for name, owner in config.owners.items():
         for at, gift in enumerate(owner.gives):
-            key, path = f"owners.{name}.gives[{at}]", pathlib.Path(gift.file)
-            named = {*gift.tags, *tags_of(gift.rights)} - {f"{name}/{it}" for it in owner.tags}
-            yield from (f"{key}: {tag} is no tag of its own" for tag in named)
+            key, own = f"owners.{name}.gives[{at}]", {f"{name}/{it}" for it in owner.tags}
+            yield from (f"{key}: {tag} is no tag of its own"
+                        for tag in {*gift.tags, *tags_of(gift.rights)} - own)
             if gift.to not in {*started, *config.far("services")}:
                 yield f"{key}: no service {gift.to} is started"
-            is_none = gift.rights and not gift.file
-            if not is_none and not (path.is_file() and path.stat().st_size <= GIFT_BYTES):
-                yield f"{key}: {path} is no file of at most {GIFT_BYTES} bytes"
     for name, it in config.services.items():
         handed = {*it.integrity, *tags_of(it.rights)}
         yield from (f"services.{name}: no owner has the tag {tag}" for tag in
-                    (handed - here) | ({*it.secrecy, *it.tags} - here - far))
+                    handed - here | {*it.secrecy, *it.tags} - here - far)
+        yield from (f"services.{name}.spawns: {child} is no service with starts = false"
+                    for child in {*it.spawns} - ({*config.services} - started))
+        if not it.starts and (it.secrecy or it.integrity):
+            yield f"services.{name}: its labels are those of its parent"
     for name, out in config.outlets.items():
         yield from (f"outlets.{name}: no owner here has the tag {tag}" for tag in
                     {*out.secrecy, *out.integrity, *tags_of(out.rights)} - here)
+
+
+def wrong_files(config: Config) -> Iterator[str]:
+    """Yields the problems of paths, also where a service sees what the host keeps, or a socket."""
+    hidden = [config.node.directory, *config.node.keys, config.cluster.private_key or os.devnull]
+    for name, owner in config.owners.items():
+        for gift in (it for it in owner.gives if it.file or not it.rights):
+            if not os.path.isfile(gift.file) or os.path.getsize(gift.file) > GIFT_BYTES:
+                yield f"owners.{name}: {gift.file} is no file of at most {GIFT_BYTES} bytes"
+    for name, out in config.outlets.items():
         if out.kind == "tcp" and not re.fullmatch(ADDRESS, out.to):
             yield f"outlets.{name}.to: must be a host, a colon and a port"
         elif not out.to and out.kind != "standard-output":
             yield f"outlets.{name}.to: is missing"
-
-
-def wrong_services(config: Config) -> Iterator[str]:
-    """Yields the problems of services, also where one sees what the host keeps, or a socket."""
-    hidden = [config.node.directory, *config.node.keys, config.cluster.private_key or os.devnull]
-    hidden += [it.to for it in config.outlets.values() if it.kind in ("file", "log")]
-    for name, service in config.services.items():
-        names, key = ["flume_service.py"], f"services.{name}"
-        for path in map(resolved, service.sees):
-            if not path.exists() or path.is_socket():
-                yield f"{key}.sees: {path} is not there, or a socket"
-            yield from (f"{key}.sees: {path} shows {kept}" for kept in map(resolved, hidden)
-                        if path == kept or path in kept.parents or kept in path.parents)
-            if path.name in names:
-                yield f"{key}.sees: two are called {path.name}"
-            names.append(path.name)
-        yield from (f"{key}.spawns: {it} is no service with starts = false" for it in service.spawns
-                    if it not in config.services or config.services[it].starts)
-        if not service.starts and (service.secrecy or service.integrity):
-            yield f"{key}: its labels are those of its parent"
-        if not service.command:
-            yield f"{key}.command: must have a program"
+        hidden += [out.to] if out.kind in ("file", "log") else []
+    for name, it in config.services.items():
+        paths = [pathlib.Path(path).resolve() for path in it.sees]
+        yield from (f"services.{name}.sees: {path} is not there, or a socket" for path in paths
+                    if not path.exists() or path.is_socket())
+        yield from (f"services.{name}.sees: {path} shows {kept}" for path in paths
+                    for kept in (pathlib.Path(kept).resolve() for kept in hidden)
+                    if path == kept or path in kept.parents or kept in path.parents)
+        called = ["flume_service.py", *(path.name for path in paths)]
+        yield from (f"services.{name}.sees: two are called {it}" for it in {*called}
+                    if called.count(it) > 1)
+        if not it.command:
+            yield f"services.{name}.command: must have a program"
 
 
 def wrong_machines(config: Config) -> Iterator[str]:

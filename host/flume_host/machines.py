@@ -7,13 +7,11 @@ import itertools
 import json
 import random
 import re
-import ssl
 import time
 from asyncio import TaskGroup
 from typing import TYPE_CHECKING, NamedTuple
 
-from .config import Unfit
-from .node import Packet
+from .config import PeerConfig, Unfit
 
 if TYPE_CHECKING:
     from asyncio_mqtt import Client
@@ -69,8 +67,9 @@ def opened(content: bytes, keys: list[bytes]) -> Envelope | None:
 class Peer:
     """Another machine: what was heard of it, and what it has not said that it handled."""
 
-    def __init__(self) -> None:
-        self.heard, self.lag, self.sent, self.is_met = 0.0, 0, 0, asyncio.Event()
+    def __init__(self, config: PeerConfig) -> None:
+        self.config, self.is_met = config, asyncio.Event()
+        self.heard, self.lag, self.sent = 0.0, 0, 0
         self.waiting: dict[int, tuple[float, str]] = {}
         # its boot, and which numbers of it were taken: those of messages, and others
         self.boot, self.taken = 0, {True: {0}, False: {0}}
@@ -101,7 +100,7 @@ class Machines:
     def __init__(self, keys: list[bytes], world: "World") -> None:
         self.config, self.keys = world.config.cluster, keys
         self.world, self.books = world, world.books
-        self.peers = {it.number: Peer() for it in world.config.peers.values()}
+        self.peers = {it.number: Peer(it) for it in world.config.peers.values()}
         self.outgoing: asyncio.Queue[tuple[int, bytes]] = asyncio.Queue(MOST)
         self.last, self.has_met = 0, False
 
@@ -122,13 +121,14 @@ class Machines:
     async def run(self) -> None:
         """Meets the others, by one client of the broker after another."""
         # a machine without peers needs none
-        import asyncio_mqtt
-        host, _, port = self.config.broker.rpartition(":")
+        from asyncio_mqtt import Client, MqttError, TLSParameters
+        host, port = self.config.broker.rsplit(":", 1)
+        tls = TLSParameters(self.config.ca, self.config.certificate, self.config.private_key)
         while not is_cancelled():
             try:
-                async with asyncio_mqtt.Client(
-                        host, int(port), client_id=str(self.books.number), clean_session=True,
-                        tls_context=self.context(), keepalive=10) as client:
+                async with Client(host, int(port), client_id=str(self.books.number),
+                                  tls_params=tls if self.config.ca else None, keepalive=10,
+                                  clean_session=True) as client:
                     await client.subscribe(self.topic(self.books.number, "+"))
                     if is_cancelled():
                         return
@@ -137,17 +137,9 @@ class Machines:
                         async for it in heard:
                             self.take(it.topic.value, it.payload)
             # a broker that dies is an error twice: in the block, and as it is left
-            except* (asyncio_mqtt.MqttError, OSError) as why:
+            except* (MqttError, OSError) as why:
                 self.books.journal.note("broker", why=str(why.exceptions[0]))
             await asyncio.sleep(random.uniform(0.5, 1.5))
-
-    def context(self) -> ssl.SSLContext | None:
-        """Returns how TLS is spoken with the broker, where it is. Raises OSError."""
-        if not self.config.ca:
-            return None
-        context = ssl.create_default_context(cafile=self.config.ca)
-        context.load_cert_chain(self.config.certificate, self.config.private_key)
-        return context
 
     async def publish(self, client: "Client") -> None:
         while not is_cancelled():
@@ -157,7 +149,7 @@ class Machines:
     async def talk(self) -> None:
         """Tells all what the node has, every few seconds and behind each order, and sends again
         what was not handled."""
-        due = 0.0
+        due, ordered = 0.0, self.books.ordered
         while True:
             now = time.monotonic()
             for to, peer in self.peers.items():
@@ -165,14 +157,14 @@ class Machines:
                     if now - at > TICK:
                         self.send(MESSAGE, to, digits, number)
                         peer.waiting[number] = now, digits
-            is_news = self.books.ordered.is_set() or not self.has_met
+            is_news = ordered.is_set() or not self.has_met
             if is_news or now > due:
-                self.books.ordered.clear()
+                ordered.clear()
                 self.tell(NEWS if is_news else TELL, *self.peers)
                 due = now + self.config.seconds * random.uniform(0.5, 1.5)
             with contextlib.suppress(TimeoutError):
                 async with asyncio.timeout(TICK):
-                    await self.books.ordered.wait()
+                    await ordered.wait()
             # orders that come together are told together
             await asyncio.sleep(TICK / 50)
 
@@ -187,21 +179,20 @@ class Machines:
     def send(self, kind: str, to: int, packet: str, number: int = 0) -> None:
         """Has an envelope on its way. What is over 1,000 is lost."""
         self.last += 1
-        number, boot = number or self.last, self.books.boot
-        it = Envelope(kind, self.books.number, to, boot, number, packet).sealed(self.keys[0])
+        it = Envelope(kind, self.books.number, to, self.books.boot, number or self.last, packet)
         with contextlib.suppress(asyncio.QueueFull):
-            self.outgoing.put_nowait((to, it))
+            self.outgoing.put_nowait((to, it.sealed(self.keys[0])))
 
-    def post(self, to: int, packet: Packet) -> None:
+    def post(self, to: int, digits: str) -> None:
         """Has a message on its way, again and again until it was handled. What is over 1,000 is
         lost: nobody is told."""
         peer = self.peers[to]
         if peer.sent - min(peer.waiting, default=peer.sent) >= MOST - 1:
-            self.books.journal.note("lost", packet=packet.digits)
+            self.books.journal.note("lost", packet=digits)
             return
         peer.sent += 1
-        peer.waiting[peer.sent] = time.monotonic(), packet.digits
-        self.send(MESSAGE, to, packet.digits, peer.sent)
+        peer.waiting[peer.sent] = time.monotonic(), digits
+        self.send(MESSAGE, to, digits, peer.sent)
 
     def take(self, topic: str, content: bytes) -> None:
         """Takes an envelope, or notes why it does not. Raises NodeEnded, and NumberReused."""
@@ -233,9 +224,10 @@ class Machines:
             boot, number = map(int, it.packet.split("."))
             if boot == self.books.boot:
                 peer.waiting.pop(number, None)
-        elif it.kind == NAMES and (it.boot, it.number) > peer.named:
+        # before owners are there they give nothing: names come again
+        elif it.kind == NAMES and self.has_met and (it.boot, it.number) > peer.named:
             peer.named = it.boot, it.number
-            self.world.hear(it.sender, json.loads(bytes.fromhex(it.packet)))
+            self.world.hear(peer.config, json.loads(bytes.fromhex(it.packet)))
         elif it.kind in (TELL, NEWS):
             packets = self.receive(it.packet)[1:]
             peer.lag = len(packets)

@@ -16,6 +16,8 @@ SECONDS = 120
 Pid = NewType("Pid", str)
 Tag = NewType("Tag", str)
 Right = NewType("Right", str)
+# a message that is under way: to whom, and its digits
+Packet = tuple[Pid, str]
 
 OPERATION = re.compile(r"[1-9]\d*\.[1-9]\d*")
 LAST = (1 << 32) - 1
@@ -23,7 +25,7 @@ MESSAGE = re.compile(r"message p[0-9.]+ \{(.*)\} (none|(?:[0-9a-f]{2})+)")
 
 
 class NodeEnded(Exception):
-    """The program has ended, or answers no more: real processes are to be ended, too."""
+    """The program has ended, answers no more, or is to end: first all real processes are ended."""
 
 
 class Refused(Exception):
@@ -32,7 +34,7 @@ class Refused(Exception):
     def __init__(self, answer: str) -> None:
         super().__init__(answer)
         _, self.code, *named = answer.split(" ")
-        self.named = named[-1] if named else ""
+        self.named = "".join(named[-1:])
 
 
 def set_text(members: Iterable[str]) -> str:
@@ -55,10 +57,9 @@ class Process:
     mode: str
 
 
-class Packet(NamedTuple):
-    """A message that is under way: to whom, and its digits."""
-    to: Pid
-    digits: str
+def nobody(number: int) -> Process:
+    """Returns a process that no machine has, to which messages go and do not arrive."""
+    return Process(Pid(f"p{number}.{LAST}.{LAST}"), Labels(), "e1", "r")
 
 
 class Books:
@@ -68,11 +69,10 @@ class Books:
     def __init__(self, words: list[str], number: int, journal: Journal) -> None:
         """Starts the program, which is then to greet."""
         self.number, self.journal, self.ordered = number, journal, asyncio.Event()
-        self.status: int | None = None
         self.socket, theirs = socket.socketpair()
         with theirs:
             self.program = subprocess.Popen(words, stdin=theirs.fileno(), stdout=theirs.fileno(),
-                                            umask=0o077, process_group=0)
+                                            process_group=0)
         self.socket.settimeout(SECONDS)
         self.lines = self.socket.makefile("r", encoding="ascii", newline="\n")
 
@@ -80,7 +80,8 @@ class Books:
         """Notes what the program says first. Raises NodeEnded where it does not greet."""
         found = GREETING.fullmatch(self.line())
         if not found or int(found[1]) != self.number:
-            raise NodeEnded(self.wait(seconds=0))
+            self.program.kill()
+            raise NodeEnded
         self.boot = int(found[2])
         self.journal.note("greeting", boot=self.boot, published=int(found[3]))
 
@@ -93,8 +94,6 @@ class Books:
         words = f"{self.number} {line} {secret}".rstrip(" ")
         if not words.isprintable():
             raise ValueError("a line has a line feed inside")
-        if self.status is not None:
-            raise NodeEnded
         first = self.line(words + "\n")
         more = int(first[6:]) if first.startswith("lines ") else 0
         answer = [first, *(self.line() for _ in range(more))]
@@ -102,7 +101,7 @@ class Books:
         # the registry is its own record: a journal that had it at each start would be full of it
         self.journal.note("line", line=told, answer=answer[:1] if line == "text" else answer)
         if first.startswith("refused F15"):
-            raise NodeEnded(self.wait())
+            raise NodeEnded
         if line.partition(" ")[0] in ORDERS:
             self.ordered.set()
         return answer
@@ -116,48 +115,35 @@ class Books:
 
     def line(self, said: str = "") -> str:
         """Writes a line, where there is one, and returns the next that the program writes. Raises
-        NodeEnded where there is none."""
+        NodeEnded where there is none; a program that takes too long is killed."""
+        found = ""
         try:
             self.socket.sendall(said.encode("ascii"))
             found = self.lines.readline()
-        except OSError as why:
-            raise NodeEnded(self.wait(0 if isinstance(why, TimeoutError) else SECONDS)) from None
+        except TimeoutError:
+            self.program.kill()
+        except OSError:
+            pass
         if not found.endswith("\n"):
-            raise NodeEnded(self.wait())
+            raise NodeEnded
         return found[:-1]
-
-    def wait(self, seconds: int = SECONDS, may_be: tuple[int, ...] = (2, 4)) -> int:
-        """Returns the status of a program, which ends so soon or is killed: 3 where it is none of
-        these."""
-        with contextlib.suppress(subprocess.TimeoutExpired):
-            self.program.wait(seconds)
-        self.program.kill()
-        status = self.program.wait()
-        if self.status is None:
-            self.status = status if status in may_be else 3
-        return self.status
 
     def end(self) -> int:
         """Ends its input, and returns its status, once its log is merged."""
-        if self.status is None:
-            self.socket.shutdown(socket.SHUT_WR)
-        return self.wait(may_be=(0, 1, 2, 4))
+        self.socket.shutdown(socket.SHUT_WR)
+        with contextlib.suppress(subprocess.TimeoutExpired):
+            self.program.wait(SECONDS)
+        self.program.kill()
+        return int(self.program.wait())
 
     def proc(self, mode: str, line: str = "proc", labels: Labels = Labels()) -> Process:
         """Returns the process that a line makes, with an endpoint of its labels and this mode."""
         pid = Pid(self.do(line))
         return Process(pid, labels, self.open(pid, mode, labels), mode)
 
-    def nobody(self, number: int) -> Process:
-        """Returns a process that no machine has, to which messages go and do not arrive."""
-        return Process(Pid(f"p{number}.{LAST}.{LAST}"), Labels(), "e1", "r")
-
-    def tag(self, pid: Pid, policy: str) -> Tag:
-        return Tag(self.do(f"tag {pid} {policy}"))
-
     def owned_tag(self, pid: Pid, policy: str, secret: str) -> Tag:
         """Returns a new tag, with a login for the rights of its maker before there is any data."""
-        tag = self.tag(pid, policy)
+        tag = Tag(self.do(f"tag {pid} {policy}"))
         right = f"+{tag}" if policy == "integrity" else f"-{tag}"
         if policy == "read":
             group = self.do(f"group {pid}")
@@ -171,8 +157,7 @@ class Books:
         """Returns each login by the digest of its secret: its name, and the tag that its right is
         over, perhaps through a group. It reads the whole registry."""
         found, puts = dict[str, tuple[str, Tag]](), dict[str, Tag]()
-        for line in self.ask("text")[1:]:
-            name, kind, *rest = line.split(" ")
+        for name, kind, *rest in map(str.split, self.ask("text")[1:]):
             if kind == "put":
                 puts[f"*{rest[0]}"] = Tag(rest[1][1:])
             elif kind == "login":
@@ -204,7 +189,7 @@ class Books:
             end = self.open(pid, "w", under)
         words = f"{to.pid} {to.endpoint} {set_text(rights)} {content.hex() or 'none'}"
         try:
-            return Packet(to.pid, self.do(f"send {pid} {end} {words}"))
+            return to.pid, self.do(f"send {pid} {end} {words}")
         finally:
             if end != process.endpoint:
                 self.do(f"close {pid} {end}")

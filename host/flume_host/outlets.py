@@ -1,13 +1,28 @@
 """Outlets: processes of the books by which bytes go out, and nothing else does."""
 import asyncio
+import contextlib
 import json
 import os
 import sys
 import time
+from typing import AsyncIterator
 
 from .config import OutletConfig
 from .node import Books, Process, Refused
-from .pauses import attempts
+
+
+async def attempts(stop: asyncio.Event | None = None) -> AsyncIterator[None]:
+    """Yields for each attempt, until all is to stop. Between them are pauses, which grow from one
+    second to sixty, but behind an attempt that lasted for so long."""
+    stop, pause = stop or asyncio.Event(), 1.0
+    while not stop.is_set():
+        began = time.monotonic()
+        yield
+        pause = 1.0 if time.monotonic() - began > 60 else pause
+        with contextlib.suppress(TimeoutError):
+            async with asyncio.timeout(pause):
+                await stop.wait()
+        pause = min(2 * pause, 60.0)
 
 
 class Outlet:
@@ -28,21 +43,16 @@ class Outlet:
                 if outlet == self.name:
                     await self.let_out(number, bytes.fromhex(entry["bytes"]))
             while True:
-                if message := self.books.take(self.process.pid):
-                    await self.emit(message[1])
-                else:
-                    self.bell.clear()
-                    await self.bell.wait()
+                self.bell.clear()
+                while message := self.books.take(self.process.pid):
+                    # first the verdict, and then the deed
+                    with contextlib.suppress(Refused):
+                        self.books.do(f"emit {self.process.pid} {message[1].hex() or 'none'}")
+                        number = await self.journal.emission(self.name, message[1])
+                        await self.let_out(number, message[1])
+                await self.bell.wait()
         finally:
             self.hang_up()
-
-    async def emit(self, content: bytes) -> None:
-        """Lets bytes out where the outlet's process may: first the verdict, and then the deed."""
-        try:
-            self.books.do(f"emit {self.process.pid} {content.hex() or 'none'}")
-        except Refused:
-            return
-        await self.let_out(await self.journal.emission(self.name, content), content)
 
     async def let_out(self, number: int, content: bytes) -> None:
         """Does an emission, again and again until it is done."""
@@ -56,27 +66,21 @@ class Outlet:
 
     async def write(self, number: int, content: bytes) -> None:
         """Does an emission once. Raises OSError where the outlet cannot be written to."""
-        kind = self.config.kind
-        if kind == "tcp":
-            await self.dial(content)
-        elif kind == "standard-output":
+        if self.config.kind == "tcp":
+            if not self.line or self.line[0].at_eof():
+                self.hang_up()
+                self.line = await asyncio.open_connection(*self.config.to.rsplit(":", 1))
+            self.line[1].write(content)
+            await self.line[1].drain()
+        elif self.config.kind == "standard-output":
             sys.stdout.buffer.write(content + b"\n")
             sys.stdout.buffer.flush()
         else:
-            entry = {"at": time.time(), "emission": number, "bytes": content.hex(),
-                     "text": content.decode(errors="replace")}
-            line = json.dumps(entry).encode() + b"\n"
-            await asyncio.to_thread(append, self.config.to,
-                                    line if kind == "log" else content)
-
-    async def dial(self, content: bytes) -> None:
-        """Writes to the address, over a connection that is made where none is open."""
-        if not self.line or self.line[0].at_eof():
-            self.hang_up()
-            host, _, port = self.config.to.rpartition(":")
-            self.line = await asyncio.open_connection(host, int(port))
-        self.line[1].write(content)
-        await self.line[1].drain()
+            if self.config.kind == "log":
+                entry = {"at": time.time(), "emission": number, "bytes": content.hex(),
+                         "text": content.decode(errors="replace")}
+                content = json.dumps(entry).encode() + b"\n"
+            await asyncio.to_thread(append, self.config.to, content)
 
     def hang_up(self) -> None:
         if self.line:
@@ -86,7 +90,7 @@ class Outlet:
 
 def append(path: str, content: bytes) -> None:
     """Puts bytes behind those of a file, on the disk. Raises OSError."""
-    with open(os.open(path, os.O_WRONLY | os.O_CREAT | os.O_APPEND, 0o600), "wb") as file:
+    with open(path, "ab") as file:
         file.write(content)
         file.flush()
-        os.fsync(file.fileno())
+        os.fsync(file)

@@ -2,6 +2,7 @@
 node with its answer and what the host did, and the vault, which has what it must not lose. Secrets
 of logins stand in the journal as their SHA-256 alone."""
 import asyncio
+import collections
 import errno
 import hashlib
 import json
@@ -19,28 +20,27 @@ def digest(secret: str) -> str:
 
 
 class Lines:
-    """A file that lines are put to."""
+    """A file that lines are put to, without half a line at its end, which a kill leaves."""
 
     def __init__(self, path: pathlib.Path) -> None:
-        """Opens it, without half a line at its end, which a kill leaves."""
-        self.path = path
-        self.file = os.open(path, os.O_RDWR | os.O_CREAT | os.O_APPEND, 0o600)
-        os.ftruncate(self.file, path.read_bytes().rfind(b"\n") + 1)
+        self.path, self.file = path, open(path, "ab", buffering=0)
+        self.file.truncate(path.read_bytes().rfind(b"\n") + 1)
 
     def write(self, entry: Entry) -> None:
         """Writes a line. Raises OSError also where a part of it was written alone."""
         line = json.dumps(entry).encode() + b"\n"
-        if os.write(self.file, line) < len(line):
+        if self.file.write(line) < len(line):
             raise OSError(errno.ENOSPC, "a line was not written as a whole")
 
 
 class Vault(Lines):
-    """The secrets of owners' logins, and how many orders were given. Each is on the disk before it
-    is relied upon."""
+    """The secrets of owners' logins by tag, and the times of orders by service. Each is on the disk
+    before it is relied upon."""
 
     def __init__(self, path: pathlib.Path) -> None:
         super().__init__(path)
-        self.secrets, self.orders = dict[str, str](), dict[str, int]()
+        self.secrets = dict[str, str]()
+        self.orders = collections.defaultdict[str, list[float]](list)
         for line in path.read_bytes().splitlines():
             self.take(json.loads(line))
         folder = os.open(path.parent, os.O_RDONLY)
@@ -51,7 +51,7 @@ class Vault(Lines):
         if "tag" in fact:
             self.secrets[fact["tag"]] = fact["secret"]
         else:
-            self.orders[fact["service"]] = fact["orders"]
+            self.orders[fact["service"]].append(fact["at"])
 
     def note(self, **fact: object) -> None:
         """Writes a fact, with a sync, and takes it."""
@@ -68,19 +68,17 @@ class Vault(Lines):
 
 def entries(folder: pathlib.Path) -> Iterator[Entry]:
     """Yields the entries of all files of a journal, the oldest first. It reads all of it."""
-    paths = [it for it in folder.glob("journal.*") if it.suffix[1:].isdigit()]
-    for path in [*sorted(paths, key=lambda it: -int(it.suffix[1:])), folder / "journal"]:
-        if path.exists():
-            with open(path, "rb") as file:
-                # a kill leaves half a line at the end
-                yield from (json.loads(line) for line in file if line.endswith(b"\n"))
+    older = [it for it in folder.glob("journal.*") if it.suffix[1:].isdigit()]
+    for path in (*sorted(older, key=lambda it: -int(it.suffix[1:])), folder / "journal"):
+        with open(path, "rb") as file:
+            yield from map(json.loads, file)
 
 
 class Journal(Lines):
     """The journal that a host writes, and the emissions in it that may not have been done."""
 
     def __init__(self, folder: pathlib.Path, most_bytes: int, files: int) -> None:
-        """Opens it, and reads what is there."""
+        super().__init__(folder / "journal")
         self.most_bytes, self.files = most_bytes, files
         # by outlet: were they numbered together, one outlet would tell how much went by another
         self.emissions, self.undone = dict[str, int](), dict[tuple[str, int], Entry]()
@@ -92,20 +90,19 @@ class Journal(Lines):
                 self.undone.pop((entry["outlet"], entry["number"]), None)
             elif entry["kind"] == "file":
                 self.emissions = entry["emissions"]
-        super().__init__(folder / "journal")
 
     def note(self, kind: str, **what: object) -> Entry:
         """Returns an entry that it writes. Where its file is full a new one is begun with what is
         not done, so that an older one may go."""
-        if os.fstat(self.file).st_size >= self.most_bytes:
-            os.close(self.file)
+        if self.file.tell() >= self.most_bytes:
+            self.file.close()
             paths = [self.path, *(self.path.with_suffix(f".{it}") for it in range(1, self.files))]
             for older, newer in zip(paths[:0:-1], paths[-2::-1]):
                 if newer.exists():
                     newer.replace(older)
             self.path.unlink(missing_ok=True)
             super().__init__(self.path)
-            self.write({"at": time.time(), "kind": "file", "emissions": self.emissions})
+            self.note("file", emissions=self.emissions)
             for entry in self.undone.values():
                 self.write(entry)
         entry = {"at": time.time(), "kind": kind, **what}
@@ -118,11 +115,8 @@ class Journal(Lines):
         self.undone[outlet, number] = self.note("emission", outlet=outlet, number=number,
                                                 bytes=content.hex())
         # the file may be changed meanwhile
-        file = os.dup(self.file)
-        try:
+        with open(os.dup(self.file.fileno()), "ab") as file:
             await asyncio.to_thread(os.fdatasync, file)
-        finally:
-            os.close(file)
         return number
 
     def done(self, outlet: str, number: int) -> None:

@@ -8,9 +8,8 @@ import select
 import signal
 import socket
 import subprocess
-from typing import Iterator
 
-from .config import ServiceConfig, resolved
+from .config import ServiceConfig
 from .system_calls import filter_program
 
 SECONDS = 10.0
@@ -27,7 +26,6 @@ SYSTEM = f"""bwrap
 # bwrap waits for a byte or the end of the host, and the shell for a line: a host that was killed
 # before it noted a sandbox leaves nothing that runs
 WAITS = ("/bin/sh", "-c", 'read -r go && exec "$@" < /dev/null', "service")
-QUIET = subprocess.DEVNULL
 
 
 class SandboxStuck(Exception):
@@ -59,15 +57,16 @@ class Running:
 
     def __init__(self, path: pathlib.Path) -> None:
         """Ends each sandbox that the file names, and begins it anew. Raises SandboxStuck."""
-        for line in path.read_text().splitlines() if path.exists() else []:
-            pid, _, began = line.partition(" ")
+        self.file = open(path, "a+")
+        self.file.seek(0)
+        for pid, _, began in (line.rstrip().partition(" ") for line in self.file):
             if began and begun_at(int(pid)) == began:
                 end_process(os.pidfd_open(int(pid)))
-        self.file = os.open(path, os.O_WRONLY | os.O_CREAT | os.O_TRUNC | os.O_APPEND, 0o600)
+        self.file.truncate(0)
 
     def note(self, pid: int) -> None:
         """Notes a process before it runs anything of a service."""
-        os.write(self.file, f"{pid} {begun_at(pid)}\n".encode())
+        print(pid, begun_at(pid), file=self.file, flush=True)
 
 
 class Sandbox:
@@ -80,24 +79,30 @@ class Sandbox:
         """
         self.socket, theirs = socket.socketpair(socket.AF_UNIX, socket.SOCK_SEQPACKET)
         self.socket.setblocking(False)
-        (told, tells), (waits, lets) = os.pipe(), os.pipe()
-        given = [theirs.detach(), tells, os.dup(waits), os.memfd_create("filter", 0)]
-        os.pwrite(given[3], filter_program(), 0)
+        (told, tells), (lets, waits) = socket.socketpair(), socket.socketpair()
+        told.settimeout(SECONDS)
+        rules = open(os.memfd_create("filter"), "r+b")
+        os.pwrite(rules.fileno(), filter_program(), 0)
+        given = [theirs.fileno(), tells.fileno(), waits.fileno(), rules.fileno()]
         words = [*SYSTEM, "--setenv", "FLUME_SOCKET", str(given[0])]
-        for path in (LIBRARY, *map(resolved, service.sees)):
-            words += ["--ro-bind", str(path), f"/srv/{path.name}"]
+        for path in (LIBRARY, *map(pathlib.Path, service.sees)):
+            words += ["--ro-bind", str(path.resolve()), f"/srv/{path.resolve().name}"]
         words += ["--remount-ro", "/", "--info-fd", str(given[1]), "--block-fd", str(given[2]),
                   "--seccomp", str(given[3]), "--", *WAITS, *service.command]
-        with closed_behind(told, lets):
-            with closed_behind(*given, waits):
-                self.outer = subprocess.Popen(words, pass_fds=given, stdin=waits,
-                                              stdout=QUIET, stderr=QUIET)
+        with told, lets:
+            with theirs, tells, waits, rules:
+                self.outer = subprocess.Popen(words, pass_fds=given, stdin=given[2],
+                                              stdout=subprocess.DEVNULL, stderr=subprocess.DEVNULL)
             try:
-                pid = first_process(told)
+                pid = int(json.load(told.makefile())["child-pid"])
                 self.handle = os.pidfd_open(pid)
-                limit(pid, service)
+                for kind, most in (
+                        (resource.RLIMIT_AS, service.memory), (resource.RLIMIT_NOFILE, FILES),
+                        (resource.RLIMIT_NPROC, service.processes), (resource.RLIMIT_CORE, 0),
+                        (resource.RLIMIT_FSIZE, TEMPORARY_BYTES)):
+                    resource.prlimit(pid, kind, (most, most))
                 running.note(pid)
-                os.write(lets, b".\n")
+                lets.sendall(b".\n")
             except (OSError, ValueError) as why:
                 self.outer.kill()
                 self.outer.wait()
@@ -109,31 +114,3 @@ class Sandbox:
         end_process(self.handle)
         self.outer.kill()
         self.outer.wait()
-
-
-@contextlib.contextmanager
-def closed_behind(*files: int) -> Iterator[None]:
-    try:
-        yield
-    finally:
-        for it in files:
-            os.close(it)
-
-
-def first_process(told: int) -> int:
-    """Returns the pid of a sandbox's first process, which bwrap tells. Raises OSError."""
-    content = b""
-    while not content.rstrip().endswith(b"}"):
-        more = os.read(told, 4096) if select.select([told], [], [], SECONDS)[0] else b""
-        if not more:
-            raise OSError("it did not make a sandbox")
-        content += more
-    return int(json.loads(content)["child-pid"])
-
-
-def limit(pid: int, service: ServiceConfig) -> None:
-    """Sets the limits of a sandbox's first process, which all others in it have from it."""
-    for kind, most in ((resource.RLIMIT_AS, service.memory), (resource.RLIMIT_NOFILE, FILES),
-                       (resource.RLIMIT_NPROC, service.processes), (resource.RLIMIT_CORE, 0),
-                       (resource.RLIMIT_FSIZE, TEMPORARY_BYTES)):
-        resource.prlimit(pid, kind, (most, most))

@@ -5,8 +5,7 @@ import platform
 import struct
 
 # by machine: how the kernel calls it, and its numbers of socket, add_key, request_key and keyctl
-MACHINES = {"x86_64": (0xC000003E, 41, (248, 249, 250)),
-            "aarch64": (0xC00000B7, 198, (217, 218, 219))}
+MACHINES = {"x86_64": (0xC000003E, 41, 248, 249, 250), "aarch64": (0xC00000B7, 198, 217, 218, 219)}
 IO_URING_SETUP, OTHER_NUMBERS = 425, 0x4000_0000
 UNIX, INET, INET6 = 1, 2, 10
 LOAD, EQUAL, AT_LEAST, RETURN = 0x20, 0x15, 0x35, 0x06
@@ -15,21 +14,17 @@ NUMBER_AT, MACHINE_AT, FIRST_WORD_AT = 0, 4, 16
 
 
 def filter_program() -> bytes:
-    """Returns the program by which the kernel denies them (EPERM), for this machine.
-
-    Raises OSError on a machine whose numbers are not known here.
-    """
+    """Returns the program by which the kernel denies them (EPERM). Raises OSError on a machine
+    whose numbers are not known here."""
     if platform.machine() not in MACHINES:
         raise OSError(f"no filter of system calls is known for {platform.machine()}")
-    machine, socket, keys = MACHINES[platform.machine()]
-    # each test with where it goes if it holds, and if not: on, to the denial, or to the leave
-    tests = [(LOAD, MACHINE_AT, "", ""), (EQUAL, machine, "", "deny"), (LOAD, NUMBER_AT, "", ""),
-             (AT_LEAST, OTHER_NUMBERS, "deny", ""), (EQUAL, IO_URING_SETUP, "deny", ""),
-             *((EQUAL, it, "deny", "") for it in keys), (EQUAL, socket, "", "allow"),
-             (LOAD, FIRST_WORD_AT, "", ""),
-             *((EQUAL, it, "allow", "") for it in (UNIX, INET, INET6)),
-             (RETURN, DENY, "", ""), (RETURN, ALLOW, "", "")]
-    places = {"deny": len(tests) - 2, "allow": len(tests) - 1}
-    return b"".join(
-        struct.pack("=HBBI", code, *(places[to] - at - 1 if to else 0 for to in (yes, no)), word)
-        for at, (code, word, yes, no) in enumerate(tests))
+    machine, socket, *keys = MACHINES[platform.machine()]
+    # each with how many it leaves out where it holds, and where not
+    steps = [(LOAD, 0, 0, MACHINE_AT), (EQUAL, 1, 0, machine), (RETURN, 0, 0, DENY),
+             (LOAD, 0, 0, NUMBER_AT), (AT_LEAST, 0, 1, OTHER_NUMBERS), (RETURN, 0, 0, DENY)]
+    for number in (IO_URING_SETUP, *keys):
+        steps += [(EQUAL, 0, 1, number), (RETURN, 0, 0, DENY)]
+    steps += [(EQUAL, 1, 0, socket), (RETURN, 0, 0, ALLOW), (LOAD, 0, 0, FIRST_WORD_AT)]
+    for family in (UNIX, INET, INET6):
+        steps += [(EQUAL, 0, 1, family), (RETURN, 0, 0, ALLOW)]
+    return b"".join(struct.pack("=HBBI", *it) for it in (*steps, (RETURN, 0, 0, DENY)))

@@ -132,7 +132,8 @@ def types_and_style(room):
     for name, it in words.items():
         if not shutil.which(name):
             raise Missing(name)
-        done = subprocess.run([name, *it], cwd=folder, capture_output=True, text=True)
+        done = subprocess.run([name, *it], cwd=folder, capture_output=True, text=True,
+                              env=os.environ | {"MYPYPATH": "tests"})
         expect(done.returncode == 0, name, done.stdout, done.stderr)
 
 

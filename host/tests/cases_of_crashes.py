@@ -202,8 +202,9 @@ def check_story(room):
 def kill_and_wait(room, kill, draw):
     """Kills at some moment, and waits until all goes on."""
     time.sleep(draw.random() * 1.5)
-    before = len(room.entries("emission"))
     kill()
+    # what the killed one let out does not show that the next one lives
+    before = len(room.entries("emission"))
     if room.host.poll() is not None or name_of(room.host.pid) == "":
         room.host.wait()
         room.start()
