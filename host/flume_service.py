@@ -14,7 +14,9 @@ class Refused(Exception):
 
 
 class Host:
-    """The host. One request is under way at a time."""
+    """The host. One request is under way at a time. A message has 1,024 bytes at most, and goes
+    under the labels of the service, or under secrecy=[..] and integrity=[..] where these are
+    given. Tags are given as alice/calendar or by handles, and rights as -alice/calendar."""
 
     def __init__(self) -> None:
         self.socket = socket.socket(fileno=int(os.environ["FLUME_SOCKET"]))
@@ -30,23 +32,18 @@ class Host:
         return answer
 
     def label(self, **labels: list[str]) -> None:
-        """Changes a label: secrecy=[..], or integrity=[..]."""
         self.ask("label", **labels)
 
     def tag(self, policy: str = "export") -> str:
-        """Returns the handle of a new tag."""
         return str(self.ask("tag", policy=policy)["tag"])
 
     def send(self, to: str, content: bytes, **labels: list[str]) -> None:
-        """Sends at most 1,024 bytes to a service, under its labels or these."""
         self.ask("send", to=to, bytes=content.hex(), **labels)
 
     def emit(self, to: str, content: bytes, **labels: list[str]) -> None:
-        """Sends at most 1,024 bytes to an outlet, which lets them out where it may."""
         self.ask("emit", to=to, bytes=content.hex(), **labels)
 
     def grant(self, to: str, rights: list[str], **labels: list[str]) -> None:
-        """Hands rights, as -alice/calendar, to a service."""
         self.ask("grant", to=to, rights=rights, **labels)
 
     def receive(self, wait: bool = True) -> tuple[bytes, list[str]] | None:
@@ -55,13 +52,10 @@ class Host:
         return (bytes.fromhex(answer["bytes"]), answer["rights"]) if answer["is"] else None
 
     def may(self, right: str) -> bool:
-        """Returns whether a right is in effect."""
         return bool(self.ask("ask", right=right)["is"])
 
     def spawn(self, service: str, rights: list[str]) -> str:
-        """Returns the handle of a child in a sandbox of its own, with one's labels."""
         return str(self.ask("spawn", service=service, rights=rights)["service"])
 
     def exit(self) -> None:
-        """Ends the service."""
         self.ask("exit")

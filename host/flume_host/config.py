@@ -1,233 +1,158 @@
-"""The configuration of a host: what its TOML says, by type, or all that is wrong with it."""
+"""The configuration of a host: what its TOML says, by a table of its keys, or all that is wrong."""
 import importlib.util
 import os
 import pathlib
 import re
 import tomllib
-from typing import (Annotated, Any, Iterable, Iterator, Literal, NamedTuple, get_args, get_origin,
-                    get_type_hints)
+import types
+from typing import Any, Iterator
 
-NAME, TAG = r"[a-z][a-z0-9_]{0,31}", r"[a-z][a-z0-9_]{0,31}/[a-z][a-z0-9_]{0,31}"
-ADDRESS = r"[a-z0-9.-]{1,255}:[1-9][0-9]{0,4}"
-GIFT_BYTES = 65_536
-Policy = Literal["export", "read", "integrity"]
-Number = Annotated[int, range(1, 1 << 32)]
-Count = Annotated[int, range(0, 1 << 31)]
-Names = Annotated[tuple[str, ...], NAME]
-Tags = Annotated[tuple[str, ...], TAG]
-Rights = Annotated[tuple[str, ...], f"[+-]{TAG}"]
-CALLED = {dict: "a table", list: "a list", str: "a text", bool: "true or false",
-          int: "a whole number"}
+Table = types.SimpleNamespace
+NAME, TEXT, ADDRESS = r"[a-z][a-z0-9_]{0,31}", r"[^\0]*", r"[a-z0-9.-]{1,255}:[1-9][0-9]{0,4}"
+TAG, RIGHT, POLICY = f"{NAME}/{NAME}", f"[+-]{NAME}/{NAME}", "export|read|integrity"
+NUMBER, COUNT, GIFT_BYTES = range(1, 1 << 32), range(0, 1 << 31), 65_536
+
+# Each key with the kind of its value, and with what it is where it lacks, if it may. A kind is the
+# form of a text, the range of a number, bool, a list of one kind, a table of such keys, or one of
+# names. docs/HOST.md says what the keys are for.
+NODE = {"number": (NUMBER,), "directory": (TEXT,), "program": (TEXT, "flume-node"),
+        "keys": ([TEXT], ()), "journal_bytes": (range(65_536, 1 << 40), 64 << 20),
+        "journal_files": (range(2, 1001), 8)}
+CLUSTER = {"name": (NAME,), "broker": (ADDRESS,), "ca": (TEXT, ""), "certificate": (TEXT, ""),
+           "private_key": (TEXT, ""), "seconds": (range(1, 3600), 5), "patience": (COUNT, 10)}
+PEER = {"number": (NUMBER,), "services": ([NAME], ()), "tags": ([TAG], ())}
+GIFT = {"to": (TEXT,), "file": (TEXT, ""), "tags": ([TAG], ()), "rights": ([RIGHT], ())}
+OWNER: dict[str, Any] = {"tags": ({NAME: POLICY}, {}), "gives": ([GIFT], ())}
+START = {"secrecy": ([TAG], ()), "integrity": ([TAG], ()), "rights": ([RIGHT], ())}
+SERVICE = START | {
+    "command": ([TEXT],), "sees": ([TEXT], ()), "tags": ([TAG], ()), "spawns": ([NAME], ()),
+    "children": (COUNT, 16), "starts": (bool, True), "restarts": (bool, True),
+    "memory": (range(1 << 20, 1 << 50), 512 << 20), "processes": (range(3, 1 << 20), 32),
+    "seconds": (COUNT, 0), "orders": (COUNT, 0), "orders_an_hour": (COUNT, 0)}
+OUTLET = START | {"kind": ("file|log|standard-output|tcp",), "to": (TEXT, "")}
+CONFIG = {"node": (NODE,),
+          "cluster": (CLUSTER, Table(name="", ca="", certificate="", private_key="")),
+          "peers": ({NAME: PEER}, {}), "owners": ({NAME: OWNER}, {}),
+          "services": ({NAME: SERVICE}, {}), "outlets": ({NAME: OUTLET}, {})}
+TYPES: dict[type, tuple[Any, str]] = {
+    str: (str, "a text"), range: (int, "a whole number"), type: (bool, "true or false"),
+    list: (list, "a list"), dict: (dict, "a table")}
 
 
 class Unfit(Exception):
-    """Why a host cannot run. Each line is a problem: of a configuration the key, and what it is."""
-    status = 2
+    """Why a host cannot run, a problem a line, and perhaps the status with which it ends."""
 
 
-class NodeConfig(NamedTuple):
-    """The node that is served, the files of the keys of its seal, and what the host keeps."""
-    number: Number
-    directory: str
-    program: str = "flume-node"
-    keys: tuple[str, ...] = ()
-    journal_bytes: Annotated[int, range(65_536, 1 << 40)] = 64 << 20
-    journal_files: Annotated[int, range(1, 1001)] = 8
-
-
-class Cluster(NamedTuple):
-    """The broker by which machines meet, and how long they wait for one another, in seconds."""
-    name: Annotated[str, NAME]
-    broker: Annotated[str, ADDRESS]
-    ca: str = ""
-    certificate: str = ""
-    private_key: str = ""
-    seconds: Annotated[int, range(1, 3600)] = 5
-    patience: Count = 10
-
-
-class PeerConfig(NamedTuple):
-    """Another machine, and which of its services and of its owners' tags are known here."""
-    number: Number
-    services: Names = ()
-    tags: Tags = ()
-
-
-class Gift(NamedTuple):
-    """What an owner sends to a service each time that one starts, under tags of the owner."""
-    to: str
-    file: str = ""
-    tags: Tags = ()
-    rights: Rights = ()
-
-
-class Owner(NamedTuple):
-    """An owner: the tags that it makes, with their policies, and what it gives."""
-    tags: dict[str, Policy] = {}
-    gives: tuple[Gift, ...] = ()
-
-
-class ServiceConfig(NamedTuple):
-    """A service: what runs and what it sees, how it starts, whom it may call, what it may take."""
-    command: tuple[str, ...]
-    sees: tuple[str, ...] = ()
-    secrecy: Tags = ()
-    integrity: Tags = ()
-    rights: Rights = ()
-    tags: Tags = ()
-    spawns: Names = ()
-    children: Count = 16
-    starts: bool = True
-    restarts: bool = True
-    memory: Annotated[int, range(1 << 20, 1 << 50)] = 512 << 20
-    processes: Annotated[int, range(3, 1 << 20)] = 32
-    seconds: Count = 0
-    orders: Count = 0
-    orders_an_hour: Count = 0
-
-
-class OutletConfig(NamedTuple):
-    """An outlet: the path or the address to which its bytes go, and its labels and rights."""
-    kind: Literal["file", "log", "standard-output", "tcp"]
-    to: str = ""
-    secrecy: Tags = ()
-    integrity: Tags = ()
-    rights: Rights = ()
-
-
-class Config(NamedTuple):
-    """All that a host is told. Paths are those of the folder of its file, in which it runs."""
-    node: NodeConfig
-    cluster: Cluster = Cluster("", "")
-    peers: dict[str, PeerConfig] = {}
-    owners: dict[str, Owner] = {}
-    services: dict[str, ServiceConfig] = {}
-    outlets: dict[str, OutletConfig] = {}
-
-    def tags(self) -> set[str]:
-        """Returns all tags of owners here by name, as alice/calendar."""
-        return {f"{name}/{tag}" for name, owner in self.owners.items() for tag in owner.tags}
-
-    def far(self, kind: Literal["tags", "services"]) -> list[str]:
-        """Returns what other machines have, by name."""
-        return [name for peer in self.peers.values() for name in getattr(peer, kind)]
-
-
-def tags_of(rights: Iterable[str]) -> set[str]:
-    return {right[1:] for right in rights}
-
-
-def read_config(path: pathlib.Path) -> Config:
+def read_config(path: pathlib.Path) -> Table:
     """Returns the configuration of a file, whose folder the program is in from here on. Raises
     Unfit with every problem: by key, or with the line where it is no TOML."""
     problems: list[str] = []
     try:
         os.chdir(path.parent)
-        config: Config = value(Config, tomllib.loads(path.read_text("utf-8")), "", problems)
+        config: Table = value(CONFIG, tomllib.loads(path.read_text("utf-8")), "", problems)
     except (OSError, ValueError) as why:
         raise Unfit(f"{path}: {why}") from None
-    if problems or (problems := [*wrong_names(config), *wrong_files(config),
-                                 *wrong_machines(config)]):
+    if not problems:
+        # how the node starts, tags of owners here by name, and services that are no children
+        place = ["--node", str(config.node.number), "--dir", os.path.abspath(config.node.directory)]
+        config.node.words = [config.node.program, *place]
+        config.tags = {f"{name}/{it}" for name, one in config.owners.items() for it in one.tags}
+        config.started = [name for name, it in config.services.items() if it.starts]
+        problems = [text for look in (wrong_names, wrong_files, wrong_machines)
+                    for is_wrong, text in look(config) if is_wrong]
+    if problems:
         raise Unfit("\n".join(problems))
     return config
 
 
-def value(kind: Any, content: Any, key: str, problems: list[str], form: Any = r"[^\0]*") -> Any:
-    """Returns a value of a type, and of named fields as a tuple; or notes what is wrong, by key."""
-    if get_origin(kind) is Annotated:
-        kind, form = get_args(kind)
-    fields = get_type_hints(kind, include_extras=True) if hasattr(kind, "_fields") else {}
-    outer = dict if fields else list if get_origin(kind) is tuple else get_origin(kind) or kind
-    if outer is Literal:
-        if content not in get_args(kind):
-            problems.append(f"{key}: must be one of {', '.join(get_args(kind))}")
-    elif type(content) is not outer:
-        problems.append(f"{key}: must be {CALLED[outer]}")
-    elif outer is dict:
-        dot, no_key = f"{key}." if key else "", "is no key here"
-        if not fields:
-            fields = {it: get_args(kind)[1] for it in content if re.fullmatch(NAME, it)}
+def value(kind: Any, content: Any, key: str, problems: list[str]) -> Any:
+    """Returns a value of a kind, with the keys of a table as names, or notes what is wrong."""
+    wanted, called = TYPES[type(kind)]
+    if type(content) is not wanted:
+        problems.append(f"{key}: must be {called}")
+    elif wanted is list:
+        return tuple(value(kind[0], it, f"{key}[{at}]", problems) for at, it in enumerate(content))
+    elif wanted is dict:
+        by_name, dot, no_key = NAME in kind, f"{key}." if key else "", "is no key here"
+        if by_name:
+            kind = {it: (kind[NAME],) for it in content if re.fullmatch(NAME, it)}
             no_key = "is no name of lower-case letters, digits and _, at most 32"
-        needed = {*fields} - {*getattr(kind, "_field_defaults", fields)}
-        problems += [f"{dot}{it}: is missing" for it in needed - {*content}]
-        problems += [f"{dot}{it}: {no_key}" for it in content if it not in fields]
-        found = {it: value(fields[it], content[it], dot + it, problems)
-                 for it in content if it in fields}
-        return kind(**found) if hasattr(kind, "_fields") and not problems else found
-    elif outer is list:
-        return tuple(value(get_args(kind)[0], it, f"{key}[{at}]", problems, form)
-                     for at, it in enumerate(content))
-    elif outer is str and not re.fullmatch(form, content):
-        problems.append(f"{key}: {content!r} is none of its texts")
-    elif outer is int and content not in form:
-        problems.append(f"{key}: must be from {form.start} to {form.stop - 1}")
+        problems += [f"{dot}{it}: {no_key}" for it in content if it not in kind]
+        problems += [f"{dot}{it}: is missing" for it, (_, *default) in kind.items()
+                     if it not in content and not default]
+        found = {it: value(inner, content[it], dot + it, problems) if it in content else default[0]
+                 for it, (inner, *default) in kind.items() if it in content or default}
+        return found if by_name else Table(**found)
+    elif wanted is int and content not in kind:
+        problems.append(f"{key}: must be from {kind.start} to {kind.stop - 1}")
+    elif wanted is str and not re.fullmatch(kind, content):
+        problems.append(f"{key}: must be one of {kind.replace('|', ', ')}" if "|" in kind else
+                        f"{key}: {content!r} is none of its texts")
     return content
 
 
-def wrong_names(config: Config) -> Iterator[str]:
-    """Yields the problems of tags and services that are named, but are not there."""
-    here, far = config.tags(), {*config.far("tags")}
-    started = {name for name, it in config.services.items() if it.starts}
+def wrong_names(config: Table) -> Iterator[tuple[object, str]]:
+    """Yields texts on what is named and is not there, each with whether it is so."""
+    here, far = config.tags, {it for peer in config.peers.values() for it in peer.tags}
+    called = {*config.started, *(it for peer in config.peers.values() for it in peer.services)}
     for name, owner in config.owners.items():
         for at, gift in enumerate(owner.gives):
             key, own = f"owners.{name}.gives[{at}]", {f"{name}/{it}" for it in owner.tags}
-            yield from (f"{key}: {tag} is no tag of its own"
-                        for tag in {*gift.tags, *tags_of(gift.rights)} - own)
-            if gift.to not in {*started, *config.far("services")}:
-                yield f"{key}: no service {gift.to} is started"
+            is_file = os.path.isfile(gift.file) and os.path.getsize(gift.file) <= GIFT_BYTES
+            yield (not is_file and (gift.file or not gift.rights),
+                   f"{key}: {gift.file} is no file of at most {GIFT_BYTES} bytes")
+            yield gift.to not in called, f"{key}: no service {gift.to} is started"
+            for tag in (*gift.tags, *(it[1:] for it in gift.rights)):
+                yield tag not in own, f"{key}: {tag} is no tag of its own"
     for name, it in config.services.items():
-        handed = {*it.integrity, *tags_of(it.rights)}
-        yield from (f"services.{name}: no owner has the tag {tag}" for tag in
-                    handed - here | {*it.secrecy, *it.tags} - here - far)
-        yield from (f"services.{name}.spawns: {child} is no service with starts = false"
-                    for child in {*it.spawns} - ({*config.services} - started))
-        if not it.starts and (it.secrecy or it.integrity):
-            yield f"services.{name}: its labels are those of its parent"
-    for name, out in config.outlets.items():
-        yield from (f"outlets.{name}: no owner here has the tag {tag}" for tag in
-                    {*out.secrecy, *out.integrity, *tags_of(out.rights)} - here)
+        handed = {*it.integrity, *(right[1:] for right in it.rights)}
+        for tag in handed - here | {*it.secrecy, *it.tags} - here - far:
+            yield True, f"services.{name}: no owner has the tag {tag}"
+        for child in {*it.spawns} - {*config.services}.difference(config.started):
+            yield True, f"services.{name}.spawns: {child} is no service with starts = false"
+        yield (not it.starts and (it.secrecy or it.integrity),
+               f"services.{name}: its labels are those of its parent")
+    for name, it in config.outlets.items():
+        for tag in {*it.secrecy, *it.integrity, *(right[1:] for right in it.rights)} - here:
+            yield True, f"outlets.{name}: no owner here has the tag {tag}"
 
 
-def wrong_files(config: Config) -> Iterator[str]:
-    """Yields the problems of paths, also where a service sees what the host keeps, or a socket."""
+def wrong_files(config: Table) -> Iterator[tuple[object, str]]:
+    """Yields the same of paths, also where a service sees what the host keeps, or a socket."""
     hidden = [config.node.directory, *config.node.keys, config.cluster.private_key or os.devnull]
-    for name, owner in config.owners.items():
-        for gift in (it for it in owner.gives if it.file or not it.rights):
-            if not os.path.isfile(gift.file) or os.path.getsize(gift.file) > GIFT_BYTES:
-                yield f"owners.{name}: {gift.file} is no file of at most {GIFT_BYTES} bytes"
     for name, out in config.outlets.items():
-        if out.kind == "tcp" and not re.fullmatch(ADDRESS, out.to):
-            yield f"outlets.{name}.to: must be a host, a colon and a port"
-        elif not out.to and out.kind != "standard-output":
-            yield f"outlets.{name}.to: is missing"
+        is_address = re.fullmatch(ADDRESS, out.to) or out.kind != "tcp"
+        yield not is_address, f"outlets.{name}.to: must be a host, a colon and a port"
+        yield not out.to and out.kind in ("file", "log"), f"outlets.{name}.to: is missing"
         hidden += [out.to] if out.kind in ("file", "log") else []
     for name, it in config.services.items():
-        paths = [pathlib.Path(path).resolve() for path in it.sees]
-        yield from (f"services.{name}.sees: {path} is not there, or a socket" for path in paths
-                    if not path.exists() or path.is_socket())
-        yield from (f"services.{name}.sees: {path} shows {kept}" for path in paths
-                    for kept in (pathlib.Path(kept).resolve() for kept in hidden)
-                    if path == kept or path in kept.parents or kept in path.parents)
+        key, paths = f"services.{name}", [pathlib.Path(path).resolve() for path in it.sees]
+        yield not it.command, f"{key}.command: must have a program"
+        for path in paths:
+            is_there = path.exists() and not path.is_socket()
+            yield not is_there, f"{key}.sees: {path} is not there, or a socket"
+            for kept in (pathlib.Path(it).resolve() for it in hidden):
+                shows = path == kept or path in kept.parents or kept in path.parents
+                yield shows, f"{key}.sees: {path} shows {kept}"
         called = ["flume_service.py", *(path.name for path in paths)]
-        yield from (f"services.{name}.sees: two are called {it}" for it in {*called}
-                    if called.count(it) > 1)
-        if not it.command:
-            yield f"services.{name}.command: must have a program"
+        for one in {*called}:
+            yield called.count(one) > 1, f"{key}.sees: two are called {one}"
 
 
-def wrong_machines(config: Config) -> Iterator[str]:
-    """Yields the problems of the cluster, and of other machines."""
-    cluster, names = config.cluster, [*config.far("services"), *config.far("tags")]
+def wrong_machines(config: Table) -> Iterator[tuple[object, str]]:
+    """Yields the same of the cluster, and of other machines."""
+    cluster, peers, has_name = config.cluster, [*config.peers.values()], bool(config.cluster.name)
     files = [cluster.ca, cluster.certificate, cluster.private_key]
-    numbers = [config.node.number, *(it.number for it in config.peers.values())]
-    if config.peers and not cluster.name:
-        yield "cluster: is missing"
-    if cluster.name and not config.node.keys:
-        yield "node.keys: is missing"
-    if cluster.name and not importlib.util.find_spec("asyncio_mqtt"):
-        yield "cluster: python3-asyncio-mqtt lacks, which host/install installs"
-    if any(files) and not all(map(os.path.isfile, files)):
-        yield f"cluster: ca, certificate and private_key must be files: {files}"
-    yield from (f"peers: {it} is here, or at two" for it in {*names}
-                if it in config.services or it in config.tags() or names.count(it) > 1)
-    yield from (f"peers: the number {it} is of two" for it in {*numbers} if numbers.count(it) > 1)
+    numbers = [config.node.number, *(it.number for it in peers)]
+    names = [*config.tags, *config.services]
+    names += [it for peer in peers for it in (*peer.services, *peer.tags)]
+    yield peers and not has_name, "cluster: is missing"
+    yield has_name and not config.node.keys, "node.keys: is missing"
+    yield (has_name and not importlib.util.find_spec("asyncio_mqtt"),
+           "cluster: python3-asyncio-mqtt lacks, which host/install installs")
+    yield (any(files) and not all(map(os.path.isfile, files)),
+           f"cluster: ca, certificate and private_key must be files: {files}")
+    for it in {*names}:
+        yield names.count(it) > 1, f"peers: {it} is here, or at two"
+    for number in {*numbers}:
+        yield numbers.count(number) > 1, f"peers: the number {number} is of two"

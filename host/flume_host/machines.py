@@ -3,15 +3,13 @@ envelope, which has a seal of its own: who carries it can lose it, and nothing e
 import asyncio
 import contextlib
 import hmac
-import itertools
 import json
 import random
 import re
 import time
-from asyncio import TaskGroup
 from typing import TYPE_CHECKING, NamedTuple
 
-from .config import PeerConfig, Unfit
+from .config import Table, Unfit
 
 if TYPE_CHECKING:
     from asyncio_mqtt import Client
@@ -20,17 +18,9 @@ if TYPE_CHECKING:
 
 CONTEXT, MOST, TICK, BATCH = b"flume-envelope-1\n", 1000, 1.0, 64
 # what an envelope brings: a window; one that is to be answered by one, too; a part of what a window
-# lacked, and the last; a message; the boot and number of one that was handled, and that may have
-# arrived, or was dropped; and the names of services and tags
-TELL, NEWS, OPERATIONS, LAST = "tell", "news", "operations", "last"
-MESSAGE, HANDLED, NAMES = "message", "handled", "names"
-TWICE = "a number twice"
-
-
-class NumberReused(Unfit):
-    """A peer knows a name of this node's that it never gave: the number was made anew, or runs
-    twice, or an older copy was put back. A person looks first."""
-    status = 4
+# lacked, and the last; the names of services and tags; a message; and which one was handled
+TELL, NEWS, OPERATIONS, LAST, NAMES = "tell", "news", "operations", "last", "names"
+MESSAGE, HANDLED, TWICE = "message", "handled", "a number twice"
 
 
 def is_cancelled() -> bool:
@@ -40,7 +30,7 @@ def is_cancelled() -> bool:
 
 
 class Envelope(NamedTuple):
-    """An envelope: from one machine to another, with the sender's boot and a number in it."""
+    """What goes from one machine to another, with the sender's boot and a number in it."""
     kind: str
     sender: int
     to: int
@@ -67,29 +57,26 @@ def opened(content: bytes, keys: list[bytes]) -> Envelope | None:
 class Peer:
     """Another machine: what was heard of it, and what it has not said that it handled."""
 
-    def __init__(self, config: PeerConfig) -> None:
+    def __init__(self, config: Table) -> None:
         self.config, self.is_met = config, asyncio.Event()
-        self.heard, self.lag, self.sent = 0.0, 0, 0
         self.waiting: dict[int, tuple[float, str]] = {}
-        # its boot, and which numbers of it were taken: those of messages, and others
-        self.boot, self.taken = 0, {True: {0}, False: {0}}
-        # its boot and number with the newest names
-        self.named = 0, 0
+        self.heard, self.lag, self.sent, self.boot, self.named = 0.0, 0, 0, 0, (0, 0)
+        # which numbers of its boot were taken: of messages, and of others
+        self.taken = {True: {0}, False: {0}}
 
     def takes(self, it: Envelope) -> bool:
         """Returns whether a number is taken now: once for each boot, and of the last 1,000."""
         if it.boot > self.boot:
             self.boot, self.taken = it.boot, {True: {0}, False: {0}}
         taken = self.taken[it.kind == MESSAGE]
-        least = max(taken) - MOST
-        if it.boot < self.boot or it.number <= least or it.number in taken:
-            return False
-        self.taken[it.kind == MESSAGE] = {old for old in taken if old > least} | {it.number}
-        return True
+        if is_new := it.boot == self.boot and it.number > max(taken) - MOST and (
+                it.number not in taken):
+            taken.add(it.number)
+            taken -= {old for old in taken if old <= max(taken) - MOST}
+        return is_new
 
     def status(self) -> dict[str, object]:
-        """Returns how many seconds ago it was heard, how many packets it lacked then, and how many
-        messages wait for it."""
+        """Returns how long ago it was heard, how much it lacked then, and what waits for it."""
         age = round(time.monotonic() - self.heard, 3) if self.heard else None
         return {"age": age, "lag": self.lag, "waiting": len(self.waiting)}
 
@@ -101,72 +88,66 @@ class Machines:
         self.config, self.keys = world.config.cluster, keys
         self.world, self.books = world, world.books
         self.peers = {it.number: Peer(it) for it in world.config.peers.values()}
-        self.outgoing: asyncio.Queue[tuple[int, bytes]] = asyncio.Queue(MOST)
+        self.outgoing: asyncio.Queue[tuple[str, bytes]] = asyncio.Queue(MOST)
         self.last, self.has_met = 0, False
 
     def topic(self, to: object, sender: object) -> str:
         return f"flume/{self.config.name}/to/{to}/from/{sender}"
 
     async def meet(self) -> None:
-        """Waits for a window of each peer, for some seconds: a number that was made anew shows
-        itself before the first order."""
+        """Waits for peers' windows: a number that was made anew shows before the first order."""
         with contextlib.suppress(TimeoutError):
             async with asyncio.timeout(self.config.patience):
-                for peer in self.peers.values():
-                    await peer.is_met.wait()
+                await asyncio.gather(*(peer.is_met.wait() for peer in self.peers.values()))
         self.has_met = True
         met = [number for number, peer in self.peers.items() if peer.is_met.is_set()]
-        self.books.journal.note("met", peers=met)
+        self.world.note("met", peers=met)
 
     async def run(self) -> None:
         """Meets the others, by one client of the broker after another."""
-        # a machine without peers needs none
+        # what a machine without peers need not have
         from asyncio_mqtt import Client, MqttError, TLSParameters
         host, port = self.config.broker.rsplit(":", 1)
         tls = TLSParameters(self.config.ca, self.config.certificate, self.config.private_key)
         while not is_cancelled():
             try:
-                async with Client(host, int(port), client_id=str(self.books.number),
-                                  tls_params=tls if self.config.ca else None, keepalive=10,
-                                  clean_session=True) as client:
+                async with (Client(host, int(port), client_id=str(self.books.number),
+                                   clean_session=True, keepalive=10,
+                                   tls_params=tls if self.config.ca else None) as client,
+                            client.messages(queue_maxsize=MOST) as heard,
+                            asyncio.TaskGroup() as group):
                     await client.subscribe(self.topic(self.books.number, "+"))
                     if is_cancelled():
                         return
-                    async with client.messages(queue_maxsize=MOST) as heard, TaskGroup() as group:
-                        group.create_task(self.publish(client))
-                        async for it in heard:
-                            self.take(it.topic.value, it.payload)
+                    group.create_task(self.publish(client))
+                    async for it in heard:
+                        self.take(it.topic.value, it.payload)
             # a broker that dies is an error twice: in the block, and as it is left
             except* (MqttError, OSError) as why:
-                self.books.journal.note("broker", why=str(why.exceptions[0]))
+                self.world.note("broker", why=str(why.exceptions[0]))
             await asyncio.sleep(random.uniform(0.5, 1.5))
 
     async def publish(self, client: "Client") -> None:
         while not is_cancelled():
-            to, content = await self.outgoing.get()
-            await client.publish(self.topic(to, self.books.number), content)
+            await client.publish(*await self.outgoing.get())
 
     async def talk(self) -> None:
-        """Tells all what the node has, every few seconds and behind each order, and sends again
-        what was not handled."""
-        due, ordered = 0.0, self.books.ordered
+        """Tells all what the node has, again and again, and sends again what was not handled."""
+        due = 0.0
         while True:
             now = time.monotonic()
             for to, peer in self.peers.items():
-                for number, (at, digits) in itertools.islice(list(peer.waiting.items()), BATCH):
+                for number, (at, digits) in [*peer.waiting.items()][:BATCH]:
                     if now - at > TICK:
                         self.send(MESSAGE, to, digits, number)
                         peer.waiting[number] = now, digits
-            is_news = ordered.is_set() or not self.has_met
-            if is_news or now > due:
-                ordered.clear()
+            if self.books.is_news or now > due:
+                is_news = self.books.is_news or not self.has_met
                 self.tell(NEWS if is_news else TELL, *self.peers)
-                due = now + self.config.seconds * random.uniform(0.5, 1.5)
-            with contextlib.suppress(TimeoutError):
-                async with asyncio.timeout(TICK):
-                    await ordered.wait()
+                seconds = self.config.seconds * random.uniform(0.5, 1.5)
+                due, self.books.is_news = now + (seconds if self.has_met else TICK), False
             # orders that come together are told together
-            await asyncio.sleep(TICK / 50)
+            await asyncio.sleep(TICK / 20)
 
     def tell(self, kind: str, *peers: int) -> None:
         """Tells peers what the node has, and what is called how here."""
@@ -181,43 +162,38 @@ class Machines:
         self.last += 1
         it = Envelope(kind, self.books.number, to, self.books.boot, number or self.last, packet)
         with contextlib.suppress(asyncio.QueueFull):
-            self.outgoing.put_nowait((to, it.sealed(self.keys[0])))
+            self.outgoing.put_nowait((self.topic(to, self.books.number), it.sealed(self.keys[0])))
 
     def post(self, to: int, digits: str) -> None:
-        """Has a message on its way, again and again until it was handled. What is over 1,000 is
-        lost: nobody is told."""
+        """Has a message on its way, again and again until it was handled, but for 1,000."""
         peer = self.peers[to]
         if peer.sent - min(peer.waiting, default=peer.sent) >= MOST - 1:
-            self.books.journal.note("lost", packet=digits)
+            self.world.note("lost", packet=digits)
             return
         peer.sent += 1
         peer.waiting[peer.sent] = time.monotonic(), digits
         self.send(MESSAGE, to, digits, peer.sent)
 
     def take(self, topic: str, content: bytes) -> None:
-        """Takes an envelope, or notes why it does not. Raises NodeEnded, and NumberReused."""
-        it, why = opened(content, self.keys), ""
-        if not it:
-            why = "no seal"
-        elif topic != self.topic(self.books.number, it.sender) or it.to != self.books.number:
-            why = "another's topic"
-        elif it.sender not in self.peers:
-            why = "no peer"
-        elif it.kind == MESSAGE and it.packet[:12] != f"f204{it.sender:08x}":
-            why = "a message of another machine"
-        elif not self.peers[it.sender].takes(it):
-            why = TWICE
-        if it and not why:
-            self.peers[it.sender].heard = time.monotonic()
+        """Takes an envelope, or notes why it does not. Raises NodeEnded, and Unfit."""
+        it, here = opened(content, self.keys), self.books.number
+        why = ("no seal" if not it else
+               "another's topic" if (it.to, topic) != (here, self.topic(here, it.sender)) else
+               "no peer" if it.sender not in self.peers else
+               "a message of another machine" if it.kind == MESSAGE and
+               it.packet[:12] != f"f204{it.sender:08x}" else
+               TWICE if not self.peers[it.sender].takes(it) else "")
+        if why:
+            self.world.note("envelope", topic=topic, why=why)
+        elif it:
             self.handle(it, self.peers[it.sender])
-        else:
-            self.books.journal.note("envelope", topic=topic, why=why)
         if it and it.kind == MESSAGE and why in ("", TWICE):
             # the same whether it arrived, was dropped, or came before
             self.send(HANDLED, it.sender, f"{it.boot}.{it.number}")
 
     def handle(self, it: Envelope, peer: Peer) -> None:
         """Does what an envelope is for, which is of whom it says, and came once."""
+        peer.heard = time.monotonic()
         if it.kind == MESSAGE:
             self.world.arrive(it.packet)
         elif it.kind == HANDLED:
@@ -242,8 +218,9 @@ class Machines:
                 self.tell(TELL, it.sender)
 
     def receive(self, packet: str) -> list[str]:
-        """Returns what the node answers to a packet of another. Raises NumberReused."""
+        """Returns what the node answers to a packet. Raises Unfit where a peer knows a name of this
+        node that it never gave."""
         answer = self.books.ask(f"receive {packet}")
         if re.match(rf"refused F1[67] {self.books.number}\.", answer[0]):
-            raise NumberReused(f"{answer[0]}: the number {self.books.number} is another's")
+            raise Unfit(f"{answer[0]}: the number {self.books.number} is another's", 4)
         return answer

@@ -1,26 +1,17 @@
 """The program flume-node at the other end of a socket, and the books that it keeps: a line has
 nothing in it but what the node answered, bytes in hexadecimal, and sets that are written anew."""
-import asyncio
 import contextlib
 import re
 import socket
 import subprocess
 from dataclasses import dataclass
-from typing import Iterable, NamedTuple, NewType
+from typing import Iterable, NamedTuple
 
 from .records import Journal, digest
 
-ORDERS = ("tag", "group", "put", "open-group", "make-login")
-GREETING = re.compile(r"flume-node 1 node (\d+) boot (\d+) published (\d+)")
-SECONDS = 120
-Pid = NewType("Pid", str)
-Tag = NewType("Tag", str)
-Right = NewType("Right", str)
-# a message that is under way: to whom, and its digits
-Packet = tuple[Pid, str]
-
+ORDERS, SECONDS = ("tag", "group", "put", "open-group", "make-login"), 120
+GREETING = r"flume-node 1 node {} boot (\d+) published (\d+)"
 OPERATION = re.compile(r"[1-9]\d*\.[1-9]\d*")
-LAST = (1 << 32) - 1
 MESSAGE = re.compile(r"message p[0-9.]+ \{(.*)\} (none|(?:[0-9a-f]{2})+)")
 
 
@@ -29,7 +20,7 @@ class NodeEnded(Exception):
 
 
 class Refused(Exception):
-    """The node refused a line: the refusal, as F3, and what it names last, as -1.1, or nothing."""
+    """The node refused a line: by F3, and what that names last, as -1.1, or nothing."""
 
     def __init__(self, answer: str) -> None:
         super().__init__(answer)
@@ -37,73 +28,62 @@ class Refused(Exception):
         self.named = "".join(named[-1:])
 
 
-def set_text(members: Iterable[str]) -> str:
-    """Returns the text of a label, or of a set of capabilities."""
-    return "{" + ",".join(sorted(members)) + "}"
-
-
 class Labels(NamedTuple):
-    """Labels of a process, or of an endpoint."""
-    secrecy: frozenset[Tag] = frozenset()
-    integrity: frozenset[Tag] = frozenset()
+    secrecy: frozenset[str] = frozenset()
+    integrity: frozenset[str] = frozenset()
 
 
 @dataclass
 class Process:
     """A process of the books: its pid, its labels, and the one endpoint that it keeps open."""
-    pid: Pid
-    labels: Labels
-    endpoint: str
-    mode: str
+    pid: str
+    labels: Labels = Labels()
+    endpoint: str = "e1"
+    mode: str = "r"
 
 
-def nobody(number: int) -> Process:
-    """Returns a process that no machine has, to which messages go and do not arrive."""
-    return Process(Pid(f"p{number}.{LAST}.{LAST}"), Labels(), "e1", "r")
+def set_text(members: Iterable[str]) -> str:
+    return "{" + ",".join(sorted(members)) + "}"
 
 
 class Books:
-    """A node that is served. Each line is answered before the next is written, by functions that
-    raise Refused and NodeEnded."""
+    """A node that is served, line by line. All functions raise Refused and NodeEnded."""
 
     def __init__(self, words: list[str], number: int, journal: Journal) -> None:
         """Starts the program, which is then to greet."""
-        self.number, self.journal, self.ordered = number, journal, asyncio.Event()
+        # what is to be told to other machines at once: a start, and each order
+        self.number, self.journal, self.is_news = number, journal, True
         self.socket, theirs = socket.socketpair()
+        self.socket.settimeout(SECONDS)
+        self.lines = self.socket.makefile("r", encoding="ascii", newline="\n")
         with theirs:
             self.program = subprocess.Popen(words, stdin=theirs.fileno(), stdout=theirs.fileno(),
                                             process_group=0)
-        self.socket.settimeout(SECONDS)
-        self.lines = self.socket.makefile("r", encoding="ascii", newline="\n")
 
     def greet(self) -> None:
         """Notes what the program says first. Raises NodeEnded where it does not greet."""
-        found = GREETING.fullmatch(self.line())
-        if not found or int(found[1]) != self.number:
+        found = re.fullmatch(GREETING.format(self.number), self.line())
+        if not found:
             self.program.kill()
             raise NodeEnded
-        self.boot = int(found[2])
-        self.journal.note("greeting", boot=self.boot, published=int(found[3]))
+        self.boot = int(found[1])
+        self.journal.note("greeting", boot=self.boot, published=int(found[2]))
 
     def ask(self, line: str, secret: str = "") -> list[str]:
-        """Returns the lines of the answer to a line. The secret is its last word, where it has one.
-
-        Raises NodeEnded where the program ended, or the line was its last (F15). It takes a write
-        and a read of a socket, and an order a write to the disk.
-        """
+        """Returns the lines of the answer to a line, with a secret as its last word where it has
+        one. It takes a write and a read of a socket, and an order a write to the disk."""
         words = f"{self.number} {line} {secret}".rstrip(" ")
         if not words.isprintable():
             raise ValueError("a line has a line feed inside")
-        first = self.line(words + "\n")
-        more = int(first[6:]) if first.startswith("lines ") else 0
-        answer = [first, *(self.line() for _ in range(more))]
+        answer = [first := self.line(words + "\n")]
+        if first.startswith("lines "):
+            answer += [self.line() for _ in range(int(first[6:]))]
         told = f"{line} sha256:{digest(secret)}" if secret else line
         # the registry is its own record: a journal that had it at each start would be full of it
         self.journal.note("line", line=told, answer=answer[:1] if line == "text" else answer)
         if first.startswith("refused F15"):
             raise NodeEnded
-        if line.partition(" ")[0] in ORDERS:
-            self.ordered.set()
+        self.is_news |= line.partition(" ")[0] in ORDERS
         return answer
 
     def do(self, line: str, secret: str = "") -> str:
@@ -114,19 +94,13 @@ class Books:
         return answer.rpartition(" ")[2]
 
     def line(self, said: str = "") -> str:
-        """Writes a line, where there is one, and returns the next that the program writes. Raises
-        NodeEnded where there is none; a program that takes too long is killed."""
-        found = ""
-        try:
+        """Writes a line, where there is one, and returns the next that the program writes."""
+        with contextlib.suppress(OSError):
             self.socket.sendall(said.encode("ascii"))
             found = self.lines.readline()
-        except TimeoutError:
-            self.program.kill()
-        except OSError:
-            pass
-        if not found.endswith("\n"):
-            raise NodeEnded
-        return found[:-1]
+            if found.endswith("\n"):
+                return found[:-1]
+        raise NodeEnded
 
     def end(self) -> int:
         """Ends its input, and returns its status, once its log is merged."""
@@ -138,34 +112,32 @@ class Books:
 
     def proc(self, mode: str, line: str = "proc", labels: Labels = Labels()) -> Process:
         """Returns the process that a line makes, with an endpoint of its labels and this mode."""
-        pid = Pid(self.do(line))
+        pid = self.do(line)
         return Process(pid, labels, self.open(pid, mode, labels), mode)
 
-    def owned_tag(self, pid: Pid, policy: str, secret: str) -> Tag:
+    def open(self, pid: str, mode: str, labels: Labels) -> str:
+        return self.do(f"open {pid} {mode} {' '.join(map(set_text, labels))}")
+
+    def owned_tag(self, pid: str, policy: str, secret: str) -> str:
         """Returns a new tag, with a login for the rights of its maker before there is any data."""
-        tag = Tag(self.do(f"tag {pid} {policy}"))
+        tag = self.do(f"tag {pid} {policy}")
         right = f"+{tag}" if policy == "integrity" else f"-{tag}"
         if policy == "read":
-            group = self.do(f"group {pid}")
-            self.do(f"put {pid} {group} +{tag}")
-            self.do(f"put {pid} {group} -{tag}")
-            right = f"*{group}"
+            right = "*" + self.do(f"group {pid}")
+            self.do(f"put {pid} {right[1:]} +{tag}")
+            self.do(f"put {pid} {right[1:]} -{tag}")
         self.do(f"make-login {pid} {right}", secret)
         return tag
 
-    def logins(self) -> dict[str, tuple[str, Tag]]:
-        """Returns each login by the digest of its secret: its name, and the tag that its right is
-        over, perhaps through a group. It reads the whole registry."""
-        found, puts = dict[str, tuple[str, Tag]](), dict[str, Tag]()
+    def logins(self) -> dict[str, tuple[str, str]]:
+        """Returns each login of the registry by its digest: its name, and the tag of its right."""
+        found, puts = dict[str, tuple[str, str]](), dict[str, str]()
         for name, kind, *rest in map(str.split, self.ask("text")[1:]):
             if kind == "put":
-                puts[f"*{rest[0]}"] = Tag(rest[1][1:])
+                puts[f"*{rest[0]}"] = rest[1][1:]
             elif kind == "login":
-                found[rest[1]] = name, puts.get(rest[0], Tag(rest[0][1:]))
+                found[rest[1]] = name, puts.get(rest[0], rest[0][1:])
         return found
-
-    def open(self, pid: Pid, mode: str, labels: Labels) -> str:
-        return self.do(f"open {pid} {mode} {' '.join(map(set_text, labels))}")
 
     def relabel(self, process: Process, labels: Labels) -> None:
         """Changes a label of a process, with that of its endpoint, or neither."""
@@ -180,24 +152,20 @@ class Books:
         finally:
             process.endpoint = self.open(process.pid, process.mode, process.labels)
 
-    def send(self, process: Process, under: Labels, to: Process, rights: Iterable[Right],
-             content: bytes) -> Packet:
-        """Returns a message as a packet. Under other labels than the process has it goes by an
-        endpoint that is opened for it alone."""
-        pid, end = process.pid, process.endpoint
+    def send(self, process: Process, under: Labels, to: Process, rights: Iterable[str],
+             content: bytes) -> tuple[str, str]:
+        """Returns to which pid a packet goes, and the packet: a message under any labels."""
+        end, words = process.endpoint, f"{set_text(rights)} {content.hex() or 'none'}"
         if under != process.labels:
-            end = self.open(pid, "w", under)
-        words = f"{to.pid} {to.endpoint} {set_text(rights)} {content.hex() or 'none'}"
+            end = self.open(process.pid, "w", under)
         try:
-            return to.pid, self.do(f"send {pid} {end} {words}")
+            return to.pid, self.do(f"send {process.pid} {end} {to.pid} {to.endpoint} {words}")
         finally:
             if end != process.endpoint:
-                self.do(f"close {pid} {end}")
+                self.do(f"close {process.pid} {end}")
 
-    def take(self, pid: Pid) -> tuple[list[Right], bytes] | None:
+    def take(self, pid: str) -> tuple[list[str], bytes] | None:
         """Returns the rights and bytes of the oldest message that waits for a process, or none."""
-        found = MESSAGE.fullmatch(self.ask(f"take {pid}")[0])
-        if not found:
+        if not (it := MESSAGE.fullmatch(self.ask(f"take {pid}")[0])):
             return None
-        content = b"" if found[2] == "none" else bytes.fromhex(found[2])
-        return [Right(it) for it in found[1].split(",") if it], content
+        return [*filter(None, it[1].split(","))], bytes.fromhex(it[2].removeprefix("none"))

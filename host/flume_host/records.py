@@ -2,17 +2,24 @@
 node with its answer and what the host did, and the vault, which has what it must not lose. Secrets
 of logins stand in the journal as their SHA-256 alone."""
 import asyncio
-import collections
-import errno
 import hashlib
+import itertools
 import json
 import os
 import pathlib
+import re
 import secrets
 import time
+from logging.handlers import RotatingFileHandler
 from typing import Any, Iterator
 
+from .config import Table
+
 Entry = dict[str, Any]
+# what a line and its answer say of the process that it is of
+SAYS = ((r"(\S+) \S+ (.*) => (refused .*)", "{0} {1}: {2}"),
+        (r"take \S+ => message (\S+) (\S+) (\S+)", "read {size} of {0}, with the rights {1}"),
+        (r"send \S+ \S+ (\S+) \S+ (\S+) (\S+) => .*", "sent {size} to {0}, with the rights {1}"))
 
 
 def digest(secret: str) -> str:
@@ -26,44 +33,33 @@ class Lines:
         self.path, self.file = path, open(path, "ab", buffering=0)
         self.file.truncate(path.read_bytes().rfind(b"\n") + 1)
 
-    def write(self, entry: Entry) -> None:
+    def write(self, entry: Entry) -> Entry:
         """Writes a line. Raises OSError also where a part of it was written alone."""
         line = json.dumps(entry).encode() + b"\n"
         if self.file.write(line) < len(line):
-            raise OSError(errno.ENOSPC, "a line was not written as a whole")
+            raise OSError("a line was not written as a whole")
+        return entry
 
 
 class Vault(Lines):
-    """The secrets of owners' logins by tag, and the times of orders by service. Each is on the disk
-    before it is relied upon."""
+    """The secrets of owners' logins by tag, and the time of each order by service. Each is on the
+    disk before it is relied upon."""
 
     def __init__(self, path: pathlib.Path) -> None:
         super().__init__(path)
-        self.secrets = dict[str, str]()
-        self.orders = collections.defaultdict[str, list[float]](list)
-        for line in path.read_bytes().splitlines():
-            self.take(json.loads(line))
-        folder = os.open(path.parent, os.O_RDONLY)
-        os.fsync(folder)
-        os.close(folder)
+        self.facts: list[Entry] = list(map(json.loads, path.read_bytes().splitlines()))
+        os.fsync(os.open(path.parent, os.O_RDONLY))
 
-    def take(self, fact: Entry) -> None:
-        if "tag" in fact:
-            self.secrets[fact["tag"]] = fact["secret"]
-        else:
-            self.orders[fact["service"]].append(fact["at"])
-
-    def note(self, **fact: object) -> None:
-        """Writes a fact, with a sync, and takes it."""
-        self.write(fact)
+    def note(self, **fact: object) -> Entry:
+        """Returns a fact, which it writes, with a sync."""
+        self.facts.append(self.write(fact))
         os.fsync(self.file)
-        self.take(fact)
+        return fact
 
     def secret_of(self, tag: str) -> str:
         """Returns the secret of a tag's login, which is made and saved where there is none."""
-        if tag not in self.secrets:
-            self.note(tag=tag, secret=secrets.token_hex(32))
-        return self.secrets[tag]
+        known = [fact for fact in self.facts if fact.get("tag") == tag]
+        return str((known or [self.note(tag=tag, secret=secrets.token_hex(32))])[0]["secret"])
 
 
 def entries(folder: pathlib.Path) -> Iterator[Entry]:
@@ -71,7 +67,7 @@ def entries(folder: pathlib.Path) -> Iterator[Entry]:
     older = [it for it in folder.glob("journal.*") if it.suffix[1:].isdigit()]
     for path in (*sorted(older, key=lambda it: -int(it.suffix[1:])), folder / "journal"):
         with open(path, "rb") as file:
-            yield from map(json.loads, file)
+            yield from (json.loads(line) for line in file if line.endswith(b"\n"))
 
 
 class Journal(Lines):
@@ -92,22 +88,16 @@ class Journal(Lines):
                 self.emissions = entry["emissions"]
 
     def note(self, kind: str, **what: object) -> Entry:
-        """Returns an entry that it writes. Where its file is full a new one is begun with what is
+        """Returns an entry, which it writes. Where its file is full a new one is begun with what is
         not done, so that an older one may go."""
         if self.file.tell() >= self.most_bytes:
             self.file.close()
-            paths = [self.path, *(self.path.with_suffix(f".{it}") for it in range(1, self.files))]
-            for older, newer in zip(paths[:0:-1], paths[-2::-1]):
-                if newer.exists():
-                    newer.replace(older)
-            self.path.unlink(missing_ok=True)
+            RotatingFileHandler(self.path, backupCount=self.files - 1, delay=True).doRollover()
             super().__init__(self.path)
             self.note("file", emissions=self.emissions)
             for entry in self.undone.values():
                 self.write(entry)
-        entry = {"at": time.time(), "kind": kind, **what}
-        self.write(entry)
-        return entry
+        return self.write({"at": time.time(), "kind": kind, **what})
 
     async def emission(self, outlet: str, content: bytes) -> int:
         """Notes that these bytes may go out, and returns their number, once it is on the disk."""
@@ -119,6 +109,47 @@ class Journal(Lines):
             await asyncio.to_thread(os.fdatasync, file)
         return number
 
-    def done(self, outlet: str, number: int) -> None:
-        del self.undone[outlet, number]
-        self.note("done", outlet=outlet, number=number)
+
+def explain(config: Table, service: str) -> int:
+    """Prints lines on a service, in the order of the journal, all of which is read. Equal ones that
+    follow one another are one, with their number."""
+    lines = told(pathlib.Path(config.node.directory), f"service {service}")
+    for said, times in itertools.groupby(lines, lambda it: it[1]):
+        began, *more = [at for at, _ in times]
+        when = time.strftime("%Y-%m-%d %H:%M:%S", time.localtime(began))
+        print(when, said + (f" ({len(more) + 1} times)" if more else ""))
+    return 0
+
+
+def told(folder: pathlib.Path, mine: str) -> Iterator[tuple[float, str]]:
+    """Yields what each entry says of a service, and when."""
+    names, sent = dict[str, str](), dict[str, str]()
+    for entry in entries(folder):
+        said, pid = "", entry.get("pid", "")
+        names |= {pid: f"{it} {entry[it]}" for it in ("service", "outlet", "owner")
+                  if pid and it in entry}
+        names |= {tag: name for name, tag in entry.items() if "/" in name}
+        if entry["kind"] == "line":
+            said = line_told(entry["line"], entry["answer"][0], names, sent, mine)
+        elif names.get(pid) == mine:
+            said = entry["kind"] + (f": {entry['why']}" if "why" in entry else "")
+        if said:
+            yield entry["at"], said
+
+
+def line_told(line: str, answer: str, names: dict[str, str], sent: dict[str, str],
+              mine: str) -> str:
+    """Returns what a line to the node says of a service, or nothing."""
+    def named(text: str) -> str:
+        return "".join(names.get(it, it) for it in re.split(r"([{},+\- ])", text))
+    verb, pid, *_ = f"{line} ".split(" ")
+    if verb == "receive":
+        packet = sent.pop(pid, "")
+        return f"{packet}: {named(answer)}" if packet and answer[:7] != "arrived" else ""
+    for form, says in SAYS:
+        if names.get(pid) == mine and (it := re.fullmatch(form, f"{line} => {answer}")):
+            size = f"{len(it[3].removeprefix('none')) // 2} bytes"
+            if verb == "send":
+                sent[answer.removeprefix("sent ")] = f"the message of {size} to {named(it[1])}"
+            return says.format(*map(named, it.groups()), size=size)
+    return ""

@@ -3,14 +3,16 @@ import contextlib
 import json
 import os
 import pathlib
+import platform
 import resource
 import select
 import signal
 import socket
+import struct
 import subprocess
+from typing import TextIO
 
-from .config import ServiceConfig
-from .system_calls import filter_program
+from .config import Table
 
 SECONDS = 10.0
 LIBRARY = pathlib.Path(__file__).resolve().parent.parent / "flume_service.py"
@@ -26,57 +28,70 @@ SYSTEM = f"""bwrap
 # bwrap waits for a byte or the end of the host, and the shell for a line: a host that was killed
 # before it noted a sandbox leaves nothing that runs
 WAITS = ("/bin/sh", "-c", 'read -r go && exec "$@" < /dev/null', "service")
-
-
-class SandboxStuck(Exception):
-    """A sandbox does not end. What it read must not get out, so nothing is started beside it."""
+# System calls by which a sandbox without a network would still reach others: the kernel's keys
+# belong to a user and not to a sandbox, sockets of some families to no network namespace, and
+# io_uring makes its own. By machine: how the kernel calls it, socket, add_key, request_key, keyctl
+MACHINES = {"x86_64": (0xC000003E, 41, 248, 249, 250), "aarch64": (0xC00000B7, 198, 217, 218, 219)}
+IO_URING_SETUP, OTHER_NUMBERS = 425, 0x4000_0000
+LOAD, EQUAL, AT_LEAST, RETURN = 0x20, 0x15, 0x35, 0x06
+ALLOW, DENY = 0x7FFF_0000, 0x0005_0001
+NUMBER_AT, MACHINE_AT, FIRST_WORD_AT = 0, 4, 16
 
 
 def begun_at(pid: int) -> str:
     """Returns when a process began, in ticks of the system, or nothing where none lives."""
-    try:
+    with contextlib.suppress(FileNotFoundError, ProcessLookupError):
         words = pathlib.Path(f"/proc/{pid}/stat").read_text().rpartition(")")[2].split()
-    except (FileNotFoundError, ProcessLookupError):
-        return ""
-    return "" if words[0] in "ZX" else words[19]
+        return "" if words[0] in "ZX" else words[19]
+    return ""
 
 
 def end_process(handle: int) -> None:
     """Kills a process by its handle, which it closes, and waits until it is gone: the first one of
-    a sandbox is gone only behind all others in it. Raises SandboxStuck after ten seconds."""
+    a sandbox is gone only behind all others in it. Raises RuntimeError after ten seconds."""
     with contextlib.suppress(ProcessLookupError):
         signal.pidfd_send_signal(handle, signal.SIGKILL)
     ready = select.select([handle], [], [], SECONDS)[0]
     os.close(handle)
     if not ready:
-        raise SandboxStuck("a sandbox did not end in ten seconds")
+        # what it read must not get out, so nothing is started beside it
+        raise RuntimeError("a sandbox did not end in ten seconds")
 
 
-class Running:
-    """A file of the sandboxes that were started, so that a later host can end what a kill left."""
+def end_left(path: pathlib.Path) -> TextIO:
+    """Returns a file for the sandboxes that are started, anew, and ends each that it names before:
+    what a kill left. Raises RuntimeError."""
+    file = open(path, "a+")
+    file.seek(0)
+    for pid, _, began in (line.rstrip().partition(" ") for line in file):
+        if began and begun_at(int(pid)) == began:
+            end_process(os.pidfd_open(int(pid)))
+    file.truncate(0)
+    return file
 
-    def __init__(self, path: pathlib.Path) -> None:
-        """Ends each sandbox that the file names, and begins it anew. Raises SandboxStuck."""
-        self.file = open(path, "a+")
-        self.file.seek(0)
-        for pid, _, began in (line.rstrip().partition(" ") for line in self.file):
-            if began and begun_at(int(pid)) == began:
-                end_process(os.pidfd_open(int(pid)))
-        self.file.truncate(0)
 
-    def note(self, pid: int) -> None:
-        """Notes a process before it runs anything of a service."""
-        print(pid, begun_at(pid), file=self.file, flush=True)
+def filter_program() -> bytes:
+    """Returns the program by which the kernel denies them (EPERM). Raises OSError."""
+    if platform.machine() not in MACHINES:
+        raise OSError(f"no filter of system calls is known for {platform.machine()}")
+    machine, sockets, *keys = MACHINES[platform.machine()]
+    # each with how many it leaves out where it holds, and where not
+    steps = [(LOAD, 0, 0, MACHINE_AT), (EQUAL, 1, 0, machine), (RETURN, 0, 0, DENY),
+             (LOAD, 0, 0, NUMBER_AT), (AT_LEAST, 0, 1, OTHER_NUMBERS), (RETURN, 0, 0, DENY)]
+    for number in (IO_URING_SETUP, *keys):
+        steps += [(EQUAL, 0, 1, number), (RETURN, 0, 0, DENY)]
+    steps += [(EQUAL, 1, 0, sockets), (RETURN, 0, 0, ALLOW), (LOAD, 0, 0, FIRST_WORD_AT)]
+    for family in (socket.AF_UNIX, socket.AF_INET, socket.AF_INET6):
+        steps += [(EQUAL, 0, 1, family), (RETURN, 0, 0, ALLOW)]
+    return b"".join(struct.pack("=HBBI", *it) for it in (*steps, (RETURN, 0, 0, DENY)))
 
 
 class Sandbox:
     """A service's real process with all its children, and the host's end of its socket."""
 
-    def __init__(self, service: ServiceConfig, running: Running) -> None:
-        """Starts it, with its limits set before anything of the service runs.
-
-        Raises OSError where bwrap does not make it. Costs some 10 to 100 ms.
-        """
+    def __init__(self, service: Table, running: TextIO) -> None:
+        """Starts it, with its limits set before anything of the service runs, which costs some 10
+        to 100 ms. Raises OSError where bwrap does not make it."""
         self.socket, theirs = socket.socketpair(socket.AF_UNIX, socket.SOCK_SEQPACKET)
         self.socket.setblocking(False)
         (told, tells), (lets, waits) = socket.socketpair(), socket.socketpair()
@@ -101,7 +116,7 @@ class Sandbox:
                         (resource.RLIMIT_NPROC, service.processes), (resource.RLIMIT_CORE, 0),
                         (resource.RLIMIT_FSIZE, TEMPORARY_BYTES)):
                     resource.prlimit(pid, kind, (most, most))
-                running.note(pid)
+                print(pid, begun_at(pid), file=running, flush=True)
                 lets.sendall(b".\n")
             except (OSError, ValueError) as why:
                 self.outer.kill()
@@ -109,7 +124,7 @@ class Sandbox:
                 raise OSError(f"bwrap: {why}") from None
 
     def end(self) -> None:
-        """Ends it with all its children, and waits for that. Raises SandboxStuck as above."""
+        """Ends it with all its children, and waits for that. Raises RuntimeError as above."""
         self.socket.close()
         end_process(self.handle)
         self.outer.kill()

@@ -1,90 +1,170 @@
-"""A service: the names by which it calls others, what it may ask, and its life in a sandbox. It is
+"""What is real of processes of the books: outlets, by which alone bytes go out, and services, each
+with the names by which it calls others, what it may ask, and its life in a sandbox. A service is
 told nothing of others: no pid, no endpoint, and not whether its message arrived."""
 import asyncio
 import collections
-import inspect
+import contextlib
 import json
+import os
+import sys
 import time
-from typing import TYPE_CHECKING, Any, Callable, Iterable, get_args
+from typing import TYPE_CHECKING, Any, AsyncIterator
 
-from .config import Policy
-from .node import OPERATION, Labels, Packet, Process, Refused, Right, Tag, set_text
+from .config import Table
+from .node import OPERATION, Books, Labels, Process, Refused, set_text
 from .sandbox import Sandbox
 
 if TYPE_CHECKING:
     from .world import World
 
 DATAGRAM_BYTES, MESSAGE_BYTES, HOUR = 65_536, 1024, 3600
-KINDS = {"secrecy": list, "integrity": list, "rights": list, "wait": bool, "bytes": bytes}
-MOST = {"secrecy": 256, "integrity": 256, "rights": 64}
-Answer = dict[str, Any]
-Given = list[str] | None
+MOST_TAGS, MOST_RIGHTS = 256, 64
 
 
 class Wrong(Exception):
     """A request that the host refuses itself, and why."""
 
 
+def texts(given: Any, most: int) -> list[str]:
+    """Returns a list of texts, so many at most. Raises Wrong."""
+    if not isinstance(given, list) or not all(isinstance(it, str) for it in given):
+        raise Wrong("bad request")
+    if len(given) > most:
+        raise Wrong("too many")
+    return given
+
+
+async def attempts(stop: asyncio.Event) -> AsyncIterator[None]:
+    """Yields for each attempt, until all is to stop. Between them are pauses, which grow from one
+    second to sixty, but behind an attempt that lasted for so long."""
+    pause = 1.0
+    while not stop.is_set():
+        began = time.monotonic()
+        yield
+        pause = 1.0 if time.monotonic() - began > 60 else pause
+        with contextlib.suppress(TimeoutError):
+            async with asyncio.timeout(pause):
+                await stop.wait()
+        pause = min(2 * pause, 60.0)
+
+
+class Outlet:
+    """An outlet, and where its bytes go."""
+
+    def __init__(self, name: str, config: Table, process: Process, books: Books) -> None:
+        self.name, self.config, self.process, self.books = name, config, process, books
+        self.journal, self.bell = books.journal, asyncio.Event()
+        self.line: tuple[asyncio.StreamReader, asyncio.StreamWriter] | None = None
+
+    async def pump(self) -> None:
+        """Lets out what an end of the host left undone, and then each message that it may. An
+        emission costs lines of the node, a sync of the journal, and its deed."""
+        try:
+            for (outlet, number), entry in list(self.journal.undone.items()):
+                if outlet == self.name:
+                    await self.let_out(number, bytes.fromhex(entry["bytes"]))
+            while True:
+                self.bell.clear()
+                while message := self.books.take(self.process.pid):
+                    # first the verdict, and then the deed
+                    with contextlib.suppress(Refused):
+                        self.books.do(f"emit {self.process.pid} {message[1].hex() or 'none'}")
+                        number = await self.journal.emission(self.name, message[1])
+                        await self.let_out(number, message[1])
+                await self.bell.wait()
+        finally:
+            self.hang_up()
+
+    async def let_out(self, number: int, content: bytes) -> None:
+        """Does an emission, again and again until it is done."""
+        async for _ in attempts(asyncio.Event()):
+            try:
+                await self.write(number, content)
+                del self.journal.undone[self.name, number]
+                self.journal.note("done", outlet=self.name, number=number)
+                return
+            except OSError as why:
+                print(f"flume-host: outlet {self.name}: {why}", file=sys.stderr, flush=True)
+                self.hang_up()
+
+    async def write(self, number: int, content: bytes) -> None:
+        """Does an emission once, to a file with a sync. Raises OSError."""
+        if self.config.kind == "tcp":
+            if not self.line or self.line[0].at_eof():
+                self.hang_up()
+                self.line = await asyncio.open_connection(*self.config.to.rsplit(":", 1))
+            self.line[1].write(content)
+            await self.line[1].drain()
+        elif self.config.kind == "standard-output":
+            sys.stdout.buffer.write(content + b"\n")
+            sys.stdout.buffer.flush()
+        else:
+            entry = {"at": time.time(), "emission": number, "bytes": content.hex(),
+                     "text": content.decode(errors="replace")}
+            is_log = self.config.kind == "log"
+            with open(self.config.to, "ab") as file:
+                file.write(json.dumps(entry).encode() + b"\n" if is_log else content)
+                file.flush()
+                await asyncio.to_thread(os.fsync, file)
+
+    def hang_up(self) -> None:
+        if self.line:
+            self.line[1].close()
+        self.line = None
+
+
 class Service:
     """One life of a service, which has a process of the books and a sandbox of its own."""
 
-    def __init__(self, world: "World", name: str, process: Process, tags: dict[str, Tag]) -> None:
+    def __init__(self, world: "World", name: str, process: Process, tags: dict[str, str]) -> None:
         self.world, self.books, self.name, self.process = world, world.books, name, process
-        self.config = world.config.services[name]
+        self.config, self.pid = world.config.services[name], process.pid
         # the names by which it calls tags: aliases of the configuration, and handles
-        self.tags, self.names = dict(tags), {tag: name for name, tag in tags.items()}
+        self.tags = dict(tags)
         # and those by which it calls services, of which its own are handles
         self.others = collections.ChainMap[str, Process]({}, world.processes)
         self.children: list[asyncio.Task[None]] = []
-        self.packet: Packet | None = None
+        self.packet: tuple[str, str] | None = None
         self.bell, self.is_gone = asyncio.Event(), False
-
-    def right(self, text: str) -> Right:
-        if text[:1] not in ("+", "-"):
-            raise Wrong("bad request")
-        return Right(text[0] + self.tags[text[1:]])
 
     def named(self, what: str) -> str:
         """Returns a tag or a right by the name of its tag, which is a new handle where it had none,
         and nothing of anything else."""
-        tag = Tag(what.lstrip("+-"))
+        tag = what.lstrip("+-")
         if not OPERATION.fullmatch(tag):
             return ""
-        if tag not in self.names:
-            self.names[tag] = f"t{len(self.names) + 1}"
-            self.tags[self.names[tag]] = tag
-        return what.removesuffix(tag) + self.names[tag]
+        name = next((it for it in self.tags if self.tags[it] == tag), f"t{len(self.tags) + 1}")
+        self.tags[name] = tag
+        return what.removesuffix(tag) + name
 
     async def serve(self) -> None:
-        """Runs it. As it returns its real process is gone, and then its pid.
-
-        Raises NodeEnded, and SandboxStuck where the real process does not end.
-        """
-        pid, world, note, sandbox = self.process.pid, self.world, self.world.journal.note, None
-        world.living[pid] = self
-        note("started", service=self.name, pid=pid)
+        """Runs it. As it returns its real process is gone, and then its pid. Raises NodeEnded, and
+        RuntimeError where the real process does not end."""
+        world, sandbox = self.world, None
+        world.living[self.pid] = self
+        world.note("started", service=self.name, pid=self.pid)
         try:
             world.give(self.name, self.process)
             async with asyncio.timeout(self.config.seconds or None):
                 sandbox = Sandbox(self.config, world.running)
                 await self.converse(sandbox)
         except OSError as why:
-            note("broke", service=self.name, pid=pid, why=str(why))
+            world.note("broke", service=self.name, pid=self.pid, why=str(why))
         finally:
             for child in self.children:
                 child.cancel()
             if sandbox:
                 asyncio.get_running_loop().remove_reader(sandbox.handle)
                 sandbox.end()
-            note("ended", service=self.name, pid=pid)
-            del world.living[pid]
-            self.books.do(f"exit {pid}")
+            world.note("ended", service=self.name, pid=self.pid)
+            del world.living[self.pid]
+            self.books.do(f"exit {self.pid}")
         await asyncio.gather(*self.children, return_exceptions=True)
 
     async def converse(self, sandbox: Sandbox) -> None:
         """Answers its requests, until it ends. A packet is delivered behind the answer."""
         loop = asyncio.get_running_loop()
-        loop.add_reader(sandbox.handle, self.do_exit)
+        loop.add_reader(sandbox.handle, self.leave)
         while not self.is_gone and (
                 content := await loop.sock_recv(sandbox.socket, DATAGRAM_BYTES + 1)):
             answer = await self.answer(content)
@@ -96,107 +176,100 @@ class Service:
             # a service that always has a request more must not hold up the others
             await asyncio.sleep(0)
 
-    async def answer(self, content: bytes) -> Answer:
+    async def answer(self, content: bytes) -> dict[str, Any]:
         """Returns the answer to a datagram. Raises NodeEnded. `receive` waits for a message."""
         self.packet = None
         try:
-            call, asked = self.read(content)
-            found = call(**asked)
-            return {"ok": True, **(await found if asyncio.iscoroutine(found) else found or {})}
-        except (Wrong, KeyError) as wrong:
-            why = str(wrong) if isinstance(wrong, Wrong) else "no such name"
-            self.world.journal.note("refused", service=self.name, pid=self.process.pid, why=why)
-            return {"refused": why}
+            if len(content) > DATAGRAM_BYTES:
+                raise Wrong("too long")
+            return {"ok": True, **await self.do(json.loads(content))}
         except Refused as refused:
             return {"refused": refused.code, "names": self.named(refused.named)}
+        except (Wrong, KeyError, ValueError, RecursionError) as wrong:
+            why = "no such name" if isinstance(wrong, KeyError) else "bad request"
+            why = str(wrong) if isinstance(wrong, Wrong) else why
+            self.world.note("refused", service=self.name, pid=self.pid, why=why)
+            return {"refused": why}
 
-    def read(self, content: bytes) -> tuple[Callable[..., Any], Answer]:
-        """Returns the function that a datagram asks for, with its keys. Raises Wrong."""
-        if len(content) > DATAGRAM_BYTES:
-            raise Wrong("too long")
-        try:
-            asked = json.loads(content)
-            call = getattr(self, "do_" + asked.pop("do"))
-            inspect.signature(call).bind(**asked)
-            if "bytes" in asked:
-                asked["bytes"] = bytes.fromhex(asked["bytes"])
-        except (ValueError, RecursionError, AttributeError, KeyError, TypeError):
-            raise Wrong("bad request") from None
-        for key, value in asked.items():
-            texts = value if isinstance(value, list) else []
-            if type(value) is not KINDS.get(key, str) or any(type(it) is not str for it in texts):
+    async def do(self, asked: Any) -> dict[str, Any]:
+        """Does what is asked, and returns what it gives. Raises Wrong, KeyError where it was given
+        no such name, and ValueError at digits that are none."""
+        match asked:
+            case {"do": "label", **under} if len(under) == 1:
+                self.books.relabel(self.process, self.labels(under))
+            case {"do": "send", "to": str(to), "bytes": str(digits), **under}:
+                self.post(self.others[to], digits, [], under)
+            case {"do": "grant", "to": str(to), "rights": list(rights), **under}:
+                self.post(self.others[to], "", rights, under)
+            case {"do": "emit", "to": str(to), "bytes": str(digits), **under}:
+                self.post(self.world.outlets[to].process, digits, [], under)
+            case {"do": "tag", "policy": "export" | "read" | "integrity" as it, **no} if not no:
+                return {"tag": self.tag(it)}
+            case {"do": "spawn", "service": str(it), "rights": list(rights), **no} if not no:
+                return {"service": self.spawn(it, self.rights(rights))}
+            case {"do": "ask", "right": str(it), **no} if not no:
+                return {"is": self.books.do(f"ask {self.pid} {self.rights([it])[0]}") == "yes"}
+            case {"do": "receive", "wait": bool(), **no} | {"do": "receive", **no} if not no:
+                return await self.receive(asked.get("wait", True))
+            case {"do": "exit", **no} if not no:
+                self.leave()
+            case _:
                 raise Wrong("bad request")
-            if len(texts) > MOST.get(key, 0):
-                raise Wrong("too many")
-        return call, asked
+        return {}
 
-    def labels(self, *named: Given) -> Labels:
+    def rights(self, given: list[Any]) -> list[str]:
+        """Returns the rights that texts say, as -alice/calendar. Raises Wrong, and KeyError."""
+        if not all(it[:1] in ("+", "-") for it in texts(given, MOST_RIGHTS)):
+            raise Wrong("bad request")
+        return [it[0] + self.tags[it[1:]] for it in given]
+
+    def labels(self, under: dict[Any, Any]) -> Labels:
         """Returns labels of these names, and where there are none those of the service."""
-        return Labels(*(old if new is None else frozenset(self.tags[it] for it in new)
-                        for old, new in zip(self.process.labels, named)))
+        if not {*under} <= {*self.process.labels._fields}:
+            raise Wrong("bad request")
+        return self.process.labels._replace(**{
+            kind: frozenset(self.tags[it] for it in texts(names, MOST_TAGS))
+            for kind, names in under.items()})
 
-    def post(self, to: Process, labels: Labels, content: bytes, rights: Iterable[str] = ()) -> None:
+    def post(self, to: Process, digits: str, rights: list[Any], under: dict[Any, Any]) -> None:
+        given, labels, content = self.rights(rights), self.labels(under), bytes.fromhex(digits)
         if len(content) > MESSAGE_BYTES:
             raise Wrong("too long")
-        given = [self.right(it) for it in rights]
         self.packet = self.books.send(self.process, labels, to, given, content)
 
-    # what it may ask, with the keys of a request: a name that is not there is KeyError
-
-    def do_label(self, secrecy: Given = None, integrity: Given = None) -> None:
-        if (secrecy is None) == (integrity is None):
-            raise Wrong("bad request")
-        self.books.relabel(self.process, self.labels(secrecy, integrity))
-
-    def do_send(self, to: str, bytes: bytes, secrecy: Given = None,
-                integrity: Given = None) -> None:
-        self.post(self.others[to], self.labels(secrecy, integrity), bytes)
-
-    def do_grant(self, to: str, rights: list[str], secrecy: Given = None,
-                 integrity: Given = None) -> None:
-        self.post(self.others[to], self.labels(secrecy, integrity), b"", rights)
-
-    def do_emit(self, to: str, bytes: bytes, secrecy: Given = None,
-                integrity: Given = None) -> None:
-        self.post(self.world.outlets[to].process, self.labels(secrecy, integrity), bytes)
-
-    def do_tag(self, policy: str) -> Answer:
-        if policy not in get_args(Policy):
-            raise Wrong("bad request")
-        now, times = time.time(), self.world.vault.orders[self.name]
-        newer = sum(it > now - HOUR for it in times)
-        if len(times) >= self.config.orders or newer >= self.config.orders_an_hour:
+    def tag(self, policy: str) -> str:
+        """Returns the handle of a new tag, which is counted before it is made. Raises Wrong."""
+        facts = [it for it in self.world.vault.facts if it.get("service") == self.name]
+        newer = [it for it in facts if it["at"] > time.time() - HOUR]
+        if len(facts) >= self.config.orders or len(newer) >= self.config.orders_an_hour:
             raise Wrong("too many orders")
-        # it is counted before it is given
-        self.world.vault.note(service=self.name, at=now)
-        return {"tag": self.named(self.books.do(f"tag {self.process.pid} {policy}"))}
+        self.world.vault.note(service=self.name, at=time.time())
+        return self.named(self.books.do(f"tag {self.pid} {policy}"))
 
-    def do_spawn(self, service: str, rights: list[str]) -> Answer:
-        line = f"spawn {self.process.pid} {set_text(map(self.right, rights))}"
-        if service not in self.config.spawns:
-            raise KeyError(service)
+    def spawn(self, name: str, rights: list[str]) -> str:
+        """Returns the handle of a new child, which has the labels of this. Raises Wrong."""
+        if name not in self.config.spawns:
+            raise Wrong("no such name")
         # those that have ended count too, since that they ended is nothing to tell
         if len(self.children) >= self.config.children:
             raise Wrong("too many")
+        line = f"spawn {self.pid} {set_text(rights)}"
         process = self.books.proc("rw", line, self.process.labels)
-        child = Service(self.world, service, process, self.tags)
-        handle = f"s{len(self.children) + 1}"
-        child.others["parent"], self.others[handle] = self.process, process
+        child = Service(self.world, name, process, self.tags)
         self.children.append(self.world.group.create_task(child.serve()))
-        return {"service": handle}
+        handle = f"s{len(self.children)}"
+        child.others["parent"], self.others[handle] = self.process, process
+        return handle
 
-    def do_ask(self, right: str) -> Answer:
-        return {"is": self.books.do(f"ask {self.process.pid} {self.right(right)}") == "yes"}
-
-    def do_exit(self) -> None:
-        self.is_gone = True
-        self.bell.set()
-
-    async def do_receive(self, wait: bool = True) -> Answer:
-        while not (message := self.books.take(self.process.pid)):
+    async def receive(self, wait: bool) -> dict[str, Any]:
+        """Returns the next message, or that there is none, where it is not to wait or is gone."""
+        while not (message := self.books.take(self.pid)):
             if not wait or self.is_gone:
                 return {"is": False}
             self.bell.clear()
             await self.bell.wait()
-        rights, content = message
-        return {"is": True, "bytes": content.hex(), "rights": list(map(self.named, rights))}
+        return {"is": True, "bytes": message[1].hex(), "rights": list(map(self.named, message[0]))}
+
+    def leave(self) -> None:
+        self.is_gone = True
+        self.bell.set()

@@ -2,42 +2,35 @@
 import asyncio
 import pathlib
 import re
-from typing import Awaitable, Iterable
+from typing import Awaitable, Iterable, TextIO
 
-from .config import Config, OutletConfig, PeerConfig, ServiceConfig, Unfit, tags_of
+from .config import Table, Unfit
 from .machines import Machines
-from .node import (OPERATION, Books, Labels, NodeEnded, Packet, Pid, Process, Refused, Right, Tag,
-                   nobody)
-from .outlets import Outlet, attempts
+from .node import OPERATION, Books, Labels, NodeEnded, Process, Refused
 from .records import Vault, digest
-from .sandbox import Running
-from .service import MESSAGE_BYTES, Service
+from .service import MESSAGE_BYTES, Outlet, Service, attempts
 
 
 class World:
     """All that lives while one flume-node runs."""
 
-    def __init__(self, config: Config, books: Books, vault: Vault, running: Running,
+    def __init__(self, config: Table, books: Books, vault: Vault, running: TextIO,
                  keys: list[bytes]) -> None:
-        self.config, self.books, self.journal = config, books, books.journal
-        self.vault, self.running, self.machines = vault, running, Machines(keys, self)
-        self.owners: dict[str, Process] = {}
-        self.tags: dict[str, Tag] = {}
-        self.outlets: dict[str, Outlet] = {}
-        self.living: dict[Pid, Service | Outlet] = {}
+        self.config, self.vault, self.running = config, vault, running
+        self.books, self.note = books, books.journal.note
+        self.machines = Machines(keys, self)
+        self.owners, self.tags = dict[str, Process](), dict[str, str]()
+        self.outlets, self.living = dict[str, Outlet](), dict[str, Service | Outlet]()
         # services, here and of other machines: one that ended keeps its name, since that it ended
         # is nothing to tell, and one that was not begun or heard is nobody
-        self.processes = {name: nobody(peer.number) for peer in config.peers.values()
-                          for name in peer.services}
-        self.processes |= {name: nobody(config.node.number)
-                           for name, it in config.services.items() if it.starts}
+        nobody = "p{}.4294967295.4294967295".format
+        self.processes = {it: Process(nobody(peer.number)) for peer in config.peers.values()
+                          for it in peer.services}
+        self.processes |= {it: Process(nobody(books.number)) for it in config.started}
 
     async def run(self, stop: asyncio.Event) -> None:
         """Runs all until it is to stop, or its node ends. No real process is left as it returns.
-
-        Raises a group of what else ended it, as Unfit, where the node refuses what processes begin
-        with.
-        """
+        Raises a group of what else ended it, as Unfit."""
         try:
             async with asyncio.TaskGroup() as self.group:
                 start = self.group.create_task
@@ -50,12 +43,16 @@ class World:
                     start(self.machines.talk())
                     await self.machines.meet()
                 self.begin_owners()
-                self.begin_outlets()
-                for name, it in self.config.services.items():
-                    if it.starts:
-                        start(self.keep(name))
+                for name, outlet in self.config.outlets.items():
+                    process = self.equipped(f"outlets.{name}", outlet, "r")
+                    self.outlets[name] = Outlet(name, outlet, process, self.books)
+                    self.living[process.pid] = self.outlets[name]
+                    self.note("started", outlet=name, pid=process.pid)
+                    start(self.outlets[name].pump())
+                for name in self.config.started:
+                    start(self.keep(name, self.config.services[name]))
         except* NodeEnded:
-            pass
+            self.living.clear()
 
     async def end_behind(self, what: Awaitable[object]) -> None:
         await what
@@ -67,7 +64,7 @@ class World:
         logins = self.books.logins()
         for name, owner in self.config.owners.items():
             process = self.owners[name] = self.books.proc("w")
-            self.journal.note("started", owner=name, pid=process.pid)
+            self.note("started", owner=name, pid=process.pid)
             for short, policy in owner.tags.items():
                 secret = self.vault.secret_of(tag := f"{name}/{short}")
                 if digest(secret) in logins:
@@ -75,56 +72,48 @@ class World:
                     self.books.do(f"enter {process.pid} {login}", secret)
                 else:
                     self.tags[tag] = self.books.owned_tag(process.pid, policy, secret)
-        self.journal.note("tags", **self.tags)
+        self.note("tags", **self.tags)
 
-    def begin_outlets(self) -> None:
-        """Makes a process for each outlet, and lets out what comes to it."""
-        for name, outlet in self.config.outlets.items():
-            process = self.equipped(f"outlets.{name}", outlet, "r")
-            it = self.outlets[name] = Outlet(name, outlet, process, self.books)
-            self.living[process.pid] = it
-            self.journal.note("started", outlet=name, pid=process.pid)
-            self.group.create_task(it.pump())
-
-    async def keep(self, name: str) -> None:
+    async def keep(self, name: str, config: Table) -> None:
         """Runs a service, and starts it again where it is to be."""
-        async for _ in attempts():
-            service = await self.begun(name)
+        async for _ in attempts(asyncio.Event()):
+            while not (service := self.begun(name, config)):
+                await asyncio.sleep(1)
             self.processes[name] = service.process
             await service.serve()
-            if not service.config.restarts:
+            if not config.restarts:
                 return
 
-    async def begun(self, name: str) -> Service:
-        """Returns a service with a new process, and with the tags that it may call by name. It
-        waits for what other machines' owners have not made known here."""
-        config = self.config.services[name]
-        named = {*config.secrecy, *config.integrity, *config.tags, *tags_of(config.rights)}
-        while True:
-            try:
-                tags = {tag: self.tags[tag] for tag in sorted(named)}
-                process = self.equipped(f"services.{name}", config, "rw")
-                return Service(self, name, process, tags)
-            except (KeyError, Unfit):
-                if named <= self.config.tags():
-                    raise
-            await asyncio.sleep(1)
+    def begun(self, name: str, config: Table) -> Service | None:
+        """Returns a service, or none where other machines have not told of what it begins with."""
+        named = {it[1:] for it in config.rights}.union(config.secrecy, config.integrity, config.tags)
+        try:
+            tags = {tag: self.tags[tag] for tag in sorted(named)}
+            return Service(self, name, self.equipped(f"services.{name}", config, "rw"), tags)
+        except (KeyError, Unfit):
+            if named <= self.config.tags:
+                raise
+        return None
 
     def labelled(self, secrecy: Iterable[str], integrity: Iterable[str] = ()) -> Labels:
         return Labels(*(frozenset(self.tags[it] for it in names) for names in (secrecy, integrity)))
 
-    def right(self, text: str) -> Right:
-        return Right(text[0] + self.tags[text[1:]])
+    def hand(self, owner: str, to: Process, tags: Iterable[str], rights: Iterable[str],
+             content: bytes) -> None:
+        """Sends a process what an owner gives it, under its tags, in messages of 1,024 bytes."""
+        given, labels = [it[0] + self.tags[it[1:]] for it in rights], self.labelled(tags)
+        for at in range(0, len(content) or bool(given), MESSAGE_BYTES):
+            part = content[at:at + MESSAGE_BYTES]
+            self.deliver(self.books.send(self.owners[owner], labels, to, given, part))
 
-    def equipped(self, key: str, start: ServiceConfig | OutletConfig, mode: str) -> Process:
-        """Returns a new process with the rights and labels of its start: first the rights, which
-        its owners hand it in messages, then the labels, and only then anything real."""
+    def equipped(self, key: str, start: Table, mode: str) -> Process:
+        """Returns a new process, with the rights that its owners hand it, and then its labels."""
         process = self.books.proc(mode)
         try:
-            for name, owner in self.owners.items():
-                rights = [self.right(it) for it in start.rights if it[1:].startswith(f"{name}/")]
-                if rights:
-                    self.deliver(self.books.send(owner, Labels(), process, rights, b""))
+            for owner in self.owners:
+                mine = [it for it in start.rights if it[1:].startswith(f"{owner}/")]
+                self.hand(owner, process, (), mine, b"")
+                if mine:
                     self.books.take(process.pid)
             self.books.relabel(process, self.labelled(start.secrecy, start.integrity))
         except Refused as why:
@@ -133,49 +122,42 @@ class World:
         return process
 
     def give(self, to: str, process: Process) -> None:
-        """Sends a service what its owners give it, under their tags, in messages of 1,024 bytes."""
+        """Sends a service, as it starts, what its owners give it."""
         for name, owner in self.config.owners.items():
             for gift in (it for it in owner.gives if it.to == to):
                 content = pathlib.Path(gift.file).read_bytes() if gift.file else b""
-                rights, labels = list(map(self.right, gift.rights)), self.labelled(gift.tags)
-                for at in range(0, len(content) or bool(rights), MESSAGE_BYTES):
-                    part = content[at:at + MESSAGE_BYTES]
-                    self.deliver(self.books.send(self.owners[name], labels, process, rights, part))
+                self.hand(name, process, gift.tags, gift.rights, content)
 
-    def deliver(self, packet: Packet) -> None:
+    def deliver(self, packet: tuple[str, str]) -> None:
         """Brings a packet to its receiver, or to the machine of it."""
-        to, digits = packet
-        number = int(to[1:].partition(".")[0])
+        number = int(packet[0][1:].partition(".")[0])
         if number == self.books.number:
-            self.arrive(digits)
+            self.arrive(packet[1])
         else:
-            self.machines.post(number, digits)
+            self.machines.post(number, packet[1])
 
     def arrive(self, digits: str) -> None:
         """Brings a packet to its receiver here. What became of it stands in the journal alone."""
         kind, _, pid = self.books.ask(f"receive {digits}")[0].partition(" ")
-        if kind == "arrived" and Pid(pid) in self.living:
-            self.living[Pid(pid)].bell.set()
+        if kind == "arrived" and pid in self.living:
+            self.living[pid].bell.set()
 
     def names(self) -> dict[str, str]:
         """Returns what other machines may know by name: tags, and services with their endpoints."""
-        own = {tag: str(it) for tag, it in self.tags.items() if tag in self.config.tags()}
+        own = {tag: it for tag, it in self.tags.items() if tag in self.config.tags}
         return own | {name: f"{it.pid} {it.endpoint}" for name, it in self.processes.items()
                       if it.pid in self.living}
 
-    def hear(self, peer: PeerConfig, names: dict[str, str]) -> None:
-        """Takes what another machine calls so, as far as the configuration knows it, and gives its
-        services what owners here give them."""
-        heard = {tag: Tag(names[tag]) for tag in peer.tags
-                 if OPERATION.fullmatch(names.get(tag, ""))}
+    def hear(self, peer: Table, names: dict[str, str]) -> None:
+        """Takes names of another machine, as far as the configuration knows them."""
+        heard = {it: names[it] for it in peer.tags if OPERATION.fullmatch(names.get(it, ""))}
         if not heard.items() <= self.tags.items():
             self.tags |= heard
-            self.journal.note("tags", **self.tags)
-        for name in peer.services:
-            if it := re.fullmatch(rf"(p{peer.number}(?:\.[1-9]\d*){{2}}) (e[1-9]\d*)",
-                                  names.get(name, "")):
-                process = Process(Pid(it[1]), Labels(), it[2], "r")
-                before, self.processes[name] = self.processes[name].pid, process
-                if process.pid != before:
-                    self.journal.note("heard", service=name, pid=process.pid)
-                    self.give(name, process)
+            self.note("tags", **self.tags)
+        form = rf"(p{peer.number}(?:\.[1-9]\d*){{2}}) (e[1-9]\d*)"
+        for name in (it for it in peer.services if re.fullmatch(form, names.get(it, ""))):
+            pid, endpoint = names[name].split(" ")
+            before, self.processes[name] = self.processes[name], Process(pid, endpoint=endpoint)
+            if pid != before.pid:
+                self.note("heard", service=name, pid=pid)
+                self.give(name, self.processes[name])
