@@ -68,11 +68,11 @@ class Peer:
         """Returns whether a number is taken now: once for each boot, and of the last 1,000."""
         if it.boot > self.boot:
             self.boot, self.taken = it.boot, {True: {0}, False: {0}}
-        taken = self.taken[it.kind == MESSAGE]
-        if is_new := it.boot == self.boot and it.number > max(taken) - MOST and (
-                it.number not in taken):
-            taken.add(it.number)
-            taken -= {old for old in taken if old <= max(taken) - MOST}
+        taken = self.taken[is_message := it.kind == MESSAGE]
+        least = max(taken) - MOST
+        is_new = it.boot == self.boot and it.number > least and it.number not in taken
+        if is_new:
+            self.taken[is_message] = {old for old in taken if old > least} | {it.number}
         return is_new
 
     def status(self) -> dict[str, object]:

@@ -86,7 +86,8 @@ class World:
 
     def begun(self, name: str, config: Table) -> Service | None:
         """Returns a service, or none where other machines have not told of what it begins with."""
-        named = {it[1:] for it in config.rights}.union(config.secrecy, config.integrity, config.tags)
+        named = {*config.secrecy, *config.integrity, *config.tags}
+        named |= {it[1:] for it in config.rights}
         try:
             tags = {tag: self.tags[tag] for tag in sorted(named)}
             return Service(self, name, self.equipped(f"services.{name}", config, "rw"), tags)

@@ -444,7 +444,7 @@ def mosquitto(room):
             raise Missing(name)
     folder, port = room.bench.folder / "host", free_port()
     ca = room.folder / "trial-ca"
-    subprocess.run([folder / "make-trial-ca", ca, "localhost", "1", "2", "3"], check=True)
+    subprocess.run([folder / "tests/make-trial-ca", ca, "localhost", "1", "2", "3"], check=True)
     text = (folder / "mosquitto.conf").read_text().replace("8883", f"{port} 127.0.0.1")
     (room.folder / "conf").write_text(text.replace("trial-ca", str(ca)).replace(
         "acl_file acl", f"acl_file {room.folder}/acl"))
