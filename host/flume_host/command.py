@@ -9,7 +9,6 @@ import signal
 import socket
 import subprocess
 import sys
-from typing import Callable
 
 from .config import Table, Unfit, read_config
 from .node import Books
@@ -105,19 +104,13 @@ def init(config: Table) -> int:
     return subprocess.run([*config.node.words, "--new"], stdin=subprocess.DEVNULL).returncode
 
 
-# what each word does with a configuration, and with a name where there is one
-VERBS: dict[str, Callable[..., int]] = {
-    "": lambda config: asyncio.run(Host(config).run()), "check": lambda config: 0, "init": init,
-    "status": status, "explain": explain}
-
-
 def main(words: list[str]) -> int:
     """Does what the words of the command say, and returns its status."""
     if words == ["story"]:
         os.execv(STORY, [str(STORY)])
     as_root = words[:1] == ["--as-root"]
     words = words[as_root:]
-    verb = words.pop(0) if words[:1] and words[0] in VERBS else ""
+    verb = words.pop(0) if words[:1] and words[0] in ("check", "init", "status", "explain") else ""
     is_help = words in (["-h"], ["--help"])
     if is_help or len(words) != (2 if verb == "explain" else 1):
         print(USAGE, file=sys.stdout if is_help else sys.stderr)
@@ -125,9 +118,13 @@ def main(words: list[str]) -> int:
     os.umask(0o077)
     try:
         config = read_config(pathlib.Path(words[0]).absolute())
-        if verb in ("", "init") and os.getuid() == 0 and not as_root:
+        if verb == "explain":
+            return explain(config, words[1])
+        if verb in ("check", "status"):
+            return status(config) if verb == "status" else 0
+        if os.getuid() == 0 and not as_root:
             raise Unfit("root's processes are not limited in number: --as-root insists")
-        return VERBS[verb](config, *words[1:])
+        return init(config) if verb == "init" else asyncio.run(Host(config).run())
     except* Unfit as group:
         why: BaseException = group
         while isinstance(why, BaseExceptionGroup):

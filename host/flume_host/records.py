@@ -16,10 +16,6 @@ from typing import Any, Iterator
 from .config import Table
 
 Entry = dict[str, Any]
-# what a line and its answer say of the process that it is of
-SAYS = ((r"(\S+) \S+ (.*) => (refused .*)", "{0} {1}: {2}"),
-        (r"take \S+ => message (\S+) (\S+) (\S+)", "read {size} of {0}, with the rights {1}"),
-        (r"send \S+ \S+ (\S+) \S+ (\S+) (\S+) => .*", "sent {size} to {0}, with the rights {1}"))
 
 
 def digest(secret: str) -> str:
@@ -64,8 +60,8 @@ class Vault(Lines):
 
 def entries(folder: pathlib.Path) -> Iterator[Entry]:
     """Yields the entries of all files of a journal, the oldest first. It reads all of it."""
-    older = [it for it in folder.glob("journal.*") if it.suffix[1:].isdigit()]
-    for path in (*sorted(older, key=lambda it: -int(it.suffix[1:])), folder / "journal"):
+    paths = [it for it in folder.glob("journal*") if (it.suffix[1:] or "0").isdigit()]
+    for path in sorted(paths, key=lambda it: -int(it.suffix[1:] or 0)):
         with open(path, "rb") as file:
             yield from (json.loads(line) for line in file if line.endswith(b"\n"))
 
@@ -124,32 +120,30 @@ def explain(config: Table, service: str) -> int:
 def told(folder: pathlib.Path, mine: str) -> Iterator[tuple[float, str]]:
     """Yields what each entry says of a service, and when."""
     names, sent = dict[str, str](), dict[str, str]()
+
+    def named(*words: str) -> str:
+        return "".join(names.get(it, it) for it in re.split(r"([{},+\- ])", " ".join(words)))
     for entry in entries(folder):
         said, pid = "", entry.get("pid", "")
         names |= {pid: f"{it} {entry[it]}" for it in ("service", "outlet", "owner")
                   if pid and it in entry}
         names |= {tag: name for name, tag in entry.items() if "/" in name}
-        if entry["kind"] == "line":
-            said = line_told(entry["line"], entry["answer"][0], names, sent, mine)
-        elif names.get(pid) == mine:
-            said = entry["kind"] + (f": {entry['why']}" if "why" in entry else "")
+        words: list[str] = entry.get("line", "").split(" ")
+        reply: list[str] = entry.get("answer", [""])[0].split(" ")
+        is_mine = names.get(pid or words[1 % len(words)]) == mine
+        match words:
+            case ["receive", packet] if packet in sent and reply[0] != "arrived":
+                said = f"{sent[packet]}: {named(*reply)}"
+            case [verb, _, *rest] if is_mine and reply[0] == "refused":
+                said = f"{verb} {named(*rest)}: {named(*reply)}"
+            case ["take", _] if is_mine and reply[0] == "message":
+                size = len(reply[3].removeprefix("none")) // 2
+                said = f"read {size} bytes of {named(reply[1])}, with the rights {named(reply[2])}"
+            case ["send", _, _, to, _, rights, digits] if is_mine:
+                size = len(digits.removeprefix("none")) // 2
+                sent[reply[1]] = f"the message of {size} bytes to {named(to)}"
+                said = f"sent {size} bytes to {named(to)}, with the rights {named(rights)}"
+            case [""] if is_mine:
+                said = entry["kind"] + (f": {entry['why']}" if "why" in entry else "")
         if said:
             yield entry["at"], said
-
-
-def line_told(line: str, answer: str, names: dict[str, str], sent: dict[str, str],
-              mine: str) -> str:
-    """Returns what a line to the node says of a service, or nothing."""
-    def named(text: str) -> str:
-        return "".join(names.get(it, it) for it in re.split(r"([{},+\- ])", text))
-    verb, pid, *_ = f"{line} ".split(" ")
-    if verb == "receive":
-        packet = sent.pop(pid, "")
-        return f"{packet}: {named(answer)}" if packet and answer[:7] != "arrived" else ""
-    for form, says in SAYS:
-        if names.get(pid) == mine and (it := re.fullmatch(form, f"{line} => {answer}")):
-            size = f"{len(it[3].removeprefix('none')) // 2} bytes"
-            if verb == "send":
-                sent[answer.removeprefix("sent ")] = f"the message of {size} to {named(it[1])}"
-            return says.format(*map(named, it.groups()), size=size)
-    return ""

@@ -14,9 +14,8 @@ from typing import TextIO
 
 from .config import Table
 
-SECONDS = 10.0
 LIBRARY = pathlib.Path(__file__).resolve().parent.parent / "flume_service.py"
-TEMPORARY_BYTES, FILES = 16 << 20, 256
+TEMPORARY_BYTES, FILES, SECONDS = 16 << 20, 256, 10.0
 SYSTEM = f"""bwrap
     --unshare-user --unshare-ipc --unshare-pid --unshare-net --unshare-uts --unshare-cgroup
     --disable-userns --die-with-parent --new-session --cap-drop ALL --uid 65534 --gid 65534

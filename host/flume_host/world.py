@@ -111,11 +111,9 @@ class World:
         """Returns a new process, with the rights that its owners hand it, and then its labels."""
         process = self.books.proc(mode)
         try:
-            for owner in self.owners:
-                mine = [it for it in start.rights if it[1:].startswith(f"{owner}/")]
-                self.hand(owner, process, (), mine, b"")
-                if mine:
-                    self.books.take(process.pid)
+            for right in start.rights:
+                self.hand(right[1:].partition("/")[0], process, (), [right], b"")
+                self.books.take(process.pid)
             self.books.relabel(process, self.labelled(start.secrecy, start.integrity))
         except Refused as why:
             self.books.do(f"exit {process.pid}")

@@ -134,6 +134,8 @@ def orders_in_all_outlive_the_host(room):
                                  "orders_an_hour = 9")
     room.configure(text).init().start()
     room.tells("out", "ok")
+    # an emission that is not noted as done is done again
+    room.until(lambda: room.entries("done"), "that it is done")
     room.end()
     room.start().tells("out", "ok", "too many orders")
 
