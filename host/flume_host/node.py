@@ -94,12 +94,15 @@ class Books:
         return answer.rpartition(" ")[2]
 
     def line(self, said: str = "") -> str:
-        """Writes a line, where there is one, and returns the next that the program writes."""
-        with contextlib.suppress(OSError):
+        """Writes a line, where there is one, and returns the next that the program writes, which is
+        killed where it takes too long."""
+        try:
             self.socket.sendall(said.encode("ascii"))
-            found = self.lines.readline()
-            if found.endswith("\n"):
+            if (found := self.lines.readline()).endswith("\n"):
                 return found[:-1]
+        except OSError as why:
+            if isinstance(why, TimeoutError):
+                self.program.kill()
         raise NodeEnded
 
     def end(self) -> int:
