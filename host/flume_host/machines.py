@@ -133,14 +133,15 @@ class Machines:
 
     async def talk(self) -> None:
         """Tells all what the node has, again and again, and sends again what was not handled."""
-        due = 0.0
+        due = again = 0.0
         while True:
             now = time.monotonic()
-            for to, peer in self.peers.items():
+            for to, peer in self.peers.items() if now > again else ():
                 for number, (at, digits) in [*peer.waiting.items()][:BATCH]:
                     if now - at > TICK:
                         self.send(MESSAGE, to, digits, number)
                         peer.waiting[number] = now, digits
+            again = now + TICK if now > again else again
             if self.books.is_news or now > due:
                 is_news = self.books.is_news or not self.has_met
                 self.tell(NEWS if is_news else TELL, *self.peers)
