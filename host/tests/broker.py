@@ -92,9 +92,6 @@ class Broker:
         """Passes on what was published, perhaps late, twice, or not at all."""
         self.seen.write(f"{topic} {payload.hex()}\n")
         self.seen.flush()
-        _, _, _, to, _, sender = topic.split("/")
-        if {to, sender} & set(self.apart()):
-            return
         wild = not (self.folder / "calm").exists()
         if wild and self.draw.random() < self.loses:
             return
@@ -104,7 +101,10 @@ class Broker:
             asyncio.get_running_loop().call_later(late, self.pass_on, topic, payload)
 
     def pass_on(self, topic, payload):
-        """Passes a message to all that want it."""
+        """Passes a message to all that want it, where neither end is apart."""
+        _, _, _, to, _, sender = topic.split("/")
+        if {to, sender} & set(self.apart()):
+            return
         size = len(topic.encode()).to_bytes(2, "big")
         for writer, wanted in list(self.wanted.items()):
             if not writer.is_closing() and any(fits(topic, it) for it in wanted):

@@ -1,7 +1,6 @@
 """Kills of the host, of the node and of services, and what is found again."""
 import collections
 import hashlib
-import json
 import os
 import random
 import signal
@@ -42,12 +41,6 @@ sys.exit(node.wait())
 """
 
 
-def secrets(room):
-    """Returns the secrets of the host by tag."""
-    facts = [json.loads(it) for it in (room.folder / "it/vault").read_text().splitlines()]
-    return {it["tag"]: it["secret"] for it in facts if "tag" in it}
-
-
 def tags(room):
     """Returns the tags by name, as the journal has those of the newest start."""
     found = dict(room.entries("tags")[-1])
@@ -59,7 +52,7 @@ def check_tags(room):
     text, known = [it.split(" ") for it in room.registry()], tags(room)
     right = {it[3]: it[2] for it in text if it[1] == "login"}
     inside = {it[2]: it[3][1:] for it in text if it[1] == "put"}
-    for name, secret in secrets(room).items():
+    for name, secret in room.secrets().items():
         it = right.get(hashlib.sha256(bytes.fromhex(secret)).hexdigest())
         expect(it, "no login of", name, text)
         tag = inside[it[1:]] if it[0] == "*" else it[1:]
@@ -114,7 +107,7 @@ def no_secret_in_the_journal(room):
         room.start()
         room.until(lambda: len(room.entries("started", service="one")) == number, "a start")
         expect(room.end() == 0, room.said())
-    found = secrets(room)
+    found = room.secrets()
     expect(len(found) == 4 and all(len(it) == 64 for it in found.values()), found)
     for path in (room.folder / "it").iterdir():
         if path.is_file() and path.name != "vault":

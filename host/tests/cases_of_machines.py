@@ -9,7 +9,7 @@ import subprocess
 import sys
 
 from broker import packet
-from rig import HOST, SECONDS, SIGNALS, Barred, Missing, case, expect, outlet, service
+from rig import HOST, SECONDS, SIGNALS, Missing, case, expect, outlet, service
 
 sys.path.insert(0, str(HOST))
 
@@ -99,7 +99,8 @@ def end_equal(*rooms):
     for room in rooms:
         expect(room.end() == 0, room.said())
     first, *others = [room.registry() for room in rooms]
-    expect(first and all(it == first for it in others), "texts", first, others)
+    differ = sorted({line for it in others for line in {*it} ^ {*first}})
+    expect(first and not differ and all(it == first for it in others), "texts", differ)
 
 
 # One who reads Alice's calendar at another machine, and tells of it what it may.
@@ -205,11 +206,16 @@ def wait_until_equal(*words):
         room.until(lambda: operations(room) >= many, f"{many} operations, not {operations(room)}")
 
 
+def made(room):
+    """Returns how many operations a machine has made by its journal."""
+    answers = [it for _, it in room.lines("tag", "group", "put", "make-login")]
+    return sum(it.startswith("ok ") for it in answers)
+
+
 def operations(room):
     """Returns how many operations a machine has by its journal: it has made or taken them."""
-    made = [it for line, it in room.lines("tag", "group", "put", "make-login") if it[:2] == "ok"]
     took = [int(it[5:]) for _, it in room.lines("receive") if it.startswith("took ")]
-    return len(made) + sum(took)
+    return made(room) + sum(took)
 
 
 @case
@@ -242,65 +248,6 @@ def a_broker_that_dies(room):
     one.until(lambda: one.status()["peers"]["2"]["waiting"] == 0, "answers")
     wait_until_equal(one, other, 20)
     end_equal(one, other)
-
-
-MAKER = service("maker", """
-for _ in range(30):
-    tried(host.tag)
-    time.sleep(0.1)
-stay()
-""", "orders = 30", "orders_an_hour = 30")
-
-
-def part(rooms, cut, mend):
-    """Runs three machines, cuts one off in the middle, while all give orders, and mends it. Behind
-    it all have the same."""
-    for it in rooms:
-        it.start()
-    rooms[0].until(lambda: operations(rooms[0]) > 10, "a beginning")
-    cut()
-    rooms[2].until(lambda: len(rooms[2].lines("tag")) == 30, "its orders")
-    mend()
-    wait_until_equal(*rooms, 90)
-    end_equal(*rooms)
-
-
-@case
-def three_machines_and_a_partition(room):
-    broker, path = Broker(room), room.folder / "apart"
-    rooms = [machine(room, it, broker.port, {other: ([], []) for other in {1, 2, 3} - {it}}, MAKER)
-             for it in (1, 2, 3)]
-    part(rooms, lambda: path.write_text("3"), path.unlink)
-
-
-@case
-def three_machines_in_network_namespaces(room):
-    """Each has a line to the broker's, and one line is cut."""
-    spaces = {it: f"flume-{os.getpid()}-{it}" for it in (1, 2, 3)}
-
-    def ip(*words, space=None):
-        inner = ["ip", "netns", "exec", space] if space else []
-        return subprocess.run([*inner, "ip", *words], capture_output=True).returncode == 0
-    try:
-        broker, rooms = Broker(room), []
-        for it, space in spaces.items():
-            ours, theirs, net = f"fl{os.getpid()}{it}", f"ft{os.getpid()}{it}", f"10.199.{it}"
-            if not (room.bench.is_root and ip("netns", "add", space)
-                    and ip("link", "add", ours, "type", "veth", "peer", "name", theirs)):
-                raise Barred("the right to make network namespaces")
-            ip("link", "set", theirs, "netns", space)
-            ip("addr", "add", f"{net}.1/30", "dev", ours)
-            ip("link", "set", ours, "up")
-            ip("addr", "add", f"{net}.2/30", "dev", theirs, space=space)
-            ip("link", "set", theirs, "up", space=space)
-            rooms.append(machine(room, it, broker.port, {other: ([], []) for other in
-                                                         {1, 2, 3} - {it}}, MAKER,
-                                 CLUSTER.replace("127.0.0.1", f"{net}.1")))
-            rooms[-1].prefix = ["ip", "netns", "exec", space]
-        part(rooms, lambda: ip("link", "set", ours, "down"), lambda: ip("link", "set", ours, "up"))
-    finally:
-        for space in spaces.values():
-            ip("netns", "del", space)
 
 
 @case

@@ -46,6 +46,14 @@ def node_program():
     return path.resolve() if path.is_file() else None
 
 
+def tags_program():
+    """Returns the words that start flume-tags: at $FLUME_TAGS, or where it is built; and else those
+    that start its reference."""
+    given = os.environ.get("FLUME_TAGS")
+    path = pathlib.Path(given) if given else TOP / "crates/flume_tags/out/flume_tags"
+    return [path.resolve()] if path.is_file() else [sys.executable, TOP / "reference/flume_tags.py"]
+
+
 def lacking():
     """Returns the first part that lacks, or nothing."""
     for name in PARTS:
@@ -93,6 +101,8 @@ class Room:
         self.node_words = str(bench.folder / "flume-node")
         # other machines, and other processes, which end with it; what its host is started by
         self.machines, self.processes, self.prefix = [], [], []
+        # of each file of the journal, by its first line: how much was read, and its entries
+        self.known = {}
 
     def machine(self, number):
         """Returns a room within this, for another machine of this number."""
@@ -170,9 +180,28 @@ class Room:
         """Returns the entries of the journal, the oldest first."""
         folder = self.folder / "it"
         paths = sorted(folder.glob("journal.*"), key=lambda it: -int(it.suffix[1:]))
-        lines = [line for path in (*paths, folder / "journal") if path.exists()
-                 for line in path.read_bytes().split(b"\n")[:-1]]
-        return [json.loads(line) for line in lines]
+        return [it for path in (*paths, folder / "journal") for it in self.entries_of(path)]
+
+    def entries_of(self, path):
+        """Returns the entries of a file of the journal, of which it reads what is new."""
+        if not path.exists():
+            return []
+        with open(path, "rb") as file:
+            first = file.readline()
+            if not first.endswith(b"\n"):
+                return []
+            size, found = self.known.get(first, (0, []))
+            file.seek(size)
+            whole, end, _ = file.read().rpartition(b"\n")
+        if end:
+            found += map(json.loads, whole.split(b"\n"))
+            self.known[first] = size + len(whole) + 1, found
+        return found
+
+    def secrets(self):
+        """Returns the secrets of the host's logins, by tag."""
+        facts = [json.loads(it) for it in self.read("it/vault").splitlines()]
+        return {it["tag"]: it["secret"] for it in facts if "tag" in it}
 
     def entries(self, kind, **what):
         """Returns the entries of a kind that have this."""
