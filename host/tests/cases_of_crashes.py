@@ -60,6 +60,15 @@ def check_tags(room):
     expect(len(set(known.values())) == len(known) == 4, known)
 
 
+def check_operations(room):
+    """Each operation that was answered is there, as it was given."""
+    text, orders = room.registry(), room.lines("tag", "group", "put", "make-login")
+    for line, answer in orders:
+        verb, _, *words = line.replace("make-", "").replace("sha256:", "").split(" ")
+        wanted = " ".join([answer.removeprefix("ok "), verb, *words])
+        expect(not answer.startswith("ok ") or wanted in text, "an operation is lost:", wanted)
+
+
 @case
 def tags_are_found_again_by_their_logins(room):
     """The host is killed at some line of its first start, before the node has it or behind."""
@@ -71,9 +80,7 @@ def tags_are_found_again_by_their_logins(room):
     room.init().start()
     room.until(lambda: room.entries("tags"), "a start")
     expect(room.end() == 0, room.said())
-    many = len([it for it in room.lines("text", "proc", "open", "tag", "group", "put",
-                                        "make-login")])
-    expect(many == 16, "lines", many)
+    many = len(room.entries("line"))
     kills = [(at, before) for at in range(1, many + 1) for before in "01"]
     for at, before in random.Random(4).sample(kills, min(len(kills), KILLS)):
         subprocess.run(["rm", "-rf", room.folder / "it"], check=True)
@@ -168,11 +175,12 @@ stay()
 """, 'secrecy = ["alice/calendar"]', marker="ROOM/reader") + service("writer", """
 for k in range(1000):
     tell(str(k))
+    tried(host.tag, "read")
     if it := host.receive(False):
         tell(it[0].decode())
     time.sleep(0.02)
 stay()
-""", marker="ROOM/writer")
+""", "orders = 9999", "orders_an_hour = 9999", marker="ROOM/writer")
 
 
 def check_story(room):
@@ -222,6 +230,7 @@ def kills_of_the_node(room):
             room.start()
     expect(room.end() == 0, room.said())
     check_tags(room)
+    check_operations(room)
 
 
 @case
@@ -238,6 +247,7 @@ def kills_of_the_host(room):
         kill_and_wait(room, kill, draw)
     expect(room.end() == 0, room.said())
     check_tags(room)
+    check_operations(room)
 
 
 @case
@@ -254,4 +264,5 @@ def kills_of_services(room):
     for _ in range(KILLS):
         kill_and_wait(room, kill, draw)
     expect(room.end() == 0, room.said())
+    check_operations(room)
     expect(len(children(os.getpid())) < 50, "processes are left")

@@ -76,13 +76,18 @@ def listens(port):
         return False
 
 
-def machine(room, number, port, peers, text, keys=CLUSTER):
-    """Returns a machine with these peers, each a number with names of services and of tags."""
+def keyed(room, text):
+    """Returns a room that has the key of the cluster, and is configured and made."""
     if not importlib.util.find_spec("asyncio_mqtt"):
         raise Missing("python3-asyncio-mqtt")
+    (room.folder / "key").write_text(KEY)
+    room.own(room.folder / "key")
+    return room.configure(text, head='keys = ["key"]\n').init()
+
+
+def machine(room, number, port, peers, text, keys=CLUSTER):
+    """Returns a machine with these peers, each a number with names of services and of tags."""
     it = room.machine(number)
-    (it.folder / "key").write_text(KEY)
-    it.own(it.folder / "key")
     if "certificate" in keys:
         own_certificate(it)
     head = keys.format(port=port)
@@ -91,7 +96,7 @@ def machine(room, number, port, peers, text, keys=CLUSTER):
                 f"tags = {json.dumps(tags)}\n"
     (it.folder / "gift").write_text("gift")
     it.let("")
-    return it.configure(head + text, head='keys = ["key"]\n').init()
+    return keyed(it, head + text)
 
 
 def end_equal(*rooms):

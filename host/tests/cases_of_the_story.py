@@ -2,9 +2,10 @@
 import json
 import stat
 
+from cases_of_machines import KEY, Broker, keyed
 import rig
 
-WANTED = ["release: fri", "stranger: here"]
+STORY = rig.HOST / "tests/story"
 ALLOWED = {
     "network": "ConnectionRefusedError", "network outside": "OSError",
     "a socket by name": "ConnectionRefusedError", "a file": "OSError", "the root": "OSError",
@@ -14,40 +15,86 @@ ALLOWED = {
     "lay the tag down": "F3", "an order": "F8", "a lower label": "F4",
     "a right that it has not": "F3", "a key of the kernel": "1", "a ring of the kernel": "1",
     "a socket of the machine": "PermissionError", "a raw socket": "PermissionError",
-    "forks": "BlockingIOError",
+    "forks": "BlockingIOError", "a right of Bob's": "False",
     # the sender is not told that these did not arrive
-    "to the outside": "None", "to a stranger": "None"}
+    "to the outside": "None", "to a stranger": "None", "to another machine": "None",
+    "to Bob's diary": "None"}
 
 
-def tell(room, say):
-    """Says what went out, and what the journal says of the rest."""
-    out = sorted(room.read("outside").splitlines())
-    log = [json.loads(line)["text"] for line in room.read("alice_log").splitlines()]
-    say("\n    ".join(["What went out:", *out]))
-    say("\n    ".join(["What Alice reads in her log, of the hostile plug-in:", *log]))
-    for name in ("matcher", "hostile", "stranger", "release"):
-        done = room.run("explain", "CONFIG", name)
-        lines = [line[20:] for line in done.stdout.splitlines()]
-        lines = [line for line in lines if "to outlet alice_log" not in line]
-        say("\n    ".join([f"The journal on {name}:", *lines]))
-    return out, dict(line.split(": ", 1) for line in log if ": " in line)
+def machine(room, number, name, port, days):
+    """Returns the machine of an owner, whose calendar has these days."""
+    text = (STORY / f"{name}.toml").read_text().replace(":1883", f":{port}")
+    it = room.machine(number)
+    (it.folder / "calendar").write_text(days)
+    return keyed(it, text.replace('"services"', f'"{room.bench.folder}/host/tests/story/services"'))
+
+
+def log(room, name):
+    """Returns the lines of an outlet that is a log."""
+    return [json.loads(line)["text"] for line in room.read(name).splitlines()]
+
+
+def brought(alice, bob):
+    """Returns what became of the messages that came from Alice's machine to Bob's."""
+    tag = alice.entries("tags")[-1]["alice/calendar"]
+    answers = [it for line, it in bob.lines("receive") if line.startswith("receive f20400000001")]
+    return sorted(it.partition(" p")[0].replace(tag, "alice/calendar") for it in answers)
+
+
+def tell(say, what, lines):
+    say("\n    ".join([f"{what}:", *lines]))
+
+
+def tell_journal(say, room, *names):
+    """Says what the journal of a machine has of services."""
+    for name in names:
+        lines = [it[20:] for it in room.run("explain", "CONFIG", name).stdout.splitlines()]
+        tell(say, f"The journal on {name}", [it for it in lines if "_log" not in it])
+
+
+def tell_all(say, alice, bob):
+    """Says what went out of both machines, what did not, and why."""
+    tell(say, "What went out at Alice's", alice.read("outside").splitlines())
+    tell(say, "What Alice reads in her log, of the hostile plug-in", log(alice, "alice_log"))
+    tell_journal(say, alice, "matcher", "hostile", "stranger", "release")
+    tell(say, "What went out at Bob's", bob.read("outside").splitlines())
+    tell(say, "What Bob reads in his log", log(bob, "bob_log"))
+    tell(say, "What became of what Alice's machine sent to Bob's", brought(alice, bob))
+    tell_journal(say, bob, "guest", "diary")
+
+
+def check(alice, bob):
+    """Raises rig.Wrong where something else went out than may, or the plug-in found another way."""
+    outside = sorted(alice.read("outside").splitlines())
+    rig.expect(outside == ["release: fri", "stranger: here"], "something else went out", outside)
+    rig.expect(bob.read("outside") == "stranger: here\n", "at Bob's", bob.read("outside"))
+    rig.expect(log(bob, "bob_log") == ["fri"], "his log", log(bob, "bob_log"))
+    came = brought(alice, bob)
+    rig.expect(came == ["arrived", *["dropped F8 alice/calendar"] * 2], "came", came)
+    found = dict(line.split(": ", 1) for line in log(alice, "alice_log") if ": " in line)
+    wrong = {it: found.get(it) for it in ALLOWED if found.get(it) != ALLOWED[it]}
+    rig.expect(not wrong, "the hostile plug-in found", wrong)
 
 
 def run(room, say):
-    """Runs the story in a room, and raises rig.Wrong where something else went out than may."""
-    text = (rig.HOST / "tests/story/host.toml").read_text()
-    room.configure(text.replace('"services"', f'"{room.bench.folder}/host/tests/story/services"'))
-    (room.folder / "alice").write_text("mon wed fri")
-    (room.folder / "bob").write_text("tue fri")
-    room.init().start()
-    room.until(lambda: "that was all" in room.read("alice_log"), "the end of the hostile plug-in")
-    room.until(lambda: "release" in room.read("outside"), "the day")
-    room.until(lambda: len(room.entries("ended")) >= 2, "the ends of both plug-ins")
-    out, found = tell(room, say)
-    rig.expect(room.end() == 0, room.said())
-    rig.expect(out == WANTED, "something else went out", out)
-    wrong = {it: found.get(it) for it in ALLOWED if found.get(it) != ALLOWED[it]}
-    rig.expect(not wrong, "the hostile plug-in found", wrong)
+    """Runs the story in a room, and returns its machines, which have ended. Raises rig.Wrong where
+    something else went out than may."""
+    port = Broker(room).port
+    alice = machine(room, 1, "alice", port, "mon wed fri")
+    bob = machine(room, 2, "bob", port, "tue fri")
+    bob.start()
+    bob.until(lambda: len(bob.entries("started")) == 5, "Bob's machine")
+    alice.start()
+    alice.until(lambda: "that was all" in log(alice, "alice_log"), "the hostile plug-in's end")
+    alice.until(lambda: alice.read("outside").count("\n") > 1, "the day")
+    alice.until(lambda: len(alice.entries("ended")) >= 2, "the ends of both plug-ins")
+    alice.until(lambda: not alice.status()["peers"]["2"]["waiting"], "all that goes to Bob's")
+    bob.until(lambda: bob.read("outside") and log(bob, "bob_log"), "the day in Bob's log")
+    tell_all(say, alice, bob)
+    for it in (alice, bob):
+        rig.expect(it.end() == 0, it.said())
+    check(alice, bob)
+    return alice, bob
 
 
 def main():
@@ -60,6 +107,9 @@ def main():
     room = bench.room()
     try:
         run(room, print)
+    except rig.Missing as why:
+        print(f"the story: NOT RUN, {why} lacks")
+        return 1
     except rig.Wrong as why:
         print(f"WRONG: {why}")
         return 1
@@ -71,15 +121,20 @@ def main():
 
 @rig.case
 def the_story(room):
+    """What it prints, and that both journals are one script of flume-tags."""
+    # an installed host has the story, and not what this needs
+    from weave import replay
     said = []
-    run(room, said.append)
+    alice, bob = run(room, said.append)
     told = "\n".join([*said, ""])
     for line in ("refused: bad request (2001 times)", "label S {}: refused F3 -alice/calendar",
                  "the message of 11 bytes to service stranger: dropped F8 alice/calendar",
-                 "read 7 bytes of owner bob, with the rights {}",
+                 "sent 11 bytes to service guest, with the rights {}",
+                 "read 11 bytes of owner alice, with the rights {}",
                  "sent 13 bytes to outlet outside, with the rights {}",
                  "tag export: refused F8 alice/calendar"):
         rig.expect(f"    {line}\n" in told, line, "is not in", told)
+    replay([alice, bob], [bytes.fromhex(KEY)])
 
 
 @rig.case
