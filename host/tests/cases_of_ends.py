@@ -105,9 +105,11 @@ host.send("one", b"left")
     keys = 'tags = ["alice/calendar", "alice/diary"]'
     text = ALICE + outlet("out") + service("one", code, keys)
     room.configure(text).init().start()
-    room.tells("out", *['[false, false, "ok", 1]'] * 3)
+    room.until(lambda: len(room.entries("started", service="one")) > 2, "three starts")
     pids = [it["pid"] for it in room.entries("started", service="one")][:3]
     expect(len(set(pids)) == 3, "pids", pids)
+    told = room.until(lambda: room.read("out").count("\n") > 2 and room.read("out"), "three lines")
+    expect(told.splitlines()[:3] == ['[false, false, "ok", 1]'] * 3, told)
     marks = [(it["kind"], it.get("pid") or it.get("line")) for it in room.journal()]
     for old, new in zip(pids, pids[1:]):
         order = [marks.index(it) for it in (("started", old), ("ended", old),

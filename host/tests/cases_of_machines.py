@@ -299,8 +299,11 @@ def envelopes_that_are_not_taken(room):
         """Publishes an envelope, which may lie."""
         broker.publish(2, topic, Envelope(kind, sender, 2, boot, number, content).sealed(by))
 
-    def note(why, many=1):
-        other.until(lambda: len(other.entries("envelope", why=why)) >= many, why)
+    def note(why, many=1, came=0):
+        """Waits until so many are noted, where no more than this came through."""
+        other.until(lambda: len(other.entries("envelope", why=why)) >= many
+                    or len(other.lines("receive")) > came, why)
+        expect(len(other.lines("receive")) == came, "one came through", other.lines("receive"))
     broker.publish(2, 3, b"")
     broker.publish(2, 3, b"tell 3 2 5 1 " + window.encode())
     broker.publish(2, 3, b"tell 3 2 5 1 " + window.encode() + b" " + b"00" * 32)
@@ -314,13 +317,12 @@ def envelopes_that_are_not_taken(room):
     note("no peer")
     put(MESSAGE, 1, message)
     note("a message of another machine")
-    expect(not [it for it, _ in other.lines("receive")], "one came through")
     put(TELL, 7, window)
     other.until(lambda: other.lines("receive"), "what is in order")
     expect(other.lines("receive") == [("receive " + window, "refused F18 0")], "a bare packet")
     put(TELL, 7, window)
     put(TELL, 8, window, boot=4)
-    note("a number twice", 2)
+    note("a number twice", 2, came=1)
     put(MESSAGE, 1, message, topic=1, sender=1)
     other.until(lambda: len(other.lines("receive")) == 2, "a message without a seal")
     expect(other.lines("receive")[1][1] == "refused F18 0", other.lines("receive"))
@@ -475,7 +477,7 @@ def kills_of_mosquitto(room):
     one.start()
     other.start()
     one.tells("hers", "gift came")
-    for _ in range(min(KILLS, 2)):
+    for _ in range(KILLS // 3):
         room.processes[0].kill()
         room.processes[0].wait()
         began = len(one.entries("broker"))

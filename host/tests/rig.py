@@ -247,7 +247,7 @@ class Room:
     def tells(self, name, *lines):
         """Waits until a file of the room has these lines, in order, and no others."""
         wanted = "".join(f"{line}\n" for line in lines)
-        self.until(lambda: len(self.read(name)) >= len(wanted), f"{wanted} in {name}")
+        self.until(lambda: self.read(name).count("\n") >= len(lines), f"{wanted} in {name}")
         expect(self.read(name) == wanted, name, "has", repr(self.read(name)), "not", repr(wanted))
 
     def node_pid(self):
