@@ -10,7 +10,7 @@ import time
 from rig import ALICE, SECONDS, case, children, expect, living, name_of, outlet, service
 
 KILLS = int(os.environ.get("KILLS", "6"))
-# A program between the host and the node, which kills the host at a line of the first start.
+# A program between the host and the node, which does something at a line, once.
 BETWEEN = """#!/usr/bin/python3
 import os, signal, subprocess, sys
 node = subprocess.Popen(["NODE", *sys.argv[1:]], stdin=subprocess.PIPE, stdout=subprocess.PIPE)
@@ -20,15 +20,15 @@ def pass_on(said):
 if "--new" in sys.argv:
     sys.exit(node.wait())
 pass_on(node.stdout.readline())
-kill_at, before = int(open("FOLDER/kill_at").read()), open("FOLDER/before").read() == "1"
+at, before = int(open("FOLDER/at").read()), open("FOLDER/before").read() == "1"
 for number, line in enumerate(sys.stdin.buffer, 1):
-    if number == kill_at:
-        open("FOLDER/kill_at", "w").write("0")
+    if number == at:
+        open("FOLDER/at", "w").write("0")
         if not before:
             node.stdin.write(line)
             node.stdin.flush()
             node.stdout.readline()
-        os.kill(os.getppid(), signal.SIGKILL)
+        DEED
         break
     node.stdin.write(line)
     node.stdin.flush()
@@ -39,6 +39,15 @@ for number, line in enumerate(sys.stdin.buffer, 1):
 node.stdin.close()
 sys.exit(node.wait())
 """
+
+
+def put_between(room, text, deed):
+    """Configures a host with the program between it and its node, and makes it."""
+    content = BETWEEN.replace("NODE", room.node_words).replace("FOLDER", str(room.folder))
+    for name, it in (("between", content.replace("DEED", deed)), ("at", "0"), ("before", "0")):
+        (room.folder / name).write_text(it)
+        (room.folder / name).chmod(0o777)
+    return room.configure(text, program=room.folder / "between").init()
 
 
 def tags(room):
@@ -72,22 +81,16 @@ def check_operations(room):
 @case
 def tags_are_found_again_by_their_logins(room):
     """The host is killed at some line of its first start, before the node has it or behind."""
-    room.configure(ALICE, program=room.folder / "between")
-    between = BETWEEN.replace("NODE", room.node_words).replace("FOLDER", str(room.folder))
-    for name, content in (("between", between), ("kill_at", "0"), ("before", "0")):
-        (room.folder / name).write_text(content)
-        (room.folder / name).chmod(0o777)
-    room.init().start()
+    put_between(room, ALICE, "os.kill(os.getppid(), signal.SIGKILL)").start()
     room.until(lambda: room.entries("tags"), "a start")
     expect(room.end() == 0, room.said())
     many = len(room.entries("line"))
     kills = [(at, before) for at in range(1, many + 1) for before in "01"]
     for at, before in random.Random(4).sample(kills, min(len(kills), KILLS)):
         subprocess.run(["rm", "-rf", room.folder / "it"], check=True)
-        (room.folder / "kill_at").write_text("0")
         (room.folder / "before").write_text(before)
         room.init()
-        (room.folder / "kill_at").write_text(str(at))
+        (room.folder / "at").write_text(str(at))
         room.start()
         room.until(lambda: room.host.poll() is not None or room.entries("tags"), "a start")
         expect(room.end(signal.SIGKILL) == -9, "it was not killed at", at, room.said())
@@ -146,6 +149,24 @@ def statuses_of_the_node(room):
     began = time.monotonic()
     room.end()
     expect(time.monotonic() - began < 7, "it waited for the pause of eight seconds")
+
+
+@case
+def a_node_that_can_save_no_more(room):
+    """It answers so and ends. All that is real ends with it, and then it is started again."""
+    text = outlet("out") + service("one", "tell(tried(host.tag))\nstay()", "orders = 9",
+                                   "orders_an_hour = 9", marker=str(room.folder))
+    put_between(room, text, "pass_on(b'refused F15\\n'); os._exit(3)").start()
+    room.until(lambda: room.entries("done"), "an order, and that it says so")
+    at = [it["line"].split(" ")[0] for it in room.entries("line")].index("tag")
+    expect(room.end() == 0, room.said())
+    (room.folder / "before").write_text("1")
+    (room.folder / "at").write_text(str(at + 1))
+    room.start().tells("out", "ok", "ok")
+    kinds = [it.get("answer", [it["kind"]])[0] for it in room.journal()]
+    behind = kinds[kinds.index("refused F15"):]
+    expect("ended" in behind[:behind.index("greeting")], "it ended behind", behind)
+    expect(len(room.entries("greeting")) == 3, room.entries("greeting"))
 
 
 @case
