@@ -7,7 +7,8 @@ import signal
 import subprocess
 import time
 
-from rig import ALICE, SECONDS, case, children, expect, living, name_of, outlet, service
+from rig import (ALICE, SECONDS, case, check_operations, children, expect, living, name_of, outlet,
+                 service)
 
 KILLS = int(os.environ.get("KILLS", "6"))
 # A program between the host and the node, which does something at a line, once.
@@ -67,15 +68,6 @@ def check_tags(room):
         tag = inside[it[1:]] if it[0] == "*" else it[1:]
         expect(known[name] == tag, name, "is", known[name], "and its login is of", tag)
     expect(len(set(known.values())) == len(known) == 4, known)
-
-
-def check_operations(room):
-    """Each operation that was answered is there, as it was given."""
-    text, orders = room.registry(), room.lines("tag", "group", "put", "make-login")
-    for line, answer in orders:
-        verb, _, *words = line.replace("make-", "").replace("sha256:", "").split(" ")
-        wanted = " ".join([answer.removeprefix("ok "), verb, *words])
-        expect(not answer.startswith("ok ") or wanted in text, "an operation is lost:", wanted)
 
 
 @case

@@ -4,12 +4,15 @@ import json
 import os
 import random
 import shutil
+import signal
 import socket
 import subprocess
 import sys
+import time
 
 from broker import packet
-from rig import HOST, SECONDS, SIGNALS, Missing, case, expect, outlet, service
+from rig import (HOST, SECONDS, SIGNALS, Missing, case, check_operations, expect, outlet,
+                 service)
 
 sys.path.insert(0, str(HOST))
 
@@ -253,6 +256,60 @@ def a_broker_that_dies(room):
     one.until(lambda: one.status()["peers"]["2"]["waiting"] == 0, "answers")
     wait_until_equal(one, other, 20)
     end_equal(one, other)
+
+
+# It sends and orders until it is to stop. Each message is another one, in each life.
+BUSY = service("busy", """
+life = os.urandom(4).hex()
+while not os.path.exists("/srv/signals/stop"):
+    host.send("taker", f"{life} {time.monotonic()}".encode())
+    tried(host.tag)
+    time.sleep(0.05)
+""", SIGNALS, "restarts = false", "orders = 99999", "orders_an_hour = 99999")
+
+
+def has_told_all(room, since):
+    """Returns whether a window came since then of one who lacks nothing that this machine has."""
+    return any(it["at"] > since and it["answer"] == ["lines 0"] for it in room.entries("line")
+               if it["line"].startswith("receive f202"))
+
+
+@case
+def kills_of_two_machines(room):
+    """The host or the node of either is killed at random moments while both order, and one sends to
+    the other: no message is taken twice, no secret goes out, and no order that was answered is
+    lost."""
+    broker, draw = Broker(room), random.Random(6)
+    one = machine(room, 1, broker.port, {2: (["taker", "reader"], [])},
+                  ALICE + HERS + KEEPER + BUSY)
+    other = machine(room, 2, broker.port, {1: (["keeper"], ["alice/calendar"])},
+                    outlet("out") + READER + TAKER + BUSY)
+
+    def came():
+        return [it for _, it in other.lines("take") if it.startswith("message p1.")]
+    for it in (one, other):
+        it.start()
+    for number in range(KILLS):
+        before, killed = len(came()), draw.choice((one, other))
+        one.until(lambda: len(came()) > before + 5, "that messages come")
+        if number % 2:
+            killed.end(signal.SIGKILL)
+            killed.start()
+        else:
+            os.kill(killed.until(killed.node_pid, "a node"), signal.SIGKILL)
+    before = len(came())
+    one.until(lambda: len(came()) > before + 5, "that messages come")
+    for it in (one, other):
+        it.let("stop")
+        it.until(lambda: "busy" not in it.status()["processes"].values(), "its last order")
+    since = time.time()
+    for it in (one, other):
+        it.until(lambda: has_told_all(it, since), "that the other has all")
+    end_equal(one, other)
+    for it in (one, other):
+        check_operations(it)
+    expect(len(came()) == len(set(came())), "a message twice", came())
+    expect("gift" not in other.read("out"), other.read("out"))
 
 
 @case

@@ -256,6 +256,15 @@ class Room:
         return found[0] if found else None
 
 
+def check_operations(room):
+    """Each operation that was answered is there, as it was given."""
+    text, orders = room.registry(), room.lines("tag", "group", "put", "make-login")
+    for line, answer in orders:
+        verb, _, *words = line.replace("make-", "").replace("sha256:", "").split(" ")
+        wanted = " ".join([answer.removeprefix("ok "), verb, *words])
+        expect(not answer.startswith("ok ") or wanted in text, "an operation is lost:", wanted)
+
+
 def children(pid):
     """Returns the children of a process, where it lives."""
     with contextlib.suppress(OSError):
