@@ -179,20 +179,18 @@ tags = ["alice/calendar"]
 file = "gift"
 """ + service("reader", """
 it = host.receive()[0]
-for k in range(1000):
+for k in itertools.count():
     tell(it.decode())
     host.send("writer", it)
     tell(it.decode() + str(k), "hers")
     time.sleep(0.02)
-stay()
 """, 'secrecy = ["alice/calendar"]', marker="ROOM/reader") + service("writer", """
-for k in range(1000):
+for k in itertools.count():
     tell(str(k))
     tried(host.tag, "read")
     if it := host.receive(False):
         tell(it[0].decode())
     time.sleep(0.02)
-stay()
 """, "orders = 9999", "orders_an_hour = 9999", marker="ROOM/writer")
 
 
@@ -271,11 +269,15 @@ def kills_of_services(room):
     room.until(lambda: room.entries("emission"), "a beginning")
 
     def kill():
-        found = living(f"{room.folder}/{draw.choice(('reader', 'writer'))}")
-        for pid in found:
+        name = f"{room.folder}/{draw.choice(('reader', 'writer'))}"
+        for pid in room.until(lambda: living(name), "a life of it"):
             os.kill(pid, signal.SIGKILL)
-    for _ in range(KILLS):
+    for number in range(KILLS):
         kill_and_wait(room, kill, draw)
+        if number % 4 == 3:
+            # else the pauses before one is started again grow to a minute
+            expect(room.end() == 0, room.said())
+            room.start()
     expect(room.end() == 0, room.said())
     check_operations(room)
     expect(len(children(os.getpid())) < 50, "processes are left")

@@ -161,21 +161,13 @@ while True:
 """)
 
 
-def sender(many, pause=0.05, then="stay()"):
-    """Returns a service that sends so many numbers to another machine, once it may."""
-    return service("sender", f"""
+SENDER = service("sender", """
 wait_for("go")
-for k in range({many}):
+for k in range(15):
     host.send("taker", str(k).encode())
-    time.sleep({pause})
-{then}
+    time.sleep(0.05)
+stay()
 """, SIGNALS)
-
-
-def ready(room):
-    """Waits until a machine has heard of what it calls by name, and lets its sender begin."""
-    room.until(lambda: room.entries("heard"), "names of another machine")
-    room.let("go")
 
 
 @case
@@ -187,14 +179,15 @@ def a_broker_that_loses_and_repeats(room):
         code = "for _ in range(20): tried(host.tag)\n"
         orders = ("orders = 20", "orders_an_hour = 20")
         one = machine(inner, 1, broker.port, {2: (["taker"], [])},
-                      "[owners.alice.tags]\nseal = 'integrity'\n" + sender(15)
+                      "[owners.alice.tags]\nseal = 'integrity'\n" + SENDER
                       + service("maker", code + "stay()", *orders))
         other = machine(inner, 2, broker.port, {1: ([], ["alice/seal"])}, outlet("out") + TAKER
                         + service("maker", code + "stay()", *orders))
         other.start()
         other.until(lambda: other.entries("started", service="taker"), "a start")
         one.start()
-        ready(one)
+        one.until(lambda: one.entries("heard"), "names of another machine")
+        one.let("go")
         wanted = set(map(str, range(15)))
         other.until(lambda: set(other.read("out").split()) >= wanted, "all messages")
         found = other.read("out").split()
@@ -226,38 +219,6 @@ def operations(room):
     return made(room) + sum(took)
 
 
-@case
-def a_broker_that_dies(room):
-    """It is killed in mid-story, and the machines go on: nothing twice, and the texts are equal."""
-    broker, draw = Broker(room), random.Random(5)
-    one = machine(room, 1, broker.port, {2: (["taker"], [])}, sender(20 * KILLS + 20, 0.05))
-    other = machine(room, 2, broker.port, {1: ([], [])}, outlet("out") + TAKER + service(
-        "maker", "for _ in range(20):\n    tried(host.tag)\n    time.sleep(0.2)\nstay()",
-        "orders = 20", "orders_an_hour = 20"))
-    other.start()
-    other.until(lambda: other.entries("started", service="taker"), "a start")
-    one.start()
-    ready(one)
-    for _ in range(KILLS):
-        came = len(other.read("out"))
-        other.until(lambda: len(other.read("out")) > came, "a message more")
-        broker.kill()
-        # it stays away for a moment, or for long enough that hosts look for it
-        room.until(lambda: draw.random() < 0.1, "a moment")
-        broker.start()
-        room.until(lambda: one.entries("broker") and other.entries("broker"), "an end of it")
-    last = 20 * KILLS + 19
-
-    def came():
-        found = list(map(int, other.read("out").split()))
-        expect(len(found) == len(set(found)), "a message twice", sorted(found))
-        return set(found) >= set(range(last + 1))
-    other.until(came, "each message")
-    one.until(lambda: one.status()["peers"]["2"]["waiting"] == 0, "answers")
-    wait_until_equal(one, other, 20)
-    end_equal(one, other)
-
-
 # It sends and orders until it is to stop. Each message is another one, in each life.
 BUSY = service("busy", """
 life = os.urandom(4).hex()
@@ -268,47 +229,87 @@ while not os.path.exists("/srv/signals/stop"):
 """, SIGNALS, "restarts = false", "orders = 99999", "orders_an_hour = 99999")
 
 
+def taken(room):
+    """Returns the messages that were taken here and are of the first machine."""
+    return [it for _, it in room.lines("take") if it.startswith("message p1.")]
+
+
+def more_come(room):
+    """Waits until some messages more of the first machine are taken here."""
+    before = len(taken(room))
+    room.until(lambda: len(taken(room)) > before + 5, "messages of the first machine")
+
+
 def has_told_all(room, since):
     """Returns whether a window came since then of one who lacks nothing that this machine has."""
     return any(it["at"] > since and it["answer"] == ["lines 0"] for it in room.entries("line")
                if it["line"].startswith("receive f202"))
 
 
+def end_busy(*rooms):
+    """Waits until both are busy no more, and have what the other has. Then each has all orders that
+    were answered, and no message was taken twice."""
+    for it in rooms:
+        it.let("stop")
+        it.until(lambda: "busy" not in it.status()["processes"].values(), "its last order")
+    since = time.time()
+    for it in rooms:
+        it.until(lambda: has_told_all(it, since), "that the other has all")
+        it.until(lambda: not any(peer["waiting"] for peer in it.status()["peers"].values()),
+                 "that none waits")
+    end_equal(*rooms)
+    for it in rooms:
+        check_operations(it)
+        expect(len(taken(it)) == len(set(taken(it))), "a message twice", taken(it))
+
+
+@case
+def a_broker_that_dies(room):
+    """It is killed in mid-story, and the machines go on: each message comes, and none twice."""
+    broker, draw = Broker(room), random.Random(5)
+    one = machine(room, 1, broker.port, {2: (["taker"], [])}, BUSY)
+    other = machine(room, 2, broker.port, {1: ([], [])}, outlet("out") + TAKER + BUSY)
+    for it in (one, other):
+        it.start()
+    for _ in range(KILLS):
+        more_come(other)
+        before = {it: len(it.entries("broker")) for it in (one, other)}
+        broker.kill()
+        # it stays away for a moment, or for long enough that hosts look for it
+        room.until(lambda: draw.random() < 0.1, "a moment")
+        broker.start()
+        for it in before:
+            it.until(lambda: len(it.entries("broker")) > before[it], "an end of it")
+    more_come(other)
+    end_busy(one, other)
+    [pid] = [it["pid"] for it in other.entries("started", service="taker")]
+    sent = [answer.split(" ")[1] for line, answer in one.lines("send") if f" {pid} " in line]
+    came = [line.split(" ")[1] for line, answer in other.lines("receive")
+            if line.startswith("receive f20400000001") and answer == f"arrived {pid}"]
+    expect(sorted(sent) == sorted(came), "messages", set(sent) ^ set(came))
+
+
 @case
 def kills_of_two_machines(room):
     """The host or the node of either is killed at random moments while both order, and one sends to
-    the other: no message is taken twice, no secret goes out, and no order that was answered is
-    lost."""
+    the other: no secret goes out."""
     broker, draw = Broker(room), random.Random(6)
     one = machine(room, 1, broker.port, {2: (["taker", "reader"], [])},
                   ALICE + HERS + KEEPER + BUSY)
     other = machine(room, 2, broker.port, {1: (["keeper"], ["alice/calendar"])},
                     outlet("out") + READER + TAKER + BUSY)
-
-    def came():
-        return [it for _, it in other.lines("take") if it.startswith("message p1.")]
     for it in (one, other):
         it.start()
     for number in range(KILLS):
-        before, killed = len(came()), draw.choice((one, other))
-        one.until(lambda: len(came()) > before + 5, "that messages come")
+        more_come(other)
+        killed = draw.choice((one, other))
         if number % 2:
             killed.end(signal.SIGKILL)
             killed.start()
         else:
             os.kill(killed.until(killed.node_pid, "a node"), signal.SIGKILL)
-    before = len(came())
-    one.until(lambda: len(came()) > before + 5, "that messages come")
-    for it in (one, other):
-        it.let("stop")
-        it.until(lambda: "busy" not in it.status()["processes"].values(), "its last order")
-    since = time.time()
-    for it in (one, other):
-        it.until(lambda: has_told_all(it, since), "that the other has all")
-    end_equal(one, other)
-    for it in (one, other):
-        check_operations(it)
-    expect(len(came()) == len(set(came())), "a message twice", came())
+    more_come(other)
+    end_busy(one, other)
     expect("gift" not in other.read("out"), other.read("out"))
 
 
@@ -316,19 +317,23 @@ def kills_of_two_machines(room):
 def what_a_sender_to_another_machine_is_told(room):
     """The same whether its message arrives, is dropped, or finds nobody; and the same goes back."""
     code = """
-time.sleep(1)
+wait_for("go")
 tell([answer({"do": "send", "to": to, "bytes": "6869"}) for to in ("taker", "high", "ended")])
 host.receive()
 """
     broker = Broker(room)
     names = ["taker", "high", "ended"]
-    one = machine(room, 1, broker.port, {2: (names, [])}, outlet("out") + service("one", code))
+    one = machine(room, 1, broker.port, {2: (names, [])},
+                  outlet("out") + service("one", code, SIGNALS))
     high = service("high", "stay()", 'integrity = ["bob/seal"]', 'rights = ["+bob/seal"]')
     other = machine(room, 2, broker.port, {1: ([], [])}, "[owners.bob.tags]\nseal = 'integrity'\n"
                     + outlet("out") + TAKER + high + service("ended", "", "restarts = false"))
     other.start()
     other.until(lambda: other.entries("ended", service="ended"), "an end")
     one.start()
+    # the third has ended, and is not heard of
+    one.until(lambda: len(one.entries("heard")) == 2, "names of another machine")
+    one.let("go")
     one.tells("out", json.dumps([{"ok": True}] * 3))
     one.until(lambda: len(broker.envelopes(HANDLED)) >= 3, "three acknowledgements")
     one.until(lambda: one.status()["peers"]["2"]["waiting"] == 0, "none waits")

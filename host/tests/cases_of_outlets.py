@@ -3,7 +3,7 @@ import json
 import socket
 import threading
 
-from rig import ALICE, Room, case, expect, outlet, service
+from rig import ALICE, SIGNALS, Room, case, expect, outlet, service
 
 HERS = outlet("hers", 'secrecy = ["alice/calendar"]', 'rights = ["-alice/calendar"]')
 
@@ -121,12 +121,13 @@ def an_address(room):
     """Bytes go to a TCP address that the host dials; while nobody listens they wait."""
     listener = Listener()
     code = "for k in range(3): host.emit('far', b'%d.' % k)\nhost.receive()"
-    gift = '[[owners.alice.gives]]\nto = "two"\nfile = "host.toml"\n'
-    later = "host.receive()\ntime.sleep(1)\nfor it in b'3.', b'4.': host.emit('far', it)\nstay()"
+    later = "wait_for('go')\nfor it in b'3.', b'4.': host.emit('far', it)\nstay()"
     far = f'[outlets.far]\nkind = "tcp"\nto = "127.0.0.1:{listener.port}"\n'
-    room.configure(far + gift + service("one", code) + service("two", later)).init().start()
+    room.let("")
+    room.configure(far + service("one", code) + service("two", later, SIGNALS)).init().start()
     room.until(lambda: listener.heard and listener.heard[0].endswith(b"2."), "three")
     listener.end()
+    room.let("go")
     room.until(lambda: len(room.entries("emission")) >= 4, "an emission to nobody")
     again = Listener(listener.port)
     room.until(lambda: b"".join(again.heard).endswith(b"4."), f"the rest, of {again.heard}")

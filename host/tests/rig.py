@@ -305,7 +305,7 @@ def outlet(name, *keys, kind="file"):
 
 
 PRELUDE = """
-import json, os, sys, time
+import itertools, json, os, sys, time
 from flume_service import Host, Refused
 host = Host()
 def answer(content):
