@@ -230,8 +230,10 @@ while not os.path.exists("/srv/signals/stop"):
 
 
 def taken(room):
-    """Returns the messages that were taken here and are of the first machine."""
-    return [it for _, it in room.lines("take") if it.startswith("message p1.")]
+    """Returns the messages of the first machine that the taker has taken, in all its lives."""
+    pids = {it["pid"] for it in room.entries("started", service="taker")}
+    return [it for line, it in room.lines("take") if it.startswith("message p1.")
+            and line.split(" ")[1] in pids]
 
 
 def more_come(room):

@@ -2,11 +2,12 @@
 away for long. Behind it all have one text, and their journals are one script of flume-tags."""
 import ipaddress
 import os
+import shutil
 import subprocess
 
 from cases_of_machines import (CLUSTER, KEY, Broker, end_equal, machine, made, operations,
                                wait_until_equal)
-from rig import SIGNALS, Barred, case, expect, outlet, service
+from rig import SIGNALS, Barred, Missing, case, expect, outlet, service
 from weave import replay
 
 AWAY = int(os.environ.get("AWAY", "1000"))
@@ -126,6 +127,8 @@ def joined(number, space):
 @case
 def three_machines_in_network_namespaces(room):
     """Each has a line to the broker's, and one line is cut."""
+    if not shutil.which("ip"):
+        raise Missing("iproute2")
     broker, rooms, spaces = Broker(room, *WILD), [], []
     try:
         for it in (1, 2, 3):
