@@ -225,7 +225,7 @@ life = os.urandom(4).hex()
 while not os.path.exists("/srv/signals/stop"):
     host.send("taker", f"{life} {time.monotonic()}".encode())
     tried(host.tag)
-    time.sleep(0.05)
+    time.sleep(0.2)
 """, SIGNALS, "restarts = false", "orders = 99999", "orders_an_hour = 99999")
 
 
