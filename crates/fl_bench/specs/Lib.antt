@@ -6,6 +6,7 @@ pub mod Process
 pub mod Taken
 pub mod Bench
 pub mod Jobs
+pub mod Foresight
 pub mod Gifts
 pub mod Orderly
 pub mod Following

@@ -5,3 +5,4 @@ pub mod Telling
 pub mod parts
 pub mod Checking
 pub mod Desks
+pub mod Foresight
