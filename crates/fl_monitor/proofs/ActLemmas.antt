@@ -41,7 +41,7 @@ use Rattle.fl_bench.specs.declared.process.Process.{Process}
 use Rattle.fl_mailbox.specs.laws.Tables.{put_same}
 use Rattle.fl_monitor.specs.parts.Acts.{Acts, Births, Sequel, bearing, Spawns, born_with, Relabels, Drops, Enters, Mails, answered}
 use Rattle.fl_monitor.specs.parts.Checked.{Checked}
-use Rattle.fl_monitor.proofs.CheckLemmas.{has_failed, has_passed}
+use Rattle.fl_monitor.proofs.CheckLemmas.{has_failed, has_passed, passed_on}
 
 -- ---- questions
 
@@ -49,13 +49,6 @@ use Rattle.fl_monitor.proofs.CheckLemmas.{has_failed, has_passed}
 pub answers_of : {P : Type 0} (yes : Bool) (reply : Reply) → reply ≡ cond yes Yes NotYet → Tells yes P → Answers (Outcome.Reply reply) P
 answers_of true reply e t = inl (ap Outcome.Reply e, t.holds refl)
 answers_of false reply e t = inr (ap Outcome.Reply e, t.fails refl)
-
--- ---- refusals
-
--- a refusal that `?` passes on
-pub passed_on : {T : Type 0} (r : Result T Refusal) (f : Refusal) → IsErr r × IsErrAnd r (λ g. g ≡ f) → r ≡ Err f
-passed_on (Ok x) f h = absurd h.1
-passed_on (Err g) f h = ap Err h.1
 
 -- ---- births
 

@@ -1,5 +1,5 @@
 -- What the jobs of a bench owe.
-use Rattle.std.proofs.Common.{arith, ℕ, ◌+◌, ◌<◌, ◌≤◌, ◌≡◌, true, false, refl, sym, ap, subst, ◌∙◌, Option, Some, None, Result, Ok, Err, IfOk}
+use Rattle.std.proofs.Common.{ℕ, ◌+◌, ◌≡◌, Bool, true, false, refl, sym, ap, subst, ◌∙◌, Option, Some, None, Result, Ok, Err, IfOk}
 use Rattle.std.specs.Result.{IsErr, IsErrAnd}
 use Rattle.std.specs.declared.alloc.AllocError.{AllocError}
 use Rattle.std.specs.FinMap as map
@@ -26,7 +26,8 @@ use Rattle.fl_bench.specs.Jobs.{act_checks, bench_checks, checks, Answers, Does,
 use Rattle.fl_bench.specs.declared.process.Holding.TheVariants.{Idle}
 use Rattle.fl_bench.specs.declared.process.Process.{Process}
 use Rattle.fl_monitor.specs.parts.Acts.{Acts, ActsAt, Births, Ends, Sequel, answered, Settles, Arrives, ArrivesAt}
-use Rattle.fl_monitor.proofs.ActLemmas.{act_busy, act_exit, passed_on, stays}
+use Rattle.fl_monitor.proofs.ActLemmas.{act_busy, act_exit, stays}
+use Rattle.fl_monitor.proofs.CheckLemmas.{passed_on}
 
 same_refusal : {T : Type 0} {f g : Refusal} → ◌≡◌ {A = Result T Refusal} (Err f) (Err g) → f ≡ g
 same_refusal {T} e = ap (λ (r : Result T Refusal). elim r [ Ok s ↦ Memory | Err f ↦ f ]) e
@@ -134,29 +135,29 @@ arrives_does V a b is d {r} {m} h = subst (λ x. Does V x (Arrive d) r (record a
 pub reaches_does : (V : Registry) (b : BenchState) (root c : Cap) (outcome : Outcome) → Answers outcome (Reach V (From root) c) → Does V b (Member root c) (Ok outcome) b
 reaches_does V b root c outcome h = Does.passed refl (h, refl)
 
-is_above : (a b : ℕ) → a < b → nat_lt a b ≡ true
-is_above a b h = grind (arith)
-
-not_above : (a b : ℕ) → b ≤ a → nat_lt a b ≡ false
-not_above a b h = grind (arith)
-
+-- a bench by another name
 module _ (a b : BenchState) (is : a ≡ b) where
-  pub spent_births : (child : Result Process AllocError) → ¬ (a.next < 4294967296) → Births b child (Err NamesSpent) b
-  spent_births child h = subst (λ x. Births x child (Err NamesSpent) x) is (Births.spent (subst (λ t. refuse_if t NamesSpent (Some NamesSpent)) (sym (is_above 4294967295 a.next (omega (arith, h)))) refl))
+  module _ (left : serials_left b None) where
+    pub full_births : (child : Result Process AllocError) (m : map.FinMap pid_cmp Process) → m ≡ a.processes → Births b child (Err Memory) (record a { processes = m })
+    full_births child m e = subst (λ x. Births b child (Err Memory) (record a { processes = x })) (sym e) (subst (Births b child (Err Memory)) (sym is) (Births.full left))
 
-  left : a.next < 4294967296 → serials_left a None
-  left h = subst (λ t. refuse_if t NamesSpent None) (sym (not_above 4294967295 a.next (omega (arith, h)))) refl
+    pub is_next : (pid : Pid) → pid.node ≡ a.node → pid.boot ≡ a.boot → pid.serial ≡ b.next → IsNext a pid
+    is_next pid node boot serial = record { node = node; boot = boot; serial = serial ∙ ap (λ (x : BenchState). x.next) (sym is) }
 
-  -- there was no memory for a process, or is no room
-  pub starved_births : (child : Result Process AllocError) → a.next < 4294967296 → Births b child (Err Memory) b
-  starved_births child h = subst (λ x. Births x child (Err Memory) x) is (Births.full (left h))
+    module _ (child : Result Process AllocError) (p : Process) (there : child ≡ Ok p) where
+      pub made_births : (pid : Pid) (m : map.FinMap pid_cmp Process) (n : ℕ) → IsNext a pid → m ≡ map.insert a.processes pid p → n ≡ a.stride → Births b child (Ok (Outcome.Reply (Made pid))) (record a { next = a.next + n; processes = m })
+      made_births pid m n next e f =
+          subst (λ c. Births b c (Ok (Outcome.Reply (Made pid))) (record a { next = a.next + n; processes = m })) (sym there)
+          (subst (λ x. Births x (Ok p) (Ok (Outcome.Reply (Made pid))) (record a { next = a.next + n; processes = m })) is
+          (subst (Births a (Ok p) (Ok (Outcome.Reply (Made pid)))) (λ i. record a { next = a.next + sym f i; processes = sym e i }) (Births.made (subst (λ x. serials_left x None) (sym is) left) next)))
 
-  pub full_births : (child : Result Process AllocError) (m : map.FinMap pid_cmp Process) → a.next < 4294967296 → m ≡ a.processes → Births b child (Err Memory) (record a { processes = m })
-  full_births child m h e = subst (λ x. Births b child (Err Memory) (record a { processes = x })) (sym e) (subst (λ x. Births x child (Err Memory) a) is (Births.full (left h)))
+-- there is no serial
+spent_is : (test : Bool) (f : Refusal) → refuse_if test NamesSpent (Some f) → f ≡ NamesSpent
+spent_is true f e = ap (λ o. elim o [ None ↦ f | Some g ↦ g ]) e
+spent_is false f e = absurd (cc)
 
-  module _ (child : Result Process AllocError) (p : Process) (there : child ≡ Ok p) where
-    pub made_births : (pid : Pid) (m : map.FinMap pid_cmp Process) (n : ℕ) → a.next < 4294967296 → IsNext a pid → m ≡ map.insert a.processes pid p → n ≡ a.stride → Births b child (Ok (Outcome.Reply (Made pid))) (record a { next = a.next + n; processes = m })
-    made_births pid m n h next e f =
-        subst (λ c. Births b c (Ok (Outcome.Reply (Made pid))) (record a { next = a.next + n; processes = m })) (sym there)
-        (subst (λ x. Births x (Ok p) (Ok (Outcome.Reply (Made pid))) (record a { next = a.next + n; processes = m })) is
-        (subst (Births a (Ok p) (Ok (Outcome.Reply (Made pid)))) (λ i. record a { next = a.next + sym f i; processes = sym e i }) (Births.made (left h) next)))
+pub spent_births : (b : BenchState) (child : Result Process AllocError) (f : Refusal) → serials_left b (Some f) → (q : Result Outcome Refusal) → IsErr q × IsErrAnd q (λ g. g ≡ f) → Births b child q b
+spent_births b child f h q s =
+    let is = spent_is (nat_lt 4294967295 b.next) f h in
+    subst (λ q. Births b child q b) (sym (passed_on q f s))
+    (subst (λ f. Births b child (Err f) b) (sym is) (Births.spent (subst (λ f. serials_left b (Some f)) is h)))

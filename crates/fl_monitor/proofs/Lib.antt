@@ -10,3 +10,4 @@ pub mod ChangeLemmas
 pub mod MailLemmas
 pub mod ArrivalLemmas
 pub mod Kept
+pub mod CouldLemmas

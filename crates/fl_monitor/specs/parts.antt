@@ -3,3 +3,4 @@ pub mod Demand
 pub mod Acts
 pub mod Holder
 pub mod Slots
+pub mod Could

@@ -3,13 +3,16 @@ ghost use Rattle.std.specs.Prelude.{◌≡◌, ◌++◌, ◌∷◌, [], OnOk, On
 ghost use Rattle.fl_labels.specs.SetBy as set;
 ghost use Rattle.fl_rules.specs.Pair as pairs;
 ghost use Rattle.fl_bench.specs.Guards.{sent_from, entry_refusal};
+ghost use Rattle.fl_bench.specs.Mailbox.{arrival_checks};
 ghost use Rattle.fl_monitor.specs.parts.Acts.{Arrives};
+ghost use Rattle.fl_monitor.specs.parts.Checked.{Checked};
 
 use fl_bench::owned::Owned;
 use fl_bench::process::{Holding, Process};
 use fl_jobs::answer::{Outcome, Refusal, Reply};
 use fl_labels::endpoint::Endpoint;
 use fl_mailbox::inbox::Inbox;
+use fl_mailbox::mailbox::Mailbox;
 use fl_message::message::{Data, Letter};
 use fl_rules::endpoint::Mode;
 use fl_rules::labels::LabelsRef;
@@ -58,6 +61,23 @@ fn take_in(inbox: &mut Inbox, owned: &mut Owned, letter: Letter) -> Result<(), A
     )
 }
 
+/// Whether the message may enter the endpoint that it is for, and there is room for it to wait, or
+/// else why not. Takes no memory.
+pub(crate) fn check_arrival(mailbox: &Mailbox, data: &Data) -> Result<(), Refusal>
+    ensures { Checked (arrival_checks mailbox.now «data».now) result }
+{
+    let Some(opened) = mailbox.endpoints.get(data.to) else {
+        return Err(Refusal::NoEndpoint(data.to));
+    };
+    if let Some(fault) = safe_pair(end_left(data), opened.lend()) {
+        return Err(refused_entry(data.to, fault));
+    }
+    if mailbox.inbox.is_full() {
+        return Err(Refusal::InboxFull);
+    }
+    Ok(())
+}
+
 /// Takes a message in, where it may enter the endpoint that it is for: its capabilities are then
 /// owned, and it waits behind those that came before. Looks along the labels of both ends, and
 /// copies nothing that is owned.
@@ -67,16 +87,8 @@ pub(crate) fn arrive(process: &mut Process, data: Data) -> Result<Outcome, Refus
     let Holding::Idle(owned) = &mut process.owned else {
         return Err(Refusal::Busy);
     };
-    let Some(opened) = process.mailbox.endpoints.get(data.to) else {
-        return Err(Refusal::NoEndpoint(data.to));
-    };
-    if let Some(fault) = safe_pair(end_left(&data), opened.lend()) {
-        return Err(refused_entry(data.to, fault));
-    }
+    check_arrival(&process.mailbox, &data)?;
     let inbox = &mut process.mailbox.inbox;
-    if inbox.is_full() {
-        return Err(Refusal::InboxFull);
-    }
     let receiver = data.receiver;
     let Ok(()) = take_in(inbox, owned, data.into_letter()) else {
         return Err(Refusal::Memory);

@@ -1,11 +1,12 @@
 //! Benches: processes that work under one view.
 ghost use Rattle.std.specs.Option.{option_copied};
-ghost use Rattle.std.specs.Prelude.{◌≡◌, ◌≢◌, ◌≤◌, ◌<◌, [], Ok, IfOk, OnErr, IsSome};
+ghost use Rattle.std.specs.Prelude.{◌≡◌, ◌≢◌, ◌≤◌, ◌<◌, [], None, Some, Ok, IfOk, IfErr, OnErr, IsSome};
 ghost use Rattle.std.specs.FinMap as map;
 ghost use Rattle.fl_ops.specs.Registry.{Listed};
 ghost use Rattle.fl_jobs.specs.declared.job.Job.TheVariants.{By};
 ghost use Rattle.fl_bench.specs.Bench.{new_bench};
-ghost use Rattle.fl_bench.specs.Jobs.{Does};
+ghost use Rattle.fl_bench.specs.Foresight.{Could};
+ghost use Rattle.fl_bench.specs.Jobs.{Does, serials_left};
 ghost use Rattle.fl_bench.specs.Process.{newborn, standing_at};
 ghost use Rattle.fl_bench.specs.Orderly.{IsOrderly};
 ghost use Rattle.fl_monitor.specs.parts.Acts.{Births, IsAnswered};
@@ -119,13 +120,22 @@ impl Bench {
         self.processes.share(alloc, pid)
     }
 
-    // A new process, under the next serial, where there was memory for it.
-    fn bear(&mut self, process: Result<Boxed<Process>, AllocError>) -> Result<Outcome, Refusal>
-        ensures { Births self.old process result self.new }
+    // The serial of the next process, where one is left.
+    fn next_serial(&self) -> Result<u32, Refusal>
+        ensures ok { IfOk result (λ serial. (serial ≡ self.now.next) × serials_left self.now None) }
+        ensures err { IfErr result (λ f. serials_left self.now (Some f)) }
     {
         let Ok(serial) = u32::try_from(self.next) else {
             return Err(Refusal::NamesSpent);
         };
+        Ok(serial)
+    }
+
+    // A new process, under the next serial, where there was memory for it.
+    fn bear(&mut self, process: Result<Boxed<Process>, AllocError>) -> Result<Outcome, Refusal>
+        ensures { Births self.old process result self.new }
+    {
+        let serial = self.next_serial()?;
         let Ok(process) = process else {
             return Err(Refusal::Memory);
         };
@@ -227,6 +237,59 @@ impl Bench {
             Job::By(pid, act) => self.processes.act(alloc, view, *pid, act),
             Job::Member(root, cap) => Ok(Outcome::Reply(reply_of(view.reaches(*root, *cap)))),
             Job::Arrive(_) => self.processes.arrive(replace(job, Job::Proc)),
+        }
+    }
+
+    /// What the job would be answered now, where orders are guarded or not, word for word, but for
+    /// want of memory: why it would be refused, for the reasons of `job`, or else of a question its
+    /// answer, and of any other job `Reply::Done`. A guarded order is refused first for what an
+    /// emission of its process is refused for.
+    ///
+    /// Leaves the bench and the view. Takes no memory. Costs what the checks of `job` do, and twice
+    /// the moves of a drop.
+    pub fn could<V: View>(
+        &mut self,
+        view: &mut V,
+        guards: bool,
+        job: &Job,
+    ) -> Result<Reply, Refusal>
+        ensures could { Could guards (Listed (V.list view.old)) self.old job.now result }
+        ensures same { self.new ≡ self.old }
+        ensures view { view.new ≡ view.old }
+    {
+        match job {
+            Job::Proc => {
+                self.next_serial()?;
+                Ok(Reply::Done)
+            }
+            Job::By(pid, act) => self.could_by(view, guards, *pid, act),
+            Job::Member(root, cap) => Ok(reply_of(view.reaches(*root, *cap))),
+            Job::Arrive(message) => {
+                self.processes.check_arrival(message)?;
+                Ok(Reply::Done)
+            }
+        }
+    }
+
+    // What the process would be answered to the act.
+    fn could_by<V: View>(
+        &mut self,
+        view: &mut V,
+        guards: bool,
+        pid: Pid,
+        act: &Act,
+    ) -> Result<Reply, Refusal>
+        ensures could { Could guards (Listed (V.list view.old)) self.old (By pid act.now) result }
+        ensures same { self.new ≡ self.old }
+        ensures view { view.new ≡ view.old }
+    {
+        let reply = self.processes.could_act(view, guards, pid, act)?;
+        match act {
+            Act::Spawn(_) => {
+                self.next_serial()?;
+                Ok(reply)
+            }
+            _ => Ok(reply),
         }
     }
 

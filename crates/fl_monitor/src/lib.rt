@@ -4,6 +4,7 @@
 mod act;
 mod arrive;
 pub mod bench;
+mod could;
 mod demand;
 mod drop;
 mod enter;

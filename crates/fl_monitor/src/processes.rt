@@ -7,20 +7,24 @@ ghost use Rattle.fl_ops.specs.Registry.{Listed};
 ghost use Rattle.fl_jobs.specs.declared.job.Act.TheVariants.{Spawn};
 ghost use Rattle.fl_jobs.specs.declared.job.Job.TheVariants.{Arrive};
 ghost use Rattle.fl_monitor.specs.parts.Acts.{ActsAt, ArrivesAt, Ends, IsAnswered, answered, bearing};
+ghost use Rattle.fl_monitor.specs.parts.Checked.{Checked};
+ghost use Rattle.fl_monitor.specs.parts.Could.{CouldBy, coming_checks};
 ghost use Rattle.fl_bench.specs.Gifts.{given, receives};
 ghost use Rattle.fl_bench.specs.Process.{standing_at};
 
 use crate::act::act_alone;
-use crate::arrive::arrive;
+use crate::arrive::{arrive, check_arrival};
+use crate::could::could_act;
 use crate::pid_map::PidMap;
 use crate::spawn::spawn;
 use fl_bench::process::{Holding, Process};
 use fl_bench::standing::Standing;
-use fl_jobs::answer::{Outcome, Refusal};
+use fl_jobs::answer::{Outcome, Refusal, Reply};
 use fl_jobs::job::{Act, Job};
 use fl_labels::cap_set::CapSet;
 use fl_labels::pid::Pid;
 use fl_message::boxed::Boxed;
+use fl_message::message::Data;
 use fl_message::shared::Shared;
 use fl_ops::op::Op;
 use fl_ops::view::View;
@@ -164,6 +168,39 @@ impl Processes {
             return Err(Refusal::NoProcess(data.receiver));
         };
         arrive(process, data)
+    }
+
+    /// What one process would be answered to the act, where orders are guarded or not: why it would
+    /// be refused, but for want of memory or of a serial, or what is foretold. Leaves them.
+    /// Takes no memory.
+    pub fn could_act<V: View>(
+        &mut self,
+        view: &mut V,
+        guards: bool,
+        pid: Pid,
+        act: &Act,
+    ) -> Result<Reply, Refusal>
+        ensures could { CouldBy guards (Listed (V.list view.old)) self.old pid act.now result }
+        ensures kept { self.new ≡ self.old }
+        ensures same { view.new ≡ view.old }
+    {
+        let Some(process) = self.all.get_mut(pid) else {
+            return Err(Refusal::NoProcess(pid));
+        };
+        could_act(process, view, guards, act)
+    }
+
+    /// Whether the message would come to its receiver, or else why not. Takes no memory.
+    pub fn check_arrival(&self, data: &Data) -> Result<(), Refusal>
+        ensures { Checked (coming_checks self.now «data».now) result }
+    {
+        let Some(process) = self.all.get(data.receiver) else {
+            return Err(Refusal::NoProcess(data.receiver));
+        };
+        let Holding::Idle(_) = process.owned else {
+            return Err(Refusal::Busy);
+        };
+        check_arrival(&process.mailbox, data)
     }
 
     /// Gives a process what the operation gives its maker, if there is that process and its

@@ -4,6 +4,7 @@ ghost use Rattle.fl_ops.specs.Registry.{Listed};
 ghost use Rattle.fl_rules.specs.Labels.{sets_of};
 ghost use Rattle.fl_bench.specs.Process.{side_of, with_side};
 ghost use Rattle.fl_monitor.specs.parts.Acts.{Relabels};
+ghost use Rattle.fl_monitor.specs.parts.Checked.{CheckedBy, given_checks, relabel_checks};
 
 use crate::demand::{Demand, check, check_endpoints};
 use fl_jobs::answer::{Outcome, Refusal, Reply};
@@ -50,6 +51,45 @@ fn set_label(labels: &mut Labels, side: Side, label: &mut Label)
     }
 }
 
+// Whether the owner of these capabilities may set the label of a side, and each of its endpoints
+// stays safe, or else why not.
+fn check_relabel<V: View>(
+    view: &mut V,
+    owned: &CapSet,
+    endpoints: &Endpoints,
+    labels: &Labels,
+    side: Side,
+    label: &Label,
+) -> Result<(), Refusal>
+    ensures checked { CheckedBy (V.list view.old) owned.now
+        (λ E. relabel_checks E labels.now endpoints.now side label.now) result }
+    ensures same { view.new ≡ view.old }
+{
+    let old = label_of(labels, side);
+    check(view, owned, Demand::Change(old, label))?;
+    let as_changed = with_label(labels, side, label);
+    check_endpoints(view, owned, as_changed, endpoints)
+}
+
+/// Whether `relabel` would set the label, or else why not. Takes no memory.
+pub(crate) fn check_given<V: View>(
+    view: &mut V,
+    owned: &CapSet,
+    endpoints: &Endpoints,
+    labels: &Labels,
+    side: Side,
+    label: &Result<Label, TooLong>,
+) -> Result<(), Refusal>
+    ensures checked { CheckedBy (V.list view.old) owned.now
+        (λ E. given_checks E labels.now endpoints.now side label.now) result }
+    ensures same { view.new ≡ view.old }
+{
+    let Ok(label) = label else {
+        return Err(Refusal::LabelTooLong);
+    };
+    check_relabel(view, owned, endpoints, labels, side, label)
+}
+
 /// Sets the label of a side, where the owner of these capabilities may change it so, and each of
 /// its endpoints stays safe. A label of too many tags is refused before anything is asked. Takes no
 /// memory.
@@ -68,10 +108,7 @@ pub(crate) fn relabel<V: View>(
     let Ok(label) = label else {
         return Err(Refusal::LabelTooLong);
     };
-    let old = label_of(labels, side);
-    check(view, owned, Demand::Change(old, label))?;
-    let as_changed = with_label(labels, side, label);
-    check_endpoints(view, owned, as_changed, endpoints)?;
+    check_relabel(view, owned, endpoints, labels, side, label)?;
     set_label(labels, side, label);
     Ok(Outcome::Reply(Reply::Done))
 }

@@ -1,8 +1,8 @@
 use Rattle.fl_monitor.proofs.MailLemmas.{none_closed, one_closed}
 use Rattle.fl_monitor.proofs.mail.close.Goals as goal
 
-pub returns-then-not-remove : goal.returns-then-not-remove
-returns-then-not-remove c = none_closed c.args.mailbox.now c.args.endpoint _ c.remove.ensures.after _ c.remove.ensures.was c.if-not-remove.true
+pub returns-in_err-opened_at : goal.returns-in_err-opened_at
+returns-in_err-opened_at c = none_closed c.args.mailbox.now c.args.endpoint c.in_err-opened_at.ensures.err.1 _ c.in_err-opened_at.ensures.err.0 c.from_residual.result c.from_residual.ensures
 
 pub returns : goal.returns
-returns c = one_closed c.args.mailbox.now c.args.endpoint _ c.remove.ensures.after _ c.remove.ensures.was c.if-not-remove.false
+returns c = one_closed c.args.mailbox.now c.args.endpoint _ c.in_ok-opened_at.ensures.ok _ c.remove.ensures.after
