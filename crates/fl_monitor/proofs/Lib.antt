@@ -11,3 +11,5 @@ pub mod MailLemmas
 pub mod ArrivalLemmas
 pub mod Kept
 pub mod CouldLemmas
+pub mod Gathering
+pub mod Lacking

@@ -1,1 +1,2 @@
 pub mod parts
+pub mod Wanting

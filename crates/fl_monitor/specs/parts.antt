@@ -4,3 +4,4 @@ pub mod Acts
 pub mod Holder
 pub mod Slots
 pub mod Could
+pub mod Gathers

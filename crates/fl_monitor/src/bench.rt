@@ -11,13 +11,17 @@ ghost use Rattle.fl_bench.specs.Process.{newborn, standing_at};
 ghost use Rattle.fl_bench.specs.Orderly.{IsOrderly};
 ghost use Rattle.fl_monitor.specs.parts.Acts.{Births, IsAnswered};
 ghost use Rattle.fl_bench.specs.Gifts.{finished, cancelled};
+ghost use Rattle.fl_labels.specs.declared.cap.Cap.{Cap};
+ghost use Rattle.fl_monitor.specs.Wanting.{AreAll, Lacks};
 
 use crate::act::reply_of;
 use crate::processes::Processes;
+use crate::wanting::wanting;
 use fl_bench::process::Process;
 use fl_bench::standing::Standing;
 use fl_jobs::answer::{Outcome, Refusal, Reply};
 use fl_jobs::job::{Act, Job};
+use fl_labels::cap_set::CapSet;
 use fl_labels::name::NodeNumber;
 use fl_labels::pid::Pid;
 use fl_message::boxed::Boxed;
@@ -290,6 +294,36 @@ impl Bench {
                 Ok(reply)
             }
             _ => Ok(reply),
+        }
+    }
+
+    /// The capabilities that are wanting for a job: those that it takes and that its process has
+    /// not in effect. The change of a label, an order, a birth and a message take what they do for
+    /// `job`; an emission takes both capabilities of each tag of the secrecy, and so does an order
+    /// where orders are guarded. None is wanting where the process does not stand here, or an
+    /// operation of it is under way, since no capability would help.
+    ///
+    /// Fails only where one is wanting, and there is not enough memory. Leaves the view and the
+    /// bench as they were. Asks the view one question for each capability that the job takes.
+    pub fn wanting<V: View>(
+        &self,
+        alloc: Global,
+        view: &mut V,
+        guards: bool,
+        job: &Job,
+    ) -> Result<CapSet, AllocError>
+        ensures ok { let V = Listed (V.list view.old) in
+            IfOk result (AreAll (Lacks guards V self.now job.now)) }
+        ensures err { let V = Listed (V.list view.old) in
+            OnErr result ((c : Cap) × Lacks guards V self.now job.now c) }
+        ensures same { view.new ≡ view.old }
+    {
+        let Job::By(pid, act) = job else {
+            return Ok(CapSet::new(alloc));
+        };
+        match self.processes.get(*pid) {
+            Some(process) => wanting(alloc, view, guards, process, act),
+            None => Ok(CapSet::new(alloc)),
         }
     }
 

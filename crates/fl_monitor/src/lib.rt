@@ -15,3 +15,4 @@ mod pid_map;
 mod processes;
 mod relabel;
 mod spawn;
+mod wanting;

@@ -16,7 +16,7 @@ use fl_ops::view::View;
 use fl_rules::labels::{Labels, LabelsRef};
 use std::mem::swap;
 
-fn label_of(labels: &Labels, side: Side) -> &Label
+pub(crate) fn label_of(labels: &Labels, side: Side) -> &Label
     ensures { result.now ≡ side_of side labels.now }
 {
     match side {
