@@ -1,3 +1,4 @@
 pub mod DeskSees
 pub mod Views
 pub mod Making
+pub mod Whole

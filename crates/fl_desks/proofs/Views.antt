@@ -89,7 +89,7 @@ item_none f (x ∷ xs) = refl
 some_same : {A : Type 0} {x y : A} → Some x ≡ Some y → x ≡ y
 some_same h = cc
 
-get_views : (desks : List Desk) (k : ℕ) (d : Desk) → get_or (views_of desks) k d.seen ≡ (get_or desks k d).seen
+pub get_views : (desks : List Desk) (k : ℕ) (d : Desk) → get_or (views_of desks) k d.seen ≡ (get_or desks k d).seen
 get_views [] k d = refl
 get_views (x ∷ desks) zero d = refl
 get_views (x ∷ desks) (suc k) d = get_views desks k d

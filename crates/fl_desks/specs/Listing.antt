@@ -34,6 +34,10 @@ IsDesk l desk = (0 < desk) × (desk ≤ length l.views)
 abbrev pub HasSeen : ListingState → ℕ → ℕ → Type 0
 HasSeen l desk seen = item_at l.views desk ≡ Some seen
 
+-- the desk has not seen the whole list
+abbrev pub IsBehind : ListingState → ℕ → Type 0
+IsBehind l desk = (seen : ℕ) × HasSeen l desk seen × (seen < length l.published)
+
 -- how many a desk sees that has seen some, and looks at the list up to a length
 abbrev pub seen_then : ListingState → ℕ → ℕ → ℕ
 seen_then l seen upto = max seen (min upto (length l.published))

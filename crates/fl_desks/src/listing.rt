@@ -1,10 +1,10 @@
 //! The published list of a node, and its desks.
-ghost use Rattle.std.specs.Prelude.{◌≡◌, ◌<◌, ◌≤◌, ◌++◌, All, length, min, IfOk, OnOk, OnErr};
+ghost use Rattle.std.specs.Prelude.{◌≡◌, ◌<◌, ◌≤◌, ◌++◌, All, length, min, IfOk, OnOk, OnErr, MatchOption};
 ghost use Rattle.fl_bench.specs.Jobs.{Does};
 ghost use Rattle.fl_system.specs.declared.state.Batch.TheVariants.{Ordered};
 ghost use Rattle.fl_system.specs.State.{first_ops};
 ghost use Rattle.fl_system.specs.Numbered.{items_to};
-ghost use Rattle.fl_desks.specs.Listing.{listing_of, IsDesk, HasSeen, seen_then, with_seen, extended};
+ghost use Rattle.fl_desks.specs.Listing.{listing_of, IsBehind, IsDesk, HasSeen, seen_then, with_seen, extended};
 ghost use Rattle.fl_desks.specs.parts.Fronts.{IsFront, views_of};
 
 use crate::desk::Desk;
@@ -12,6 +12,7 @@ use fl_jobs::answer::{Outcome, Refusal};
 use fl_jobs::job::Job;
 use fl_monitor::bench::Bench;
 use fl_ops::op::Op;
+use fl_ops::view::View;
 use fl_opset::set::OpSet;
 use fl_system::state::Batch;
 use std::alloc::{AllocError, Global};
@@ -101,6 +102,21 @@ impl Listing {
         let count = min(upto, self.list.len() as u64);
         let it = &mut self.desks[desk as usize - 1];
         it.rise(alloc, &self.list, count)
+    }
+
+    // None where the desk has seen the whole list, and else another one that sees it, which absorbs
+    // all of it. Fails only where the desk has not, and there is not enough memory.
+    fn fresh(&self, alloc: Global, desk: u8) -> Result<Option<Desk>, AllocError>
+        requires { IsDesk self.now desk }
+        ensures ok { let list = self.now.published in IfOk result (λ fresh. MatchOption fresh
+            (HasSeen self.now desk (length list)) (λ it. it.list ≡ list)) }
+        ensures err { OnErr result (IsBehind self.now desk) }
+    {
+        let it = &self.desks[desk as usize - 1];
+        if it.seen() >= self.list.len() as u64 {
+            return Ok(None);
+        }
+        Ok(Some(Desk::new(alloc, &self.list)?))
     }
 
     /// Has the bench do a job under what the desk sees, as [`Bench::job`] has it.
