@@ -2,3 +2,4 @@ pub mod DeskSees
 pub mod Views
 pub mod Making
 pub mod Whole
+pub mod Foretold

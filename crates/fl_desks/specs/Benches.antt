@@ -1,5 +1,5 @@
 -- The benches of a node, and which of them does a job.
-use Rattle.std.specs.Prelude.{◌≡◌, ℕ, List, length, refl}
+use Rattle.std.specs.Prelude.{◌≡◌, Bool, ℕ, List, length, refl}
 use Rattle.std.specs.Coded.{Coded, code_by, coded×, coded_ℕ, coded_list}
 use Rattle.std.specs.declared.option.Option.TheVariants.{Some}
 use Rattle.std.specs.declared.result.Result.{Result}
@@ -7,7 +7,9 @@ use Rattle.fl_ops.specs.Registry.{Registry}
 use Rattle.fl_jobs.specs.declared.job.Job.{Job}
 use Rattle.fl_jobs.specs.declared.answer.Refusal.{Refusal}
 use Rattle.fl_jobs.specs.declared.answer.Outcome.{Outcome}
+use Rattle.fl_jobs.specs.declared.answer.Reply.{Reply}
 use Rattle.fl_bench.specs.Bench.{BenchState, coded_state, new_bench}
+use Rattle.fl_bench.specs.Foresight.{Could}
 use Rattle.fl_bench.specs.Jobs.{Does}
 use Rattle.fl_system.specs.Jobs.{bench_for, procs_after}
 use Rattle.fl_system.specs.Numbered.{item_at, with_item, items_to}
@@ -42,6 +44,13 @@ pub record DoesAt (registry : Registry) (b : BenchesState) (job : Job)
     procs = procs_after (length b.benches) b.procs job;
     benches = with_item b.benches (bench_at b job) left;
   }
+
+-- The job would be answered so at its bench, under the registry, where orders are guarded or not.
+pub record CouldAtBench (guards : Bool) (registry : Registry) (b : BenchesState) (job : Job)
+    (answer : Result Reply Refusal) : Type 0 where
+  pub bench : BenchState
+  pub stands : item_at b.benches (bench_at b job) ≡ Some bench
+  pub could : Could guards registry bench job answer
 
 -- it is stored as the pair of both
 abbrev pub coded_benches : Coded BenchesState

@@ -1,6 +1,7 @@
 //! The benches of a node.
 ghost use Rattle.std.specs.Prelude.{◌≡◌, ◌<◌, ◌≤◌, suc, length, IfOk, OnErr, IsSome};
 ghost use Rattle.std.specs.Option.{option_copied};
+ghost use Rattle.fl_ops.specs.Registry.{Listed};
 ghost use Rattle.fl_bench.specs.Gifts.{finished, cancelled};
 ghost use Rattle.fl_bench.specs.Process.{standing_at};
 ghost use Rattle.fl_system.specs.Jobs.{bench_of};
@@ -8,13 +9,13 @@ ghost use Rattle.fl_system.specs.Numbered.{item_at};
 ghost use Rattle.fl_system.specs.Processes.{process_at};
 ghost use Rattle.fl_system.specs.Publishes.{at_bench_of};
 ghost use Rattle.fl_system.specs.State.{first_ops};
-ghost use Rattle.fl_desks.specs.Benches.{benches_of, bench_at, counted, DoesAt};
-ghost use Rattle.fl_desks.specs.Listing.{IsDesk, HasSeen};
+ghost use Rattle.fl_desks.specs.Benches.{benches_of, bench_at, counted, CouldAtBench, DoesAt};
+ghost use Rattle.fl_desks.specs.Listing.{IsBehind, IsDesk, HasSeen};
 
 use crate::listing::Listing;
 use fl_bench::process::Process;
 use fl_bench::standing::Standing;
-use fl_jobs::answer::{Outcome, Refusal};
+use fl_jobs::answer::{Outcome, Refusal, Reply};
 use fl_jobs::job::Job;
 use fl_labels::name::NodeNumber;
 use fl_labels::pid::Pid;
@@ -131,6 +132,29 @@ impl Benches {
         self.count(job);
         let bench = &mut self.all[place];
         listing.work(alloc, desk, bench, job)
+    }
+
+    /// What the job would be answered now at its bench, under the whole list, as
+    /// [`Listing::could`] has it. Leaves the benches, which count nothing, and the list.
+    pub fn could(
+        &mut self,
+        alloc: Global,
+        listing: &mut Listing,
+        desk: u8,
+        guards: bool,
+        job: &Job,
+    ) -> Result<Result<Reply, Refusal>, AllocError>
+        requires benches { 0 < length self.old.benches }
+        requires desk { IsDesk listing.old desk }
+        ensures could { IfOk result (CouldAtBench guards (Listed listing.old.published) self.old
+            job.now) }
+        ensures err { OnErr result (IsBehind listing.old desk) }
+        ensures same { self.new ≡ self.old }
+        ensures listing { listing.new ≡ listing.old }
+    {
+        let place = self.place(job);
+        let bench = &mut self.all[place];
+        listing.could(alloc, desk, bench, guards, job)
     }
 
     /// Ends the operation of its maker that is under way, as [`Bench::finish`] has it.

@@ -1,5 +1,7 @@
 //! The published list of a node, and its desks.
 ghost use Rattle.std.specs.Prelude.{◌≡◌, ◌<◌, ◌≤◌, ◌++◌, All, length, min, IfOk, OnOk, OnErr, MatchOption};
+ghost use Rattle.fl_ops.specs.Registry.{Listed};
+ghost use Rattle.fl_bench.specs.Foresight.{Could};
 ghost use Rattle.fl_bench.specs.Jobs.{Does};
 ghost use Rattle.fl_system.specs.declared.state.Batch.TheVariants.{Ordered};
 ghost use Rattle.fl_system.specs.State.{first_ops};
@@ -8,7 +10,7 @@ ghost use Rattle.fl_desks.specs.Listing.{listing_of, IsBehind, IsDesk, HasSeen, 
 ghost use Rattle.fl_desks.specs.parts.Fronts.{IsFront, views_of};
 
 use crate::desk::Desk;
-use fl_jobs::answer::{Outcome, Refusal};
+use fl_jobs::answer::{Outcome, Refusal, Reply};
 use fl_jobs::job::Job;
 use fl_monitor::bench::Bench;
 use fl_ops::op::Op;
@@ -134,6 +136,33 @@ impl Listing {
     {
         let it = &mut self.desks[desk as usize - 1];
         bench.job(alloc, it, job)
+    }
+
+    /// What the bench would answer to the job now under the whole list, as [`Bench::could`] has it:
+    /// by the desk where it has seen all, and else by a fresh one. Fails only where the desk has
+    /// not, and there is not enough memory. Leaves the list, its desks and the bench.
+    pub fn could(
+        &mut self,
+        alloc: Global,
+        desk: u8,
+        bench: &mut Bench,
+        guards: bool,
+        job: &Job,
+    ) -> Result<Result<Reply, Refusal>, AllocError>
+        requires { IsDesk self.old desk }
+        ensures could { IfOk result (λ answer.
+            Could guards (Listed self.old.published) bench.old job.now answer) }
+        ensures err { OnErr result (IsBehind self.old desk) }
+        ensures same { self.new ≡ self.old }
+        ensures bench { bench.new ≡ bench.old }
+    {
+        match self.fresh(alloc, desk)? {
+            Some(mut whole) => Ok(bench.could(&mut whole, guards, job)),
+            None => {
+                let it = &mut self.desks[desk as usize - 1];
+                Ok(bench.could(it, guards, job))
+            }
+        }
     }
 
     // Puts an order at the end, which its desk sees, if that is there. An error leaves the list.
