@@ -3,3 +3,4 @@ pub mod Views
 pub mod Making
 pub mod Whole
 pub mod Foretold
+pub mod Lacking

@@ -3,6 +3,7 @@ use Rattle.std.specs.Prelude.{◌≡◌, Bool, ℕ, List, length, refl}
 use Rattle.std.specs.Coded.{Coded, code_by, coded×, coded_ℕ, coded_list}
 use Rattle.std.specs.declared.option.Option.TheVariants.{Some}
 use Rattle.std.specs.declared.result.Result.{Result}
+use Rattle.fl_labels.specs.Caps.{Caps}
 use Rattle.fl_ops.specs.Registry.{Registry}
 use Rattle.fl_jobs.specs.declared.job.Job.{Job}
 use Rattle.fl_jobs.specs.declared.answer.Refusal.{Refusal}
@@ -11,6 +12,7 @@ use Rattle.fl_jobs.specs.declared.answer.Reply.{Reply}
 use Rattle.fl_bench.specs.Bench.{BenchState, coded_state, new_bench}
 use Rattle.fl_bench.specs.Foresight.{Could}
 use Rattle.fl_bench.specs.Jobs.{Does}
+use Rattle.fl_monitor.specs.Wanting.{Lacks}
 use Rattle.fl_system.specs.Jobs.{bench_for, procs_after}
 use Rattle.fl_system.specs.Numbered.{item_at, with_item, items_to}
 
@@ -51,6 +53,12 @@ pub record CouldAtBench (guards : Bool) (registry : Registry) (b : BenchesState)
   pub bench : BenchState
   pub stands : item_at b.benches (bench_at b job) ≡ Some bench
   pub could : Could guards registry bench job answer
+
+-- what is wanting for the job at its bench, under the registry
+abbrev pub LacksAt : Bool → Registry → BenchesState → Job → Caps
+LacksAt guards registry b job c =
+    (bench : BenchState) × (item_at b.benches (bench_at b job) ≡ Some bench)
+    × Lacks guards registry bench job c
 
 -- it is stored as the pair of both
 abbrev pub coded_benches : Coded BenchesState

@@ -1,15 +1,17 @@
 //! The benches of a node.
-ghost use Rattle.std.specs.Prelude.{◌≡◌, ◌<◌, ◌≤◌, suc, length, IfOk, OnErr, IsSome};
+ghost use Rattle.std.specs.Prelude.{◌≡◌, ◌⊎◌, ◌<◌, ◌≤◌, suc, length, IfOk, OnErr, IsSome};
 ghost use Rattle.std.specs.Option.{option_copied};
+ghost use Rattle.fl_labels.specs.declared.cap.Cap.{Cap};
 ghost use Rattle.fl_ops.specs.Registry.{Listed};
 ghost use Rattle.fl_bench.specs.Gifts.{finished, cancelled};
 ghost use Rattle.fl_bench.specs.Process.{standing_at};
+ghost use Rattle.fl_monitor.specs.Wanting.{AreAll};
 ghost use Rattle.fl_system.specs.Jobs.{bench_of};
 ghost use Rattle.fl_system.specs.Numbered.{item_at};
 ghost use Rattle.fl_system.specs.Processes.{process_at};
 ghost use Rattle.fl_system.specs.Publishes.{at_bench_of};
 ghost use Rattle.fl_system.specs.State.{first_ops};
-ghost use Rattle.fl_desks.specs.Benches.{benches_of, bench_at, counted, CouldAtBench, DoesAt};
+ghost use Rattle.fl_desks.specs.Benches.{benches_of, bench_at, counted, CouldAtBench, DoesAt, LacksAt};
 ghost use Rattle.fl_desks.specs.Listing.{IsBehind, IsDesk, HasSeen};
 
 use crate::listing::Listing;
@@ -17,6 +19,7 @@ use fl_bench::process::Process;
 use fl_bench::standing::Standing;
 use fl_jobs::answer::{Outcome, Refusal, Reply};
 use fl_jobs::job::Job;
+use fl_labels::cap_set::CapSet;
 use fl_labels::name::NodeNumber;
 use fl_labels::pid::Pid;
 use fl_message::shared::Shared;
@@ -226,5 +229,27 @@ impl Benches {
         let place = self.home(pid);
         let bench = &mut self.all[place];
         bench.share(alloc, pid)
+    }
+
+    /// The capabilities that are wanting for a job at its bench under the whole list, as
+    /// [`Listing::wanting`] has it. Leaves the list and its desks.
+    pub fn wanting(
+        &self,
+        alloc: Global,
+        listing: &mut Listing,
+        desk: u8,
+        guards: bool,
+        job: &Job,
+    ) -> Result<CapSet, AllocError>
+        requires benches { 0 < length self.now.benches }
+        requires desk { IsDesk listing.old desk }
+        ensures ok { let V = Listed listing.old.published in
+            IfOk result (AreAll (LacksAt guards V self.now job.now)) }
+        ensures err { let V = Listed listing.old.published in OnErr result
+            (IsBehind listing.old desk ⊎ ((c : Cap) × LacksAt guards V self.now job.now c)) }
+        ensures same { listing.new ≡ listing.old }
+    {
+        let bench = &self.all[self.place(job)];
+        listing.wanting(alloc, desk, bench, guards, job)
     }
 }

@@ -1,8 +1,10 @@
 //! The published list of a node, and its desks.
-ghost use Rattle.std.specs.Prelude.{◌≡◌, ◌<◌, ◌≤◌, ◌++◌, All, length, min, IfOk, OnOk, OnErr, MatchOption};
+ghost use Rattle.std.specs.Prelude.{◌≡◌, ◌⊎◌, ◌<◌, ◌≤◌, ◌++◌, All, length, min, IfOk, OnOk, OnErr, MatchOption};
+ghost use Rattle.fl_labels.specs.declared.cap.Cap.{Cap};
 ghost use Rattle.fl_ops.specs.Registry.{Listed};
 ghost use Rattle.fl_bench.specs.Foresight.{Could};
 ghost use Rattle.fl_bench.specs.Jobs.{Does};
+ghost use Rattle.fl_monitor.specs.Wanting.{AreAll, Lacks};
 ghost use Rattle.fl_system.specs.declared.state.Batch.TheVariants.{Ordered};
 ghost use Rattle.fl_system.specs.State.{first_ops};
 ghost use Rattle.fl_system.specs.Numbered.{items_to};
@@ -12,6 +14,7 @@ ghost use Rattle.fl_desks.specs.parts.Fronts.{IsFront, views_of};
 use crate::desk::Desk;
 use fl_jobs::answer::{Outcome, Refusal, Reply};
 use fl_jobs::job::Job;
+use fl_labels::cap_set::CapSet;
 use fl_monitor::bench::Bench;
 use fl_ops::op::Op;
 use fl_ops::view::View;
@@ -200,6 +203,34 @@ impl Listing {
         match batch {
             Batch::Ordered(op, _, desk) => self.order(alloc, op, *desk),
             Batch::Received(ops) => self.list.extend_from_slice(ops.as_slice()),
+        }
+    }
+
+    /// The capabilities that are wanting for the job at the bench under the whole list, as
+    /// [`Bench::wanting`] has it: by the desk where it has seen all, and else by a fresh one. Fails
+    /// only where the desk has not or a capability is wanting, and there is not enough memory.
+    /// Leaves the list and its desks.
+    pub fn wanting(
+        &mut self,
+        alloc: Global,
+        desk: u8,
+        bench: &Bench,
+        guards: bool,
+        job: &Job,
+    ) -> Result<CapSet, AllocError>
+        requires { IsDesk self.old desk }
+        ensures ok { let V = Listed self.old.published in
+            IfOk result (AreAll (Lacks guards V bench.now job.now)) }
+        ensures err { let V = Listed self.old.published in OnErr result
+            (IsBehind self.old desk ⊎ ((c : Cap) × Lacks guards V bench.now job.now c)) }
+        ensures same { self.new ≡ self.old }
+    {
+        match self.fresh(alloc, desk)? {
+            Some(mut whole) => bench.wanting(alloc, &mut whole, guards, job),
+            None => {
+                let it = &mut self.desks[desk as usize - 1];
+                bench.wanting(alloc, it, guards, job)
+            }
         }
     }
 }
