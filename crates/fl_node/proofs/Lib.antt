@@ -9,3 +9,4 @@ pub mod RecoverLemmas
 pub mod CauseLemmas
 pub mod ReceiveLemmas
 pub mod Registries
+pub mod Foreseen

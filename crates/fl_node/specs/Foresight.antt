@@ -38,9 +38,13 @@ abbrev pub name_check : NodeState → Check
 name_check n None = (name : Name) × IsNextAfter n.saved n.number name
 name_check n (Some f) = (f ≡ NamesSpent) × IsLast n.saved n.number 4294967295
 
+-- that an operation can be begun
+abbrev pub begin_check : NodeState → Check
+begin_check n = refuse_if (is_taken n.state) Busy then name_check n
+
 -- what the node asks of an order that its bench admits
 abbrev pub order_check : NodeState → Job → Check
-order_check n (By pid (Order order)) = refuse_if (is_taken n.state) Busy then name_check n
+order_check n (By pid (Order order)) = begin_check n
 order_check n job = no_check
 
 -- all that a job is checked for, in this order, under what is published, where orders are guarded

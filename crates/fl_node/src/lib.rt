@@ -4,6 +4,7 @@
 pub mod arriving;
 mod beginning;
 mod finding;
+pub mod foreseeing;
 mod keeping;
 pub mod lending;
 pub mod node;
