@@ -1,12 +1,11 @@
 -- What a node would answer to a job now, and which capabilities are wanting for it.
-use Rattle.std.specs.Prelude.{◌≡◌, ◌↔◌, ◌<◌, ◌⊎◌, Bool, true, false, ℕ, length}
+use Rattle.std.specs.Prelude.{◌≡◌, ◌<◌, Bool, true, false, ℕ, length}
 use Rattle.std.specs.declared.option.Option.TheVariants.{None, Some}
 use Rattle.std.specs.declared.result.Result.{Result}
 use Rattle.std.specs.declared.result.Result.TheVariants.{Ok, Err}
 use Rattle.fl_labels.specs.Cap.{cap_cmp}
 use Rattle.fl_labels.specs.Caps.{Caps}
-use Rattle.fl_labels.specs.SetBy.{SetBy, In}
-use Rattle.fl_labels.specs.declared.cap.Cap.{Cap}
+use Rattle.fl_labels.specs.SetBy.{SetBy}
 use Rattle.fl_labels.specs.declared.name.Name.{Name}
 use Rattle.fl_ops.specs.Registry.{Listed}
 use Rattle.fl_jobs.specs.declared.answer.Refusal.{Refusal}
@@ -17,7 +16,8 @@ use Rattle.fl_jobs.specs.declared.job.Job.{Job}
 use Rattle.fl_jobs.specs.declared.job.Job.TheVariants.{By}
 use Rattle.fl_bench.specs.Bench.{BenchState}
 use Rattle.fl_bench.specs.Checks.{Check, no_check, refuse_if, ◌then◌}
-use Rattle.fl_bench.specs.Foresight.{Foretells, Wants, all_checks}
+use Rattle.fl_bench.specs.Foresight.{Foretells, all_checks}
+use Rattle.fl_monitor.specs.Wanting.{AreAll, Lacks}
 use Rattle.fl_system.specs.declared.state.Pending.TheVariants.{Nothing, Unsaved, Due}
 use Rattle.fl_system.specs.declared.state.State.{State}
 use Rattle.fl_system.specs.declared.state.State.TheVariants.{Running, Stopped}
@@ -61,16 +61,16 @@ pub data CouldAt (guards : Bool) (n : NodeState) (job : Job) : Result Reply Refu
   failed : {b : BenchState} {f : Refusal} → item_at n.benches (place_of n job) ≡ Some b
       → checks_at guards n b job (Some f) → CouldAt guards n job (Err f)
 
--- the capabilities that are wanting for a job at its bench
+-- the capabilities that are wanting for a job at its bench: those that it takes and that its process,
+-- where no operation of that is under way, has not in effect
 abbrev pub WantsAt : Bool → NodeState → Job → Caps
 WantsAt guards n job c =
     (b : BenchState) × (item_at n.benches (place_of n job) ≡ Some b)
-    × Wants guards (Listed n.published) b job c
+    × Lacks guards (Listed n.published) b job c
 
 -- all of them
-pub record AreWantingAt (guards : Bool) (n : NodeState) (job : Job) (found : SetBy cap_cmp) : Type 0
-  where
-    pub each : (c : Cap) → In found c ↔ WantsAt guards n job c
+abbrev pub AreWantingAt : Bool → NodeState → Job → SetBy cap_cmp → Type 0
+AreWantingAt guards n job = AreAll (WantsAt guards n job)
 
 -- the desk has not seen all that is published
 abbrev pub IsBehind : NodeState → ℕ → Type 0

@@ -1,13 +1,15 @@
 //! What a node would answer, where nothing is done.
-ghost use Rattle.std.specs.Prelude.{◌≡◌, IfOk, IfErr, OnErr, OnOk, Some, None};
+ghost use Rattle.std.specs.Prelude.{◌≡◌, ◌⊎◌, IfOk, IfErr, OnErr, OnOk, Some, None};
+ghost use Rattle.fl_labels.specs.declared.cap.Cap.{Cap};
 ghost use Rattle.fl_node.specs.Desks.{IsDeskOf};
-ghost use Rattle.fl_node.specs.Foresight.{CouldAt, IsBehind, begin_check, order_check};
+ghost use Rattle.fl_node.specs.Foresight.{AreWantingAt, CouldAt, IsBehind, WantsAt, begin_check, order_check};
 
 use crate::beginning::next_name;
 use crate::node::Node;
 use crate::state::idle;
 use fl_jobs::answer::{Refusal, Reply};
 use fl_jobs::job::{Act, Job};
+use fl_labels::cap_set::CapSet;
 use fl_store::keeper::Keeper;
 use std::alloc::{AllocError, Global};
 
@@ -83,5 +85,29 @@ impl<K: Keeper> Node<K> {
             Ok(reply) => Ok(self.answer_order(job, reply)),
             Err(refusal) => Ok(Err(refusal)),
         }
+    }
+
+    /// The capabilities that are wanting for a job: those that it takes and that its process has
+    /// not in effect under the whole list, where no operation of that process is under way. They
+    /// are looked at by the desk where that has seen the whole list, and else by a fresh one.
+    ///
+    /// Fails only where the desk has not seen the whole list or a capability is wanting, and there
+    /// is not enough memory. Leaves the node. Costs what `Bench::wanting` does, and where the desk
+    /// is behind, what `Desk::new` does.
+    pub fn wanting(
+        &mut self,
+        alloc: Global,
+        desk: u8,
+        guards: bool,
+        job: &Job,
+    ) -> Result<CapSet, AllocError>
+        requires { IsDeskOf self.old.node desk }
+        ensures wanting { IfOk result (AreWantingAt guards self.old.node job.now) }
+        ensures err { OnErr result (IsBehind self.old.node desk
+            ⊎ ((c : Cap) × WantsAt guards self.old.node job.now c)) }
+        ensures same { self.new ≡ self.old }
+    {
+        self.benches
+            .wanting(alloc, &mut self.listing, desk, guards, job)
     }
 }
