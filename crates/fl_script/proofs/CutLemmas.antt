@@ -117,16 +117,18 @@ module _ (line rest : List ℕ) (words : List (List ℕ)) (so_far : words_of lin
       so_far ∙ ap (λ r. words ++ words_of r) cut ∙ ap (λ w. words ++ w) (words_behind piece behind none)
       ∙ sym (append_assoc words (full_pieces (piece ∷ [])) (words_of behind)) ∙ ap (λ w. w ++ words_of behind) (sym push)
 
-  pub too_many : (piece behind : List ℕ) → NoSpace piece → rest ≡ piece ++ 32 ∷ behind → 8 < length words + length (full_pieces (piece ∷ [])) → 8 < length (words_of line)
-  too_many piece behind none cut many =
+  pub too_many : (most : ℕ) (piece behind : List ℕ) → NoSpace piece → rest ≡ piece ++ 32 ∷ behind
+      → most < length words + length (full_pieces (piece ∷ [])) → most < length (words_of line)
+  too_many most piece behind none cut many =
       let all = ap length (more piece behind _ none cut refl) in
       omega (arith, many, all, length-append (words ++ full_pieces (piece ∷ [])) (words_of behind), length-append words (full_pieces (piece ∷ [])))
 
   pub last : (pushed : List (List ℕ)) → NoSpace rest → pushed ≡ words ++ full_pieces (rest ∷ []) → pushed ≡ words_of line
   last pushed none push = push ∙ ap (λ w. words ++ w) (sym (words_last rest none)) ∙ sym so_far
 
-  pub too_many_last : NoSpace rest → 8 < length words + length (full_pieces (rest ∷ [])) → 8 < length (words_of line)
-  too_many_last none many =
+  pub too_many_last : (most : ℕ) → NoSpace rest
+      → most < length words + length (full_pieces (rest ∷ [])) → most < length (words_of line)
+  too_many_last most none many =
       let all = ap length (last _ none refl) in
       omega (arith, many, all, length-append words (full_pieces (rest ∷ [])))
 

@@ -11,12 +11,12 @@ use arrayvec::ArrayVec;
 pub const MOST_LINE_WORDS: usize = 8;
 
 // Adds a piece that is not empty, and answers whether there was room for it.
-fn push_piece<'a>(words: &mut ArrayVec<&'a str, MOST_LINE_WORDS>, piece: &'a [u8]) -> bool
+fn push_piece<'a, const MOST: usize>(words: &mut ArrayVec<&'a str, MOST>, piece: &'a [u8]) -> bool
     requires { IsAscii piece.now }
     ensures pushed { OnTrue result (map (λ w. w.now) words.new.items
         ≡ map (λ w. w.now) words.old.items ++ full_pieces (piece.now ∷ [])) }
     ensures full { OnFalse result
-        (8 < length (map (λ w. w.now) words.old.items) + length (full_pieces (piece.now ∷ []))) }
+        (MOST < length (map (λ w. w.now) words.old.items) + length (full_pieces (piece.now ∷ []))) }
 {
     if piece.is_empty() {
         return true;
@@ -29,12 +29,15 @@ fn push_piece<'a>(words: &mut ArrayVec<&'a str, MOST_LINE_WORDS>, piece: &'a [u8
 }
 
 /// Adds the words of a line, and answers whether a `$` stands in it. None where it has more words
-/// than [`MOST_LINE_WORDS`], or a byte beyond ASCII, which no word of the script has. Looks at each
+/// than there is room for, or a byte beyond ASCII, which no word of the script has. Looks at each
 /// byte once, and takes no memory.
-pub fn cut_line<'a>(line: &'a [u8], words: &mut ArrayVec<&'a str, MOST_LINE_WORDS>) -> Option<bool>
+pub fn cut_line<'a, const MOST: usize>(
+    line: &'a [u8],
+    words: &mut ArrayVec<&'a str, MOST>,
+) -> Option<bool>
     requires { words.old.items ≡ [] }
     ensures words { let cut = words_of line.now in
-        MatchOption result ((8 < length cut) ⊎ (¬ IsAscii line.now))
+        MatchOption result ((MOST < length cut) ⊎ (¬ IsAscii line.now))
         (λ _. map (λ w. w.now) words.new.items ≡ cut) }
     ensures ascii { OnSome result (IsAscii line.now) }
     ensures dollar { IfSome result (λ has_dollar.

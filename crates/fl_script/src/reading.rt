@@ -2,7 +2,7 @@
 ghost use Rattle.std.specs.Prelude.{◌≡◌, ◌↔◌, IsTrue, IfOk, MatchOption, OnErr};
 ghost use Rattle.fl_script.specs.Reading.{first_mark, IsQuiet, IsReading, IsText, ReadingTakesMemory};
 
-use crate::cut::cut_line;
+use crate::cut::{MOST_LINE_WORDS, cut_line};
 use crate::line::{Line, line_from_words};
 use crate::meaning::{Meaning, meaning_of};
 use crate::unread::Unread;
@@ -71,7 +71,7 @@ pub fn read_line(
     if bytes.len() > MOST_LINE_BYTES {
         return Ok(Reading::Bad);
     }
-    let mut cut = ArrayVec::new();
+    let mut cut: ArrayVec<&str, MOST_LINE_WORDS> = ArrayVec::new();
     let Some(has_dollar) = cut_line(bytes, &mut cut) else {
         return Ok(Reading::Bad);
     };

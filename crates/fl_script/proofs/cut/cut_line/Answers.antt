@@ -8,7 +8,7 @@ use Rattle.fl_script.proofs.cut.cut_line.Goals as goal
 use Rattle.fl_script.proofs.cut.cut_line.Goals.{then-byte-eq36, else-byte-eq36, in-37-to-127, in_default, in_default-2}
 
 pub loop-at-init : goal.loop-at-init
-loop-at-init c = record {
+loop-at-init g c = record {
   so_far = ap (λ items. map (λ w. w.now) items ++ words_of c.args.line.now) (sym c.requires);
   low = omega arith;
   piece = λ k d h. absurd (omega (arith, h));
@@ -17,7 +17,7 @@ loop-at-init c = record {
 }
 
 pub loop-at-preserved-then-matches : goal.loop-at-preserved-then-matches
-loop-at-preserved-then-matches c =
+loop-at-preserved-then-matches g c =
     let line = c.args.line.now in
     let at = c.loop-at.at in
     let inside : at < length line = omega arith in
@@ -36,7 +36,7 @@ loop-at-preserved-then-matches c =
     }
 
 pub loop-at-preserved-then-byte-ne32 : goal.loop-at-preserved-then-byte-ne32
-loop-at-preserved-then-byte-ne32 c =
+loop-at-preserved-then-byte-ne32 g c =
     let line = c.args.line.now in
     let at = c.loop-at.at in
     let inside : at < length line = omega arith in
@@ -57,19 +57,19 @@ loop-at-preserved-then-byte-ne32 c =
     }
 
 pub push_piece-requires : goal.push_piece-requires
-push_piece-requires c = ascii_piece c.args.line.now c.loop-at.start c.loop-at.at c.loop-at.invariant.low c.loop-at.invariant.ascii
+push_piece-requires g c = (search rules, ascii_piece c.args.line.now c.loop-at.start c.loop-at.at c.loop-at.invariant.low c.loop-at.invariant.ascii)
 
 pub returns-then-not-push_piece-clause-words : goal.returns-then-not-push_piece-clause-words
-returns-then-not-push_piece-clause-words c =
+returns-then-not-push_piece-clause-words g c =
     let line = c.args.line.now in
     let at = c.loop-at.at in
     let inside : at < length line = omega arith in
     let cut = cut_there line c.loop-at.start at c.loop-at.invariant.low inside c.if-byte-ne32.false in
     inl (too_many line (drop c.loop-at.start line) _ c.loop-at.invariant.so_far
-    _ (drop (at + 1) line) c.loop-at.invariant.piece cut c.if-not-push_piece.ensures.full)
+    _ _ (drop (at + 1) line) c.loop-at.invariant.piece cut c.if-not-push_piece.ensures.full)
 
 pub loop-at-preserved : goal.loop-at-preserved
-loop-at-preserved c =
+loop-at-preserved g c =
     let line = c.args.line.now in
     let at = c.loop-at.at in
     let inside : at < length line = omega arith in
@@ -91,25 +91,27 @@ loop-at-preserved c =
     }
 
 pub push_piece-requires-2 : goal.push_piece-requires-2
-push_piece-requires-2 c =
+push_piece-requires-2 g c =
     let line = c.args.line.now in
     let past : length line ≤ c.loop-at.at = omega arith in
     let whole : take (length line) line ≡ take c.loop-at.at line =
-    take_all (length line) line (omega arith) ∙ sym (take_all c.loop-at.at line past) in
-    ascii_piece line c.loop-at.start (length line) (omega arith)
-    (subst (All (λ b. b < 128)) (sym whole) c.loop-at.invariant.ascii)
+    take_all (length line) line (omega arith) ∙ sym (take_all c.loop-at.at line past) in (
+      search rules,
+      ascii_piece line c.loop-at.start (length line) (omega arith)
+          (subst (All (λ b. b < 128)) (sym whole) c.loop-at.invariant.ascii),
+    )
 
 pub returns-then-not-push_piece-2-clause-words : goal.returns-then-not-push_piece-2-clause-words
-returns-then-not-push_piece-2-clause-words c =
+returns-then-not-push_piece-2-clause-words g c =
     let line = c.args.line.now in
     let past : length line ≤ c.loop-at.at = omega arith in
     let rest = last_piece line c.loop-at.start c.loop-at.at c.loop-at.invariant.low past c.loop-at.invariant.piece in
     let whole : take (length line - c.loop-at.start) (drop c.loop-at.start line) ≡ drop c.loop-at.start line = take_rest line c.loop-at.start in
-    inl (too_many_last line (drop c.loop-at.start line) _ c.loop-at.invariant.so_far rest
-    (subst (λ p. 8 < length (map (λ w. w.now) c.loop-at.words.items) + length (full_pieces (p ∷ []))) whole c.if-not-push_piece-2.ensures.full))
+    inl (too_many_last line (drop c.loop-at.start line) _ c.loop-at.invariant.so_far g.row.MOST rest
+    (subst (λ p. g.row.MOST < length (map (λ w. w.now) c.loop-at.words.items) + length (full_pieces (p ∷ []))) whole c.if-not-push_piece-2.ensures.full))
 
 pub returns-clause-words : goal.returns-clause-words
-returns-clause-words c =
+returns-clause-words g c =
     let line = c.args.line.now in
     let past : length line ≤ c.loop-at.at = omega arith in
     let rest = last_piece line c.loop-at.start c.loop-at.at c.loop-at.invariant.low past c.loop-at.invariant.piece in
@@ -118,11 +120,11 @@ returns-clause-words c =
     (subst (λ p. map (λ w. w.now) c.push_piece-2.new.words.items ≡ map (λ w. w.now) c.loop-at.words.items ++ full_pieces (p ∷ [])) whole c.if-not-push_piece-2.ensures.pushed)
 
 pub returns-clause-ascii : goal.returns-clause-ascii
-returns-clause-ascii c =
+returns-clause-ascii g c =
     let past : length c.args.line.now ≤ c.loop-at.at = omega arith in
     ascii_known c.args.line.now c.loop-at.at past c.loop-at.invariant.ascii
 
 pub returns-clause-dollar : goal.returns-clause-dollar
-returns-clause-dollar c =
+returns-clause-dollar g c =
     let past : length c.args.line.now ≤ c.loop-at.at = omega arith in
     dollar_known c.args.line.now c.loop-at.at c.loop-at.has_dollar past c.loop-at.invariant.dollar

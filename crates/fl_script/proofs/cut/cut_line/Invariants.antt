@@ -8,7 +8,7 @@ use Rattle.fl_script.proofs.cut.cut_line.Given as goal
 
 -- the words are those that were cut, and those of the rest, whose first piece has no space so far
 abbrev pub invariant-loop-at : goal.invariant-loop-at
-invariant-loop-at l = record {
+invariant-loop-at g l = record {
   so_far : words_of l.line ≡ map (λ w. w.now) l.words.items ++ words_of (drop l.start l.line);
   low : l.start ≤ l.at;
   piece : NoSpace (slice_range l.line l.start l.at);
