@@ -6,7 +6,7 @@ use Rattle.fl_labels.specs.Words.{IsNumber, NoComma}
 use Rattle.fl_labels.specs.declared.pid.Pid.{Pid}
 use Rattle.fl_jobs.specs.declared.job.Act.{Act}
 use Rattle.fl_aliases.specs.Words.{Word}
-use Rattle.fl_script.specs.Grammar.{Spells, SpellsRequest, TakesBlock, HoldsBlock}
+use Rattle.fl_script.specs.Grammar.{Spells, SpellsRequest, TakesBlock}
 use Rattle.fl_script.specs.declared.line.Line.{Line}
 use Rattle.fl_script.specs.declared.line.Line.TheVariants.{Node as OfNode, Union, Audit, Aliases}
 use Rattle.fl_script.specs.declared.request.Request.{Request}
@@ -33,22 +33,16 @@ module _ (node : ℕ) (word : Word) (is : IsNumber node word) where
   no_line words none Audit s = no_letter node 97 _ word (omega arith) is s.0
   no_line words none Aliases s = no_letter node 97 _ word (omega arith) is s.0
 
-  -- behind a number, a verb and a process stands what the process does
-  pub no_act : (rest : List (Bor Word)) (d e : Bor Word) (pid : Pid)
-      → 1 ≤ length rest → 1 ≤ length (take (length rest - 1) (drop 1 rest))
-      → (get_or (take (length rest - 1) (drop 1 rest)) 0 e).now ≡ pid_text pid
-      → (let words = take (length rest - 1) (drop 1 rest) in (q : Pid) (act : Act)
-      → SpellsAct q act (get_or rest 0 d).now (map (λ w. w.now) (take (length words - 1) (drop 1 words))) → ⊥)
-      → (line : Line) → Spells line (word ∷ map (λ w. w.now) rest) → ⊥
-  no_act rest d e pid one two process none line s =
-      let words = take (length rest - 1) (drop 1 rest) in
-      let behind = map (λ (w : Bor Word). w.now) (take (length words - 1) (drop 1 words)) in
-      let verb = (get_or rest 0 d).now in
-      let front = first_word rest d verb one refl in
-      let pid_first = first_word words e (pid_text pid) two process in
-      no_line (verb ∷ map (λ w. w.now) words) (λ request asks. no_request verb pid behind none request
-      (subst (λ ws. SpellsRequest request (verb ∷ ws)) pid_first asks)) line
-      (subst (λ ws. Spells line (word ∷ ws)) front s)
+-- behind a verb and a process stands what the process does
+pub no_act : (verb : Word) (rest : List (Bor Word)) (d : Bor Word) (pid : Pid) → 1 ≤ length rest
+    → (get_or rest 0 d).now ≡ pid_text pid
+    → ((q : Pid) (act : Act)
+    → SpellsAct q act verb (map (λ w. w.now) (take (length rest - 1) (drop 1 rest))) → ⊥)
+    → (request : Request) → SpellsRequest request (verb ∷ map (λ w. w.now) rest) → ⊥
+no_act verb rest d pid some process none request asks =
+    no_request verb pid (map (λ w. w.now) (take (length rest - 1) (drop 1 rest))) none request
+    (subst (λ words. SpellsRequest request (verb ∷ words))
+    (first_word rest d (pid_text pid) some process) asks)
 
 -- what takes a block does so too behind one more word
 block_more : (verb word : Word) (words : List Word) → TakesBlock verb words → TakesBlock verb (word ∷ words)
@@ -59,17 +53,11 @@ block_more verb word words h = record {
   ];
 }
 
--- what takes a block behind a verb and a process does so in the line
-pub block_of_act : (first : Word) (rest : List (Bor Word)) (d : Bor Word)
-    → 1 ≤ length rest → 1 ≤ length (take (length rest - 1) (drop 1 rest))
-    → (let words = take (length rest - 1) (drop 1 rest) in
-    TakesBlock (get_or rest 0 d).now (map (λ w. w.now) (take (length words - 1) (drop 1 words))))
-    → HoldsBlock (first ∷ map (λ w. w.now) rest)
-block_of_act first rest d one two takes =
-    let words = take (length rest - 1) (drop 1 rest) in
-    let behind = map (λ (w : Bor Word). w.now) (take (length words - 1) (drop 1 words)) in
-    let verb = (get_or rest 0 d).now in
-    let process = (get_or words 0 d).now in
-    subst (λ ws. HoldsBlock (first ∷ ws)) (sym (first_word rest d verb one refl))
-    (subst (λ ws. TakesBlock verb ws) (sym (first_word words d process two refl))
-    (block_more verb process behind takes))
+-- what takes a block behind a verb and a process does so behind the verb
+pub block_of_act : (verb : Word) (rest : List (Bor Word)) → 1 ≤ length rest
+    → TakesBlock verb (map (λ w. w.now) (take (length rest - 1) (drop 1 rest)))
+    → TakesBlock verb (map (λ w. w.now) rest)
+block_of_act verb [] some takes = absurd (omega (arith, some))
+block_of_act verb (w ∷ rest) some takes =
+    subst (TakesBlock verb) (sym (first_word (w ∷ rest) w w.now some refl))
+    (block_more verb w.now (map (λ w. w.now) (take (length (w ∷ rest) - 1) rest)) takes)

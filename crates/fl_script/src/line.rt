@@ -5,12 +5,10 @@ ghost use Rattle.fl_labels.specs.Words.{IsNumber};
 ghost use Rattle.fl_script.specs.parts.Reads.{Reads, StarvesIf};
 ghost use Rattle.fl_script.specs.Grammar.{HoldsBlock, Spells};
 
-use crate::job::act_from_words;
-use crate::request::{Request, other_request};
+use crate::request::{Request, request_from_words};
 use crate::unread::Unread;
-use fl_jobs::job::Job;
 use fl_labels::name::NodeNumber;
-use fl_labels::text::{read_number, read_pid};
+use fl_labels::text::read_number;
 use std::alloc::Global;
 
 /// A line that asks something of one node, of two, or of none. A line that was read names nodes
@@ -68,15 +66,7 @@ fn line_behind(alloc: Global, first: &str, rest: &[&str]) -> Result<Line, Unread
     let [verb, rest @ ..] = rest else {
         return Err(Unread::Bad);
     };
-    // A process stands behind the verb of what a process does, and behind no other verb.
-    if let [word, words @ ..] = rest {
-        if let Some(pid) = read_pid(word) {
-            let act = act_from_words(alloc, verb, words)?;
-            let request = Request::Job(Job::By(pid, act));
-            return Ok(Line::Node { node, request });
-        }
-    }
-    let request = other_request(alloc, verb, rest)?;
+    let request = request_from_words(alloc, verb, rest)?;
     Ok(Line::Node { node, request })
 }
 

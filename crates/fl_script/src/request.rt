@@ -3,9 +3,9 @@ ghost use Rattle.std.specs.Prelude.{◌≡◌, ◌≢◌, ◌∷◌, map, codes}
 ghost use Rattle.fl_labels.specs.Found.{Finds};
 ghost use Rattle.fl_script.specs.parts.Acts.{NoPidFirst};
 ghost use Rattle.fl_script.specs.parts.Reads.{Reads, StarvesIf};
-ghost use Rattle.fl_script.specs.Grammar.{SpellsRequest};
+ghost use Rattle.fl_script.specs.Grammar.{SpellsRequest, TakesBlock};
 
-use crate::job::{job_from_words, order_from_words};
+use crate::job::{act_from_words, job_from_words, order_from_words};
 use crate::unread::Unread;
 use crate::words::bytes_from_word;
 use fl_jobs::job::{Job, Order};
@@ -137,9 +137,9 @@ fn begin_request(rest: &[&str]) -> Option<Request>
     }
 }
 
-/// What a verb and the words after it ask of a node, where no process stands behind the verb. `Bad`
-/// where they ask nothing. Takes memory for the bytes of a `check` alone.
-pub(crate) fn other_request(alloc: Global, verb: &str, rest: &[&str]) -> Result<Request, Unread>
+// What a verb and the words after it ask of a node, where no process stands behind the verb. Takes
+// memory for the bytes of a `check` alone.
+fn other_request(alloc: Global, verb: &str, rest: &[&str]) -> Result<Request, Unread>
     requires { NoPidFirst (map (λ w. w.now) rest.now) }
     ensures ok { Reads result (λ r. SpellsRequest r (verb.now ∷ map (λ w. w.now) rest.now)) }
     ensures memory { StarvesIf result (verb.now ≡ codes "check") }
@@ -160,4 +160,21 @@ pub(crate) fn other_request(alloc: Global, verb: &str, rest: &[&str]) -> Result<
         "check" => check_request(alloc, rest),
         _ => Err(Unread::Bad),
     }
+}
+
+/// What a verb and the words after it ask of a node. `Bad` where they ask nothing. Takes memory for
+/// a label of two tags at least, for capabilities, for the labels of an endpoint and for bytes.
+#[inline(always)]
+pub fn request_from_words(alloc: Global, verb: &str, rest: &[&str]) -> Result<Request, Unread>
+    ensures ok { Reads result (λ r. SpellsRequest r (verb.now ∷ map (λ w. w.now) rest.now)) }
+    ensures memory { StarvesIf result (TakesBlock verb.now (map (λ w. w.now) rest.now)) }
+{
+    // A process stands behind the verb of what a process does, and behind no other verb.
+    if let [word, words @ ..] = rest {
+        if let Some(pid) = read_pid(word) {
+            let act = act_from_words(alloc, verb, words)?;
+            return Ok(Request::Job(Job::By(pid, act)));
+        }
+    }
+    other_request(alloc, verb, rest)
 }
