@@ -4,11 +4,13 @@ use Rattle.std.proofs.lemmas.List.{append_assoc, append-nil, length-map}
 use Rattle.std.proofs.lemmas.List.Concat.{flat_map-append}
 use Rattle.std.proofs.lemmas.List.Folds.{flat_map-map}
 use Rattle.std.specs.List.{flat_map}
+use Rattle.fl_labels.specs.Cap.{cap_cmp}
+use Rattle.fl_labels.specs.SetBy.{SetBy, len, len-members, members}
 use Rattle.fl_labels.specs.Text.{cap_text, name_text}
 use Rattle.fl_labels.specs.declared.name.Name.{Name}
 use Rattle.fl_chains.specs.declared.logins.Login.{Login}
 use Rattle.fl_replies.specs.ReplyText.{count_text}
-use Rattle.fl_explanations.specs.Lines.{everybody_lines, group_line, lines_text, login_line, process_line, who_lines}
+use Rattle.fl_explanations.specs.Lines.{cap_line, everybody_lines, group_line, lines_text, login_line, missing_lines, process_line, who_lines}
 use Rattle.fl_explanations.specs.declared.who.Who.{Who}
 
 module _ (who : Who) where
@@ -89,3 +91,14 @@ count_is who e p g l some processes groups logins =
     let b = who.groups.ok.0 in
     let d = who.logins.ok.0 in
     omega (arith, counted, a, b, d, some, processes, groups, logins)
+
+-- the lines of what is wanting, by how many there are
+pub missing_text : (caps : SetBy cap_cmp) (count : ℕ) → count ≡ len caps
+    → lines_text (missing_lines caps)
+    ≡ count_text (codes "lines ") count ++ flat_map cap_line (members caps)
+missing_text caps count is =
+    let counted = is ∙ len-members caps ∙ sym (length-map (members caps) cap_line) in
+    ap (λ n. count_text (codes "lines ") n ++ flat_map (λ (line : List ℕ). line) (missing_lines caps))
+    (sym counted)
+    ∙ ap (λ l. count_text (codes "lines ") count ++ l)
+    (flat_map-map (λ (line : List ℕ). line) cap_line (members caps))

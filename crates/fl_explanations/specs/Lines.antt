@@ -5,8 +5,10 @@ use Rattle.std.specs.FinMap as maps
 use Rattle.std.specs.List.{flat_map}
 use Rattle.std.specs.declared.option.Option.{Option}
 use Rattle.std.specs.declared.option.Option.TheVariants.{None, Some}
-use Rattle.fl_labels.specs.SetBy.{members}
+use Rattle.fl_labels.specs.Cap.{cap_cmp}
+use Rattle.fl_labels.specs.SetBy.{SetBy, members}
 use Rattle.fl_labels.specs.Text.{cap_text, caps_text, endpoint_text, label_text, name_text, pid_text}
+use Rattle.fl_labels.specs.declared.cap.Cap.{Cap}
 use Rattle.fl_labels.specs.declared.cap.Cap.TheVariants.{Use}
 use Rattle.fl_labels.specs.declared.endpoint.Endpoint.{Endpoint}
 use Rattle.fl_labels.specs.declared.name.Name.{Name}
@@ -160,3 +162,13 @@ pids_of bench = map (λ it. it.0) (processes_at bench)
 abbrev pub node_lines : ℕ → ℕ → ℕ → State → List (Pid × Process) → List (List ℕ)
 node_lines number boot published state processes =
     node_line number boot published state (length processes) ∷ map standing_line processes
+
+-- ---- what is wanting
+
+-- `+1.1`
+abbrev pub cap_line : Cap → List ℕ
+cap_line cap = cap_text cap ++ codes "\n"
+
+-- each of these capabilities, rising
+abbrev pub missing_lines : SetBy cap_cmp → List (List ℕ)
+missing_lines caps = map cap_line (members caps)

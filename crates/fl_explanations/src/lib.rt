@@ -2,6 +2,7 @@
 #![tactic(auto)]
 
 pub mod log;
+pub mod missing;
 pub mod naming;
 pub mod overview;
 pub mod shown;

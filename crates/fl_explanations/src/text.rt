@@ -17,7 +17,7 @@ use fl_sink::sink::{Sink, WriteFault};
 use fl_sink::writer::Writer;
 
 // A line of these bytes and a capability.
-fn write_cap<W: Writer>(
+pub(crate) fn write_cap<W: Writer>(
     front: &[u8],
     cap: Cap,
     sink: &mut Sink,
