@@ -9,14 +9,15 @@ use Rattle.fl_script.specs.declared.request.Request.{Request}
 use Rattle.fl_script.specs.declared.unread.Unread.{Unread}
 use Rattle.fl_script.specs.laws.OneLine.{one_line}
 use Rattle.fl_script.specs.parts.Reads.{Reads, StarvesIf}
+use Rattle.fl_script.proofs.NodeLines.{no_words}
 use Rattle.fl_machine_lines.specs.Grammar.{BringsBytes, IsEchoed, Spells, SpellsAsked}
-use Rattle.fl_machine_lines.specs.laws.AsScript.{Sort, sort_of, from_script}
-use Rattle.fl_machine_lines.specs.laws.AsScript.Sort.{script, receive, begin_receive, explain}
+use Rattle.fl_machine_lines.specs.laws.AsScript.{Sort, sort_of, from_script, no_words as no_own_words}
+use Rattle.fl_machine_lines.specs.laws.AsScript.Sort.{script, receive, begin_receive, own}
 use Rattle.fl_machine_lines.specs.laws.OneReading.{not_echo, not_audit, no_bringing}
-use Rattle.fl_machine_lines.specs.parts.Asking.{AsksAsScript, ExplainsOf, asked_of}
+use Rattle.fl_machine_lines.specs.parts.Asking.{AsksAsScript, AsksOwn, ExplainsOf, IsOwn, asked_of}
+use Rattle.fl_machine_lines.specs.parts.Asking.IsOwn.{could, missing, explain}
 use Rattle.fl_machine_lines.specs.declared.asked.Asked.{Asked}
 use Rattle.fl_machine_lines.specs.declared.asked.Asked.TheVariants.{Explain}
-use Rattle.fl_machine_lines.specs.declared.explaining.Explanation.{Explanation}
 use Rattle.fl_machine_lines.specs.declared.line.MachineLine.{MachineLine}
 use Rattle.fl_machine_lines.specs.declared.line.MachineLine.TheVariants.{Quiet, Bad, Echo, Audit, Asks}
 
@@ -79,13 +80,13 @@ other_begun words node rest d is long no_receive = record {
       no_receive (first rest d long (codes "receive") behind words);
 }
 
--- the words ask for no explanation
-abbrev pub Unexplained : ℕ → List Word → Type 0
-Unexplained number words = (what : Explanation) → SpellsAsked number (Explain what) words → ⊥
+-- the words ask nothing that no script asks
+abbrev pub NoneOwn : ℕ → List Word → Type 0
+NoneOwn number words = (asked : Asked) → IsOwn asked → SpellsAsked number asked words → ⊥
 
 -- what is received is spelled by no such words
 none_received : (number : ℕ) (words : List Word) → NotReceived words → {asked : Asked} → Sort asked
-    → ((asked : Asked) → AsksAsScript number asked words → ⊥) → Unexplained number words
+    → ((asked : Asked) → AsksAsScript number asked words → ⊥) → NoneOwn number words
     → SpellsAsked number asked words → ⊥
 none_received number [] not kind none plain s = absurd s
 none_received number (node ∷ words) not (script asked request e f) none plain s =
@@ -97,34 +98,64 @@ none_received number (node ∷ []) not (begin_receive bytes) none plain s = absu
 none_received number (node ∷ verb ∷ []) not (begin_receive bytes) none plain s = absurd s.1.1
 none_received number (node ∷ verb ∷ word ∷ words) not (begin_receive bytes) none plain s =
     not.begun node words (λ i. node ∷ s.1.0 i ∷ s.1.1.0 i ∷ words)
-none_received number (node ∷ words) not (explain what) none plain s = plain what s
+none_received number (node ∷ words) not {asked} (own is) none plain s = plain asked is s
 
 -- so what a script asks by them is all that they ask
 pub reads_script : (r : Result Asked Unread) (number : ℕ) (words : List Word) → NotReceived words
-    → Unexplained number words → Reads r (λ asked. AsksAsScript number asked words)
+    → NoneOwn number words → Reads r (λ asked. AsksAsScript number asked words)
     → Reads r (λ asked. SpellsAsked number asked words)
 reads_script (Ok asked) number words not plain s = from_script number asked words s
 reads_script (Err e) number words not plain none =
     λ bad asked s. none_received number words not (sort_of asked) (none bad) plain s
 
--- words that a script asks nothing by ask for an explanation, or nothing
-pub finds_explained : (found : Option Asked) (number : ℕ) (words : List Word) → NotReceived words
+-- words that a script asks nothing by ask what no script asks, or nothing
+pub reads_own : (r : Result Asked Unread) (number : ℕ) (words : List Word) → NotReceived words
     → ((asked : Asked) → AsksAsScript number asked words → ⊥)
-    → Finds found (λ asked. ExplainsOf number asked words)
-    → Finds found (λ asked. SpellsAsked number asked words)
-finds_explained (Some asked) number words not none e =
-    subst (λ a. SpellsAsked number a words) e.alike e.spelled
-finds_explained None number words not none plain =
-    λ asked s. none_received number words not (sort_of asked) none
-    (λ what t. plain (Explain what) (record { what = what; alike = refl; spelled = t })) s
+    → Reads r (λ asked. AsksOwn number asked words)
+    → Reads r (λ asked. SpellsAsked number asked words)
+reads_own (Ok asked) number words not none s = s.spelled
+reads_own (Err e) number words not none plain =
+    λ bad asked s. none_received number words not (sort_of asked) none
+    (λ other is t. plain bad other (record { own = is; spelled = t })) s
 
 -- what begins with `begin` asks for none
-pub unexplained : (number : ℕ) (words : List Word) (node : Word) (behind : List Word)
-    → words ≡ node ∷ codes "begin" ∷ behind → Unexplained number words
-unexplained number [] node behind e what s = absurd (cc e)
-unexplained number (word ∷ words) node behind e what s =
+pub none_own : (number : ℕ) (words : List Word) (node : Word) (behind : List Word)
+    → words ≡ node ∷ codes "begin" ∷ behind → NoneOwn number words
+none_own number [] node behind e asked is s = absurd (cc e)
+none_own number (word ∷ words) node behind e asked is s =
     let rest : words ≡ codes "begin" ∷ behind = cc e in
-    no_bringing what words s.1 (codes "begin") behind rest (inr refl)
+    no_bringing is words s.1 (codes "begin") behind rest (inr refl)
+
+-- a word alone asks nothing
+nothing_asked : (number : ℕ) (word : Word) {asked : Asked} → Sort asked
+    → SpellsAsked number asked (word ∷ []) → ⊥
+nothing_asked number word (script asked request e f) s =
+    no_words number word s.0 [] (omega arith) (OfNode number request) (s.0, f [] s.1)
+nothing_asked number word (receive bytes) s = absurd s.1
+nothing_asked number word (begin_receive bytes) s = absurd s.1
+nothing_asked number word (own is) s = no_own_words is s.1
+
+pub few_ask_none : (number : ℕ) (words : List (Bor Word)) → length words < 2 → (asked : Asked)
+    → SpellsAsked number asked (map (λ w. w.now) words) → ⊥
+few_ask_none number [] few asked s = absurd s
+few_ask_none number (word ∷ []) few asked s = nothing_asked number word.now (sort_of asked) s
+few_ask_none number (word ∷ other ∷ words) few asked s = absurd (omega (arith, few))
+
+-- behind another verb something is to be explained, or nothing is asked
+pub finds_explained : (found : Option Asked) (number : ℕ) (node verb : Word) (behind : List Word)
+    → verb ≢ codes "could" → verb ≢ codes "missing"
+    → Finds found (λ asked. ExplainsOf number asked (node ∷ verb ∷ behind))
+    → Finds found (λ asked. AsksOwn number asked (node ∷ verb ∷ behind))
+finds_explained (Some asked) number node verb behind no_could no_missing e =
+    subst (λ a. AsksOwn number a (node ∷ verb ∷ behind)) e.alike
+    (record { own = explain e.what; spelled = e.spelled })
+finds_explained None number node verb behind no_could no_missing none =
+    λ asked asks. at asks.own asks.spelled
+  where
+    at : {asked : Asked} → IsOwn asked → SpellsAsked number asked (node ∷ verb ∷ behind) → ⊥
+    at (could job) s = no_could s.1.0
+    at (missing job) s = no_missing s.1.0
+    at (explain what) s = none (Explain what) (record { what = what; alike = refl; spelled = s })
 
 -- what is asked of the node that the words name is asked of the machine of this number
 pub asked_by : (number node : ℕ) (request : Request) (words : List Word)

@@ -9,7 +9,7 @@ use Rattle.fl_script.specs.Grammar.{Is, Never, Matches, HoldsBlock, job_forms, r
 use Rattle.fl_script.specs.Words.{IsBytesWord}
 use Rattle.fl_script.specs.declared.request.Request.TheVariants as requests
 use Rattle.fl_machine_lines.specs.declared.asked.Asked.{Asked}
-use Rattle.fl_machine_lines.specs.declared.asked.Asked.TheVariants.{Job, Begin, Receive, BeginReceive, Tell, Save, Publish, Cancel, Text, Check, Explain}
+use Rattle.fl_machine_lines.specs.declared.asked.Asked.TheVariants.{Job, Begin, Receive, BeginReceive, Tell, Save, Publish, Cancel, Text, Check, Could, Missing, Explain}
 use Rattle.fl_machine_lines.specs.declared.explaining.Explanation.{Explanation}
 use Rattle.fl_machine_lines.specs.declared.explaining.Explanation.TheVariants.{Log, Why, WhyGroup, Who, Show, ShowProcess}
 use Rattle.fl_machine_lines.specs.declared.line.MachineLine.{MachineLine}
@@ -31,7 +31,7 @@ explanation_forms Show = Is (codes "show") ∷ []
 explanation_forms (ShowProcess pid) = Is (codes "show") ∷ Is (pid_text pid) ∷ []
 
 -- the table of what is asked of a machine's node, after its number: as in a script, but for what
--- is received
+-- is received, and for what is to be foretold or explained
 abbrev pub asked_forms : Asked → List (Word → Type 0)
 asked_forms (Job job) = job_forms job
 asked_forms (Begin pid order) = request_forms (requests.Begin pid order)
@@ -44,6 +44,8 @@ asked_forms Publish = request_forms requests.Publish
 asked_forms Cancel = request_forms requests.Cancel
 asked_forms Text = request_forms requests.Text
 asked_forms (Check bytes) = request_forms (requests.Check bytes)
+asked_forms (Could job) = Is (codes "could") ∷ job_forms job
+asked_forms (Missing job) = Is (codes "missing") ∷ job_forms job
 asked_forms (Explain what) = explanation_forms what
 
 -- the word is this one, which is not too long to come back
@@ -75,6 +77,16 @@ pub record BringsBytes (words : List Word) : Type 0 where
   pub receives : (verbs ≡ codes "receive" ∷ []) ⊎ (verbs ≡ codes "begin" ∷ codes "receive" ∷ [])
   pub is : words ≡ node ∷ verbs ++ bytes ∷ []
 
--- what the words hold takes a block of memory: as in a script, or they bring bytes
+-- the words behind `could` or `missing` hold what takes a block of memory
+pub record ForetellsBlock (words : List Word) : Type 0 where
+  pub node : Word
+  pub verb : Word
+  pub behind : List Word
+  pub foretells : (verb ≡ codes "could") ⊎ (verb ≡ codes "missing")
+  pub holds : HoldsBlock (node ∷ behind)
+  pub is : words ≡ node ∷ verb ∷ behind
+
+-- what the words hold takes a block of memory: as in a script, or they bring bytes, or the words of
+-- what is to be foretold hold it
 pub record TakesBlock (words : List Word) : Type 0 where
-  pub is : HoldsBlock words ⊎ BringsBytes words
+  pub is : HoldsBlock words ⊎ BringsBytes words ⊎ ForetellsBlock words

@@ -2,9 +2,11 @@
 ghost use Rattle.std.specs.Prelude.{◌≡◌, ◌≢◌, ◌∷◌, Some, codes, map};
 ghost use Rattle.fl_labels.specs.Found.{Finds, Tells};
 ghost use Rattle.fl_labels.specs.Words.{IsNumber};
-ghost use Rattle.fl_machine_lines.specs.Grammar.{BringsBytes, SpellsAsked, TakesBlock};
-ghost use Rattle.fl_machine_lines.specs.parts.Asking.{AsksAsScript, ExplainsOf, asked_of};
-ghost use Rattle.fl_script.specs.Grammar.{HoldsBlock};
+ghost use Rattle.fl_machine_lines.specs.Grammar.{BringsBytes, ForetellsBlock, SpellsAsked};
+ghost use Rattle.fl_machine_lines.specs.Grammar.{TakesBlock};
+ghost use Rattle.fl_machine_lines.specs.parts.Asking.{AsksAsScript, AsksOwn, ExplainsOf};
+ghost use Rattle.fl_machine_lines.specs.parts.Asking.{asked_of};
+ghost use Rattle.fl_script.specs.Grammar.{HoldsBlock, SpellsJob};
 ghost use Rattle.fl_script.specs.parts.Reads.{Reads, StarvesIf};
 
 use crate::explaining::{Explanation, explanation_from_words};
@@ -15,7 +17,7 @@ use fl_labels::text::read_number;
 use fl_message::boxed::Boxed;
 use fl_message::payload::Payload;
 use fl_script::line::{Line, line_from_words};
-use fl_script::request::Request;
+use fl_script::request::{Request, request_from_words};
 use fl_script::unread::Unread;
 use fl_script::words::bytes_from_word;
 use std::alloc::Global;
@@ -43,6 +45,10 @@ pub enum Asked {
     Text,
     /// What a packet of these bytes would bring to it is to be written.
     Check(Boxed<Payload>),
+    /// It is to say what it would answer to a job now.
+    Could(Job),
+    /// It is to say which capabilities are wanting for a job.
+    Missing(Job),
     /// This is to be written of it.
     Explain(Explanation),
 }
@@ -173,8 +179,46 @@ fn explained(number: NodeNumber, node: &str, verb: &str, rest: &[&str]) -> Optio
     Some(Asked::Explain(what))
 }
 
+// The job that the words behind the number of this machine and a verb spell.
+fn job_asked(alloc: Global, number: NodeNumber, node: &str, rest: &[&str]) -> Result<Job, Unread>
+    ensures ok { Reads result (λ job.
+        IsNumber number node.now × SpellsJob job (map (λ w. w.now) rest.now)) }
+    ensures memory { StarvesIf result (HoldsBlock (node.now ∷ map (λ w. w.now) rest.now)) }
+{
+    if !is_own(number, node) {
+        return Err(Unread::Bad);
+    }
+    let [verb, words @ ..] = rest else {
+        return Err(Unread::Bad);
+    };
+    match request_from_words(alloc, verb, words)? {
+        Request::Job(job) => Ok(job),
+        _ => Err(Unread::Bad),
+    }
+}
+
+// What the words ask of the machine of this number that no script asks.
+fn own_asked(
+    alloc: Global,
+    number: NodeNumber,
+    node: &str,
+    verb: &str,
+    rest: &[&str],
+) -> Result<Asked, Unread>
+    ensures ok { let words = verb.now ∷ map (λ w. w.now) rest.now in
+        Reads result (λ asked. AsksOwn number asked (node.now ∷ words)) }
+    ensures memory { let words = verb.now ∷ map (λ w. w.now) rest.now in
+        StarvesIf result (ForetellsBlock (node.now ∷ words)) }
+{
+    match verb {
+        "could" => Ok(Asked::Could(job_asked(alloc, number, node, rest)?)),
+        "missing" => Ok(Asked::Missing(job_asked(alloc, number, node, rest)?)),
+        _ => explained(number, node, verb, rest).ok_or(Unread::Bad),
+    }
+}
+
 // What the words ask of the machine of this number, where they are a line of a script too, or ask
-// to be explained something, which fewer lines do.
+// what no script asks, which fewer lines do.
 fn other_asked(
     alloc: Global,
     number: NodeNumber,
@@ -187,10 +231,10 @@ fn other_asked(
     requires loud { verb.now ≢ codes "receive" }
     requires whole { verb.now ≢ codes "begin" }
     ensures ok { Reads result (λ asked. SpellsAsked number asked (map (λ w. w.now) words.now)) }
-    ensures memory { StarvesIf result (HoldsBlock (map (λ w. w.now) words.now)) }
+    ensures memory { StarvesIf result (TakesBlock (map (λ w. w.now) words.now)) }
 {
     match script_asked(alloc, number, words) {
-        Err(Unread::Bad) => explained(number, node, verb, rest).ok_or(Unread::Bad),
+        Err(Unread::Bad) => own_asked(alloc, number, node, verb, rest),
         read => read,
     }
 }

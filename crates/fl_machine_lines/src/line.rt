@@ -17,6 +17,9 @@ use std::alloc::{AllocError, Global};
 /// The most bytes of a word that comes back.
 pub const MOST_ECHO_BYTES: usize = 256;
 
+// The most words that a line has: `could`, and the words of a script's line.
+const MOST_LINE_WORDS: usize = 9;
+
 /// What a line says to a machine.
 #[derive(Drop)]
 pub enum MachineLine<'a> {
@@ -74,8 +77,8 @@ fn meaning<'a>(
 /// What the bytes of a line, which have no line feed, say to the machine of this number.
 ///
 /// As a script's lines are read (`fl_script::reading::read_line`) where no alias is set, with these
-/// differences. The number in front must be the machine's own. `receive` and `begin receive` are
-/// verbs of a node, and `echo` is a line. `deliver`, `begin deliver`, `restart`, `union` and
+/// differences. The number in front must be the machine's own. `receive`, `begin receive`, `could`,
+/// `missing` and those of an [`Explanation`] are verbs of a node, and `echo` is a line. `deliver`, `begin deliver`, `restart`, `union` and
 /// `aliases` are none, and neither is a line with a `$`.
 ///
 /// `Quiet` comes first, whatever else the bytes are. `Bad` is a line of more than
@@ -84,7 +87,10 @@ fn meaning<'a>(
 ///
 /// Looks at each byte a few times at most, and takes no memory but that of what a `spawn`, `emit`,
 /// `open`, `tune`, `send`, `check`, `receive` or `begin receive` line holds, and of a `label` line
-/// of two tags at least; where this is refused, the line is not read.
+/// of two tags at least, also behind `could` or `missing`; where this is refused, the line is not
+/// read.
+///
+/// [`Explanation`]: crate::explaining::Explanation
 pub fn read_machine_line<'a>(
     alloc: Global,
     number: NodeNumber,
@@ -99,7 +105,7 @@ pub fn read_machine_line<'a>(
     if bytes.len() > MOST_LINE_BYTES {
         return Ok(MachineLine::Bad);
     }
-    let mut cut = ArrayVec::new();
+    let mut cut: ArrayVec<&str, MOST_LINE_WORDS> = ArrayVec::new();
     let Some(has_dollar) = cut_line(bytes, &mut cut) else {
         return Ok(MachineLine::Bad);
     };

@@ -1,20 +1,24 @@
 -- Bytes say one thing at most to a machine.
-use Rattle.std.proofs.Common.{◌≡◌, ◌∙◌, ◌⊎◌, inl, inr, refl, sym, ap, subst, ℕ, List, [], ◌∷◌, codes, arith, rules}
+use Rattle.std.proofs.Common.{◌≡◌, ◌∙◌, ◌⊎◌, inl, inr, refl, sym, ap, subst, ℕ, List, [], ◌∷◌, codes, get_or, arith, rules}
 use Rattle.fl_labels.specs.Words.{IsNumber}
 use Rattle.fl_aliases.specs.Words.{Word, words_of}
 use Rattle.fl_script.specs.Grammar.{Matches, SpellsRequest, request_forms}
 use Rattle.fl_script.specs.declared.request.Request.{Request}
 use Rattle.fl_script.specs.laws.Agreement.{Agree, Both, agree}
-use Rattle.fl_script.specs.laws.OneLine.{one_request}
+use Rattle.fl_script.specs.laws.JobKinds.{kind_of}
+use Rattle.fl_script.specs.laws.OneLine.{one_of, one_request}
 use Rattle.fl_script.specs.laws.OneWord.{no_letter, same_bytes, same_cap, same_pid}
 use Rattle.fl_labels.specs.declared.cap.Cap.TheVariants.{Use}
+use Rattle.fl_jobs.specs.declared.job.Job.{Job as AnyJob}
 use Rattle.fl_labels.specs.laws.OneReading.{same_number}
 use Rattle.fl_machine_lines.specs.Grammar.{IsPlace, Spells, asked_forms, explanation_forms, line_forms}
 use Rattle.fl_machine_lines.specs.Reading.{AreAlike, IsReading, SaysLine, SaysNone}
-use Rattle.fl_machine_lines.specs.laws.AsScript.{Sort, sort_of, begins_with, no_receive, no_begin_receive, no_explanation, verb_of}
-use Rattle.fl_machine_lines.specs.laws.AsScript.Sort.{script, receive, begin_receive, explain}
+use Rattle.fl_machine_lines.specs.laws.AsScript.{Sort, sort_of, begins_with, no_receive, no_begin_receive, no_own, verb_of}
+use Rattle.fl_machine_lines.specs.laws.AsScript.Sort.{script, receive, begin_receive, own}
+use Rattle.fl_machine_lines.specs.parts.Asking.{IsOwn}
+use Rattle.fl_machine_lines.specs.parts.Asking.IsOwn.{could, missing, explain}
 use Rattle.fl_machine_lines.specs.declared.asked.Asked.{Asked}
-use Rattle.fl_machine_lines.specs.declared.asked.Asked.TheVariants.{Receive, BeginReceive, Explain}
+use Rattle.fl_machine_lines.specs.declared.asked.Asked.TheVariants.{Receive, BeginReceive, Could, Missing, Explain}
 use Rattle.fl_machine_lines.specs.declared.explaining.Explanation.{Explanation}
 use Rattle.fl_machine_lines.specs.declared.explaining.Explanation.TheVariants.{Log, Why, WhyGroup, Who, Show, ShowProcess}
 use Rattle.fl_machine_lines.specs.declared.line.MachineLine.{MachineLine}
@@ -62,46 +66,101 @@ one_explanation (ShowProcess p) Show g = absurd g.1
 one_explanation (ShowProcess p) (ShowProcess q) g = ap ShowProcess (same_pid p q g.1.0)
 one_explanation (ShowProcess p) other g = absurd (search (rules, g.0.left, g.0.right))
 
--- and do not bring anything then
-not_receive : (what : Explanation) → verb_of what ≡ codes "receive" → ⊥
-not_receive (Log place) e = absurd (cc e)
-not_receive (Why pid cap) e = absurd (cc e)
-not_receive (WhyGroup group cap) e = absurd (cc e)
-not_receive (Who cap) e = absurd (cc e)
-not_receive Show e = absurd (cc e)
-not_receive (ShowProcess pid) e = absurd (cc e)
+-- and what is to be explained is not to be foretold
+pub not_could : (what : Explanation) → codes "could" ≡ verb_of (explain what) → ⊥
+not_could (Log place) e = absurd (cc e)
+not_could (Why pid cap) e = absurd (cc e)
+not_could (WhyGroup group cap) e = absurd (cc e)
+not_could (Who cap) e = absurd (cc e)
+not_could Show e = absurd (cc e)
+not_could (ShowProcess pid) e = absurd (cc e)
 
-not_begin : (what : Explanation) → verb_of what ≡ codes "begin" → ⊥
-not_begin (Log place) e = absurd (cc e)
-not_begin (Why pid cap) e = absurd (cc e)
-not_begin (WhyGroup group cap) e = absurd (cc e)
-not_begin (Who cap) e = absurd (cc e)
-not_begin Show e = absurd (cc e)
-not_begin (ShowProcess pid) e = absurd (cc e)
+pub not_missing : (what : Explanation) → codes "missing" ≡ verb_of (explain what) → ⊥
+not_missing (Log place) e = absurd (cc e)
+not_missing (Why pid cap) e = absurd (cc e)
+not_missing (WhyGroup group cap) e = absurd (cc e)
+not_missing (Who cap) e = absurd (cc e)
+not_missing Show e = absurd (cc e)
+not_missing (ShowProcess pid) e = absurd (cc e)
 
-pub no_bringing : (what : Explanation) (words : List Word) → Matches (explanation_forms what) words
-    → (verb : Word) (behind : List Word) → words ≡ verb ∷ behind
+explains_no_could : (what : Explanation) (job : AnyJob) (words : List Word)
+    → Matches (explanation_forms what) words → Matches (asked_forms (Could job)) words → ⊥
+explains_no_could what job [] s t = absurd t
+explains_no_could what job (verb ∷ words) s t =
+    not_could what (sym t.0 ∙ begins_with (explain what) verb words s)
+
+explains_no_missing : (what : Explanation) (job : AnyJob) (words : List Word)
+    → Matches (explanation_forms what) words → Matches (asked_forms (Missing job)) words → ⊥
+explains_no_missing what job [] s t = absurd t
+explains_no_missing what job (verb ∷ words) s t =
+    not_missing what (sym t.0 ∙ begins_with (explain what) verb words s)
+
+-- so of what no script asks words ask one thing at most
+one_own : {a b : Asked} → IsOwn a → IsOwn b → (words : List Word) → Matches (asked_forms a) words
+    → Matches (asked_forms b) words → a ≡ b
+one_own (could j) (could k) words s t =
+    let both = agree (asked_forms (Could j)) (asked_forms (Could k)) words s t in ap Could
+    (one_of (kind_of j) (kind_of k) both.1)
+one_own (missing j) (missing k) words s t =
+    let both = agree (asked_forms (Missing j)) (asked_forms (Missing k)) words s t in ap Missing
+    (one_of (kind_of j) (kind_of k) both.1)
+one_own (could j) (missing k) words s t =
+    let both = agree (asked_forms (Could j)) (asked_forms (Missing k)) words s t in absurd
+    (search (rules, both.0.left, both.0.right))
+one_own (missing j) (could k) words s t =
+    let both = agree (asked_forms (Missing j)) (asked_forms (Could k)) words s t in absurd
+    (search (rules, both.0.left, both.0.right))
+one_own (explain a) (explain b) words s t =
+    ap Explain (one_explanation a b (agree (explanation_forms a) (explanation_forms b) words s t))
+one_own (explain a) (could k) words s t = absurd (explains_no_could a k words s t)
+one_own (could j) (explain b) words s t = absurd (explains_no_could b j words t s)
+one_own (explain a) (missing k) words s t = absurd (explains_no_missing a k words s t)
+one_own (missing j) (explain b) words s t = absurd (explains_no_missing b j words t s)
+
+-- which brings nothing
+not_receive : {asked : Asked} (is : IsOwn asked) → verb_of is ≡ codes "receive" → ⊥
+not_receive (could job) e = absurd (omega (arith, ap (λ l. get_or l 0 0) e))
+not_receive (missing job) e = absurd (omega (arith, ap (λ l. get_or l 0 0) e))
+not_receive (explain (Log place)) e = absurd (cc e)
+not_receive (explain (Why pid cap)) e = absurd (cc e)
+not_receive (explain (WhyGroup group cap)) e = absurd (cc e)
+not_receive (explain (Who cap)) e = absurd (cc e)
+not_receive (explain Show) e = absurd (cc e)
+not_receive (explain (ShowProcess pid)) e = absurd (cc e)
+
+not_begin : {asked : Asked} (is : IsOwn asked) → verb_of is ≡ codes "begin" → ⊥
+not_begin (could job) e = absurd (omega (arith, ap (λ l. get_or l 0 0) e))
+not_begin (missing job) e = absurd (omega (arith, ap (λ l. get_or l 0 0) e))
+not_begin (explain (Log place)) e = absurd (cc e)
+not_begin (explain (Why pid cap)) e = absurd (cc e)
+not_begin (explain (WhyGroup group cap)) e = absurd (cc e)
+not_begin (explain (Who cap)) e = absurd (cc e)
+not_begin (explain Show) e = absurd (cc e)
+not_begin (explain (ShowProcess pid)) e = absurd (cc e)
+
+pub no_bringing : {asked : Asked} → IsOwn asked → (words : List Word)
+    → Matches (asked_forms asked) words → (verb : Word) (behind : List Word) → words ≡ verb ∷ behind
     → ((verb ≡ codes "receive") ⊎ (verb ≡ codes "begin")) → ⊥
-no_bringing what [] s verb behind e which = absurd (cc e)
-no_bringing what (word ∷ words) s verb behind e which =
-    let same : word ≡ verb = cc e in
-    let begins : verb ≡ verb_of what = sym same ∙ begins_with what word words s in
+no_bringing is [] s verb behind at which = absurd (cc at)
+no_bringing is (word ∷ words) s verb behind at which =
+    let same : word ≡ verb = cc at in
+    let begins : verb ≡ verb_of is = sym same ∙ begins_with is word words s in
     elim which [
-      | inl is ↦ not_receive what (sym begins ∙ is)
-      | inr is ↦ not_begin what (sym begins ∙ is)
+      | inl e ↦ not_receive is (sym begins ∙ e)
+      | inr e ↦ not_begin is (sym begins ∙ e)
     ]
 
-not_both : (what : Explanation) (bytes : List ℕ) (words : List Word)
-    → Matches (explanation_forms what) words → Matches (asked_forms (Receive bytes)) words → ⊥
-not_both what bytes [] s t = absurd t
-not_both what bytes (verb ∷ words) s t =
-    no_bringing what (verb ∷ words) s verb words refl (inl t.0)
+not_both : {asked : Asked} → IsOwn asked → (bytes : List ℕ) (words : List Word)
+    → Matches (asked_forms asked) words → Matches (asked_forms (Receive bytes)) words → ⊥
+not_both is bytes [] s t = absurd t
+not_both is bytes (verb ∷ words) s t =
+    no_bringing is (verb ∷ words) s verb words refl (inl t.0)
 
-not_begun_both : (what : Explanation) (bytes : List ℕ) (words : List Word)
-    → Matches (explanation_forms what) words → Matches (asked_forms (BeginReceive bytes)) words → ⊥
-not_begun_both what bytes [] s t = absurd t
-not_begun_both what bytes (verb ∷ words) s t =
-    no_bringing what (verb ∷ words) s verb words refl (inr t.0)
+not_begun_both : {asked : Asked} → IsOwn asked → (bytes : List ℕ) (words : List Word)
+    → Matches (asked_forms asked) words → Matches (asked_forms (BeginReceive bytes)) words → ⊥
+not_begun_both is bytes [] s t = absurd t
+not_begun_both is bytes (verb ∷ words) s t =
+    no_bringing is (verb ∷ words) s verb words refl (inr t.0)
 
 -- words ask one thing at most
 one_asked : {a b : Asked} → Sort a → Sort b → (words : List Word) → Matches (asked_forms a) words
@@ -123,16 +182,13 @@ one_asked (receive x) (receive y) words s t =
 one_asked (begin_receive x) (begin_receive y) words s t =
     let both = agree (asked_forms (BeginReceive x)) (asked_forms (BeginReceive y)) words s t in ap
     BeginReceive (same_bytes x y both.1.1.0)
-one_asked (script a x e f) (explain b) words s t =
-    absurd (no_explanation x b words t (f words s))
-one_asked (explain a) (script b y g h) words s t =
-    absurd (no_explanation y a words s (h words t))
-one_asked (explain a) (explain b) words s t =
-    ap Explain (one_explanation a b (agree (explanation_forms a) (explanation_forms b) words s t))
-one_asked (explain a) (receive y) words s t = absurd (not_both a y words s t)
-one_asked (receive x) (explain b) words s t = absurd (not_both b x words t s)
-one_asked (explain a) (begin_receive y) words s t = absurd (not_begun_both a y words s t)
-one_asked (begin_receive x) (explain b) words s t = absurd (not_begun_both b x words t s)
+one_asked (script a x e f) (own is) words s t = absurd (no_own x is words t (f words s))
+one_asked (own is) (script b y g h) words s t = absurd (no_own y is words s (h words t))
+one_asked (own p) (own q) words s t = one_own p q words s t
+one_asked (own is) (receive y) words s t = absurd (not_both is y words s t)
+one_asked (receive x) (own is) words s t = absurd (not_both is x words t s)
+one_asked (own is) (begin_receive y) words s t = absurd (not_begun_both is y words s t)
+one_asked (begin_receive x) (own is) words s t = absurd (not_begun_both is x words t s)
 one_asked (receive x) (begin_receive y) words s t =
     let both = agree (asked_forms (Receive x)) (asked_forms (BeginReceive y)) words s t in absurd
     (search (rules, both.0.left, both.0.right))

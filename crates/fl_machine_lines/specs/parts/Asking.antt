@@ -1,12 +1,13 @@
--- What a script's requests ask of a machine's node, and what is asked to be explained of it.
+-- What a script's requests ask of a machine's node, and what no script asks of one.
 use Rattle.std.specs.Prelude.{◌≡◌, ℕ, List, Option, None, Some}
 use Rattle.fl_aliases.specs.Words.{Word}
+use Rattle.fl_jobs.specs.declared.job.Job.{Job as AnyJob}
 use Rattle.fl_script.specs.Grammar.{Spells}
 use Rattle.fl_script.specs.declared.line.Line.TheVariants.{Node as OfNode}
 use Rattle.fl_script.specs.declared.request.Request.{Request}
 use Rattle.fl_script.specs.declared.request.Request.TheVariants as requests
 use Rattle.fl_machine_lines.specs.declared.asked.Asked.{Asked}
-use Rattle.fl_machine_lines.specs.declared.asked.Asked.TheVariants.{Job, Begin, Tell, Save, Publish, Cancel, Text, Check, Explain}
+use Rattle.fl_machine_lines.specs.declared.asked.Asked.TheVariants.{Job, Begin, Tell, Save, Publish, Cancel, Text, Check, Could, Missing, Explain}
 use Rattle.fl_machine_lines.specs.declared.explaining.Explanation.{Explanation}
 use Rattle.fl_machine_lines.specs.Grammar.{SpellsAsked}
 
@@ -29,6 +30,17 @@ pub record AsksAsScript (number : ℕ) (asked : Asked) (words : List Word) : Typ
   pub request : Request
   pub alike : asked_of request ≡ Some asked
   pub spelled : Spells (OfNode number request) words
+
+-- no script asks this of a node, and it brings nothing
+pub data IsOwn : Asked → Type 0 where
+  could : (job : AnyJob) → IsOwn (Could job)
+  missing : (job : AnyJob) → IsOwn (Missing job)
+  explain : (what : Explanation) → IsOwn (Explain what)
+
+-- the words ask this of the machine of this number, and no script asks it
+pub record AsksOwn (number : ℕ) (asked : Asked) (words : List Word) : Type 0 where
+  pub own : IsOwn asked
+  pub spelled : SpellsAsked number asked words
 
 -- the words ask the machine of this number to explain something
 pub record ExplainsOf (number : ℕ) (asked : Asked) (words : List Word) : Type 0 where

@@ -1,10 +1,7 @@
 use Rattle.std.proofs.Common.{map, subst, sym}
-use Rattle.fl_script.proofs.Found.{reads}
 use Rattle.fl_script.specs.parts.Reads.{Reads}
-use Rattle.fl_labels.specs.Found.{Finds}
-use Rattle.fl_machine_lines.specs.Grammar.{SpellsAsked}
-use Rattle.fl_machine_lines.specs.parts.Asking.{ExplainsOf}
-use Rattle.fl_machine_lines.proofs.Lines.{NotReceived, finds_explained, other_verb}
+use Rattle.fl_machine_lines.specs.parts.Asking.{AsksOwn}
+use Rattle.fl_machine_lines.proofs.Lines.{NotReceived, other_verb, reads_own}
 use Rattle.fl_machine_lines.proofs.asked.other_asked.Goals as goal
 
 pub returns-in-Err-Bad-clause-ok : goal.returns-in-Err-Bad-clause-ok
@@ -14,10 +11,7 @@ returns-in-Err-Bad-clause-ok c =
     let are = sym c.requires.are in
     let not = subst NotReceived are
     (other_verb c.args.node.now c.args.verb.now behind c.requires.loud c.requires.whole) in
-    let explained = subst (λ ws. Finds c.explained.result (λ a. ExplainsOf c.args.number a ws)) are
-    c.explained.ensures in
-    let found = finds_explained c.explained.result c.args.number words not
-    (c.in-Err-Bad.ensures.ok c.in-Err-Bad.field-0-is) explained in
-    subst (λ r. Reads r (λ asked. SpellsAsked c.args.number asked words))
-    (sym c.ok_or.ensures.value)
-    (reads (λ asked. SpellsAsked c.args.number asked words) c.explained.result found)
+    let asks = subst (λ ws. Reads c.own_asked.result (λ a. AsksOwn c.args.number a ws)) are
+    c.own_asked.ensures.ok in
+    reads_own c.own_asked.result c.args.number words not
+    (c.in-Err-Bad.ensures.ok c.in-Err-Bad.field-0-is) asks
