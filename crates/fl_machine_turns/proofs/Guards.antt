@@ -214,6 +214,8 @@ module _ (settings : Settings) (on : settings.guards ≡ true) where
   asks_guarded s asked.Cancel ds answer s' h =
       says_guarded (λ es saying t. begins_free settings.number cancel_free) h
   asks_guarded s asked.Text ds answer s' h = tells_guarded h
+  asks_guarded s (asked.Could job) ds answer s' h = tells_guarded h
+  asks_guarded s (asked.Missing job) ds answer s' h = tells_guarded h
   asks_guarded s (asked.Explain what) ds answer s' h = tells_guarded h
   asks_guarded s (asked.Check bytes) ds answer s' h = tells_guarded h
 

@@ -85,9 +85,13 @@ pub data Explains (n : NodeState) : Explanation → Answer → Type 0 where
   show_no_room : processes_at (bench_of n) ≢ [] → Explains n Show starved_line
   show_process : {pid : _} → Explains n (ShowProcess pid) (told_of pid (process_of n pid))
 
--- what a node explains, where it runs
-pub data IsExplained (s : KeptNode) (what : Explanation) : Answer → Type 0 where
-  running : {answer : Answer} → IsRunning s.node.state → Explains s.node what answer
-      → IsExplained s what answer
+-- what a node tells, where it runs
+pub data WhereRunning (s : KeptNode) (tells : NodeState → Answer → Type 0) : Answer → Type 0 where
+  running : {answer : Answer} → IsRunning s.node.state → tells s.node answer
+      → WhereRunning s tells answer
   stopped : {fault : Fault} → NotRunning s.node.state fault
-      → IsExplained s what (said (says.replied (Refused fault)))
+      → WhereRunning s tells (said (says.replied (Refused fault)))
+
+-- what it explains
+abbrev pub IsExplained : KeptNode → Explanation → Answer → Type 0
+IsExplained s what = WhereRunning s (λ n. Explains n what)
