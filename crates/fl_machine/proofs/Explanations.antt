@@ -14,9 +14,8 @@ use Rattle.fl_system.specs.declared.reply.Reply.TheVariants.{Refused}
 use Rattle.fl_explanations.specs.Why.{FindsWhy}
 use Rattle.fl_explanations.specs.declared.why.First.{First}
 use Rattle.fl_explanations.specs.declared.why.Why.{Why}
-use Rattle.fl_machine_lines.specs.declared.explaining.Explanation.{Explanation}
 use Rattle.fl_machine_turns.specs.Answer.{Answer}
-use Rattle.fl_machine_turns.specs.Explaining.{Explains, IsExplained, TellsWhy}
+use Rattle.fl_machine_turns.specs.Explaining.{TellsWhy, WhereRunning}
 use Rattle.fl_machine_turns.specs.Turn.{Tells}
 use Rattle.fl_machine.specs.Shown.{Shows, why_response}
 use Rattle.fl_machine.specs.parts.Responding.{Responds, ShowsOne}
@@ -44,19 +43,19 @@ pub shows_more : {keys : List Key} {n : NodeState} {P Q : Answer → Type 0} {r 
 shows_more more one =
     record { answer = one.answer; shows = one.shows; is = more one.answer one.is; quiet = one.quiet }
 
-module _ {K : Type 0} (custody : Custody K) (x : NodeOver K) (keys : List Key) (what : Explanation)
+module _ {K : Type 0} (custody : Custody K) (x : NodeOver K) (keys : List Key)
+    (these : NodeState → Answer → Type 0)
   where
-    pub explains_so : (r : Response) → IsRunning x.node.state
-        → ShowsOne keys x.node (Explains x.node what) r
-        → Responds custody keys x (λ s. Tells s (IsExplained s what)) r 0 x
+    pub explains_so : (r : Response) → IsRunning x.node.state → ShowsOne keys x.node (these x.node) r
+        → Responds custody keys x (λ s. Tells s (WhereRunning s these)) r 0 x
     explains_so r running one =
-        tells_so custody x keys (λ s. IsExplained s what) r one.answer one.shows
-        (λ k. IsExplained.running running one.is) one.quiet
+        tells_so custody x keys (λ s. WhereRunning s these) r one.answer one.shows
+        (λ k. WhereRunning.running running one.is) one.quiet
 
     pub explains_not : (fault : Fault) → NotRunning x.node.state fault
-        → Responds custody keys x (λ s. Tells s (IsExplained s what)) (response.Reply (Refused fault)) 0
-        x
+        → Responds custody keys x (λ s. Tells s (WhereRunning s these))
+        (response.Reply (Refused fault)) 0 x
     explains_not fault why =
-        tells_so custody x keys (λ s. IsExplained s what) (response.Reply (Refused fault)) _
-        Shows.replied (λ k. IsExplained.stopped why)
+        tells_so custody x keys (λ s. WhereRunning s these) (response.Reply (Refused fault)) _
+        Shows.replied (λ k. WhereRunning.stopped why)
         (refused_three fault (not_running x.node.state fault why))

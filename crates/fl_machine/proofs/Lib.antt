@@ -10,3 +10,4 @@ pub mod Turning
 pub mod Runs
 pub mod Starting
 pub mod Explanations
+pub mod Foresights

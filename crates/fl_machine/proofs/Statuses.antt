@@ -68,6 +68,7 @@ same_status Shows.echoed = refl
 same_status Shows.log = refl
 same_status Shows.because = refl
 same_status Shows.named = refl
+same_status Shows.wanting = refl
 same_status (Shows.overview are) = refl
 same_status {n = n} (Shows.process {pid}) = told_status pid (process_of n pid)
 same_status Shows.unknown = refl

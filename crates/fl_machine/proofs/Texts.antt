@@ -8,10 +8,12 @@ use Rattle.std.specs.Borrow.{Bor}
 use Rattle.std.specs.List.{flat_map}
 use Rattle.std.specs.declared.alloc.Global.{Global}
 use Rattle.hex.specs.Hex.{encode_lower}
+use Rattle.fl_labels.specs.Cap.{cap_cmp}
 use Rattle.fl_labels.specs.SetBy as set
+use Rattle.fl_labels.specs.SetBy.{SetBy}
 use Rattle.fl_labels.specs.declared.pid.Pid.{Pid}
 use Rattle.fl_bench.specs.declared.process.Process.{Process}
-use Rattle.fl_explanations.specs.Lines.{lines_text, logged, pids_of, who_lines, why_lines}
+use Rattle.fl_explanations.specs.Lines.{lines_text, logged, missing_lines, pids_of, who_lines, why_lines}
 use Rattle.fl_explanations.specs.declared.who.Who.{Who}
 use Rattle.fl_explanations.specs.declared.why.Why.{Why}
 use Rattle.fl_opset.specs.RegistryText.{op_line, registry_text}
@@ -123,6 +125,11 @@ module _ (keys : List Key) (n : NodeState) (number : ℕ) where
   pub who_text : (who : Who) (answer : Answer) → Shows keys n (response.Who who) answer
       → text_of keys number answer ≡ lines_text (who_lines who)
   who_text who answer Shows.named = refl
+
+  pub wanting_text : (caps : SetBy cap_cmp) (answer : Answer)
+      → Shows keys n (response.Wanting caps) answer
+      → text_of keys number answer ≡ lines_text (missing_lines caps)
+  wanting_text caps answer Shows.wanting = refl
 
   pub overview_text : (pids : Vec Pid Global) (answer : Answer)
       → Shows keys n (response.Overview pids) answer

@@ -7,18 +7,23 @@ use Rattle.std.specs.declared.option.Option.{Option}
 use Rattle.std.specs.declared.option.Option.TheVariants.{None, Some}
 use Rattle.std.specs.declared.result.Result.{Result}
 use Rattle.std.specs.declared.result.Result.TheVariants.{Ok, Err}
+use Rattle.fl_labels.specs.Cap.{cap_cmp}
+use Rattle.fl_labels.specs.SetBy.{SetBy}
 use Rattle.fl_seal.specs.declared.seal.Key.{Key}
 use Rattle.fl_sealed_packets.specs.Sealing.{sent_bytes}
 use Rattle.fl_wire.specs.declared.packet.Packet.{Packet}
 use Rattle.fl_system.specs.declared.answer.Fault.{Fault}
+use Rattle.fl_system.specs.declared.answer.Fault.TheVariants as faults
 use Rattle.fl_system.specs.declared.reply.Reply.{Reply}
 use Rattle.fl_system.specs.declared.reply.Reply.TheVariants.{Job, Refused}
 use Rattle.fl_system.specs.State.{NodeState}
 use Rattle.fl_system.specs.Waiting.{IsRunning}
+use Rattle.fl_jobs.specs.declared.answer.Refusal.{Refusal}
+use Rattle.fl_jobs.specs.declared.answer.Reply.{Reply as JobReply}
 use Rattle.fl_jobs.specs.declared.answer.Reply.TheVariants.{NotYet}
 use Rattle.fl_calls.specs.Answer as says
 use Rattle.fl_calls.specs.Completing.{starved}
-use Rattle.fl_explanations.specs.Lines.{logged, pids_of, who_lines, why_lines}
+use Rattle.fl_explanations.specs.Lines.{logged, missing_lines, pids_of, who_lines, why_lines}
 use Rattle.fl_explanations.specs.declared.who.Who.{Who}
 use Rattle.fl_explanations.specs.declared.why.Why.{Why}
 use Rattle.fl_opset.specs.RegistryText.{op_line}
@@ -56,6 +61,8 @@ pub data Shows (keys : List Key) (n : NodeState) : Response → Answer → Type 
       (answers.explained (list_map op_line (logged place n.published)))
   because : {found : Why} → Shows keys n (response.Why found) (answers.explained (why_lines found))
   named : {found : Who} → Shows keys n (response.Who found) (answers.explained (who_lines found))
+  wanting : {caps : SetBy cap_cmp}
+      → Shows keys n (response.Wanting caps) (answers.explained (missing_lines caps))
   overview : {pids : Vec Pid Global} → pids.items ≡ pids_of (bench_of n)
       → Shows keys n (response.Overview pids) (overview_of n)
   process : {pid : Pid} → Shows keys n (response.Process pid) (told_of pid (process_of n pid))
@@ -66,6 +73,11 @@ abbrev pub why_response : Result (Option Why) AllocError → Response
 why_response (Ok (Some found)) = response.Why found
 why_response (Ok None) = response.Reply (Job NotYet)
 why_response (Err error) = response.Reply starved
+
+-- what is responded where something was foretold
+abbrev pub foretold_response : Result JobReply Refusal → Response
+foretold_response (Ok reply) = response.Reply (Job reply)
+foretold_response (Err refusal) = response.Reply (Refused (faults.Refused refusal))
 
 -- the status of its line, whatever it shows
 abbrev pub status_said : Response → ℕ

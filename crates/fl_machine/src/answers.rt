@@ -19,6 +19,7 @@ use crate::response::Response;
 use fl_answers::text::{put_digits, write_refusal};
 use fl_calls::text::write_check;
 use fl_explanations::log::logged;
+use fl_explanations::missing::write_missing;
 use fl_explanations::naming::write_who;
 use fl_explanations::overview::{Overview, write_overview};
 use fl_explanations::shown::write_process;
@@ -205,6 +206,7 @@ pub fn write_response<K: Keeper, W: Writer>(
         Response::Log(place) => put_log(node, *place, sink, output),
         Response::Why(why) => put_why(why, sink, output),
         Response::Who(who) => write_who(who, sink, output),
+        Response::Wanting(caps) => write_missing(caps, sink, output),
         Response::Overview(pids) => put_overview(node, pids, sink, output),
         Response::Process(pid) => put_process(node, *pid, sink, output),
         Response::Unknown => write_count(b"refused F19 ", number, sink, output),

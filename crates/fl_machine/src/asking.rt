@@ -16,6 +16,7 @@ ghost use Rattle.fl_system.specs.State.{NodeState};
 ghost use Rattle.fl_wire.specs.declared.packet.Packet.TheVariants as packets;
 
 use crate::explaining::explain;
+use crate::foreseeing::{find_wanting, foretell};
 use crate::packets::{begin_to_bring, bring_packet, check, tell};
 use crate::response::{Response, refused, starved};
 use fl_jobs::job::{Act, Job};
@@ -134,6 +135,8 @@ fn respond_to<'a, K: Keeper>(
         Asked::Cancel => (Response::Reply(cancel(node)), 0),
         Asked::Text => (text(node), 0),
         Asked::Check(bytes) => (check(alloc, node, keys, bytes.as_slice()), 0),
+        Asked::Could(job) => (foretell(alloc, node, guards, &job), 0),
+        Asked::Missing(job) => (find_wanting(alloc, node, guards, &job), 0),
         Asked::Explain(what) => (explain(alloc, node, what), 0),
     }
 }

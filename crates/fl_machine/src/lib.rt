@@ -5,6 +5,7 @@
 mod answers;
 mod asking;
 mod explaining;
+mod foreseeing;
 mod greeting;
 mod packets;
 mod response;

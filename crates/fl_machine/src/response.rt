@@ -8,6 +8,7 @@ use fl_calls::response::Check;
 use fl_explanations::who::Who;
 use fl_explanations::why::Why;
 use fl_jobs::answer::Refusal;
+use fl_labels::cap_set::CapSet;
 use fl_labels::pid::Pid;
 use fl_system::answer::Fault;
 use fl_system::reply::Reply;
@@ -41,6 +42,8 @@ pub enum Response<'a> {
     Why(Why),
     /// Who has a capability.
     Who(Who),
+    /// Which capabilities are wanting.
+    Wanting(CapSet),
     /// How the node stands, and each of its processes, whose pids these are, which is written from
     /// the node itself.
     Overview(Vec<Pid>),

@@ -1,7 +1,7 @@
 use Rattle.std.proofs.Common.{◌∙◌}
 use Rattle.fl_machine.proofs.Texts.{admitted_text, bad_packet_text, checked_text, dropped_text}
 use Rattle.fl_machine.proofs.Texts.{echoed_text, listed_text, replied_text, sent_text, silence_text}
-use Rattle.fl_machine.proofs.Texts.{log_text, overview_text, process_text, told_text, unknown_text, who_text, why_text}
+use Rattle.fl_machine.proofs.Texts.{log_text, overview_text, process_text, told_text, unknown_text, wanting_text, who_text, why_text}
 use Rattle.fl_machine.proofs.answers.write_response.Goals as goal
 
 pub returns-in-Silence-clause-puts : goal.returns-in-Silence-clause-puts
@@ -77,6 +77,11 @@ pub returns-in-Who-clause-puts : goal.returns-in-Who-clause-puts
 returns-in-Who-clause-puts g c = λ keys answer shows.
     rw (who_text keys _ c.args.number c.in-Who.who answer (rw c.in-Who.is at shows))
     c.write_who.ensures.puts
+
+pub returns-in-Wanting-clause-puts : goal.returns-in-Wanting-clause-puts
+returns-in-Wanting-clause-puts g c = λ keys answer shows.
+    rw (wanting_text keys _ c.args.number c.in-Wanting.caps answer (rw c.in-Wanting.is at shows))
+    c.write_missing.ensures.puts
 
 pub put_overview-requires : goal.put_overview-requires
 put_overview-requires g c =

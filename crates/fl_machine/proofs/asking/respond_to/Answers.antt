@@ -52,5 +52,11 @@ returns-in-Check g c =
     rw (c.in-Check.is, ← (c.as_slice-in-Check.ensures ∙ c.deref-in-Check.ensures))
     (c.check.ensures c.args.guards)
 
+pub returns-in-Could : goal.returns-in-Could
+returns-in-Could g c = rw c.in-Could.is (c.foretell.ensures c.args.keys.now)
+
+pub returns-in-Missing : goal.returns-in-Missing
+returns-in-Missing g c = rw c.in-Missing.is (c.find_wanting.ensures c.args.keys.now)
+
 pub returns-in-Explain : goal.returns-in-Explain
 returns-in-Explain g c = rw c.in-Explain.is (c.explain.ensures c.args.keys.now)
