@@ -14,6 +14,7 @@ for each boot and for each batch of operations, each on the disk before anything
 line that a kill or a full disk broke off nothing counts.
 """
 import argparse
+import copy
 import fcntl
 import hmac
 import json
@@ -380,6 +381,66 @@ def show(_machine, node, it):
     return listed(process_lines(node.processes[it]))
 
 
+# What a job would come to.
+
+JOBS = ("proc", "spawn", "exit", "enter", "label", "drop", "open", "tune", "close", "send", "take",
+        "emit", "ask", "member")
+QUESTIONS = (reference.ask, reference.member)
+MENDED = (3, 8)
+
+
+def both(tags):
+    return {(it, sign) for it in tags for sign in (reference.PLUS, reference.MINUS)}
+
+
+def of_change(process, which, wanted):
+    now = getattr(process, which)
+    return ({(it, reference.PLUS) for it in wanted - now}
+            | {(it, reference.MINUS) for it in now - wanted})
+
+
+DEMANDS = {
+    reference.change_label: of_change,
+    reference.spawn: lambda _process, rights: rights,
+    reference.send: lambda _process, *words: words[3],
+    reference.emit: lambda process, _content: both(process.S),
+    reference.order_put: lambda _process, group, right: {right, (group, reference.GROW)},
+    reference.order_login: lambda _process, right, _secret: {right},
+    reference.order_open: lambda _process, group: {(group, reference.USE), (group, reference.GROW)},
+}
+
+
+def could(machine, node, does, *words):
+    """What a job would be answered, done by a twin of the machine that is thrown away."""
+    twin = copy.copy(machine)
+    answer = does(twin, copy.deepcopy(node), *words)
+    return answer if does in QUESTIONS else "ok"
+
+
+def wanting(machine, node, does, *words):
+    """What a job takes of the capabilities of its process, and this has not in effect."""
+    is_guarded = machine.guards and does is begin_order
+    if does is begin_order:
+        does, *words = words
+    if does not in DEMANDS and not is_guarded:
+        return set()
+    process = node.processes[words[0]]
+    demanded = both(process.S) if is_guarded else set()
+    if does in DEMANDS:
+        demanded |= DEMANDS[does](process, *words[1:])
+    return demanded - node.has(process.owned)
+
+
+def missing(machine, node, does, *words):
+    """The capabilities that are wanting for a job, or why none would mend it."""
+    try:
+        could(machine, node, does, *words)
+    except reference.Refused as why:
+        if why.args[0] not in MENDED:
+            raise
+    return listed(map(reference.cap_text, sorted(wanting(machine, node, does, *words))))
+
+
 LINES = {
     **{verb: form for verb, form in reference.LINES.items() if verb != "deliver"},
     "receive": (receive, reference.data),
@@ -389,10 +450,21 @@ LINES = {
     "who": (who, reference.cap),
     "show": (show, reference.pid),
 }
+FORESEEN = {"could": could, "missing": missing}
+
+
+def read_job(words):
+    """A job, which an order is too: how it is begun, and what its words say, in one list."""
+    if words[:1] and words[0] in reference.ORDERS:
+        return [begin_order, *reference.read_order(words)]
+    does, found = reference.read_known({verb: LINES[verb] for verb in JOBS}, words)
+    return [does, *found]
 
 
 def read_line(words):
     """What a line of the node does, and what its words say."""
+    if words[0] in FORESEEN:
+        return FORESEEN[words[0]], read_job(words[1:])
     if words[0] in reference.ORDERS:
         return give_order, reference.read_order(words)
     if words[:2] == ["begin", "receive"]:
