@@ -1,15 +1,16 @@
-//! Calls functions of a crew of two workers, each over a state of its own, and says what each
-//! answered and whether it left what it must: `done`; `refused` for want of memory, with what it
-//! left, and once more it was done; `not begun` where what it is called over could not be made;
-//! `WRONG` with what is so instead. A word names one trial; without a word all are made. At most
-//! one request for memory may be refused in a run: `.ci/refusals` refuses each in turn.
+//! Calls functions of a press and of a crew of two workers, each over a state of its own, and says
+//! what each answered and whether it left what it must: `done`; `refused` for want of memory, with
+//! what it left, and once more it was done; `not begun` where what it is called over could not be
+//! made; `WRONG` with what is so instead. A word names one trial; without a word all are made. At
+//! most one request for memory may be refused in a run: `.ci/refusals` refuses each in turn.
 //!
-//! Which request comes at which place, and how many there are, differs from run to run, since the
-//! workers are threads. So each trial goes by what it was answered alone, whichever request that
-//! was: of two orders at once either may be the one that is refused.
+//! Which request of a crew comes at which place, and how many there are, differs from run to run,
+//! since the workers are threads. So each trial goes by what it was answered alone, whichever
+//! request that was: of two orders at once either may be the one that is refused.
 #![tactic(auto)]
 
 mod batch;
+mod boards;
 mod ending;
 mod open;
 mod restart;
@@ -28,7 +29,7 @@ use std::thread::Threads;
 const BAD_WORDS: u8 = 2;
 
 /// The words that name a trial.
-const TRIALS: [&str; 3] = ["crew_open", "crew_batch", "crew_restart"];
+const TRIALS: [&str; 4] = ["press", "crew_open", "crew_batch", "crew_restart"];
 
 // How the trial of this name ends, if there is one.
 fn ending_of<R: Threads + Wait + Sync + Send + Copy + Drop + 'static>(
@@ -37,6 +38,7 @@ fn ending_of<R: Threads + Wait + Sync + Send + Copy + Drop + 'static>(
     name: &str,
 ) -> Option<Ending> {
     match name {
+        "press" => Some(boards::publish(&rt, alloc)),
         "crew_open" => Some(open::tried(&rt, alloc)),
         "crew_batch" => Some(batch::tried(rt, alloc)),
         "crew_restart" => Some(restart::tried(rt, alloc)),

@@ -5,7 +5,6 @@
 //! memory may be refused in a run: `.ci/refusals` refuses each in turn.
 #![tactic(auto)]
 
-mod boards;
 mod calls;
 mod nodes;
 mod people;
@@ -18,14 +17,13 @@ use std::alloc::Global;
 use std::env;
 use std::io::{Eprint, Print};
 use std::process::ExitCode;
-use std::sync::Wait;
 use std::test::Fail;
 
 /// The status where the word names no trial.
 const BAD_WORDS: u8 = 2;
 
 /// The words that name a trial.
-const TRIALS: [&str; 24] = [
+const TRIALS: [&str; 23] = [
     "merge",
     "absorb",
     "absorb_all",
@@ -49,14 +47,10 @@ const TRIALS: [&str; 24] = [
     "world_deliver_window",
     "world_deliver_operations",
     "world_deliver_message",
-    "press",
 ];
 
 // How the trial of this name ends, if there is one.
-fn ending_of<R: Wait>(rt: &R, alloc: Global, name: &str) -> Option<Ending> {
-    if name == "press" {
-        return Some(boards::publish(rt, alloc));
-    }
+fn ending_of(alloc: Global, name: &str) -> Option<Ending> {
     if let Some(ending) = sets::ending_of(alloc, name) {
         return Some(ending);
     }
@@ -70,8 +64,8 @@ fn ending_of<R: Wait>(rt: &R, alloc: Global, name: &str) -> Option<Ending> {
 }
 
 // Makes the trial of this name, and says how it ended. Answers the status.
-fn told<R: Print + Eprint + Wait>(rt: &R, alloc: Global, name: &str) -> Result<ExitCode, Fail> {
-    let Some(ending) = ending_of(rt, alloc, name) else {
+fn told<R: Print + Eprint>(rt: &R, alloc: Global, name: &str) -> Result<ExitCode, Fail> {
+    let Some(ending) = ending_of(alloc, name) else {
         eprintln!(rt; "memory_trials: there is no trial {name}")?;
         return Ok(ExitCode::from(BAD_WORDS));
     };
@@ -83,7 +77,7 @@ fn told<R: Print + Eprint + Wait>(rt: &R, alloc: Global, name: &str) -> Result<E
 }
 
 // Makes all trials, and answers the status.
-fn all_told<R: Print + Eprint + Wait>(rt: &R, alloc: Global) -> Result<ExitCode, Fail> {
+fn all_told<R: Print + Eprint>(rt: &R, alloc: Global) -> Result<ExitCode, Fail> {
     let mut status = ExitCode::SUCCESS;
     for name in &TRIALS {
         if told(rt, alloc, name)? != ExitCode::SUCCESS {

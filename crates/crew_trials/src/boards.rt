@@ -1,20 +1,36 @@
 //! A trial of a press, which publishes a batch to a desk.
-use crate::calls::Ending;
-use crate::scene::{GROUP, GROUP_MADE, PUT, TAG};
+use crate::ending::Ending;
 use fl_labels::cap::Cap;
-use fl_ops::op::Op;
+use fl_labels::name::Name;
+use fl_ops::op::{Body, Op};
 use fl_replica::board;
 use fl_replica::desk::Desk;
 use fl_replica::press::{Press, PressFault};
 use std::alloc::Global;
 use std::sync::Wait;
 
-// Whether these are published, and whether by them who uses the group may add the tag.
+// A group into which the right to grow it is put.
+const GROUP: Name = Name { node: 1, seq: 1 };
+
+// What its members have by the put.
+const GIVEN: Cap = Cap::Grow(GROUP);
+
+const GROUP_MADE: Op = Op {
+    name: GROUP,
+    body: Body::MakeGroup,
+};
+
+const PUT: Op = Op {
+    name: Name { node: 1, seq: 2 },
+    body: Body::Put(GROUP, GIVEN),
+};
+
+// Whether these are published, and whether by them who uses the group may grow it.
 fn shows(press: &Press, desks: &mut [Desk], list: &[Op], is_member: bool) -> bool {
     let Some(desk) = desks.first_mut() else {
         return false;
     };
-    press.list() == list && desk.member(Cap::Use(GROUP), Cap::Plus(TAG)) == Ok(is_member)
+    press.list() == list && desk.member(Cap::Use(GROUP), GIVEN) == Ok(is_member)
 }
 
 // Publishes what is staged, and then the batch. Where all that went well, the ending is this.
