@@ -36,7 +36,9 @@ pub const MOST_BYTES: usize = 16_777_216;
 /// The session is given back as the lines that were begun left it, at a fault too. Where its
 /// keepers are honest, the text is that of one run of the definitions (`one_run`), and at a fault a
 /// front of one's (`first_run`). Where a status is answered, that run is one of worlds: what holds
-/// of each world that a run leads to holds all along it, and a tag is confined (`lasting`).
+/// of each world that a run leads to holds all along it; a tag is confined and endorsed, each
+/// capability in effect was granted, and an operation whose name a line was answered is shown and
+/// kept from then on (`lasting`).
 pub fn converse<RT: AllocGlobal, C: Conversation<W>, W: Writer, M: MakesKeepers + Drop>(
     rt: &RT,
     input: &mut C,
@@ -103,7 +105,9 @@ pub fn converse<RT: AllocGlobal, C: Conversation<W>, W: Writer, M: MakesKeepers 
 /// The session is given back as the lines that were begun left it, at a fault too. Where its
 /// keepers are honest, the text is that of one run of the definitions (`one_run`), and at a fault a
 /// front of one's (`first_run`). Where a status is answered, that run is one of worlds: what holds
-/// of each world that a run leads to holds all along it, and a tag is confined (`lasting`).
+/// of each world that a run leads to holds all along it; a tag is confined and endorsed, each
+/// capability in effect was granted, and an operation whose name a line was answered is shown and
+/// kept from then on (`lasting`).
 pub fn run<RT: AllocGlobal, R: Read, W: Write, M: MakesKeepers + Drop>(
     rt: &RT,
     input: &mut R,

@@ -69,7 +69,9 @@ pub fn law_worlds<M: MakesKeepers>()
 /// thing that was admitted is safe by all that is saved, whatever happens from then on, no yes is
 /// withdrawn, what is published grows by the node's own publications alone, and a tag is confined.
 /// All of this holds at each moment of a run of lines too, from the world without a node on: along
-/// it a tag is confined by what the lines are answered (`along`).
+/// it a tag is confined by what the lines are answered, and endorsed, each capability in effect was
+/// granted, and an operation whose name a line was answered is shown and kept from then on
+/// (`along`).
 ///
 /// The end is the session that `fl_cluster::run::run` gives back, of which `Writes` is what it
 /// says.

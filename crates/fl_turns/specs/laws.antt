@@ -3,4 +3,5 @@ pub mod Widening
 pub mod Chains
 pub mod Scripts
 pub mod Leads
+pub mod Published
 pub mod Lasting

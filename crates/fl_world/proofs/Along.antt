@@ -99,25 +99,25 @@ step_at w (x ∷ ms) zero m run e =
 step_at w (x ∷ ms) (suc i) m run e = step_at x.after ms i m run.1 e
 
 -- what happens from moment i until moment j
-abbrev between : List Moment → ℕ → ℕ → List Moment
+abbrev pub between : List Moment → ℕ → ℕ → List Moment
 between ms zero j = take j ms
 between [] (suc i) j = []
 between (m ∷ ms) (suc i) zero = []
 between (m ∷ ms) (suc i) (suc j) = between ms i j
 
-run_take : (w : World) (ms : List Moment) (j : ℕ) → IsRun w ms → IsRun w (take j ms)
+pub run_take : (w : World) (ms : List Moment) (j : ℕ) → IsRun w ms → IsRun w (take j ms)
 run_take w ms zero run = tt
 run_take w [] (suc j) run = tt
 run_take w (x ∷ ms) (suc j) run = (run.0, run_take x.after ms j run.1)
 
-run_between : (w : World) (ms : List Moment) (i j : ℕ) → IsRun w ms
+pub run_between : (w : World) (ms : List Moment) (i j : ℕ) → IsRun w ms
     → IsRun (world_at w ms i) (between ms i j)
 run_between w ms zero j run = run_take w ms j run
 run_between w [] (suc i) j run = tt
 run_between w (m ∷ ms) (suc i) zero run = tt
 run_between w (m ∷ ms) (suc i) (suc j) run = run_between m.after ms i j run.1
 
-end_between : (w : World) (ms : List Moment) (i j : ℕ) → i ≤ j
+pub end_between : (w : World) (ms : List Moment) (i j : ℕ) → i ≤ j
     → end (world_at w ms i) (between ms i j) ≡ world_at w ms j
 end_between w ms zero j le = refl
 end_between w [] (suc i) zero le = refl

@@ -21,7 +21,7 @@ ghost use Rattle.fl_nodes.specs.Joining.{ReturnsOver, TakesOver};
 ghost use Rattle.fl_nodes.specs.Texts.{TextAt};
 ghost use Rattle.fl_world.specs.Reached.{InEach};
 ghost use Rattle.fl_world.specs.Headline.{HasSafeAudit, IsSafeWorld};
-ghost use Rattle.fl_world.specs.Lasting.{IsLastingWorld};
+ghost use Rattle.fl_world.specs.Lasting.{HasAuthority, IsLastingWorld};
 ghost use Rattle.fl_world.specs.Along.{LastingRun};
 
 use crate::laws::{law_headline, law_lasting, law_run};
@@ -137,12 +137,15 @@ impl<K: Keeper> World<K> {
     }
 
     /// What was admitted, in the order of the run: each of it is safe by all that is saved,
-    /// whatever happens from now on.
+    /// whatever happens from now on, and each capability that let it pass was granted, from who
+    /// made its name on, unless its tag's policy gives it to everybody.
     pub fn audit(&self) -> &[Admission]
         ensures audit { result.now ≡ self.now.audit }
         ensures safe { InEach K.custody self.now HasSafeAudit }
+        ensures authority { InEach K.custody self.now HasAuthority }
     {
         self.law_safe();
+        self.law_lasting();
         self.nodes.audit()
     }
 

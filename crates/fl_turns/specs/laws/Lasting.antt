@@ -4,6 +4,7 @@ use Rattle.std.proofs.Common.{List, [], ◌∷◌, ◌++◌, Option, Some, inl, 
 use Rattle.std.proofs.lemmas.List.{length-append}
 use Rattle.fl_bench.specs.laws.Puts.{none_some, same_found}
 use Rattle.fl_labels.specs.declared.pid.Pid.{Pid}
+use Rattle.fl_ops.specs.declared.op.Op.{Op}
 use Rattle.fl_jobs.specs.declared.answer.Reply.TheVariants.{Emitted}
 use Rattle.fl_jobs.specs.declared.job.Act.TheVariants.{Emit}
 use Rattle.fl_jobs.specs.declared.job.Job.{Job}
@@ -27,16 +28,21 @@ use Rattle.fl_system.specs.Taint.{world_at, IsEmission}
 use Rattle.fl_system.specs.World.{World, empty_world}
 use Rattle.fl_world.specs.Headline.{IsSafeWorld}
 use Rattle.fl_world.specs.Lasting.{IsLastingWorld}
+use Rattle.fl_world.proofs.Along.{between, run_take, run_between, end_between}
+use Rattle.fl_kept_laws.specs.Told.{OffersKept, AllOfferKept, IsShownAt, IsKeptAt}
 use Rattle.fl_calls.specs.Answer.{Answer as Said, replied}
 use Rattle.fl_calls.specs.Entering.{Openings}
 use Rattle.fl_turns.specs.Answer.{Answer, silence, said, listed, starved_line}
-use Rattle.fl_turns.specs.Lasting.{LetsOut, IsLetOut, Tells, DidHappen, ConfinesAlong, LastsAlong, LastsFor, LastsScript}
+use Rattle.fl_turns.specs.Lasting.{LetsOut, IsLetOut, Tells, DidHappen, ConfinesAlong, EndorsesAlong, GrantsAlong}
+use Rattle.fl_turns.specs.Lasting.{KeepsAnswersAlong, LastsAlong, LastsFor, LastsScript}
+use Rattle.fl_turns.specs.Leading.{IsPlain, ArePlain, Leads}
 use Rattle.fl_turns.specs.Moments.{Asks, event_asked, asked_by, told, told_at, told_in, told_said, told_by}
 use Rattle.fl_turns.specs.Moments.{Turned, IsTurn, AreTurns, moments_of, moments_before}
 use Rattle.fl_turns.specs.Over.{SessionOver, TurnsOver, begun_over}
 use Rattle.fl_turns.specs.Run.{Run}
 use Rattle.fl_turns.specs.Session.{Session, begun}
-use Rattle.fl_turns.specs.laws.Leads.{runs_on, ends_on, turn_does}
+use Rattle.fl_turns.specs.laws.Leads.{runs_on, ends_on, plain_on, turn_does}
+use Rattle.fl_turns.specs.laws.Published.{turn_publishes}
 use Rattle.fl_turns.specs.laws.Scripts.{one_run}
 
 -- ---- places in lists that are put together
@@ -83,10 +89,37 @@ world_past w (m ∷ ms) ns n zero e = absurd (omega (arith, e))
 world_past w (m ∷ ms) ns n (suc j) e =
     let less : j ≡ length ms + n = omega (arith, e) in world_past m.after ms ns n j less
 
-run_take : (w : World) (ms : List Moment) (j : ℕ) → IsRun w ms → IsRun w (take j ms)
-run_take w ms zero run = tt
-run_take w [] (suc j) run = tt
-run_take w (m ∷ ms) (suc j) run = (run.0, run_take m.after ms j run.1)
+plain_take : (ms : List Moment) (j : ℕ) → ArePlain ms → ArePlain (take j ms)
+plain_take ms zero plain = tt
+plain_take [] (suc j) plain = tt
+plain_take (m ∷ ms) (suc j) plain = (plain.0, plain_take ms j plain.1)
+
+plain_between : (ms : List Moment) (i j : ℕ) → ArePlain ms → ArePlain (between ms i j)
+plain_between ms zero j plain = plain_take ms j plain
+plain_between [] (suc i) j plain = tt
+plain_between (m ∷ ms) (suc i) zero plain = tt
+plain_between (m ∷ ms) (suc i) (suc j) plain = plain_between ms i j plain.1
+
+-- no stopped node is offered a keeper by a line
+offers : (number : ℕ) (op : Op) (move : Move) (reply : Reply) → IsPlain move → OffersKept number op move reply
+offers number op (Happens e) reply plain = tt
+offers number op (Comes other kept) reply plain = tt
+offers number op (Returns other kept) reply plain = absurd plain
+
+all_offer : (number : ℕ) (op : Op) (ms : List Moment) → ArePlain ms → AllOfferKept number op ms
+all_offer number op [] plain = tt
+all_offer number op (m ∷ ms) plain =
+    (offers number op m.move m.reply plain.0, all_offer number op ms plain.1)
+
+reached_by : (w v : World) → IsReached w → Leads w v → IsReached v
+reached_by w v reached h = record {
+  desks = reached.desks;
+  moments = reached.moments ++ h.moments;
+  is_run = runs_on (empty_world reached.desks) reached.moments h.moments reached.is_run
+      (subst (λ x. IsRun x h.moments) (sym reached.leads) h.is_run);
+  leads = ends_on (empty_world reached.desks) reached.moments h.moments
+      ∙ ap (λ x. end x h.moments) reached.leads ∙ h.leads;
+}
 
 -- ---- what is told
 
@@ -375,6 +408,22 @@ module _ (openings : Openings) where
       ∙ ap (λ w. world_at w (moments_of ts) (moments_before ts k)) (ends old x h.0 h.1)
       ∙ world_before x.after new ts k t h.2 there
 
+  world_after : (old new : Session) (ts : List Turned) (k : ℕ) (t : Turned) → AreTurns openings old ts new
+      → slice_get ts k ≡ Some t → world_at old.world (moments_of ts) (moments_before ts (suc k)) ≡ t.after.world
+  world_after old new [] k t h there = absurd (none_some refl there)
+  world_after old new (x ∷ ts) zero t h there =
+      world_past old.world x.moments (moments_of ts) (moments_before ts zero) _ (before_more x ts zero)
+      ∙ ends old x h.0 h.1 ∙ ap (λ (y : Turned). y.after.world) (same_found refl there)
+  world_after old new (x ∷ ts) (suc k) t h there =
+      world_past old.world x.moments (moments_of ts) (moments_before ts (suc k)) _ (before_more x ts (suc k))
+      ∙ ap (λ w. world_at w (moments_of ts) (moments_before ts (suc k))) (ends old x h.0 h.1)
+      ∙ world_after x.after new ts k t h.2 there
+
+  all_plain : (old new : Session) (ts : List Turned) → AreTurns openings old ts new → ArePlain (moments_of ts)
+  all_plain old new [] h = tt
+  all_plain old new (x ∷ ts) h =
+      plain_on x.moments (moments_of ts) h.1.plain (all_plain x.after new ts h.2)
+
   -- a moment of a turn among all moments
   moment_at : (ts : List Turned) (k : ℕ) (t : Turned) (l : ℕ) (m : Moment) → slice_get ts k ≡ Some t
       → slice_get t.moments l ≡ Some m → slice_get (moments_of ts) (moments_before ts k + l) ≡ Some m
@@ -500,11 +549,57 @@ module _ (safe : (w : World) → IsReached w → IsSafeWorld w)
           is_run pure further (moment_at openings ts k t at.place at.moment there at.there) at.emission;
     }
 
+    endorses : EndorsesAlong ts
+    endorses = record {
+      touched = λ tag i j first pid before now.
+          (lasting _ (reached_at zero)).endorsed.touched ms tag i j first pid before now is_run;
+      signed = λ tag endorsers i j first pid before now.
+          (lasting _ (reached_at zero)).endorsed.signed ms tag endorsers i j first pid before now is_run;
+    }
+
+    grants : GrantsAlong ts
+    unfolding reached_at
+    grants = record {
+      granted = λ i pid c. (lasting _ (reached_at i)).authority.granted (reached_at i) pid c;
+      labels = λ i side tag pid p. (lasting _ (reached_at i)).authority.labels (reached_at i) side tag pid p;
+    }
+
+    keeps_answers : KeepsAnswersAlong ts
+    keeps_answers = record {
+      kept = λ k j number name t there told le.
+          let turn = turn_at openings begun new ts k t are there in
+          let ends = turn_publishes name openings t.before t.line t.answer t.after number told.request told.alias
+          told.says told.answered turn.turn in
+          let reached = reached_by t.before.world ends.before
+          (subst IsReached (world_before openings begun new ts k t are there) (reached_at (moments_before ts k)))
+          ends.leads in
+          let answered = (lasting ends.before reached).answered in
+          let is = answered.name t.after.world number name ends.step in
+          let from = moments_before ts (suc k) in
+          let rest = between ms from j in
+          let stands = world_after openings begun new ts k t are there in
+          let run = subst (λ w. IsRun w rest) stands (run_between (empty_world 1) ms from j is_run) in
+          let leads = ap (λ w. end w rest) (sym stands) ∙ end_between (empty_world 1) ms from j le in
+          let shown = answered.shown t.after.world (event.Publish number) (replies.Published name) rest number is.0
+          ends.step is.2 run in
+          let kept = answered.kept t.after.world (event.Publish number) (replies.Published name) rest number is.0
+          ends.step is.2 run
+          (all_offer number is.0 rest (plain_between ms from j (all_plain openings begun new ts are))) in (
+            is.0,
+            is.1,
+            subst (λ w. IsShownAt w number is.0) leads shown,
+            subst (λ w. IsKeptAt w number is.0) leads kept,
+          );
+    }
+
     all_lasts : LastsAlong ts
     all_lasts = record {
       safe = λ i. safe _ (reached_at i);
       lasting = λ i. lasting _ (reached_at i);
       confined = confines;
+      endorsed = endorses;
+      granted = grants;
+      answered = keeps_answers;
     }
 
   pub run_lasts : (lines : List (List ℕ)) (answers : List Answer) (new : Session)

@@ -39,7 +39,7 @@ pub ends_on : (w : World) (ms ns : List Moment) → end w (ms ++ ns) ≡ end (en
 ends_on w [] ns = refl
 ends_on w (m ∷ ms) ns = ends_on m.after ms ns
 
-plain_on : (ms ns : List Moment) → ArePlain ms → ArePlain ns → ArePlain (ms ++ ns)
+pub plain_on : (ms ns : List Moment) → ArePlain ms → ArePlain ns → ArePlain (ms ++ ns)
 plain_on [] ns plain more = more
 plain_on (m ∷ ms) ns plain more = (plain.0, plain_on ms ns plain.1 more)
 
