@@ -13,7 +13,7 @@ import sys
 from .config import Table, Unfit, read_config
 from .node import Books
 from .records import Journal, Vault, explain
-from .sandbox import end_left
+from .sandbox import prepare
 from .service import attempts
 from .world import World
 
@@ -44,7 +44,7 @@ class Host:
             raise Unfit(f"{folder}: another host has it") from None
         except (OSError, ValueError) as why:
             raise Unfit(f"{folder}, or a key of it: {why}") from None
-        self.running, self.vault = end_left(folder / "running"), Vault(folder / "vault")
+        self.place, self.vault = prepare(folder / "running"), Vault(folder / "vault")
         self.journal = Journal(folder, config.node.journal_bytes, config.node.journal_files)
 
     async def run(self) -> int:
@@ -62,7 +62,7 @@ class Host:
                 keys = [word for it in node.keys for word in ("--key", it)]
                 books = Books([*node.words, *keys], node.number, self.journal)
                 try:
-                    self.world = World(self.config, books, self.vault, self.running, self.keys)
+                    self.world = World(self.config, books, self.vault, self.place, self.keys)
                     # a task of its own: a group that fails leaves its task as one to be cancelled
                     await asyncio.create_task(self.world.run(stop))
                     status = books.end()

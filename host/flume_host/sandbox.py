@@ -4,19 +4,21 @@ import json
 import os
 import pathlib
 import platform
+import re
 import resource
 import select
 import signal
 import socket
 import struct
 import subprocess
-from typing import TextIO
+from typing import NamedTuple, TextIO
 
 from .config import Table
 
 LIBRARY = pathlib.Path(__file__).resolve().parent.parent / "flume_service.py"
+GROUPS = pathlib.Path("/sys/fs/cgroup")
 TEMPORARY_BYTES, FILES, SECONDS = 16 << 20, 256, 10.0
-SYSTEM = f"""bwrap
+SYSTEM = f"""
     --unshare-user --unshare-ipc --unshare-pid --unshare-net --unshare-uts --unshare-cgroup
     --disable-userns --die-with-parent --new-session --cap-drop ALL --uid 65534 --gid 65534
     --hostname service --clearenv --setenv PATH /usr/bin --setenv LANG C.UTF-8 --chdir /
@@ -57,16 +59,43 @@ def end_process(handle: int) -> None:
         raise RuntimeError("a sandbox did not end in ten seconds")
 
 
-def end_left(path: pathlib.Path) -> TextIO:
-    """Returns a file for the sandboxes that are started, anew, and ends each that it names before:
-    what a kill left. Raises RuntimeError."""
-    file = open(path, "a+")
-    file.seek(0)
-    for pid, _, began in (line.rstrip().partition(" ") for line in file):
+class Place(NamedTuple):
+    """Where sandboxes are: what each is called, the file that names them, and the control group in
+    which each has its own, where there is one."""
+    called: str
+    running: TextIO
+    group: pathlib.Path | None
+
+
+def prepare(path: pathlib.Path, groups: pathlib.Path = GROUPS) -> Place:
+    """Returns the place of sandboxes, where what a kill left has ended: each that the file of this
+    path names, and each whose making was broken off. Raises RuntimeError."""
+    place = Place(f"bwrap of {path.resolve()}", open(path, "a+"), delegated(groups))
+    place.running.seek(0)
+    for pid, _, began in (line.rstrip().partition(" ") for line in place.running):
         if began and begun_at(int(pid)) == began:
             end_process(os.pidfd_open(int(pid)))
-    file.truncate(0)
-    return file
+    # bwrap's child waits for a word of bwrap, for ever where that was killed: nothing of a service
+    for words in pathlib.Path("/proc").glob("[1-9]*/cmdline"):
+        with contextlib.suppress(OSError):
+            if words.read_bytes().startswith(place.called.encode() + b"\0"):
+                end_process(os.pidfd_open(int(words.parent.name)))
+    place.running.truncate(0)
+    return place
+
+
+def delegated(groups: pathlib.Path) -> pathlib.Path | None:
+    """Returns the control group that was delegated to the host, which is in one within from here
+    on, since one that has groups with limits has no processes; or nothing."""
+    [own] = re.findall("(?m)^0::/(.*)$", pathlib.Path("/proc/self/cgroup").read_text()) or [""]
+    group: pathlib.Path = groups / own
+    with contextlib.suppress(OSError):
+        if {"memory", "pids"} <= {*(group / "cgroup.controllers").read_text().split()}:
+            (group / "host").mkdir(exist_ok=True)
+            (group / "host/cgroup.procs").write_text(str(os.getpid()))
+            (group / "cgroup.subtree_control").write_text("+memory +pids")
+            return group
+    return None
 
 
 def filter_program() -> bytes:
@@ -88,7 +117,7 @@ def filter_program() -> bytes:
 class Sandbox:
     """A service's real process with all its children, and the host's end of its socket."""
 
-    def __init__(self, service: Table, running: TextIO) -> None:
+    def __init__(self, service: Table, place: Place) -> None:
         """Starts it, with its limits set before anything of the service runs, which costs some 10
         to 100 ms. Raises OSError where bwrap does not make it."""
         self.socket, theirs = socket.socketpair(socket.AF_UNIX, socket.SOCK_SEQPACKET)
@@ -98,29 +127,43 @@ class Sandbox:
         rules = open(os.memfd_create("filter"), "r+b")
         os.pwrite(rules.fileno(), filter_program(), 0)
         given = [theirs.fileno(), tells.fileno(), waits.fileno(), rules.fileno()]
-        words = [*SYSTEM, "--setenv", "FLUME_SOCKET", str(given[0])]
+        words = [place.called, *SYSTEM, "--setenv", "FLUME_SOCKET", str(given[0])]
         for path in (LIBRARY, *map(pathlib.Path, service.sees)):
             words += ["--ro-bind", str(path.resolve()), f"/srv/{path.resolve().name}"]
         words += ["--remount-ro", "/", "--info-fd", str(given[1]), "--block-fd", str(given[2]),
                   "--seccomp", str(given[3]), "--", *WAITS, *service.command]
         with told, lets:
             with theirs, tells, waits, rules:
-                self.outer = subprocess.Popen(words, pass_fds=given, stdin=given[2],
-                                              stdout=subprocess.DEVNULL, stderr=subprocess.DEVNULL)
+                self.outer = subprocess.Popen(words, executable="bwrap", pass_fds=given,
+                                              stdin=given[2], stdout=subprocess.DEVNULL,
+                                              stderr=subprocess.DEVNULL)
             try:
                 pid = int(json.load(told.makefile())["child-pid"])
                 self.handle = os.pidfd_open(pid)
-                for kind, most in (
-                        (resource.RLIMIT_AS, service.memory), (resource.RLIMIT_NOFILE, FILES),
-                        (resource.RLIMIT_NPROC, service.processes), (resource.RLIMIT_CORE, 0),
-                        (resource.RLIMIT_FSIZE, TEMPORARY_BYTES)):
-                    resource.prlimit(pid, kind, (most, most))
-                print(pid, begun_at(pid), file=running, flush=True)
+                self.limit(pid, service, place.group)
+                print(pid, begun_at(pid), file=place.running, flush=True)
                 lets.sendall(b".\n")
             except (OSError, ValueError) as why:
                 self.outer.kill()
                 self.outer.wait()
                 raise OSError(f"bwrap: {why}") from None
+
+    def limit(self, pid: int, service: Table, group: pathlib.Path | None) -> None:
+        """Limits what all its processes have together, by a control group of its own, or else what
+        each of them has. Raises OSError."""
+        limits = {resource.RLIMIT_NOFILE: FILES, resource.RLIMIT_FSIZE: TEMPORARY_BYTES,
+                  resource.RLIMIT_CORE: 0}
+        self.group = group and group / f"service-{pid}"
+        if self.group:
+            self.group.mkdir(exist_ok=True)
+            for name, content in (("memory.max", service.memory), ("memory.oom.group", 1),
+                                  ("pids.max", service.processes), ("cgroup.procs", pid)):
+                (self.group / name).write_text(str(content))
+        else:
+            limits |= {resource.RLIMIT_AS: service.memory,
+                       resource.RLIMIT_NPROC: service.processes}
+        for kind, most in limits.items():
+            resource.prlimit(pid, kind, (most, most))
 
     def end(self) -> None:
         """Ends it with all its children, and waits for that. Raises RuntimeError as above."""
@@ -128,3 +171,7 @@ class Sandbox:
         end_process(self.handle)
         self.outer.kill()
         self.outer.wait()
+        if self.group:
+            # it is empty, and one of its name may be taken over
+            with contextlib.suppress(OSError):
+                self.group.rmdir()

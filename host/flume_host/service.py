@@ -146,7 +146,7 @@ class Service:
         try:
             world.give(self.name, self.process)
             async with asyncio.timeout(self.config.seconds or None):
-                sandbox = Sandbox(self.config, world.running)
+                sandbox = Sandbox(self.config, world.place)
                 await self.converse(sandbox)
         except OSError as why:
             world.note("broke", service=self.name, pid=self.pid, why=str(why))

@@ -2,21 +2,22 @@
 import asyncio
 import pathlib
 import re
-from typing import Awaitable, Iterable, TextIO
+from typing import Awaitable, Iterable
 
 from .config import Table, Unfit
 from .machines import Machines
 from .node import OPERATION, Books, Labels, NodeEnded, Process, Refused
 from .records import Vault, digest
+from .sandbox import Place
 from .service import MESSAGE_BYTES, Outlet, Service, attempts
 
 
 class World:
     """All that lives while one flume-node runs."""
 
-    def __init__(self, config: Table, books: Books, vault: Vault, running: TextIO,
+    def __init__(self, config: Table, books: Books, vault: Vault, place: Place,
                  keys: list[bytes]) -> None:
-        self.config, self.vault, self.running = config, vault, running
+        self.config, self.vault, self.place = config, vault, place
         self.books, self.note = books, books.journal.note
         self.machines = Machines(keys, self)
         self.owners, self.tags = dict[str, Process](), dict[str, str]()

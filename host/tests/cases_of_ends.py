@@ -1,10 +1,18 @@
 """How services end: with all their children, before anything else has their place; and limits."""
+import contextlib
 import json
 import os
+import pathlib
 import signal
+import subprocess
+import sys
 import time
 
-from rig import ALICE, SECONDS, SIGNALS, case, expect, living, outlet, service
+from rig import ALICE, HOST, SECONDS, SIGNALS, USER, Barred, case, expect, living, outlet, service
+
+sys.path.insert(0, str(HOST))
+
+from flume_host.sandbox import GROUPS, delegated  # noqa: E402
 
 FORKS = """
 import subprocess
@@ -74,7 +82,6 @@ def what_a_kill_left_is_ended_by_the_next_host(room):
     """A process that the file of sandboxes names is ended, and another of its number is not."""
     room.configure("").init()
     words = room.bench.words("sleep", "1000")
-    import subprocess
     left, other = subprocess.Popen(words), subprocess.Popen(words)
     try:
         time.sleep(0.5)
@@ -90,6 +97,43 @@ def what_a_kill_left_is_ended_by_the_next_host(room):
     finally:
         left.kill()
         other.kill()
+
+
+@case
+def a_sandbox_that_was_half_made_is_ended_by_the_next_host(room):
+    """bwrap is killed before it lets its child go on, which then waits for ever: here for an
+    information that nobody reads."""
+    room.configure("").init()
+    reads, writes = os.pipe()
+    os.set_blocking(writes, False)
+    with contextlib.suppress(BlockingIOError):
+        while os.write(writes, bytes(4096)):
+            pass
+    os.set_blocking(writes, True)
+    called = f"bwrap of {room.folder}/it/running"
+    words = ["bwrap", "--unshare-user", "--unshare-pid", "--die-with-parent", "--ro-bind", "/", "/",
+             "--info-fd", str(writes), "true"]
+    shell = room.bench.words("bash", "-c", 'exec -a "$0" "$@"', called, *words)
+    outer = subprocess.Popen(shell, pass_fds=[writes])
+    os.close(writes)
+    room.until(lambda: len(called_so(called)) == 2, "bwrap and its child")
+    outer.kill()
+    outer.wait()
+    os.close(reads)
+    time.sleep(0.5)
+    expect(len(called_so(called)) == 1, "its child does not wait", called_so(called))
+    room.start()
+    room.until(lambda: room.entries("greeting"), "a greeting")
+    expect(not called_so(called), "it waits still")
+
+
+def called_so(name):
+    """Returns the real pids of processes that call themselves so."""
+    found = []
+    for path in pathlib.Path("/proc").glob("[1-9]*/cmdline"):
+        with contextlib.suppress(OSError):
+            found += [path.parent.name] * path.read_bytes().startswith(name.encode() + b"\0")
+    return found
 
 
 @case
@@ -155,6 +199,69 @@ stay()
     if room.bench.is_root or os.getuid():
         expect(found[7] == "BlockingIOError", "forks", found)
     expect(found[8] == 65_534 and "HOME" not in found[9], found)
+
+
+def delegated_group(room):
+    """Returns a control group that is the user's, as systemd delegates one. Raises Barred."""
+    it = GROUPS / f"flume-host-tests-{os.getpid()}"
+    try:
+        known = (GROUPS / "cgroup.subtree_control").read_text().split()
+        if not room.bench.is_root or not {"memory", "pids"} <= {*known}:
+            raise Barred("a delegated control group")
+        it.mkdir()
+    except OSError:
+        raise Barred("a delegated control group") from None
+    for path in (it, *(it / f"cgroup.{name}" for name in ("procs", "subtree_control", "threads"))):
+        os.chown(path, USER, USER)
+    return it
+
+
+@case
+def a_control_group_of_a_service(room):
+    """Its processes have so much memory together, and are so many: the whole of it ends."""
+    group = delegated_group(room)
+    code = """
+def forks():
+    for k in range(40):
+        if os.fork() == 0:
+            time.sleep(100)
+try:
+    forks()
+except BlockingIOError:
+    tell("no more")
+had = bytearray(100 << 20)
+tell("too much")
+"""
+    keys = ("memory = 67108864", "processes = 12", "restarts = false")
+    room.configure(outlet("out") + service("one", code, *keys)).init()
+    room.prefix = ["sh", "-c", f'echo $$ > {group}/cgroup.procs; exec "$@"', "sh"]
+    try:
+        room.start()
+        room.until(lambda: room.entries("ended"), "its end")
+        expect(room.read("out") == "no more\n", room.read("out"))
+        left = [it.name for it in group.iterdir() if it.is_dir()]
+        expect(left == ["host"], "groups that are left", left)
+        expect(room.end() == 0, room.said())
+    finally:
+        room.clear()
+        for it in (group / "host", group):
+            it.rmdir()
+
+
+@case
+def which_control_group_is_delegated(room):
+    """One that may limit memory and processes; the host is in one within. Written to files here."""
+    for controllers, is_so in (("cpu memory pids", True), ("cpu pids", False), (None, False)):
+        group = room.folder / str(controllers)
+        own = group / pathlib.Path("/proc/self/cgroup").read_text().rpartition("0::/")[2].strip()
+        own.mkdir(parents=True)
+        if controllers:
+            (own / "cgroup.controllers").write_text(controllers)
+        expect(delegated(group) == (own if is_so else None), controllers)
+        expect((own / "host").exists() == is_so, controllers)
+    own = room.folder / "cpu memory pids" / own.relative_to(group)
+    expect((own / "host/cgroup.procs").read_text() == str(os.getpid()), "its process")
+    expect((own / "cgroup.subtree_control").read_text() == "+memory +pids", "its limits")
 
 
 @case
