@@ -6,13 +6,12 @@ import os
 import pathlib
 import secrets
 import signal
-import socket
 import subprocess
 import sys
 
 from .config import Table, Unfit, read_config
 from .node import Books
-from .records import Journal, Vault, explain
+from .records import Journal, Vault, asked, explain
 from .sandbox import prepare
 from .service import attempts
 from .world import World
@@ -73,9 +72,12 @@ class Host:
                 print("flume-host: the node ended, and starts again", file=sys.stderr, flush=True)
         return 0
 
-    async def control(self, _: asyncio.StreamReader, writer: asyncio.StreamWriter) -> None:
-        """Answers whoever asks with what runs, as JSON."""
-        writer.write(json.dumps({
+    async def control(self, reader: asyncio.StreamReader, writer: asyncio.StreamWriter) -> None:
+        """Answers whoever asks, in JSON: a line that explains as the node does, and else what it
+        runs."""
+        line = (await reader.readline()).decode().strip()
+        is_explained = line.partition(" ")[0] in ("missing", "why")
+        writer.write(json.dumps(self.world.books.answer(line) if is_explained else {
             "node": self.config.node.number, "starts": self.starts,
             "emissions": self.journal.emissions, "undone": len(self.journal.undone),
             "processes": {pid: it.name for pid, it in self.world.living.items()},
@@ -85,13 +87,11 @@ class Host:
 
 
 def status(config: Table) -> int:
-    """Asks a running host, and prints what it answers. Raises Unfit where none runs."""
-    with socket.socket(socket.AF_UNIX) as line:
-        try:
-            line.connect(config.node.directory + "/control")
-        except OSError as why:
-            raise Unfit(f"no host runs here: {why.strerror}") from None
-        print(line.makefile().read(), end="")
+    """Prints what a running host does. Raises Unfit where none runs."""
+    try:
+        print(json.dumps(asked(config)))
+    except OSError as why:
+        raise Unfit(f"no host runs here: {why.strerror}") from None
     return 0
 
 

@@ -69,19 +69,22 @@ class Books:
         self.boot = int(found[1])
         self.journal.note("greeting", boot=self.boot, published=int(found[2]))
 
+    def answer(self, line: str) -> list[str]:
+        """Returns the lines of the answer to a line, of which nothing is noted."""
+        if not line.isprintable():
+            raise ValueError("a line has a line feed inside")
+        first = self.line(f"{self.number} {line}\n")
+        many = int(first[6:]) if first.startswith("lines ") else 0
+        return [first, *(self.line() for _ in range(many))]
+
     def ask(self, line: str, secret: str = "") -> list[str]:
         """Returns the lines of the answer to a line, with a secret as its last word where it has
         one. It takes a write and a read of a socket, and an order a write to the disk."""
-        words = f"{self.number} {line} {secret}".rstrip(" ")
-        if not words.isprintable():
-            raise ValueError("a line has a line feed inside")
-        answer = [first := self.line(words + "\n")]
-        if first.startswith("lines "):
-            answer += [self.line() for _ in range(int(first[6:]))]
+        answer = self.answer(f"{line} {secret}".rstrip(" "))
         told = f"{line} sha256:{digest(secret)}" if secret else line
         # the registry is its own record: a journal that had it at each start would be full of it
         self.journal.note("line", line=told, answer=answer[:1] if line == "text" else answer)
-        if first.startswith("refused F15"):
+        if answer[0].startswith("refused F15"):
             raise NodeEnded
         self.is_news |= line.partition(" ")[0] in ORDERS
         return answer

@@ -2,6 +2,8 @@
 node with its answer and what the host did, and the vault, which has what it must not lose. Secrets
 of logins stand in the journal as their SHA-256 alone."""
 import asyncio
+import contextlib
+import functools
 import hashlib
 import itertools
 import json
@@ -9,9 +11,10 @@ import os
 import pathlib
 import re
 import secrets
+import socket
 import time
 from logging.handlers import RotatingFileHandler
-from typing import Any, Iterator
+from typing import Any, Callable, Iterator
 
 from .config import Table
 
@@ -106,10 +109,25 @@ class Journal(Lines):
         return number
 
 
+def asked(config: Table, line: str = "") -> Any:
+    """Returns what a running host answers to a line for its node that only explains, or else what
+    it does. Raises OSError where none runs."""
+    with socket.socket(socket.AF_UNIX) as it:
+        it.connect(config.node.directory + "/control")
+        it.sendall(line.encode() + b"\n")
+        return json.loads(it.makefile().read() or '[""]')
+
+
 def explain(config: Table, service: str) -> int:
-    """Prints lines on a service, in the order of the journal, all of which is read. Equal ones that
-    follow one another are one, with their number."""
-    lines = told(pathlib.Path(config.node.directory), f"service {service}")
+    """Prints lines on a service, in the order of the journal, all of which is read, with what its
+    node says of those that were refused, where it runs. Equal ones that follow one another are one,
+    with their number."""
+    @functools.cache
+    def ask(line: str) -> list[str]:
+        with contextlib.suppress(OSError):
+            return list(asked(config, line))
+        return [""]
+    lines = told(pathlib.Path(config.node.directory), f"service {service}", ask)
     for said, times in itertools.groupby(lines, lambda it: it[1]):
         began, *more = [at for at, _ in times]
         when = time.strftime("%Y-%m-%d %H:%M:%S", time.localtime(began))
@@ -117,12 +135,21 @@ def explain(config: Table, service: str) -> int:
     return 0
 
 
-def told(folder: pathlib.Path, mine: str) -> Iterator[tuple[float, str]]:
+def told(folder: pathlib.Path, mine: str,
+         ask: Callable[[str], list[str]]) -> Iterator[tuple[float, str]]:
     """Yields what each entry says of a service, and when."""
     names, sent = dict[str, str](), dict[str, str]()
 
     def named(*words: str) -> str:
-        return "".join(names.get(it, it) for it in re.split(r"([{},+\- ])", " ".join(words)))
+        return "".join(names.get(it, it) for it in re.split(r"([{},*+\- ])", " ".join(words)))
+
+    def now(line: str, pid: str, right: str) -> str:
+        """What its node says of a refused line as it stands now, where its process lives."""
+        missing, *rights = ask(f"missing {line}")
+        why, *steps = ask(f"why {pid} {right}") if right[0] in "+-" else [""]
+        said = f"; wanting now: {named(', '.join(rights)) or 'nothing'}"
+        return (said * missing.startswith("lines ") +
+                f"; it has {named(right)} now: {named(', '.join(steps))}" * bool(steps))
     for entry in entries(folder):
         said, pid = "", entry.get("pid", "")
         names |= {pid: f"{it} {entry[it]}" for it in ("service", "outlet", "owner")
@@ -136,6 +163,7 @@ def told(folder: pathlib.Path, mine: str) -> Iterator[tuple[float, str]]:
                 said = f"{sent[packet]}: {named(*reply)}"
             case [verb, _, *rest] if is_mine and reply[0] == "refused":
                 said = f"{verb} {named(*rest)}: {named(*reply)}"
+                said += now(entry["line"], words[1], reply[-1])
             case ["take", _] if is_mine and reply[0] == "message":
                 size = len(reply[3].removeprefix("none")) // 2
                 said = f"read {size} bytes of {named(reply[1])}, with the rights {named(reply[2])}"

@@ -152,3 +152,68 @@ def what_a_host_says_of_itself(room):
     mode = stat.S_IMODE((room.folder / "it/control").stat().st_mode)
     rig.expect(mode == 0o600, "the mode of the socket", oct(mode))
     rig.expect(room.run("explain", "CONFIG", "nobody").stdout == "", "explain nobody")
+
+
+# A node that says what is wanting for a line where the other, which does all else, is too old.
+SAYS_WHAT_IS_WANTING = """#!/usr/bin/python3
+import subprocess, sys
+node = subprocess.Popen(["NODE", *sys.argv[1:]], stdin=subprocess.PIPE, stdout=subprocess.PIPE)
+def asked(line):
+    node.stdin.write(line)
+    node.stdin.flush()
+    said = node.stdout.readline()
+    for _ in range(int(said[6:]) if said.startswith(b"lines ") else 0):
+        said += node.stdout.readline()
+    return said
+if "--new" in sys.argv:
+    sys.exit(node.wait())
+said = node.stdout.readline()
+while True:
+    sys.stdout.buffer.write(said)
+    sys.stdout.flush()
+    if not (line := sys.stdin.buffer.readline()):
+        break
+    said = asked(line)
+    if line == b"1 missing label p1.1.3 S {}\\n" and said.startswith(b"refused F19"):
+        has = asked(b"1 why p1.1.3 -1.1\\n").startswith(b"lines")
+        said = b"lines 0\\n" if has else b"lines 1\\n-1.1\\n"
+node.stdin.close()
+sys.exit(node.wait())
+"""
+
+
+@rig.case
+def what_is_wanting(room):
+    """Of a line that was refused the node says what is wanting now, and why a right is there, where
+    its process lives; an older node says nothing of it."""
+    code = """
+tried(host.label, secrecy=["alice/calendar"])
+tried(host.label, secrecy=[])
+tried(host.tag)
+stay()
+"""
+    gives = "wait_for('go')\nhost.grant('one', ['-alice/calendar'])\nstay()"
+    keys = ('tags = ["alice/calendar"]', "orders = 1", "orders_an_hour = 1")
+    two = rig.service("two", gives, 'rights = ["-alice/calendar"]', keys[0], rig.SIGNALS)
+    between = room.folder / "between"
+    between.write_text(SAYS_WHAT_IS_WANTING.replace("NODE", room.node_words))
+    between.chmod(0o755)
+    room.let("")
+    room.configure(rig.ALICE + rig.service("one", code, *keys) + two, program=between)
+    room.init().start()
+    room.until(lambda: [it for _, it in room.lines("tag") if it.startswith("refused F8")], "F8")
+    lines = ["label S {}: refused F3 -alice/calendar", "tag export: refused F8 alice/calendar"]
+
+    def explains(first, second=""):
+        told = room.run("explain", "CONFIG", "one").stdout.splitlines()
+        found = [it[20:] for it in told if "refused" in it]
+        rig.expect(found[0] == lines[0] + first, found)
+        rig.expect(found[1:] in ([lines[1]], [lines[1] + second]), found)
+    explains(*["; wanting now: -alice/calendar"] * 2)
+    room.let("go")
+    room.until(lambda: [it for _, it in room.lines("receive") if it == "arrived p1.1.3"], "a right")
+    explains("; wanting now: nothing; it has -alice/calendar now: owns -alice/calendar",
+             "; wanting now: nothing")
+    rig.expect(not room.lines("missing", "why"), "what is explained is noted")
+    rig.expect(room.end() == 0, room.said())
+    explains("")
