@@ -7,7 +7,8 @@ _flume() {
       mapfile -t COMPREPLY < <(compgen -d -- "$word")
       return
       ;;
-    *:--key | flume-host:check | flume-host:init | flume-host:status | flume-host:explain)
+    *:--key | flume-host:check | flume-host:init | flume-host:status | flume-host:explain | \
+      flume-host:backup | flume-host:restore)
       mapfile -t COMPREPLY < <(compgen -f -- "$word")
       return
       ;;
@@ -16,7 +17,7 @@ _flume() {
     flume-tags:*) words='--dir --workers --help --version' ;;
     flume-node:*) words='--node --dir --key --unguarded-orders --new --help --version' ;;
     flume-host:*)
-      [ "$COMP_CWORD" -gt 1 ] || words='check init status explain story --as-root --help'
+      [ "$COMP_CWORD" -gt 1 ] || words='check init status explain backup restore story --as-root --help'
       ;;
   esac
   mapfile -t COMPREPLY < <(compgen -W "$words" -- "$word")

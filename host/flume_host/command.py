@@ -5,9 +5,11 @@ import json
 import os
 import pathlib
 import secrets
+import shutil
 import signal
 import subprocess
 import sys
+from typing import Callable
 
 from .config import Table, Unfit, read_config
 from .node import Books
@@ -21,8 +23,11 @@ USAGE = """usage: flume-host [--as-root] CONFIG    runs the host of a machine
        flume-host init CONFIG             makes the directory of the host, its node, and a key
        flume-host status CONFIG           says what a running host does
        flume-host explain CONFIG SERVICE  says what a service read, sent, and was refused
+       flume-host backup CONFIG DIR       copies what a host that has ended keeps, and its keys
+       flume-host restore CONFIG DIR      puts that back, where no peer knows more
        flume-host story                   runs the story of the documents, and prints it"""
 STORY = pathlib.Path(__file__).resolve().parent.parent / "tests/story/run"
+CALLED_FROM, LOG_HEADER = pathlib.Path.cwd(), 32
 
 
 class Host:
@@ -46,9 +51,10 @@ class Host:
         self.place, self.vault = prepare(folder / "running"), Vault(folder / "vault")
         self.journal = Journal(folder, config.node.journal_bytes, config.node.journal_files)
 
-    async def run(self) -> int:
+    async def run(self, only_meets: bool = False) -> int:
         """Runs one node after another, each from its greeting to the end of all that lives, until a
-        signal ends it, or a node ends with 2 or 4. Returns the status."""
+        signal ends it, a node ends with 2 or 4, or it has met the other machines, where that is
+        all. Returns the status."""
         stop, node = asyncio.Event(), self.config.node
         path = node.directory + "/control"
         for number in (signal.SIGTERM, signal.SIGINT):
@@ -63,7 +69,7 @@ class Host:
                 try:
                     self.world = World(self.config, books, self.vault, self.place, self.keys)
                     # a task of its own: a group that fails leaves its task as one to be cancelled
-                    await asyncio.create_task(self.world.run(stop))
+                    await asyncio.create_task(self.world.run(stop, only_meets))
                     status = books.end()
                 finally:
                     books.program.kill()
@@ -104,27 +110,72 @@ def init(config: Table) -> int:
     return subprocess.run([*config.node.words, "--new"], stdin=subprocess.DEVNULL).returncode
 
 
+def backup(config: Table, to: str) -> int:
+    """Copies to a new folder what a host keeps, its keys, and last its configuration. Raises Unfit
+    where there is such a folder, where the host runs, or where its node did not end cleanly."""
+    folder, place = pathlib.Path(config.node.directory), CALLED_FROM / to
+    # which keeps its directory for itself meanwhile
+    host = Host(config)
+    if any(log.stat().st_size > LOG_HEADER for log in folder.glob("*.db-wal")):
+        raise Unfit(f"{folder}: the node's log is not merged: let the host run, and end it")
+    try:
+        shutil.copytree(folder, place / "directory", ignore=shutil.ignore_patterns("control"))
+        for at, key in enumerate(config.node.keys):
+            shutil.copyfile(key, place / f"key-{at}")
+        os.sync()
+        shutil.copyfile(config.path, place / "host.toml")
+        os.sync()
+    except (OSError, shutil.Error) as why:
+        raise Unfit(f"{place}: {why}") from None
+    host.lock.close()
+    return 0
+
+
+def restore(config: Table, kept: str) -> int:
+    """Puts a backup where no directory is, with the keys that are not there, and meets the peers.
+    Returns the status. Raises Unfit where one knows more of this number, and takes it away then."""
+    folder, place, status = pathlib.Path(config.node.directory), CALLED_FROM / kept, 4
+    if not (place / "host.toml").is_file():
+        raise Unfit(f"{place}: no whole backup is there")
+    try:
+        shutil.copytree(place / "directory", folder)
+        for at, key in enumerate(config.node.keys):
+            if not os.path.exists(key):
+                shutil.copyfile(place / f"key-{at}", key)
+    except (OSError, shutil.Error) as why:
+        raise Unfit(f"{folder}: {why}") from None
+    try:
+        host = Host(config)
+        status = asyncio.run(host.run(only_meets=True))
+        print("peers that were heard:", *host.world.machines.met())
+    finally:
+        if status:
+            shutil.rmtree(folder)
+    return status
+
+
+VERBS: dict[str, Callable[..., int]] = {
+    "": lambda config: asyncio.run(Host(config).run()), "check": lambda _: 0, "init": init,
+    "status": status, "explain": explain, "backup": backup, "restore": restore}
+
+
 def main(words: list[str]) -> int:
     """Does what the words of the command say, and returns its status."""
     if words == ["story"]:
         os.execv(STORY, [str(STORY)])
     as_root = words[:1] == ["--as-root"]
     words = words[as_root:]
-    verb = words.pop(0) if words[:1] and words[0] in ("check", "init", "status", "explain") else ""
+    verb = words.pop(0) if words[:1] and words[0] in VERBS else ""
     is_help = words in (["-h"], ["--help"])
-    if is_help or len(words) != (2 if verb == "explain" else 1):
+    if is_help or len(words) != 1 + (verb in ("explain", "backup", "restore")):
         print(USAGE, file=sys.stdout if is_help else sys.stderr)
         return 0 if is_help else 2
     os.umask(0o077)
     try:
         config = read_config(pathlib.Path(words[0]).absolute())
-        if verb == "explain":
-            return explain(config, words[1])
-        if verb in ("check", "status"):
-            return status(config) if verb == "status" else 0
-        if os.getuid() == 0 and not as_root:
+        if os.getuid() == 0 and not as_root and verb in ("", "init", "backup", "restore"):
             raise Unfit("root's processes are not limited in number: --as-root insists")
-        return init(config) if verb == "init" else asyncio.run(Host(config).run())
+        return VERBS[verb](config, *words[1:])
     except* Unfit as group:
         why: BaseException = group
         while isinstance(why, BaseExceptionGroup):

@@ -55,7 +55,7 @@ def read_config(path: pathlib.Path) -> Table:
     if not problems:
         # how the node starts, tags of owners here by name, and services that are no children
         place = ["--node", str(config.node.number), "--dir", os.path.abspath(config.node.directory)]
-        config.node.words = [config.node.program, *place]
+        config.path, config.node.words = path, [config.node.program, *place]
         config.tags = {f"{name}/{it}" for name, one in config.owners.items() for it in one.tags}
         config.started = [name for name, it in config.services.items() if it.starts]
         problems = [text for look in (wrong_names, wrong_files, wrong_machines)

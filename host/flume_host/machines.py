@@ -100,8 +100,10 @@ class Machines:
             async with asyncio.timeout(self.config.patience):
                 await asyncio.gather(*(peer.is_met.wait() for peer in self.peers.values()))
         self.has_met = True
-        met = [number for number, peer in self.peers.items() if peer.is_met.is_set()]
-        self.world.note("met", peers=met)
+        self.world.note("met", peers=self.met())
+
+    def met(self) -> list[int]:
+        return [number for number, peer in self.peers.items() if peer.is_met.is_set()]
 
     async def run(self) -> None:
         """Meets the others, by one client of the broker after another."""

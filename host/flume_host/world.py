@@ -29,9 +29,10 @@ class World:
                           for it in peer.services}
         self.processes |= {it: Process(nobody(books.number)) for it in config.started}
 
-    async def run(self, stop: asyncio.Event) -> None:
-        """Runs all until it is to stop, or its node ends. No real process is left as it returns.
-        Raises a group of what else ended it, as Unfit."""
+    async def run(self, stop: asyncio.Event, only_meets: bool) -> None:
+        """Runs all until it is to stop, its node ends, or it has met the other machines, where that
+        is all. No real process is left as it returns. Raises a group of what else ended it, as
+        Unfit."""
         try:
             async with asyncio.TaskGroup() as self.group:
                 start = self.group.create_task
@@ -43,6 +44,9 @@ class World:
                     start(self.machines.run())
                     start(self.machines.talk())
                     await self.machines.meet()
+                if only_meets:
+                    stop.set()
+                    raise NodeEnded
                 self.begin_owners()
                 for name, outlet in self.config.outlets.items():
                     process = self.equipped(f"outlets.{name}", outlet, "r")
