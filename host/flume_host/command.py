@@ -85,7 +85,8 @@ class Host:
         is_explained = line.partition(" ")[0] in ("missing", "why")
         writer.write(json.dumps(self.world.books.answer(line) if is_explained else {
             "node": self.config.node.number, "starts": self.starts,
-            "emissions": self.journal.emissions, "undone": len(self.journal.undone),
+            "emissions": {name: it["number"] for name, it in self.journal.last.items()},
+            "undone": sum(it["kind"] == "emission" for it in self.journal.last.values()),
             "processes": {pid: it.name for pid, it in self.world.living.items()},
             "peers": {number: it.status() for number, it in self.world.machines.peers.items()}
         }).encode() + b"\n")

@@ -19,6 +19,7 @@ from typing import Any, Callable, Iterator
 from .config import Table
 
 Entry = dict[str, Any]
+EMISSION = ("emission", "done")
 
 
 def digest(secret: str) -> str:
@@ -70,43 +71,35 @@ def entries(folder: pathlib.Path) -> Iterator[Entry]:
 
 
 class Journal(Lines):
-    """The journal that a host writes, and the emissions in it that may not have been done."""
+    """The journal that a host writes, and of each outlet the last emission in it, or that it was
+    done. They are numbered apart: else one outlet would tell how much goes out by another."""
 
     def __init__(self, folder: pathlib.Path, most_bytes: int, files: int) -> None:
         super().__init__(folder / "journal")
         self.most_bytes, self.files = most_bytes, files
-        # by outlet: were they numbered together, one outlet would tell how much went by another
-        self.emissions, self.undone = dict[str, int](), dict[tuple[str, int], Entry]()
-        for entry in entries(folder):
-            if entry["kind"] == "emission":
-                self.emissions[entry["outlet"]] = entry["number"]
-                self.undone[entry["outlet"], entry["number"]] = entry
-            elif entry["kind"] == "done":
-                self.undone.pop((entry["outlet"], entry["number"]), None)
-            elif entry["kind"] == "file":
-                self.emissions = entry["emissions"]
+        self.last = {it["outlet"]: it for it in entries(folder) if it["kind"] in EMISSION}
 
     def note(self, kind: str, **what: object) -> Entry:
-        """Returns an entry, which it writes. Where its file is full a new one is begun with what is
-        not done, so that an older one may go."""
+        """Returns an entry, which it writes. Where its file is full a new one is begun with the
+        last emissions, so that an older one may go."""
         if self.file.tell() >= self.most_bytes:
             self.file.close()
             RotatingFileHandler(self.path, backupCount=self.files - 1, delay=True).doRollover()
             super().__init__(self.path)
-            self.note("file", emissions=self.emissions)
-            for entry in self.undone.values():
+            self.note("file")
+            for entry in self.last.values():
                 self.write(entry)
-        return self.write({"at": time.time(), "kind": kind, **what})
+        entry = self.write({"at": time.time(), "kind": kind, **what})
+        self.last |= {entry["outlet"]: entry} if kind in EMISSION else {}
+        return entry
 
-    async def emission(self, outlet: str, content: bytes) -> int:
-        """Notes that these bytes may go out, and returns their number, once it is on the disk."""
-        number = self.emissions[outlet] = self.emissions.get(outlet, 0) + 1
-        self.undone[outlet, number] = self.note("emission", outlet=outlet, number=number,
-                                                bytes=content.hex())
+    async def emission(self, outlet: str, content: bytes) -> None:
+        """Notes on the disk that these bytes may go out, with their number."""
+        number: int = self.last.get(outlet, {"number": 0})["number"] + 1
+        self.note("emission", outlet=outlet, number=number, bytes=content.hex())
         # the file may be changed meanwhile
         with open(os.dup(self.file.fileno()), "ab") as file:
             await asyncio.to_thread(os.fdatasync, file)
-        return number
 
 
 def asked(config: Table, line: str = "") -> Any:

@@ -54,47 +54,41 @@ class Outlet:
     def __init__(self, name: str, config: Table, process: Process, books: Books) -> None:
         self.name, self.config, self.process, self.books = name, config, process, books
         self.journal, self.bell = books.journal, asyncio.Event()
-        self.line: tuple[asyncio.StreamReader, asyncio.StreamWriter] | None = None
 
     async def pump(self) -> None:
         """Lets out what an end of the host left undone, and then each message that it may. An
         emission costs lines of the node, a sync of the journal, and its deed."""
-        try:
-            for (outlet, number), entry in list(self.journal.undone.items()):
-                if outlet == self.name:
-                    await self.let_out(number, bytes.fromhex(entry["bytes"]))
-            while True:
-                self.bell.clear()
-                while message := self.books.take(self.process.pid):
-                    # first the verdict, and then the deed
-                    with contextlib.suppress(Refused):
-                        self.books.do(f"emit {self.process.pid} {message[1].hex() or 'none'}")
-                        number = await self.journal.emission(self.name, message[1])
-                        await self.let_out(number, message[1])
+        while True:
+            self.bell.clear()
+            last = self.journal.last.get(self.name, {})
+            if last.get("kind") == "emission":
+                await self.let_out(last["number"], bytes.fromhex(last["bytes"]))
+            elif message := self.books.take(self.process.pid):
+                # first the verdict, and then, in the next turn, the deed
+                with contextlib.suppress(Refused):
+                    self.books.do(f"emit {self.process.pid} {message[1].hex() or 'none'}")
+                    await self.journal.emission(self.name, message[1])
+            else:
                 await self.bell.wait()
-        finally:
-            self.hang_up()
 
     async def let_out(self, number: int, content: bytes) -> None:
         """Does an emission, again and again until it is done."""
         async for _ in attempts(asyncio.Event()):
             try:
                 await self.write(number, content)
-                del self.journal.undone[self.name, number]
                 self.journal.note("done", outlet=self.name, number=number)
                 return
             except OSError as why:
                 print(f"flume-host: outlet {self.name}: {why}", file=sys.stderr, flush=True)
-                self.hang_up()
 
     async def write(self, number: int, content: bytes) -> None:
-        """Does an emission once, to a file with a sync. Raises OSError."""
+        """Does an emission once: to a file with a sync, to an address by a connection. Raises
+        OSError."""
         if self.config.kind == "tcp":
-            if not self.line or self.line[0].at_eof():
-                self.hang_up()
-                self.line = await asyncio.open_connection(*self.config.to.rsplit(":", 1))
-            self.line[1].write(content)
-            await self.line[1].drain()
+            _, writer = await asyncio.open_connection(*self.config.to.rsplit(":", 1))
+            with contextlib.closing(writer):
+                writer.write(content)
+                await writer.drain()
         elif self.config.kind == "standard-output":
             sys.stdout.buffer.write(content + b"\n")
             sys.stdout.buffer.flush()
@@ -106,11 +100,6 @@ class Outlet:
                 file.write(json.dumps(entry).encode() + b"\n" if is_log else content)
                 file.flush()
                 await asyncio.to_thread(os.fsync, file)
-
-    def hang_up(self) -> None:
-        if self.line:
-            self.line[1].close()
-        self.line = None
 
 
 class Service:
