@@ -1,22 +1,22 @@
 """A real process in a sandbox: no network, no capabilities, nothing to write but a small /tmp."""
 import contextlib
+import errno
 import json
 import os
 import pathlib
-import platform
 import re
 import resource
 import select
 import signal
 import socket
-import struct
 import subprocess
-from typing import NamedTuple, TextIO
+from typing import BinaryIO, NamedTuple, TextIO
 
 from .config import Table
 
 LIBRARY = pathlib.Path(__file__).resolve().parent.parent / "flume_service.py"
-GROUPS = pathlib.Path("/sys/fs/cgroup")
+GROUPS, CALLED = pathlib.Path("/sys/fs/cgroup"), "bwrap of {}"
+FAMILIES = {socket.AF_UNIX, socket.AF_INET, socket.AF_INET6}
 TEMPORARY_BYTES, FILES, SECONDS = 16 << 20, 256, 10.0
 SYSTEM = f"""
     --unshare-user --unshare-ipc --unshare-pid --unshare-net --unshare-uts --unshare-cgroup
@@ -29,14 +29,6 @@ SYSTEM = f"""
 # bwrap waits for a byte or the end of the host, and the shell for a line: a host that was killed
 # before it noted a sandbox leaves nothing that runs
 WAITS = ("/bin/sh", "-c", 'read -r go && exec "$@" < /dev/null', "service")
-# System calls by which a sandbox without a network would still reach others: the kernel's keys
-# belong to a user and not to a sandbox, sockets of some families to no network namespace, and
-# io_uring makes its own. By machine: how the kernel calls it, socket, add_key, request_key, keyctl
-MACHINES = {"x86_64": (0xC000003E, 41, 248, 249, 250), "aarch64": (0xC00000B7, 198, 217, 218, 219)}
-IO_URING_SETUP, OTHER_NUMBERS = 425, 0x4000_0000
-LOAD, EQUAL, AT_LEAST, RETURN = 0x20, 0x15, 0x35, 0x06
-ALLOW, DENY = 0x7FFF_0000, 0x0005_0001
-NUMBER_AT, MACHINE_AT, FIRST_WORD_AT = 0, 4, 16
 
 
 def begun_at(pid: int) -> str:
@@ -98,20 +90,20 @@ def delegated(groups: pathlib.Path) -> pathlib.Path | None:
     return None
 
 
-def filter_program() -> bytes:
-    """Returns the program by which the kernel denies them (EPERM). Raises OSError."""
-    if platform.machine() not in MACHINES:
-        raise OSError(f"no filter of system calls is known for {platform.machine()}")
-    machine, sockets, *keys = MACHINES[platform.machine()]
-    # each with how many it leaves out where it holds, and where not
-    steps = [(LOAD, 0, 0, MACHINE_AT), (EQUAL, 1, 0, machine), (RETURN, 0, 0, DENY),
-             (LOAD, 0, 0, NUMBER_AT), (AT_LEAST, 0, 1, OTHER_NUMBERS), (RETURN, 0, 0, DENY)]
-    for number in (IO_URING_SETUP, *keys):
-        steps += [(EQUAL, 0, 1, number), (RETURN, 0, 0, DENY)]
-    steps += [(EQUAL, 1, 0, sockets), (RETURN, 0, 0, ALLOW), (LOAD, 0, 0, FIRST_WORD_AT)]
-    for family in (socket.AF_UNIX, socket.AF_INET, socket.AF_INET6):
-        steps += [(EQUAL, 0, 1, family), (RETURN, 0, 0, ALLOW)]
-    return b"".join(struct.pack("=HBBI", *it) for it in (*steps, (RETURN, 0, 0, DENY)))
+def write_denied(file: BinaryIO) -> None:
+    """Writes which system calls are denied (EPERM): those by which a sandbox without a network
+    would still reach others. The kernel's keys belong to a user and not to a sandbox, sockets of
+    some families to no network namespace, and io_uring makes its own."""
+    # only Debian's Python has it, and all may ask for help
+    import seccomp
+    rules, deny = seccomp.SyscallFilter(seccomp.ALLOW), seccomp.ERRNO(errno.EPERM)
+    for call in ("add_key", "request_key", "keyctl", "io_uring_setup"):
+        rules.add_rule(deny, call)
+    rules.add_rule(deny, "socket", seccomp.Arg(0, seccomp.GT, max(FAMILIES)))
+    for family in {*range(max(FAMILIES))} - FAMILIES:
+        rules.add_rule(deny, "socket", seccomp.Arg(0, seccomp.EQ, family))
+    rules.export_bpf(file)
+    file.seek(0)
 
 
 class Sandbox:
@@ -125,7 +117,7 @@ class Sandbox:
         (told, tells), (lets, waits) = socket.socketpair(), socket.socketpair()
         told.settimeout(SECONDS)
         rules = open(os.memfd_create("filter"), "r+b")
-        os.pwrite(rules.fileno(), filter_program(), 0)
+        write_denied(rules)
         given = [theirs.fileno(), tells.fileno(), waits.fileno(), rules.fileno()]
         words = [place.called, *SYSTEM, "--setenv", "FLUME_SOCKET", str(given[0])]
         for path in (LIBRARY, *map(pathlib.Path, service.sees)):

@@ -1,0 +1,16 @@
+"""The few calls of libseccomp's module that the host makes."""
+from typing import IO
+
+ALLOW: int
+EQ: int
+GT: int
+
+def ERRNO(number: int) -> int: ...
+
+class Arg:
+    def __init__(self, at: int, how: int, value: int) -> None: ...
+
+class SyscallFilter:
+    def __init__(self, otherwise: int) -> None: ...
+    def add_rule(self, what: int, call: str, *arguments: Arg) -> None: ...
+    def export_bpf(self, file: IO[bytes]) -> None: ...
