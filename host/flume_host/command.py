@@ -11,10 +11,10 @@ import subprocess
 import sys
 from typing import Callable
 
-from .config import Table, Unfit, read_config
+from .config import Table, Unfit, read_config, unfit
 from .node import Books
 from .records import Journal, Vault, asked, explain
-from .sandbox import prepare
+from .sandbox import delegated, end_left
 from .service import attempts
 from .world import World
 
@@ -37,18 +37,13 @@ class Host:
     def __init__(self, config: Table) -> None:
         """Opens its files, and ends the real processes that a kill may have left. Raises Unfit
         where its directory is not there, or another host has it."""
-        self.config, self.starts, folder = config, 0, pathlib.Path(config.node.directory)
-        try:
+        self.config, self.starts = config, 0
+        self.folder = folder = pathlib.Path(config.node.directory)
+        with unfit(f"{folder}: init makes it, and it is unavailable where another host has it"):
             self.lock = open(folder / "lock", "a")
             fcntl.flock(self.lock, fcntl.LOCK_EX | fcntl.LOCK_NB)
             self.keys = [bytes.fromhex(pathlib.Path(it).read_text()) for it in config.node.keys]
-        except FileNotFoundError as why:
-            raise Unfit(f"{why.filename} is not there: flume-host init makes it") from None
-        except BlockingIOError:
-            raise Unfit(f"{folder}: another host has it") from None
-        except (OSError, ValueError) as why:
-            raise Unfit(f"{folder}, or a key of it: {why}") from None
-        self.place, self.vault = prepare(folder / "running"), Vault(folder / "vault")
+        self.running, self.vault = end_left(folder / "running"), Vault(folder / "vault")
         self.journal = Journal(folder, config.node.journal_bytes, config.node.journal_files)
 
     async def run(self, only_meets: bool = False) -> int:
@@ -57,6 +52,8 @@ class Host:
         all. Returns the status."""
         stop, node = asyncio.Event(), self.config.node
         path = node.directory + "/control"
+        # before it has a child, which would have to change its group too
+        delegated()
         for number in (signal.SIGTERM, signal.SIGINT):
             asyncio.get_running_loop().add_signal_handler(number, stop.set)
         pathlib.Path(path).unlink(missing_ok=True)
@@ -67,15 +64,16 @@ class Host:
                 keys = [word for it in node.keys for word in ("--key", it)]
                 books = Books([*node.words, *keys], node.number, self.journal)
                 try:
-                    self.world = World(self.config, books, self.vault, self.place, self.keys)
+                    self.world = World(self.config, books, self.vault, self.running, self.keys)
                     # a task of its own: a group that fails leaves its task as one to be cancelled
                     await asyncio.create_task(self.world.run(stop, only_meets))
                     status = books.end()
                 finally:
                     books.program.kill()
-                if status in ((0, 1, 2, 4) if stop.is_set() else (2, 4)):
+                if status in (2, 4):
                     return status
-                print("flume-host: the node ended, and starts again", file=sys.stderr, flush=True)
+                if not stop.is_set():
+                    print("flume-host: the node ended, and starts again", file=sys.stderr)
         return 0
 
     async def control(self, reader: asyncio.StreamReader, writer: asyncio.StreamWriter) -> None:
@@ -91,15 +89,6 @@ class Host:
             "peers": {number: it.status() for number, it in self.world.machines.peers.items()}
         }).encode() + b"\n")
         writer.close()
-
-
-def status(config: Table) -> int:
-    """Prints what a running host does. Raises Unfit where none runs."""
-    try:
-        print(json.dumps(asked(config)))
-    except OSError as why:
-        raise Unfit(f"no host runs here: {why.strerror}") from None
-    return 0
 
 
 def init(config: Table) -> int:
@@ -148,16 +137,17 @@ def restore(config: Table, kept: str) -> int:
     try:
         host = Host(config)
         status = asyncio.run(host.run(only_meets=True))
-        print("peers that were heard:", *host.world.machines.met())
+        print("peers that were heard:", *host.world.machines.met)
     finally:
         if status:
             shutil.rmtree(folder)
     return status
 
 
-VERBS: dict[str, Callable[..., int]] = {
-    "": lambda config: asyncio.run(Host(config).run()), "check": lambda _: 0, "init": init,
-    "status": status, "explain": explain, "backup": backup, "restore": restore}
+VERBS: dict[str, Callable[..., int | None]] = {
+    "": lambda config: asyncio.run(Host(config).run()), "init": init, "explain": explain,
+    "check": lambda _: None, "status": lambda config: print(json.dumps(asked(config))),
+    "backup": backup, "restore": restore}
 
 
 def main(words: list[str]) -> int:
@@ -176,7 +166,7 @@ def main(words: list[str]) -> int:
         config = read_config(pathlib.Path(words[0]).absolute())
         if os.getuid() == 0 and not as_root and verb in ("", "init", "backup", "restore"):
             raise Unfit("root's processes are not limited in number: --as-root insists")
-        return VERBS[verb](config, *words[1:])
+        return VERBS[verb](config, *words[1:]) or 0
     except* Unfit as group:
         why: BaseException = group
         while isinstance(why, BaseExceptionGroup):

@@ -1,4 +1,5 @@
 """The configuration of a host: what its TOML says, by a table of its keys, or all that is wrong."""
+import contextlib
 import importlib.util
 import os
 import pathlib
@@ -43,15 +44,22 @@ class Unfit(Exception):
     """Why a host cannot run, a problem a line, and perhaps the status with which it ends."""
 
 
+@contextlib.contextmanager
+def unfit(what: object) -> Iterator[None]:
+    """Raises Unfit, with what it is about, in place of OSError and ValueError."""
+    try:
+        yield
+    except (OSError, ValueError) as why:
+        raise Unfit(f"{what}: {why}") from None
+
+
 def read_config(path: pathlib.Path) -> Table:
     """Returns the configuration of a file, whose folder the program is in from here on. Raises
     Unfit with every problem: by key, or with the line where it is no TOML."""
     problems: list[str] = []
-    try:
+    with unfit(path):
         os.chdir(path.parent)
         config: Table = value(CONFIG, tomllib.loads(path.read_text("utf-8")), "", problems)
-    except (OSError, ValueError) as why:
-        raise Unfit(f"{path}: {why}") from None
     if not problems:
         # how the node starts, tags of owners here by name, and services that are no children
         place = ["--node", str(config.node.number), "--dir", os.path.abspath(config.node.directory)]

@@ -89,7 +89,7 @@ class Machines:
         self.world, self.books = world, world.books
         self.peers = {it.number: Peer(it) for it in world.config.peers.values()}
         self.outgoing: asyncio.Queue[tuple[str, bytes]] = asyncio.Queue(MOST)
-        self.last, self.has_met = 0, False
+        self.last, self.has_met, self.met = 0, False, list[int]()
 
     def topic(self, to: object, sender: object) -> str:
         return f"flume/{self.config.name}/to/{to}/from/{sender}"
@@ -100,10 +100,8 @@ class Machines:
             async with asyncio.timeout(self.config.patience):
                 await asyncio.gather(*(peer.is_met.wait() for peer in self.peers.values()))
         self.has_met = True
-        self.world.note("met", peers=self.met())
-
-    def met(self) -> list[int]:
-        return [number for number, peer in self.peers.items() if peer.is_met.is_set()]
+        self.met = [number for number, peer in self.peers.items() if peer.is_met.is_set()]
+        self.world.note("met", peers=self.met)
 
     async def run(self) -> None:
         """Meets the others, by one client of the broker after another."""

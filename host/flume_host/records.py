@@ -16,7 +16,7 @@ import time
 from logging.handlers import RotatingFileHandler
 from typing import Any, Callable, Iterator
 
-from .config import Table
+from .config import Table, Unfit, unfit
 
 Entry = dict[str, Any]
 EMISSION = ("emission", "done")
@@ -104,20 +104,20 @@ class Journal(Lines):
 
 def asked(config: Table, line: str = "") -> Any:
     """Returns what a running host answers to a line for its node that only explains, or else what
-    it does. Raises OSError where none runs."""
-    with socket.socket(socket.AF_UNIX) as it:
+    it does. Raises Unfit where none runs."""
+    with unfit("no host runs here"), socket.socket(socket.AF_UNIX) as it:
         it.connect(config.node.directory + "/control")
         it.sendall(line.encode() + b"\n")
-        return json.loads(it.makefile().read() or '[""]')
+        return json.load(it.makefile())
 
 
-def explain(config: Table, service: str) -> int:
+def explain(config: Table, service: str) -> None:
     """Prints lines on a service, in the order of the journal, all of which is read, with what its
     node says of those that were refused, where it runs. Equal ones that follow one another are one,
     with their number."""
     @functools.cache
     def ask(line: str) -> list[str]:
-        with contextlib.suppress(OSError):
+        with contextlib.suppress(Unfit):
             return list(asked(config, line))
         return [""]
     lines = told(pathlib.Path(config.node.directory), f"service {service}", ask)
@@ -125,7 +125,6 @@ def explain(config: Table, service: str) -> int:
         began, *more = [at for at, _ in times]
         when = time.strftime("%Y-%m-%d %H:%M:%S", time.localtime(began))
         print(when, said + (f" ({len(more) + 1} times)" if more else ""))
-    return 0
 
 
 def told(folder: pathlib.Path, mine: str,

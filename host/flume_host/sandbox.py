@@ -1,6 +1,7 @@
 """A real process in a sandbox: no network, no capabilities, nothing to write but a small /tmp."""
 import contextlib
 import errno
+import functools
 import json
 import os
 import pathlib
@@ -10,7 +11,7 @@ import select
 import signal
 import socket
 import subprocess
-from typing import BinaryIO, NamedTuple, TextIO
+from typing import BinaryIO, TextIO
 
 from .config import Table
 
@@ -51,34 +52,27 @@ def end_process(handle: int) -> None:
         raise RuntimeError("a sandbox did not end in ten seconds")
 
 
-class Place(NamedTuple):
-    """Where sandboxes are: what each is called, the file that names them, and the control group in
-    which each has its own, where there is one."""
-    called: str
-    running: TextIO
-    group: pathlib.Path | None
-
-
-def prepare(path: pathlib.Path, groups: pathlib.Path = GROUPS) -> Place:
-    """Returns the place of sandboxes, where what a kill left has ended: each that the file of this
-    path names, and each whose making was broken off. Raises RuntimeError."""
-    place = Place(f"bwrap of {path.resolve()}", open(path, "a+"), delegated(groups))
-    place.running.seek(0)
-    for pid, _, began in (line.rstrip().partition(" ") for line in place.running):
+def end_left(path: pathlib.Path) -> TextIO:
+    """Returns a file for the sandboxes that are started, anew, and ends what a kill left: each that
+    it names before, and each whose making was broken off. Raises RuntimeError."""
+    file = open(path.resolve(), "a+")
+    file.seek(0)
+    for pid, _, began in (line.rstrip().partition(" ") for line in file):
         if began and begun_at(int(pid)) == began:
             end_process(os.pidfd_open(int(pid)))
     # bwrap's child waits for a word of bwrap, for ever where that was killed: nothing of a service
     for words in pathlib.Path("/proc").glob("[1-9]*/cmdline"):
         with contextlib.suppress(OSError):
-            if words.read_bytes().startswith(place.called.encode() + b"\0"):
+            if words.read_bytes().startswith(CALLED.format(file.name).encode()):
                 end_process(os.pidfd_open(int(words.parent.name)))
-    place.running.truncate(0)
-    return place
+    file.truncate(0)
+    return file
 
 
-def delegated(groups: pathlib.Path) -> pathlib.Path | None:
-    """Returns the control group that was delegated to the host, which is in one within from here
-    on, since one that has groups with limits has no processes; or nothing."""
+@functools.cache
+def delegated(groups: pathlib.Path = GROUPS) -> pathlib.Path | None:
+    """Returns the control group that was delegated to the host, or nothing. The host is in one
+    within from here on, since one has either processes or groups with limits."""
     [own] = re.findall("(?m)^0::/(.*)$", pathlib.Path("/proc/self/cgroup").read_text()) or [""]
     group: pathlib.Path = groups / own
     with contextlib.suppress(OSError):
@@ -109,7 +103,7 @@ def write_denied(file: BinaryIO) -> None:
 class Sandbox:
     """A service's real process with all its children, and the host's end of its socket."""
 
-    def __init__(self, service: Table, place: Place) -> None:
+    def __init__(self, service: Table, running: TextIO) -> None:
         """Starts it, with its limits set before anything of the service runs, which costs some 10
         to 100 ms. Raises OSError where bwrap does not make it."""
         self.socket, theirs = socket.socketpair(socket.AF_UNIX, socket.SOCK_SEQPACKET)
@@ -119,7 +113,7 @@ class Sandbox:
         rules = open(os.memfd_create("filter"), "r+b")
         write_denied(rules)
         given = [theirs.fileno(), tells.fileno(), waits.fileno(), rules.fileno()]
-        words = [place.called, *SYSTEM, "--setenv", "FLUME_SOCKET", str(given[0])]
+        words = [CALLED.format(running.name), *SYSTEM, "--setenv", "FLUME_SOCKET", str(given[0])]
         for path in (LIBRARY, *map(pathlib.Path, service.sees)):
             words += ["--ro-bind", str(path.resolve()), f"/srv/{path.resolve().name}"]
         words += ["--remount-ro", "/", "--info-fd", str(given[1]), "--block-fd", str(given[2]),
@@ -132,21 +126,21 @@ class Sandbox:
             try:
                 pid = int(json.load(told.makefile())["child-pid"])
                 self.handle = os.pidfd_open(pid)
-                self.limit(pid, service, place.group)
-                print(pid, begun_at(pid), file=place.running, flush=True)
+                self.limit(pid, service)
+                print(pid, begun_at(pid), file=running, flush=True)
                 lets.sendall(b".\n")
             except (OSError, ValueError) as why:
                 self.outer.kill()
                 self.outer.wait()
                 raise OSError(f"bwrap: {why}") from None
 
-    def limit(self, pid: int, service: Table, group: pathlib.Path | None) -> None:
+    def limit(self, pid: int, service: Table) -> None:
         """Limits what all its processes have together, by a control group of its own, or else what
         each of them has. Raises OSError."""
         limits = {resource.RLIMIT_NOFILE: FILES, resource.RLIMIT_FSIZE: TEMPORARY_BYTES,
                   resource.RLIMIT_CORE: 0}
-        self.group = group and group / f"service-{pid}"
-        if self.group:
+        if group := delegated():
+            self.group = group / f"service-{pid}"
             self.group.mkdir(exist_ok=True)
             for name, content in (("memory.max", service.memory), ("memory.oom.group", 1),
                                   ("pids.max", service.processes), ("cgroup.procs", pid)):
@@ -163,7 +157,7 @@ class Sandbox:
         end_process(self.handle)
         self.outer.kill()
         self.outer.wait()
-        if self.group:
-            # it is empty, and one of its name may be taken over
+        if delegated():
+            # one that is left is taken over by one of its name
             with contextlib.suppress(OSError):
                 self.group.rmdir()

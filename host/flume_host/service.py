@@ -135,7 +135,7 @@ class Service:
         try:
             world.give(self.name, self.process)
             async with asyncio.timeout(self.config.seconds or None):
-                sandbox = Sandbox(self.config, world.place)
+                sandbox = Sandbox(self.config, world.running)
                 await self.converse(sandbox)
         except OSError as why:
             world.note("broke", service=self.name, pid=self.pid, why=str(why))

@@ -2,22 +2,21 @@
 import asyncio
 import pathlib
 import re
-from typing import Awaitable, Iterable
+from typing import Awaitable, Iterable, TextIO
 
 from .config import Table, Unfit
 from .machines import Machines
 from .node import OPERATION, Books, Labels, NodeEnded, Process, Refused
 from .records import Vault, digest
-from .sandbox import Place
 from .service import MESSAGE_BYTES, Outlet, Service, attempts
 
 
 class World:
     """All that lives while one flume-node runs."""
 
-    def __init__(self, config: Table, books: Books, vault: Vault, place: Place,
+    def __init__(self, config: Table, books: Books, vault: Vault, running: TextIO,
                  keys: list[bytes]) -> None:
-        self.config, self.vault, self.place = config, vault, place
+        self.config, self.vault, self.running = config, vault, running
         self.books, self.note = books, books.journal.note
         self.machines = Machines(keys, self)
         self.owners, self.tags = dict[str, Process](), dict[str, str]()
@@ -81,25 +80,22 @@ class World:
 
     async def keep(self, name: str, config: Table) -> None:
         """Runs a service, and starts it again where it is to be."""
+        named = {*config.secrecy, *config.integrity, *config.tags,
+                 *(right[1:] for right in config.rights)}
         async for _ in attempts(asyncio.Event()):
-            while not (service := self.begun(name, config)):
+            while not named <= {*self.tags}:
                 await asyncio.sleep(1)
-            self.processes[name] = service.process
-            await service.serve()
+            try:
+                process = self.equipped(f"services.{name}", config, "rw")
+            except Unfit:
+                # the node may not know yet of what another machine has told the name
+                if named <= self.config.tags:
+                    raise
+                continue
+            self.processes[name] = process
+            await Service(self, name, process, {it: self.tags[it] for it in sorted(named)}).serve()
             if not config.restarts:
                 return
-
-    def begun(self, name: str, config: Table) -> Service | None:
-        """Returns a service, or none where other machines have not told of what it begins with."""
-        named = {*config.secrecy, *config.integrity, *config.tags}
-        named |= {it[1:] for it in config.rights}
-        try:
-            tags = {tag: self.tags[tag] for tag in sorted(named)}
-            return Service(self, name, self.equipped(f"services.{name}", config, "rw"), tags)
-        except (KeyError, Unfit):
-            if named <= self.config.tags:
-                raise
-        return None
 
     def labelled(self, secrecy: Iterable[str], integrity: Iterable[str] = ()) -> Labels:
         return Labels(*(frozenset(self.tags[it] for it in names) for names in (secrecy, integrity)))

@@ -157,7 +157,10 @@ class Room:
         host, self.host = self.host, None
         if host.poll() is None:
             host.send_signal(signal_number)
-        return host.wait(SECONDS)
+        status = host.wait(SECONDS)
+        bad = [it for it in self.entries("line") if it["answer"][0].startswith("refused F19")]
+        expect(not bad, "lines that are none", bad[:3])
+        return status
 
     def clear(self):
         """Ends the host at once, and the sandboxes that it leaves so, as a next host would."""
