@@ -27,7 +27,7 @@ USAGE = """usage: flume-host [--as-root] CONFIG    runs the host of a machine
        flume-host restore CONFIG DIR      puts that back, where no peer knows more
        flume-host story                   runs the story of the documents, and prints it"""
 STORY = pathlib.Path(__file__).resolve().parent.parent / "tests/story/run"
-CALLED_FROM, LOG_HEADER = pathlib.Path.cwd(), 32
+CALLED_FROM, LEAST_PAGE = pathlib.Path.cwd(), 512
 
 
 class Host:
@@ -100,41 +100,39 @@ def init(config: Table) -> int:
     return subprocess.run([*config.node.words, "--new"], stdin=subprocess.DEVNULL).returncode
 
 
-def backup(config: Table, to: str) -> int:
-    """Copies to a new folder what a host keeps, its keys, and last its configuration. Raises Unfit
-    where there is such a folder, where the host runs, or where its node did not end cleanly."""
-    folder, place = pathlib.Path(config.node.directory), CALLED_FROM / to
-    # which keeps its directory for itself meanwhile
+def copy(config: Table, place: pathlib.Path, is_back: bool) -> None:
+    """Copies what a host keeps to a place, where host.toml is the last, or back, where its keys and
+    its configuration stay if they are there. Raises Unfit."""
+    keys = {f"key-{at}": it for at, it in enumerate(config.node.keys)}
+    files = {"directory": config.node.directory, **keys, "host.toml": config.path}
+    with unfit(place):
+        for name, own in files.items():
+            source, to = (place / name, own) if is_back else (own, place / name)
+            if name == "directory":
+                shutil.copytree(source, to, ignore=shutil.ignore_patterns("control"),
+                                dirs_exist_ok=is_back)
+            elif not os.path.exists(to):
+                shutil.copyfile(source, to)
+        os.sync()
+
+
+def backup(config: Table, to: str) -> None:
+    """Copies what a host keeps to a new folder. Raises Unfit where the host runs, which it cannot
+    meanwhile, or its node did not end cleanly."""
     host = Host(config)
-    if any(log.stat().st_size > LOG_HEADER for log in folder.glob("*.db-wal")):
-        raise Unfit(f"{folder}: the node's log is not merged: let the host run, and end it")
-    try:
-        shutil.copytree(folder, place / "directory", ignore=shutil.ignore_patterns("control"))
-        for at, key in enumerate(config.node.keys):
-            shutil.copyfile(key, place / f"key-{at}")
-        os.sync()
-        shutil.copyfile(config.path, place / "host.toml")
-        os.sync()
-    except (OSError, shutil.Error) as why:
-        raise Unfit(f"{place}: {why}") from None
-    host.lock.close()
-    return 0
+    if any(log.stat().st_size > LEAST_PAGE for log in host.folder.glob("*.db-wal")):
+        raise Unfit(f"{host.folder}: the node's log is not merged: let the host run, and end it")
+    copy(config, CALLED_FROM / to, is_back=False)
 
 
 def restore(config: Table, kept: str) -> int:
-    """Puts a backup where no directory is, with the keys that are not there, and meets the peers.
-    Returns the status. Raises Unfit where one knows more of this number, and takes it away then."""
-    folder, place, status = pathlib.Path(config.node.directory), CALLED_FROM / kept, 4
-    if not (place / "host.toml").is_file():
-        raise Unfit(f"{place}: no whole backup is there")
+    """Puts a backup where nothing is, and meets the peers. Returns the status. Where one knows more
+    of this number it takes the directory away again, and raises Unfit."""
+    place, folder, status = CALLED_FROM / kept, pathlib.Path(config.node.directory), 4
+    if not (place / "host.toml").exists() or folder.exists() and any(folder.iterdir()):
+        raise Unfit(f"{place} is no whole backup, or something is in {folder}")
     try:
-        shutil.copytree(place / "directory", folder)
-        for at, key in enumerate(config.node.keys):
-            if not os.path.exists(key):
-                shutil.copyfile(place / f"key-{at}", key)
-    except (OSError, shutil.Error) as why:
-        raise Unfit(f"{folder}: {why}") from None
-    try:
+        copy(config, place, is_back=True)
         host = Host(config)
         status = asyncio.run(host.run(only_meets=True))
         print("peers that were heard:", *host.world.machines.met)

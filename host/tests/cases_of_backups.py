@@ -1,5 +1,6 @@
 """Copies of what a host keeps, and hosts that are put back from them."""
 import json
+import os
 import shutil
 import signal
 import stat
@@ -49,21 +50,26 @@ def backups_that_are_refused(room):
         done = room.run(verb, "CONFIG", to)
         expect(done.returncode == 2 and why in done.stderr, verb, done)
     refused("backup", kept, "another host has it")
-    log = room.folder / "it/node-1.db-wal"
+    # else it would merge its log as its host ends
+    node = room.node_pid()
+    os.kill(node, signal.SIGSTOP)
     room.end(signal.SIGKILL)
-    if log.exists():
+    os.kill(node, signal.SIGKILL)
+    if (room.folder / "it/node-1.db-wal").exists():
         refused("backup", kept, "is not merged")
     expect(not kept.exists(), "a backup was begun")
     room.start()
     room.until(lambda: len(room.entries("greeting")) == 2, "a start")
     expect(room.end() == 0, room.said())
-    refused("restore", none, "no whole backup")
+    refused("restore", none, "is no whole backup")
     expect(room.run("backup", "CONFIG", kept).returncode == 0, "a backup")
     refused("backup", kept, "File exists")
-    refused("restore", kept, "File exists")
+    refused("restore", kept, "or something is in it")
+    expect((room.folder / "it/vault").exists(), "it was taken away")
     expect(room.run("backup", "CONFIG", "/no/folder").returncode == 2, "a folder in none")
+    shutil.rmtree(room.folder / "it")
     (kept / "host.toml").unlink()
-    refused("restore", kept, "no whole backup")
+    refused("restore", kept, "is no whole backup")
 
 
 @case
