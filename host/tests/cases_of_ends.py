@@ -213,6 +213,8 @@ def delegated_group(room):
         raise Barred("a delegated control group") from None
     for path in (it, *(it / f"cgroup.{name}" for name in ("procs", "subtree_control", "threads"))):
         os.chown(path, USER, USER)
+    with contextlib.suppress(OSError):
+        (it / "memory.swap.max").write_text("0")
     return it
 
 
@@ -229,7 +231,7 @@ try:
     forks()
 except BlockingIOError:
     tell("no more")
-had = bytearray(100 << 20)
+had = b"x" * (100 << 20)
 tell("too much")
 """
     keys = ("memory = 67108864", "processes = 12", "restarts = false")
