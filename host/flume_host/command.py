@@ -35,8 +35,8 @@ class Host:
     world: World
 
     def __init__(self, config: Table) -> None:
-        """Opens its files, and ends the real processes that a kill may have left. Raises Unfit
-        where its directory is not there, or another host has it."""
+        """Opens its files, and ends the real processes that a kill left. Raises Unfit where another
+        host has them."""
         self.config, self.starts = config, 0
         self.folder = folder = pathlib.Path(config.node.directory)
         with unfit(f"{folder}: init makes it, and it is unavailable where another host has it"):
@@ -77,8 +77,7 @@ class Host:
         return 0
 
     async def control(self, reader: asyncio.StreamReader, writer: asyncio.StreamWriter) -> None:
-        """Answers whoever asks, in JSON: a line that explains as the node does, and else what it
-        runs."""
+        """Answers a line that explains as the node does, and else with what runs, in JSON."""
         line = (await reader.readline()).decode().strip()
         is_explained = line.partition(" ")[0] in ("missing", "why")
         writer.write(json.dumps(self.world.books.answer(line) if is_explained else {
@@ -92,8 +91,7 @@ class Host:
 
 
 def init(config: Table) -> int:
-    """Makes the directory, the first key where it is not there, and the node, which says 4 where
-    one is there already."""
+    """Makes the directory, the first key where none is, and the node: 4 where one is there."""
     os.makedirs(config.node.directory, exist_ok=True)
     for key in (it for it in config.node.keys[:1] if not os.path.exists(it)):
         pathlib.Path(key).write_text(secrets.token_hex(32))

@@ -42,8 +42,7 @@ class Lines:
 
 
 class Vault(Lines):
-    """The secrets of owners' logins by tag, and the time of each order by service. Each is on the
-    disk before it is relied upon."""
+    """The secrets of logins by tag, and the time of each order by service, on the disk at once."""
 
     def __init__(self, path: pathlib.Path) -> None:
         super().__init__(path)
@@ -112,9 +111,8 @@ def asked(config: Table, line: str = "") -> Any:
 
 
 def explain(config: Table, service: str) -> None:
-    """Prints lines on a service, in the order of the journal, all of which is read, with what its
-    node says of those that were refused, where it runs. Equal ones that follow one another are one,
-    with their number."""
+    """Prints what the journal has of a service, all of which is read, and what its node, where it
+    runs, says of what was refused. Equal lines that follow one another are one, and counted."""
     @functools.cache
     def ask(line: str) -> list[str]:
         with contextlib.suppress(Unfit):

@@ -104,8 +104,7 @@ class Sandbox:
     """A service's real process with all its children, and the host's end of its socket."""
 
     def __init__(self, service: Table, running: TextIO) -> None:
-        """Starts it, with its limits set before anything of the service runs, which costs some 10
-        to 100 ms. Raises OSError where bwrap does not make it."""
+        """Starts it, with its limits first, in 10 to 100 ms. Raises OSError where bwrap fails."""
         self.socket, theirs = socket.socketpair(socket.AF_UNIX, socket.SOCK_SEQPACKET)
         self.socket.setblocking(False)
         (told, tells), (lets, waits) = socket.socketpair(), socket.socketpair()
@@ -135,8 +134,7 @@ class Sandbox:
                 raise OSError(f"bwrap: {why}") from None
 
     def limit(self, pid: int, service: Table) -> None:
-        """Limits what all its processes have together, by a control group of its own, or else what
-        each of them has. Raises OSError."""
+        """Limits all its processes by a control group, or else each of them. Raises OSError."""
         limits = {resource.RLIMIT_NOFILE: FILES, resource.RLIMIT_FSIZE: TEMPORARY_BYTES,
                   resource.RLIMIT_CORE: 0}
         if group := delegated():

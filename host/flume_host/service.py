@@ -82,8 +82,7 @@ class Outlet:
                 print(f"flume-host: outlet {self.name}: {why}", file=sys.stderr, flush=True)
 
     async def write(self, number: int, content: bytes) -> None:
-        """Does an emission once: to a file with a sync, to an address by a connection. Raises
-        OSError."""
+        """Does an emission once, by a connection, or with a sync of a file. Raises OSError."""
         if self.config.kind == "tcp":
             _, writer = await asyncio.open_connection(*self.config.to.rsplit(":", 1))
             with contextlib.closing(writer):
@@ -117,8 +116,7 @@ class Service:
         self.bell, self.is_gone = asyncio.Event(), False
 
     def named(self, what: str) -> str:
-        """Returns a tag or a right by the name of its tag, which is a new handle where it had none,
-        and nothing of anything else."""
+        """Returns a tag or right by its tag's name, a new handle if need be; of else nothing."""
         tag = what.lstrip("+-")
         if not OPERATION.fullmatch(tag):
             return ""

@@ -29,9 +29,8 @@ class World:
         self.processes |= {it: Process(nobody(books.number)) for it in config.started}
 
     async def run(self, stop: asyncio.Event, only_meets: bool) -> None:
-        """Runs all until it is to stop, its node ends, or it has met the other machines, where that
-        is all. No real process is left as it returns. Raises a group of what else ended it, as
-        Unfit."""
+        """Runs all until it is to stop, its node ends, or machines have met, where that is all. No
+        real process is left as it returns. Raises a group of what else ended it, as Unfit."""
         try:
             async with asyncio.TaskGroup() as self.group:
                 start = self.group.create_task
