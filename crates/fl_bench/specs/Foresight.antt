@@ -1,11 +1,10 @@
--- What a job would be answered now, and which capabilities are wanting for it.
-use Rattle.std.specs.Prelude.{◌≡◌, ◌⊎◌, ◌↔◌, Bool, true, false}
+-- What a job would be answered now, and which capabilities an act takes that are wanting.
+use Rattle.std.specs.Prelude.{◌≡◌, ◌⊎◌, Bool, true, false}
 use Rattle.std.specs.declared.option.Option.{Option}
 use Rattle.std.specs.declared.option.Option.TheVariants.{None, Some}
 use Rattle.std.specs.declared.result.Result.{Result}
 use Rattle.std.specs.declared.result.Result.TheVariants.{Ok, Err}
 use Rattle.std.specs.FinMap as map
-use Rattle.fl_labels.specs.Cap.{cap_cmp}
 use Rattle.fl_labels.specs.Caps.{Caps}
 use Rattle.fl_labels.specs.Name.{name_cmp}
 use Rattle.fl_labels.specs.SetBy.{SetBy, In}
@@ -89,16 +88,3 @@ Demands guards p (Mails Take) c = ⊥
 -- of these, what the process has not in effect
 abbrev pub WantsBy : Bool → Registry → Process → Act → Caps
 WantsBy guards V p act c = Demands guards p act c × ¬ effective V p c
-
--- the capabilities that are wanting for a job at the bench
-abbrev pub Wants : Bool → Registry → BenchState → Job → Caps
-Wants guards V b (By pid act) c =
-    (p : Process) × (map.get b.processes pid ≡ Some p) × WantsBy guards V p act c
-Wants guards V b Proc c = ⊥
-Wants guards V b (Member root asked) c = ⊥
-Wants guards V b (Arrive d) c = ⊥
-
--- all of them
-pub record AreWanting (guards : Bool) (V : Registry) (b : BenchState) (job : Job)
-    (found : SetBy cap_cmp) : Type 0 where
-  pub each : (c : Cap) → In found c ↔ Wants guards V b job c
