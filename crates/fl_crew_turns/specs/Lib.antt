@@ -1,0 +1,6 @@
+pub mod Held
+pub mod Naming
+pub mod Session
+pub mod Batch
+pub mod Turn
+pub mod Script

@@ -1,0 +1,1 @@
+//! Lines that wait for the end of their batch.
