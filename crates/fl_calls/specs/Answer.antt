@@ -37,6 +37,17 @@ abbrev pub registry_of : {K : Type 0} → Option (NodeOver K) → SetBy op_cmp
 registry_of None = set.empty
 registry_of (Some n) = lent n.node.state (set.of_list n.node.published)
 
+-- what a response says apart from any node: of the operations of one none
+abbrev pub shown_alone : Response → Answer
+shown_alone (response.Reply reply) = replied reply
+shown_alone (response.Dropped fault) = dropped fault
+shown_alone (response.Text number) = text set.empty
+shown_alone (response.Union registry) = text registry
+shown_alone (response.Checked check) = checked check
+shown_alone (response.BadPacket place) = bad_packet place
+shown_alone (response.Admitted number) = admitted number
+shown_alone response.Unknown = unknown
+
 -- what a response of the program says over these nodes
 abbrev pub shown : {K : Type 0} → WorldOver K → Response → Answer
 shown over (response.Reply reply) = replied reply

@@ -21,11 +21,11 @@ ghost use Rattle.fl_calls.specs.Failing.{FailsCompleting, FailsOnceOpen, SaysFai
 ghost use Rattle.fl_calls.specs.Calls.{Asks, AsksToBegin, Delivers, BeginsToTake};
 ghost use Rattle.fl_calls.specs.Calls.{AsksForText, AsksForUnion, AsksToCheck, AsksForAudit};
 ghost use Rattle.fl_calls.specs.Calls.{brings_ops};
-ghost use Rattle.fl_calls.specs.parts.Coming.{coming, is_message, sent_at};
+ghost use Rattle.fl_calls.specs.parts.Coming.{sent_at};
 
 use crate::asking::{check, tell, unite};
 use crate::completing::{arrival, begins, come, complete, finish, is_nowhere, number_of};
-use crate::response::Response;
+use crate::response::{Response, coming, is_message};
 use fl_jobs::job::Job;
 use fl_labels::name::NodeNumber;
 use fl_makers::maker::MakesKeepers;
@@ -84,30 +84,11 @@ fn packet_at(sent: &[Sent], number: u32) -> Option<&Sent>
     sent.get(before as usize)
 }
 
-fn is_message(packet: &Packet) -> bool
-    ensures { result ≡ is_message packet.now }
-{
-    matches!(packet, Packet::Data(_))
-}
-
 // Whether the packet is one of operations.
 fn brings_ops(packet: &Packet) -> bool
     ensures { result ≡ brings_ops packet.now }
 {
     matches!(packet, Packet::Full(_) | Packet::Delta(_))
-}
-
-// What is said of a packet that came: a message that is refused is dropped.
-fn said(is_message: bool, reply: Reply) -> Response
-    ensures { result ≡ coming is_message reply }
-{
-    if !is_message {
-        return Response::Reply(reply);
-    }
-    if let Reply::Refused(fault) = &reply {
-        return Response::Dropped(*fault);
-    }
-    Response::Reply(reply)
 }
 
 /// A world whose nodes are opened by the first line that names them, over keepers that are made
@@ -309,7 +290,7 @@ impl<M: MakesKeepers> Cluster<M> {
         match self.enter(alloc, number) {
             Ok(()) => {
                 let reply = come(alloc, &mut self.world, number, packet, is_message);
-                said(is_message, reply)
+                coming(is_message, reply)
             }
             Err(fault) => shut(fault),
         }

@@ -1,6 +1,7 @@
 //! What is answered to a line that asks something of a world.
 ghost use Rattle.std.specs.Prelude.{◌≡◌};
 ghost use Rattle.fl_calls.specs.Calls.{counted};
+ghost use Rattle.fl_calls.specs.parts.Coming.{coming, is_message};
 
 use fl_labels::name::NodeNumber;
 use fl_opset::set::OpSet;
@@ -65,4 +66,25 @@ impl Drop for Response {
             Response::Unknown => {}
         }
     }
+}
+
+/// Whether the packet is a message.
+pub fn is_message(packet: &Packet) -> bool
+    ensures { result ≡ is_message packet.now }
+{
+    matches!(packet, Packet::Data(_))
+}
+
+/// What is answered to a packet that came, and was replied so: a message that is refused is
+/// dropped.
+pub fn coming(is_message: bool, reply: Reply) -> Response
+    ensures { result ≡ coming is_message reply }
+{
+    if !is_message {
+        return Response::Reply(reply);
+    }
+    if let Reply::Refused(fault) = &reply {
+        return Response::Dropped(*fault);
+    }
+    Response::Reply(reply)
 }

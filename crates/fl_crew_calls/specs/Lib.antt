@@ -1,2 +1,6 @@
+pub mod Over
 pub mod Closing
-pub mod Status
+pub mod Told
+pub mod Batches
+pub mod Asking
+pub mod Calls

@@ -1,31 +1,50 @@
 //! The crews of a script, and the packets that they sent.
-ghost use Rattle.std.specs.Prelude.{◌≡◌, ◌<◌, ◌≤◌, ◌+◌, ℕ, IfOk, length, vec_len};
-ghost use Rattle.std.specs.Prelude.{vec_capacity};
+ghost use Rattle.std.specs.Prelude.{◌≡◌, ◌<◌, ◌≤◌, ◌+◌, ◌∷◌, [], ℕ, Err, None, Ok, Some};
+ghost use Rattle.std.specs.Prelude.{IfErr, IfNone, IfOk, IfSome, MatchOption, OnOk, length};
+ghost use Rattle.fl_calls.specs.Answer.{replied};
+ghost use Rattle.fl_crew_calls.specs.Asking.{Comes, IsServing, Opens, RestartsAt, SendsAll};
+ghost use Rattle.fl_crew_calls.specs.Asking.{boot_reply};
+ghost use Rattle.fl_crew_calls.specs.Batches.{ServesBatch};
 ghost use Rattle.fl_crew_calls.specs.Closing.{MayBeLeft};
+ghost use Rattle.fl_crew_calls.specs.Over.{IsCrewAt, IsUnopened, begun_crews};
 ghost use Rattle.fl_store.specs.Kept.{Kept};
-ghost use Rattle.fl_system.specs.Waiting.{IsRunning};
+ghost use Rattle.fl_system.specs.Numbered.{item_at};
+ghost use Rattle.fl_workers.specs.Over.{CrewOver};
 
 use crate::manned::Manned;
-use crate::said::{STARVED, fault_of};
-use fl_crew_model::record::Told as Word;
+use crate::telling::tell_all;
+use fl_jobs::answer::Refusal;
 use fl_jobs::job::Job;
 use fl_labels::name::NodeNumber;
 use fl_makers::maker::MakesKeepers;
-use fl_message::message::Data;
 use fl_node::node::Node;
 use fl_system::answer::Fault;
 use fl_system::reply::Reply;
 use fl_wire::packet::Packet;
 use fl_workers::crew::Crew;
-use fl_workers::entry::{Entry, Reply as Told};
+use fl_workers::fault::CrewFault;
 use fl_workers::gate::OpenGate;
 use std::alloc::{AllocError, Global};
 use std::collections::BTreeMap;
+use std::marker::Model;
 use std::sync::Wait;
 use std::thread::Threads;
 
+/// There was not enough memory.
+pub const STARVED: Fault = Fault::Refused(Refusal::Memory);
+
+// Why none of a batch was begun.
+fn fault_of(fault: CrewFault) -> Fault {
+    match fault {
+        CrewFault::Memory => STARVED,
+        CrewFault::Stopped => Fault::Stopped,
+    }
+}
+
 /// Crews by the numbers of their nodes, with who makes their keepers, and every packet that they
 /// sent.
+///
+/// Contracts see what [`Crew`] lets them see of each crew.
 pub struct Crews<R: Wait, M: MakesKeepers> {
     rt: R,
     maker: M,
@@ -33,8 +52,26 @@ pub struct Crews<R: Wait, M: MakesKeepers> {
     // None only while it is restarted.
     all: BTreeMap<NodeNumber, Option<Manned<R, M::K>>>,
     sent: Vec<Packet>,
-    ghost some: { 1 ≤ workers },
-    ghost few: { workers ≤ 16 },
+}
+
+impl<R: Wait, M: MakesKeepers> Model for Crews<R, M> {
+    ghost use Rattle.std.specs.FinMap as map;
+    ghost use Rattle.std.specs.Prelude.{◌≤◌};
+    ghost use Rattle.fl_crew_calls.specs.Over.{AreThere, CrewsOver, coded_crews};
+
+    ghost Value = { CrewsOver M.K M };
+
+    ghost coded = { coded_crews M.K.code M.code };
+
+    ghost view = { λ c. record {
+      maker = c.maker;
+      workers = c.workers;
+      crews = map.from_entries c.all.entries;
+      sent = c.sent.items;
+    } };
+
+    ghost invariant = { λ c. (1 ≤ c.workers) × (c.workers ≤ 16)
+        × AreThere (map.from_entries c.all.entries) };
 }
 
 impl<R: Wait + Drop, M: MakesKeepers + Drop> Drop for Crews<R, M> {
@@ -54,6 +91,7 @@ impl<R: Threads + Wait + Sync + Send + Copy + Drop + 'static, M: MakesKeepers> C
     pub fn new(rt: R, alloc: Global, workers: u8, maker: M) -> Self
         requires some { 1 ≤ workers }
         requires few { workers ≤ 16 }
+        ensures { result ≡ begun_crews maker workers }
     {
         Crews {
             rt,
@@ -69,8 +107,7 @@ impl<R: Threads + Wait + Sync + Send + Copy + Drop + 'static, M: MakesKeepers> C
     /// found before, or the keeper of the crew of that number may hold it.
     pub fn close(self) -> M
         ensures { (number : ℕ) (k : Kept) → M.making.finds result number k
-            → MayBeLeft M.K.custody M.making self.maker self.all.entries
-            (λ manned. manned.crew.node.keeper) number k }
+            → MayBeLeft M.K.custody M.making self number k }
     {
         let Crews {
             rt: _,
@@ -88,16 +125,23 @@ impl<R: Threads + Wait + Sync + Send + Copy + Drop + 'static, M: MakesKeepers> C
     }
 
     /// The crew of this node, or none where no line has opened it.
-    pub fn crew(&self, number: NodeNumber) -> Option<&Crew<M::K, OpenGate>> {
+    pub fn crew(&self, number: NodeNumber) -> Option<&Crew<M::K, OpenGate>>
+        ensures some { IfSome result (λ crew. IsCrewAt self.now number crew.now) }
+        ensures none { IfNone result (IsUnopened self.now number) }
+    {
         match self.all.get(&number) {
             Some(Some(manned)) => Some(manned.crew()),
             _ => None,
         }
     }
 
-    /// The node of a crew that runs. `Stopped` of a stopped one, and where none is open.
-    pub fn running(&self, number: NodeNumber) -> Result<&Node<M::K>, Fault>
-        ensures { IfOk result (λ node. IsRunning node.now.node.state) }
+    /// The node of a crew that serves. `Stopped` of a stopped one.
+    pub fn serving(&self, number: NodeNumber) -> Result<&Node<M::K>, Fault>
+        requires { (crew : CrewOver M.K) × IsCrewAt self.now number crew }
+        ensures ok { IfOk result (λ node. (crew : CrewOver M.K) × IsCrewAt self.now number crew
+            × IsServing crew × (node.now ≡ crew.node)) }
+        ensures err { IfErr result (λ fault. (fault ≡ Fault.Stopped) × ((crew : CrewOver M.K)
+            → IsCrewAt self.now number crew → IsServing crew → ⊥)) }
     {
         let Some(crew) = self.crew(number) else {
             return Err(Fault::Stopped);
@@ -111,14 +155,19 @@ impl<R: Threads + Wait + Sync + Send + Copy + Drop + 'static, M: MakesKeepers> C
     }
 
     /// The packet that was sent as the one of this number, counted from 1.
-    pub fn packet(&self, number: u32) -> Option<&Packet> {
+    pub fn packet(&self, number: u32) -> Option<&Packet>
+        ensures { MatchOption result (item_at self.now.sent number ≡ None)
+            (λ packet. item_at self.now.sent number ≡ Some packet.now) }
+    {
         let before = number.checked_sub(1)?;
         self.sent.get(before as usize)
     }
 
     /// Opens the node of this number where it is not open. An error leaves it so.
-    pub fn enter(&mut self, alloc: Global, number: NodeNumber) -> Result<(), Fault>
+    pub fn open(&mut self, alloc: Global, number: NodeNumber) -> Result<(), Fault>
         requires { 0 < number }
+        ensures opens { Opens M.K.custody M.making self.old number result self.new }
+        ensures there { OnOk result ((crew : CrewOver M.K) × IsCrewAt self.new number crew) }
     {
         if self.all.contains_key(&number) {
             return Ok(());
@@ -131,86 +180,101 @@ impl<R: Threads + Wait + Sync + Send + Copy + Drop + 'static, M: MakesKeepers> C
         }
     }
 
-    // Has the crew of the node do the jobs and take the packets, and gives what became of each in
-    // its place. An error is what each of them is refused with: nothing was begun then.
+    // Has the crew of the node do the jobs and take the packets, so many together, and gives what
+    // each is replied in its place. Room for these replies, and for a packet of each, is made
+    // before, so that each job that is done is told. An error is what each of them is refused with:
+    // nothing was begun then.
     fn batch(
         &mut self,
         alloc: Global,
         number: NodeNumber,
         jobs: Vec<Job>,
         packets: Vec<Packet>,
-    ) -> Result<Vec<Entry>, Fault>
-        ensures { IfOk result (λ es.
-            length es.items ≡ length jobs.items + length packets.items) }
+        count: usize,
+    ) -> Result<Vec<Reply>, Fault>
+        requires { length jobs.items + length packets.items ≡ count }
+        ensures ok { IfOk result (λ replies. ServesBatch M.K.custody self.old number
+            jobs.items packets.items (Ok replies.items) self.new) }
+        ensures err { IfErr result (λ fault. ServesBatch M.K.custody self.old number
+            jobs.items packets.items (Err fault) self.new) }
     {
+        let Ok(()) = self.sent.reserve(count) else {
+            return Err(STARVED);
+        };
+        let Ok(mut replies) = Vec::with_capacity(alloc, count) else {
+            return Err(STARVED);
+        };
         let Some(Some(manned)) = self.all.get_mut(&number) else {
             return Err(Fault::Stopped);
         };
         match manned.batch(alloc, jobs, packets) {
-            Ok(entries) => Ok(entries),
+            Ok(entries) => {
+                tell_all(&mut self.sent, entries, &mut replies);
+                Ok(replies)
+            }
             Err(fault) => Err(fault_of(fault)),
         }
     }
 
-    /// Has the crew of the node do the jobs, and gives what each is answered. Room for these
-    /// answers, and for a packet of each, is made before, so that each job that is done is told.
+    /// Has the crew of the node do the jobs as one batch, and gives what each is replied, in its
+    /// place. A message that is sent is the next packet.
+    ///
+    /// An error is what each of them is refused with, and none was begun: `Stopped` of a stopped
+    /// crew, and where there is none; `Memory` also where there is no room for the replies and the
+    /// packets.
     pub fn do_jobs(
         &mut self,
         alloc: Global,
         number: NodeNumber,
         jobs: Vec<Job>,
-    ) -> Result<Vec<Reply>, Fault> {
-        let Ok(()) = self.sent.reserve(jobs.len()) else {
-            return Err(STARVED);
-        };
-        let Ok(mut replies) = Vec::with_capacity(alloc, jobs.len()) else {
-            return Err(STARVED);
-        };
-        let entries = self.batch(alloc, number, jobs, Vec::new(alloc))?;
-        self.tell_all(entries, &mut replies);
-        Ok(replies)
-    }
-
-    // Says of each item of a batch what it is answered, behind what was said, where there is room.
-    fn tell_all(&mut self, entries: Vec<Entry>, replies: &mut Vec<Reply>)
-        requires { vec_len replies.old + length entries.items ≤ vec_capacity replies.old }
+    ) -> Result<Vec<Reply>, Fault>
+        ensures ok { IfOk result (λ replies. ServesBatch M.K.custody self.old number
+            jobs.items [] (Ok replies.items) self.new) }
+        ensures err { IfErr result (λ fault. ServesBatch M.K.custody self.old number
+            jobs.items [] (Err fault) self.new) }
     {
-        for entry in entries {
-            let reply = self.reply_to(entry.reply);
-            replies.push_reserved(reply);
-        }
+        let count = jobs.len();
+        self.batch(alloc, number, jobs, Vec::new(alloc), count)
     }
 
-    /// Takes a packet as a batch of its own, and says what came of it.
-    pub fn take(&mut self, alloc: Global, number: NodeNumber, packet: Packet) -> Reply {
+    /// Takes a packet as a batch of its own, and gives what it is replied.
+    pub fn take(&mut self, alloc: Global, number: NodeNumber, packet: Packet) -> Reply
+        ensures { Comes M.K.custody self.old number packet result self.new }
+    {
         let Ok(packets) = Vec::from_array(alloc, [packet]) else {
             return Reply::Refused(STARVED);
         };
-        match self.batch(alloc, number, Vec::new(alloc), packets) {
-            Ok(mut entries) => match entries.pop() {
-                Some(entry) => self.reply_to(entry.reply),
+        match self.batch(alloc, number, Vec::new(alloc), packets, 1) {
+            Ok(mut replies) => match replies.pop() {
+                Some(reply) => reply,
                 None => Reply::Refused(Fault::Stopped),
             },
             Err(fault) => Reply::Refused(fault),
         }
     }
 
-    /// Restarts the crew of the node, and gives its boot.
-    pub fn restart(&mut self, alloc: Global, number: NodeNumber, kept: bool) -> Result<u32, Fault> {
+    /// Restarts the crew of the node, and gives its boot, as [`Crew::restart`] has it.
+    pub fn restart(&mut self, alloc: Global, number: NodeNumber, keeps: bool) -> Result<u32, Fault>
+        requires { (crew : CrewOver M.K) × IsCrewAt self.old number crew }
+        ensures { RestartsAt M.K.custody self.old number keeps (replied (boot_reply result))
+            self.new }
+    {
         let Some(place) = self.all.get_mut(&number) else {
             return Err(Fault::Stopped);
         };
         let Some(manned) = place.take() else {
             return Err(Fault::Stopped);
         };
-        let (manned, booted) = manned.restart(alloc, kept);
+        let (manned, booted) = manned.restart(alloc, keeps);
         *place = Some(manned);
         booted
     }
 
     /// Sends these packets, which are numbered after those that were sent before. Where there is
     /// not enough memory for all of them, none is.
-    pub fn send_all(&mut self, packets: Vec<Packet>) -> Reply {
+    pub fn send_all(&mut self, packets: Vec<Packet>) -> Reply
+        ensures { SendsAll self.old packets.items result self.new }
+    {
         let first = self.sent.len() as u64 + 1;
         let count = packets.len() as u64;
         let mut packets = packets;
@@ -218,33 +282,5 @@ impl<R: Threads + Wait + Sync + Send + Copy + Drop + 'static, M: MakesKeepers> C
             Ok(()) => Reply::Sent { first, count },
             Err(AllocError) => Reply::Refused(STARVED),
         }
-    }
-
-    // Sends a message.
-    fn send(&mut self, message: Data) -> Reply {
-        let first = self.sent.len() as u64 + 1;
-        match self.sent.push(Packet::Data(message)) {
-            Ok(()) => Reply::Sent { first, count: 1 },
-            Err(_) => Reply::Refused(STARVED),
-        }
-    }
-
-    // What is said of an item of a batch. A message that it sends is kept.
-    fn reply_to(&mut self, told: Told) -> Reply {
-        match told {
-            Told::Took(count) => Reply::Took(count),
-            Told::Told(Word::Reply(reply)) => Reply::Job(reply),
-            Told::Told(Word::Out(message)) => self.send(message),
-            Told::Told(Word::Published(name)) => Reply::Published(name),
-            Told::Told(Word::Refused(fault)) => Reply::Refused(fault),
-        }
-    }
-
-    /// Opens the node of this number where it is not open. There is no node 0.
-    pub fn open(&mut self, alloc: Global, number: NodeNumber) -> Result<(), Fault> {
-        if number == 0 {
-            return Err(Fault::Stopped);
-        }
-        self.enter(alloc, number)
     }
 }

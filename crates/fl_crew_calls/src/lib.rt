@@ -4,4 +4,5 @@
 
 pub mod crews;
 mod manned;
-pub mod said;
+mod telling;
+

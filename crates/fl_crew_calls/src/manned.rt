@@ -1,5 +1,9 @@
-//! A crew that may be let go.
-ghost use Rattle.std.specs.Prelude.{◌≡◌, ◌<◌, ◌≤◌, ◌+◌, IfOk, length};
+//! A crew that may be dropped.
+ghost use Rattle.std.specs.Prelude.{◌≡◌, ◌<◌, ◌≤◌, ◌+◌, ◌↔◌, Err, IfOk, IfErr, OnErr, OnOk, length, true};
+ghost use Rattle.fl_crew_calls.specs.Asking.{IsRestarted, IsSeated};
+ghost use Rattle.fl_crew_calls.specs.Batches.{IsServedBy};
+ghost use Rattle.fl_workers.specs.Batches.{IsStill, IsUnbegun};
+ghost use Rattle.fl_workers.specs.Seated.{NotOpened};
 
 use fl_jobs::job::Job;
 use fl_labels::name::NodeNumber;
@@ -11,13 +15,24 @@ use fl_workers::entry::Entry;
 use fl_workers::fault::CrewFault;
 use fl_workers::gate::OpenGate;
 use std::alloc::Global;
+use std::marker::Model;
 use std::sync::Wait;
 use std::thread::Threads;
 
-/// A crew with what it waits by, so that it is closed where it is let go.
+/// A crew with what it waits by, so that it is closed where it is dropped. Contracts see the crew.
 pub(crate) struct Manned<R: Wait, K: Keeper> {
     rt: R,
     crew: Crew<K, OpenGate>,
+}
+
+impl<R: Wait, K: Keeper> Model for Manned<R, K> {
+    ghost use Rattle.fl_workers.specs.Over.{CrewOver, coded_crew};
+
+    ghost Value = { CrewOver K };
+
+    ghost coded = { coded_crew K.code };
+
+    ghost view = { λ m. m.crew };
 }
 
 impl<R: Wait + Drop, K: Keeper + Drop> Drop for Manned<R, K> {
@@ -29,7 +44,7 @@ impl<R: Wait + Drop, K: Keeper + Drop> Drop for Manned<R, K> {
 
 impl<R: Threads + Wait + Sync + Send + Copy + Drop + 'static, K: Keeper + Drop> Manned<R, K> {
     /// A crew of so many workers at the node of this number, over this keeper. Refused as
-    /// [`Crew::open`] has it; the keeper is let go then.
+    /// [`Crew::open`] has it; the keeper is dropped then.
     pub(crate) fn open(
         rt: R,
         alloc: Global,
@@ -40,13 +55,17 @@ impl<R: Threads + Wait + Sync + Send + Copy + Drop + 'static, K: Keeper + Drop> 
         requires number { 0 < number }
         requires some { 1 ≤ workers }
         requires few { workers ≤ 16 }
+        ensures ok { IfOk result (λ made. IsSeated K.custody number workers keeper made) }
+        ensures err { IfErr result (NotOpened K.custody number keeper) }
     {
         let crew = Crew::open(&rt, alloc, keeper, number, workers, OpenGate)?;
         Ok(Manned { rt, crew })
     }
 
     /// The crew.
-    pub(crate) fn crew(&self) -> &Crew<K, OpenGate> {
+    pub(crate) fn crew(&self) -> &Crew<K, OpenGate>
+        ensures { result.now ≡ self.now }
+    {
         &self.crew
     }
 
@@ -57,24 +76,29 @@ impl<R: Threads + Wait + Sync + Send + Copy + Drop + 'static, K: Keeper + Drop> 
         jobs: Vec<Job>,
         packets: Vec<Packet>,
     ) -> Result<Vec<Entry>, CrewFault>
-        ensures { IfOk result (λ es.
-            length es.items ≡ length jobs.items + length packets.items) }
+        ensures ok { IfOk result (λ es.
+            IsServedBy K.custody self.old self.new jobs.items packets.items es.items) }
+        ensures stopped { (result ≡ Err CrewFault.Stopped) ↔ (self.old.stopped ≡ true) }
+        ensures err { OnErr result (IsUnbegun self.old self.new) }
+        ensures still { IsStill self.old self.new }
     {
         self.crew.batch(self.rt, alloc, jobs, packets)
     }
 
     /// Ends the crew, and gives its keeper, as [`Crew::close`] has it.
     pub(crate) fn into_keeper(self) -> K
-        ensures { result ≡ self.crew.node.keeper }
+        ensures { result ≡ self.node.keeper }
     {
         let Manned { rt, crew } = self;
         crew.close(&rt)
     }
 
     /// Restarts the crew, as [`Crew::restart`] has it.
-    pub(crate) fn restart(self, alloc: Global, kept: bool) -> (Self, Result<u32, Fault>) {
+    pub(crate) fn restart(self, alloc: Global, keeps: bool) -> (Self, Result<u32, Fault>)
+        ensures { IsRestarted K.custody keeps self result.0 result.1 }
+    {
         let Manned { rt, crew } = self;
-        let (crew, booted) = crew.restart(&rt, alloc, kept);
+        let (crew, booted) = crew.restart(&rt, alloc, keeps);
         (Manned { rt, crew }, booted)
     }
 }

@@ -13,7 +13,7 @@ pub returns-in-Ok-clause-goes : goal.returns-in-Ok-clause-goes
 returns-in-Ok-clause-goes g c =
     delivered g.M.K.Keeper.custody g.M.MakesKeepers.making _ _ _ _ _ _ _ _ _
     c.in-Some.sent.now _ _ _ c.self.view_is c.in-Ok.is (rw c.in-Some.is at c.packet.ensures) c.is_message-is_message.ensures
-    c.said.ensures c.enter.ensures.goes c.come-reply.ensures.goes
+    c.coming.ensures c.enter.ensures.goes c.come-reply.ensures.goes
 
 pub returns-in-Err-clause-goes : goal.returns-in-Err-clause-goes
 returns-in-Err-clause-goes g c =
@@ -28,7 +28,7 @@ returns-in-Ok-clause-cause g c says =
     once_asked g.M.K.Keeper.custody g.M.MakesKeepers.making _ _ _ _ _ _ _ _ _
     (λ between. IsBrokenAt g.M.K.Keeper.custody c.come-reply.new.world c.args.number) c.self.view_is c.in-Ok.is
     c.enter.ensures.goes c.enter.ensures.there c.come-reply.ensures.goes
-    (c.come-reply.ensures.cause (says_coming _ _ (subst SaysFailed c.said.ensures says))).1
+    (c.come-reply.ensures.cause (says_coming _ _ (subst SaysFailed c.coming.ensures says))).1
 
 pub returns-in-Err-clause-cause : goal.returns-in-Err-clause-cause
 returns-in-Err-clause-cause g c =
@@ -36,7 +36,7 @@ returns-in-Err-clause-cause g c =
 
 pub returns-in-Ok-clause-dropped : goal.returns-in-Ok-clause-dropped
 returns-in-Ok-clause-dropped g c =
-    rw c.said.ensures (drops _ _ (λ failed. (c.come-reply.ensures.cause failed).0))
+    rw c.coming.ensures (drops _ _ (λ failed. (c.come-reply.ensures.cause failed).0))
 
 pub returns-in-Err-clause-dropped : goal.returns-in-Err-clause-dropped
 returns-in-Err-clause-dropped g c = rw c.shut.ensures (no_drop _ _)

@@ -1,0 +1,2 @@
+-- Relations that join the private functions.
+pub mod Once
