@@ -168,6 +168,7 @@ fn begin_asked(
 }
 
 // What the words ask to be explained of the machine of this number.
+#[inline(always)]
 fn explained(number: NodeNumber, node: &str, verb: &str, rest: &[&str]) -> Option<Asked>
     ensures { let words = verb.now ∷ map (λ w. w.now) rest.now in
         Finds result (λ asked. ExplainsOf number asked (node.now ∷ words)) }
@@ -198,6 +199,7 @@ fn job_asked(alloc: Global, number: NodeNumber, node: &str, rest: &[&str]) -> Re
 }
 
 // What the words ask of the machine of this number that no script asks.
+#[inline(always)]
 fn own_asked(
     alloc: Global,
     number: NodeNumber,

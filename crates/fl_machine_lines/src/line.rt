@@ -78,8 +78,8 @@ fn meaning<'a>(
 ///
 /// As a script's lines are read (`fl_script::reading::read_line`) where no alias is set, with these
 /// differences. The number in front must be the machine's own. `receive`, `begin receive`, `could`,
-/// `missing` and those of an [`Explanation`] are verbs of a node, and `echo` is a line. `deliver`, `begin deliver`, `restart`, `union` and
-/// `aliases` are none, and neither is a line with a `$`.
+/// `missing` and those of an [`Explanation`] are verbs of a node, and `echo` is a line. `deliver`,
+/// `begin deliver`, `restart`, `union` and `aliases` are none, and neither is a line with a `$`.
 ///
 /// `Quiet` comes first, whatever else the bytes are. `Bad` is a line of more than
 /// [`MOST_LINE_BYTES`], one with a `$` or a byte beyond ASCII, and one whose words are those of no
