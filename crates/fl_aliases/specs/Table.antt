@@ -1,5 +1,5 @@
 -- What the aliases of a script stand for.
-use Rattle.std.specs.Prelude.{ℕ, ◌≤◌, List, [], ◌∷◌, ◌++◌, Option, length, nat_eq}
+use Rattle.std.specs.Prelude.{ℕ, ◌≤◌, List, [], ◌∷◌, ◌++◌, Option, is_some, length, nat_eq, if◌then◌else◌}
 use Rattle.std.specs.Cmp.Lexicographic.{pointwise}
 use Rattle.std.specs.List.{flat_map, IsDistinct}
 use Rattle.std.specs.Map.{lookup, keys_of, set_value}
@@ -27,6 +27,11 @@ target_of table letters = lookup (pointwise nat_eq letters) table
 -- the alias, which is set, stands for this now, in its place
 abbrev pub retargeted : Table → List ℕ → Target → Table
 retargeted table letters target = set_value (pointwise nat_eq letters) table target
+
+-- the alias stands for this now: in its place where it was set, else as the last one
+abbrev pub with_alias : Table → List ℕ → Target → Table
+with_alias table alias target =
+    if is_some (target_of table alias) then retargeted table alias target else (table ++ (alias, target) ∷ [])
 
 -- `$x p1.1.1`, and a line feed
 abbrev pub entry_line : Entry → List ℕ

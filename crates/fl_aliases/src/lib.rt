@@ -6,6 +6,7 @@ pub mod alias;
 pub mod expand;
 pub mod laws;
 mod placed;
+pub mod roomy;
 pub mod table;
 pub mod target;
 mod text;

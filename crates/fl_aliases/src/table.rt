@@ -1,5 +1,5 @@
 //! The aliases that are set.
-ghost use Rattle.std.specs.Prelude.{◌≡◌, ◌<◌, ◌++◌, [], ◌∷◌, IfOk, MatchOption, OnErr, IsTrue, IsSome, IsNone, ◌↔◌, None, Some, length};
+ghost use Rattle.std.specs.Prelude.{◌≡◌, ◌<◌, ◌≤◌, ◌++◌, [], ◌∷◌, IfOk, IfErr, MatchOption, OnErr, IsTrue, IsSome, IsNone, ◌↔◌, None, Some, length};
 ghost use Rattle.std.specs.Bool.{MatchBool};
 ghost use Rattle.fl_sink.specs.Sink.{Puts};
 ghost use Rattle.fl_aliases.specs.Table.{Entry, IsTable, target_of, retargeted, table_text};
@@ -8,6 +8,7 @@ ghost use Rattle.fl_aliases.specs.declared.target.Target.{Target};
 
 use crate::alias::Alias;
 use crate::placed::Placed;
+use crate::roomy::RoomyAliases;
 use crate::target::Target;
 use crate::text::write_line;
 use fl_sink::sink::{Sink, WriteFault};
@@ -23,7 +24,7 @@ pub const MOST_ALIASES: usize = 1024;
 /// [`MOST_ALIASES`] are set.
 #[derive(Drop)]
 pub struct Aliases {
-    targets: IndexMap<Alias, Placed>,
+    pub(crate) targets: IndexMap<Alias, Placed>,
 }
 
 impl Model for Aliases {
@@ -103,6 +104,20 @@ impl Aliases {
         let placed = Placed::new(target);
         self.targets.insert(alias, placed)?;
         Ok(true)
+    }
+
+    /// The same aliases with room for so many more, which are set with no memory then. An error is
+    /// want of memory, and gives the aliases back.
+    pub fn with_room(self, count: usize) -> Result<RoomyAliases, Aliases>
+        ensures ok { IfOk result (λ roomy. (roomy.table ≡ self) × (count ≤ roomy.room)) }
+        ensures err { IfErr result (λ aliases. aliases ≡ self) }
+        ensures some { OnErr result (0 < count) }
+    {
+        let Aliases { mut targets } = self;
+        match targets.reserve(count) {
+            Ok(()) => Ok(RoomyAliases { targets }),
+            Err(AllocError) => Err(Aliases { targets }),
+        }
     }
 
     /// Has an alias that is set stand for this, in its place. Takes no memory.

@@ -2,7 +2,7 @@
 use Rattle.std.specs.Prelude.{◌≡◌, ◌≢◌, ◌++◌, ◌∷◌, [], ℕ, Bool, true, false, List, Option, None, Some, IsSome, is_some, if◌then◌else◌}
 use Rattle.std.specs.Map.{keys_of}
 use Rattle.fl_jobs.specs.declared.answer.Reply.TheVariants.{Made, Opened}
-use Rattle.fl_aliases.specs.Table.{Table, target_of, retargeted}
+use Rattle.fl_aliases.specs.Table.{Table, target_of, with_alias}
 use Rattle.fl_aliases.specs.declared.target.Target.{Target}
 use Rattle.fl_aliases.specs.declared.target.Target.TheVariants.{Process, Operation, Endpoint}
 use Rattle.fl_system.specs.declared.reply.Reply.TheVariants.{Job, Published}
@@ -15,11 +15,6 @@ made_by (said (replied (Job (Made pid)))) = Some (Process pid)
 made_by (said (replied (Job (Opened endpoint)))) = Some (Endpoint endpoint)
 made_by (said (replied (Published name))) = Some (Operation name)
 made_by answer = None
-
--- the alias stands for this now: in its place where it was set, else as the last one
-abbrev pub with_alias : Table → List ℕ → Target → Table
-with_alias table alias target =
-    if is_some (target_of table alias) then retargeted table alias target else (table ++ (alias, target) ∷ [])
 
 -- where there is an alias, and something was made, the alias stands for that; else the table stays
 abbrev pub renamed : Table → Option (List ℕ) → Option Target → Table
