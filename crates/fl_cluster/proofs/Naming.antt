@@ -1,10 +1,10 @@
 -- An alias is placed, and then stands for what its line made, or is taken back.
 use Rattle.std.proofs.Common.{◌≡◌, ◌<◌, ◌∙◌, refl, sym, ap, ℕ, Bool, true, false, cond, Option, None, Some, IsNone, IsSome, is_some, List, [], ◌∷◌, ◌++◌, length, arith}
 use Rattle.std.specs.Bool.{MatchBool}
-use Rattle.fl_aliases.specs.Table.{Entry, Table, target_of, retargeted}
+use Rattle.fl_aliases.specs.Table.{Entry, Table, target_of, retargeted, with_alias}
 use Rattle.fl_aliases.specs.declared.target.Target.{Target}
 use Rattle.fl_aliases.specs.laws.Placing.{placed_found, placed_set, taken_back}
-use Rattle.fl_turns.specs.Naming.{with_alias, IsPlaced, as_last, in_place}
+use Rattle.fl_turns.specs.Naming.{IsPlaced, as_last, in_place}
 
 is_none : {X : Type 0} (o : Option X) → IsNone o → o ≡ None
 is_none None h = refl

@@ -2,7 +2,7 @@
 use Rattle.std.proofs.Common.{◌≡◌, ◌≢◌, ◌∙◌, inl, inr, refl, sym, ap, subst, ℕ, Bool, true, false, cond, Option, None, Some, is_some, List, [], ◌∷◌, ◌++◌}
 use Rattle.std.specs.Map.{keys_of}
 use Rattle.std.proofs.lemmas.List.{map-append}
-use Rattle.fl_aliases.specs.Table.{Table, target_of, retargeted}
+use Rattle.fl_aliases.specs.Table.{Table, target_of, retargeted, with_alias}
 use Rattle.fl_aliases.specs.declared.target.Target.{Target}
 use Rattle.fl_aliases.specs.laws.Placing.{placed_found, placed_others, set_found, set_others, set_places}
 use Rattle.fl_calls.specs.Entering.{Openings}
@@ -13,7 +13,7 @@ use Rattle.fl_script.specs.declared.reading.Reading.TheVariants as reading
 use Rattle.fl_script.specs.laws.OneReading.{one_reading}
 use Rattle.fl_turns.specs.Session.{Session}
 use Rattle.fl_turns.specs.Answer.{Answer, starved_line}
-use Rattle.fl_turns.specs.Naming.{made_by, with_alias, renamed, SetsAlias}
+use Rattle.fl_turns.specs.Naming.{made_by, renamed, SetsAlias}
 use Rattle.fl_turns.specs.Turn.{AnswersReading, AnswersNamed, Turn}
 
 -- ---- an alias that is set
