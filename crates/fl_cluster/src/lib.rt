@@ -1,11 +1,11 @@
 //! Runs a script of the registry: each line is answered once it was read, before any more is read.
 #![tactic(auto)]
 
-mod answers;
+pub mod answers;
 mod asking;
 pub mod fault;
 pub mod options;
-mod response;
+pub mod response;
 pub mod run;
 pub mod session;
 pub mod standard;

@@ -6,10 +6,9 @@ use fl_folder::folder::Folder;
 use fl_folder::maker::FolderMaker;
 use fl_makers::maker::MakesKeepers;
 use fl_sql_store::sql_keeper::SqlKeeper;
-use fl_sql_store::there::NotThere;
-use fl_store::keeper::{Keeper, KeeperFault};
+use fl_store::keeper::Keeper;
 use fl_system::answer::Fault;
-use sqlite::{Connection, FileStore, Options};
+use sqlite::FileStore;
 use sqlite_disk::Memory;
 use sqlite_std_file::OpenError;
 use std::alloc::Global;
@@ -34,30 +33,6 @@ fn kept(alloc: Global) -> Result<Folder, Cause> {
 // Whether it is the keeper of node 1, has the group, and is booted for this time.
 fn is_kept(alloc: Global, keeper: &mut MemoryKeeper, boot: u32) -> bool {
     keeper.number() == 1 && has_group(alloc, keeper) && keeper.boot() == Ok(boot)
-}
-
-#[test]
-fn found_again(rt: HostRuntime) -> Result<(), Fail> {
-    let alloc = rt.alloc();
-    let mut folder = kept(alloc)?;
-    for boot in 2..5u32 {
-        let mut keeper = open(&mut folder, alloc, PATH, 1)?;
-        assert!(rt; is_kept(alloc, &mut keeper, boot));
-        folder.keep(PATH, keeper)?;
-    }
-    Ok(())
-}
-
-#[test]
-fn refused_for_another_node(rt: HostRuntime) -> Result<(), Fail> {
-    let mut folder = kept(rt.alloc())?;
-    assert!(rt;
-        matches!(
-            open(&mut folder, rt.alloc(), PATH, 2),
-            Err(Cause::WrongNode)
-        )
-    );
-    Ok(())
 }
 
 #[test]
@@ -90,33 +65,5 @@ fn made_over_what_was_left(rt: HostRuntime) -> Result<(), Fail> {
         maker.close(1, keeper);
     }
     assert!(rt; maker.into_folder().take(PATH).is_ok());
-    Ok(())
-}
-
-// A keeper of this node over the database at the path, which is to be there.
-fn there(alloc: Global, folder: &mut Folder, number: u32) -> Result<MemoryKeeper, NotThere> {
-    let Ok(files) = folder.take(PATH) else {
-        return Err(NotThere::Refused(KeeperFault::Memory));
-    };
-    let Ok(conn) = Connection::open_files(alloc, files, Options::new(1)) else {
-        return Err(NotThere::Refused(KeeperFault::Memory));
-    };
-    match SqlKeeper::open_there(alloc, conn, number) {
-        Ok(keeper) => Ok(keeper),
-        Err((why, _conn)) => Err(why),
-    }
-}
-
-#[test]
-fn opened_where_it_is_there(rt: HostRuntime) -> Result<(), Fail> {
-    let alloc = rt.alloc();
-    let mut empty = Folder::new(alloc, 1);
-    assert!(rt; matches!(there(alloc, &mut empty, 1), Err(NotThere::Empty)));
-    let other = there(alloc, &mut kept(alloc)?, 2);
-    assert!(rt; matches!(other, Err(NotThere::Refused(KeeperFault::WrongNode))));
-    let Ok(mut keeper) = there(alloc, &mut kept(alloc)?, 1) else {
-        return Err(Fail::from("no keeper is opened"));
-    };
-    assert!(rt; is_kept(alloc, &mut keeper, 2));
     Ok(())
 }

@@ -6,8 +6,6 @@ mod asking;
 #[cfg(test)]
 mod databases;
 #[cfg(test)]
-mod files;
-#[cfg(test)]
 mod memory;
 #[cfg(test)]
 mod stops;
