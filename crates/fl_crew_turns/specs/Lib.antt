@@ -3,4 +3,6 @@ pub mod Naming
 pub mod Session
 pub mod Batch
 pub mod Turn
+pub mod Answered
 pub mod Script
+pub mod laws

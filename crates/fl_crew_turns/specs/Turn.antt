@@ -59,7 +59,7 @@ pub data EndsBefore {C : Type 0} (calls : CrewCalls C) (old : CrewSession C) (by
       → ¬ NamesHeld old.held bytes → IsHeard old.aliases bytes heard
       → ¬ GoesOnWith old heard → EndsBatch calls old replies new
       → EndsBefore calls old bytes heard replies new
-  no_room : {heard : Option Reading} {replies : List Reply} {new : CrewSession C}
+  no_room : (heard : Option Reading) {replies : List Reply} {new : CrewSession C}
       → ¬ NamesHeld old.held bytes → IsHeard old.aliases bytes heard
       → GoesOnWith old heard → EndsBatch calls old replies new
       → EndsBefore calls old bytes None replies new
