@@ -12,6 +12,7 @@ ghost use Rattle.fl_system.specs.Numbered.{item_at};
 ghost use Rattle.fl_workers.specs.Over.{CrewOver};
 
 use crate::manned::Manned;
+use crate::runtime::CrewRuntime;
 use crate::telling::tell_all;
 use fl_jobs::answer::Refusal;
 use fl_jobs::job::Job;
@@ -28,7 +29,7 @@ use std::alloc::{AllocError, Global};
 use std::collections::BTreeMap;
 use std::marker::Model;
 use std::sync::Wait;
-use std::thread::Threads;
+
 
 /// There was not enough memory.
 pub const STARVED: Fault = Fault::Refused(Refusal::Memory);
@@ -86,7 +87,7 @@ impl<R: Wait + Drop, M: MakesKeepers + Drop> Drop for Crews<R, M> {
     }
 }
 
-impl<R: Threads + Wait + Sync + Send + Copy + Drop + 'static, M: MakesKeepers> Crews<R, M> {
+impl<R: CrewRuntime, M: MakesKeepers> Crews<R, M> {
     /// No crew and no packet; each crew will have so many workers. Takes no memory.
     pub fn new(rt: R, alloc: Global, workers: u8, maker: M) -> Self
         requires some { 1 ≤ workers }

@@ -4,5 +4,6 @@
 
 pub mod crews;
 mod manned;
+pub mod runtime;
 mod telling;
 

@@ -5,6 +5,7 @@ ghost use Rattle.fl_crew_calls.specs.Batches.{IsServedBy};
 ghost use Rattle.fl_workers.specs.Batches.{IsStill, IsUnbegun};
 ghost use Rattle.fl_workers.specs.Seated.{NotOpened};
 
+use crate::runtime::CrewRuntime;
 use fl_jobs::job::Job;
 use fl_labels::name::NodeNumber;
 use fl_store::keeper::Keeper;
@@ -17,7 +18,7 @@ use fl_workers::gate::OpenGate;
 use std::alloc::Global;
 use std::marker::Model;
 use std::sync::Wait;
-use std::thread::Threads;
+
 
 /// A crew with what it waits by, so that it is closed where it is dropped. Contracts see the crew.
 pub(crate) struct Manned<R: Wait, K: Keeper> {
@@ -42,7 +43,7 @@ impl<R: Wait + Drop, K: Keeper + Drop> Drop for Manned<R, K> {
     }
 }
 
-impl<R: Threads + Wait + Sync + Send + Copy + Drop + 'static, K: Keeper + Drop> Manned<R, K> {
+impl<R: CrewRuntime, K: Keeper + Drop> Manned<R, K> {
     /// A crew of so many workers at the node of this number, over this keeper. Refused as
     /// [`Crew::open`] has it; the keeper is dropped then.
     pub(crate) fn open(

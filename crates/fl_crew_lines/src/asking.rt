@@ -19,6 +19,7 @@ ghost use Rattle.fl_workers.specs.Over.{CrewOver};
 
 use fl_calls::response::{Response, coming, counted, is_message};
 use fl_crew_calls::crews::{Crews, STARVED};
+use fl_crew_calls::runtime::CrewRuntime;
 use fl_labels::name::NodeNumber;
 use fl_makers::maker::MakesKeepers;
 use fl_node::node::Node;
@@ -33,8 +34,6 @@ use fl_wire::fault::ReadFault;
 use fl_wire::packet::Packet;
 use fl_wire::reading::decode;
 use std::alloc::{AllocError, Global};
-use std::sync::Wait;
-use std::thread::Threads;
 
 // Why something was not done.
 fn refused(fault: Fault) -> Response
@@ -68,7 +67,7 @@ fn copy_packet(alloc: Global, packet: &Packet) -> Result<Option<Packet>, AllocEr
 }
 
 // Has the crew send windows of what it has saved.
-fn tell<R: Threads + Wait + Sync + Send + Copy + Drop + 'static, M: MakesKeepers>(
+fn tell<R: CrewRuntime, M: MakesKeepers>(
     crews: &mut Crews<R, M>,
     alloc: Global,
     number: NodeNumber,
@@ -86,7 +85,7 @@ fn tell<R: Threads + Wait + Sync + Send + Copy + Drop + 'static, M: MakesKeepers
 }
 
 // Has the crew send what the window of this number lacks.
-fn answer_window<R: Threads + Wait + Sync + Send + Copy + Drop + 'static, M: MakesKeepers>(
+fn answer_window<R: CrewRuntime, M: MakesKeepers>(
     crews: &mut Crews<R, M>,
     alloc: Global,
     number: NodeNumber,
@@ -108,7 +107,7 @@ fn answer_window<R: Threads + Wait + Sync + Send + Copy + Drop + 'static, M: Mak
 }
 
 // Has the packet of this number, which was sent, come to the node.
-fn bring<R: Threads + Wait + Sync + Send + Copy + Drop + 'static, M: MakesKeepers>(
+fn bring<R: CrewRuntime, M: MakesKeepers>(
     crews: &mut Crews<R, M>,
     alloc: Global,
     number: NodeNumber,
@@ -130,7 +129,7 @@ fn bring<R: Threads + Wait + Sync + Send + Copy + Drop + 'static, M: MakesKeeper
 }
 
 // The same, answered to the line. A message that does not arrive is dropped.
-fn deliver<R: Threads + Wait + Sync + Send + Copy + Drop + 'static, M: MakesKeepers>(
+fn deliver<R: CrewRuntime, M: MakesKeepers>(
     crews: &mut Crews<R, M>,
     alloc: Global,
     number: NodeNumber,
@@ -148,7 +147,7 @@ fn deliver<R: Threads + Wait + Sync + Send + Copy + Drop + 'static, M: MakesKeep
     coming(is_message, reply)
 }
 
-fn restart<R: Threads + Wait + Sync + Send + Copy + Drop + 'static, M: MakesKeepers>(
+fn restart<R: CrewRuntime, M: MakesKeepers>(
     crews: &mut Crews<R, M>,
     alloc: Global,
     number: NodeNumber,
@@ -190,7 +189,7 @@ fn published<K: Keeper>(alloc: Global, node: &Node<K>) -> Result<OpSet, AllocErr
     Ok(all)
 }
 
-fn text<R: Threads + Wait + Sync + Send + Copy + Drop + 'static, M: MakesKeepers>(
+fn text<R: CrewRuntime, M: MakesKeepers>(
     crews: &Crews<R, M>,
     alloc: Global,
     number: NodeNumber,
@@ -209,7 +208,7 @@ fn text<R: Threads + Wait + Sync + Send + Copy + Drop + 'static, M: MakesKeepers
 }
 
 // What a packet of these bytes would bring to the node.
-fn check<R: Threads + Wait + Sync + Send + Copy + Drop + 'static, M: MakesKeepers>(
+fn check<R: CrewRuntime, M: MakesKeepers>(
     crews: &Crews<R, M>,
     alloc: Global,
     number: NodeNumber,
@@ -234,7 +233,7 @@ fn check<R: Threads + Wait + Sync + Send + Copy + Drop + 'static, M: MakesKeeper
 }
 
 // What two nodes have published, in one set, where their crews are there.
-fn unite<R: Threads + Wait + Sync + Send + Copy + Drop + 'static, M: MakesKeepers>(
+fn unite<R: CrewRuntime, M: MakesKeepers>(
     crews: &Crews<R, M>,
     alloc: Global,
     first: NodeNumber,
@@ -255,7 +254,7 @@ fn unite<R: Threads + Wait + Sync + Send + Copy + Drop + 'static, M: MakesKeeper
 }
 
 // The same. They are opened where they are not open, the first one first.
-fn union<R: Threads + Wait + Sync + Send + Copy + Drop + 'static, M: MakesKeepers>(
+fn union<R: CrewRuntime, M: MakesKeepers>(
     crews: &mut Crews<R, M>,
     alloc: Global,
     first: NodeNumber,
@@ -276,7 +275,7 @@ fn union<R: Threads + Wait + Sync + Send + Copy + Drop + 'static, M: MakesKeeper
 }
 
 // Whether the request names a packet that was not sent.
-fn names_no_packet<R: Threads + Wait + Sync + Send + Copy + Drop + 'static, M: MakesKeepers>(
+fn names_no_packet<R: CrewRuntime, M: MakesKeepers>(
     crews: &Crews<R, M>,
     request: &Request,
 ) -> bool
@@ -301,7 +300,7 @@ fn is_of_crews(request: &Request) -> bool
 }
 
 // What is asked of a crew that is there is answered.
-fn ask<R: Threads + Wait + Sync + Send + Copy + Drop + 'static, M: MakesKeepers>(
+fn ask<R: CrewRuntime, M: MakesKeepers>(
     crews: &mut Crews<R, M>,
     alloc: Global,
     number: NodeNumber,
@@ -324,7 +323,7 @@ fn ask<R: Threads + Wait + Sync + Send + Copy + Drop + 'static, M: MakesKeepers>
 
 // What is asked of the node is answered. It is opened where it is not open, but not for a line that
 // is none of the script.
-fn respond_for<R: Threads + Wait + Sync + Send + Copy + Drop + 'static, M: MakesKeepers>(
+fn respond_for<R: CrewRuntime, M: MakesKeepers>(
     crews: &mut Crews<R, M>,
     alloc: Global,
     number: NodeNumber,
@@ -346,7 +345,7 @@ fn respond_for<R: Threads + Wait + Sync + Send + Copy + Drop + 'static, M: Makes
 /// Answers a line that is no job and does not ask for the aliases. Steps of an order, and what
 /// was admitted, are `Unknown`: a crew does not speak of them; and so is a packet that was not
 /// sent. No node is opened for these.
-pub fn respond_to<R: Threads + Wait + Sync + Send + Copy + Drop + 'static, M: MakesKeepers>(
+pub fn respond_to<R: CrewRuntime, M: MakesKeepers>(
     crews: &mut Crews<R, M>,
     alloc: Global,
     line: Line,
