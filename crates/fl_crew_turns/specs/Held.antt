@@ -1,8 +1,9 @@
 -- Lines that wait for the end of their batch.
-use Rattle.std.specs.Prelude.{◌+◌, ◌++◌, ◌∷◌, [], ℕ, List}
+use Rattle.std.specs.Prelude.{◌≡◌, ◌≤◌, ◌+◌, ◌++◌, ◌∷◌, [], ℕ, List, length}
 use Rattle.std.specs.declared.option.Option.{Option}
 use Rattle.std.specs.declared.option.Option.TheVariants.{None, Some}
 use Rattle.fl_jobs.specs.declared.job.Job.{Job}
+use Rattle.fl_crew_turns.specs.declared.held.Batch.{Batch}
 
 -- the jobs of a batch that has not ended, in the order of their lines, and of each the alias that it
 -- is to set, if it is to set one
@@ -10,6 +11,15 @@ pub record HeldJobs : Type 0 where
   pub node : ℕ
   pub jobs : List Job
   pub aliases : List (Option (List ℕ))
+
+-- at most 256 wait, each with an alias or none
+pub record IsBatch (held : HeldJobs) : Type 0 where
+  pub few : length held.jobs ≤ 256
+  pub each : length held.aliases ≡ length held.jobs
+
+-- the lines as the program has them
+abbrev pub held_jobs : Batch → HeldJobs
+held_jobs batch = record { node = batch.node; jobs = batch.jobs.items; aliases = batch.aliases.items }
 
 -- no line waits
 abbrev pub none_held : HeldJobs
