@@ -1,7 +1,9 @@
 -- Lines that wait for the end of their batch.
-use Rattle.std.specs.Prelude.{◌≡◌, ◌≤◌, ◌+◌, ◌++◌, ◌∷◌, [], ℕ, List, length}
+use Rattle.std.specs.Prelude.{◌≡◌, ◌≤◌, ◌+◌, ◌++◌, ◌∷◌, [], ℕ, List, length, refl}
+use Rattle.std.specs.Coded.{Coded, code_by, coded×, coded_list, coded_option, coded_ℕ}
 use Rattle.std.specs.declared.option.Option.{Option}
 use Rattle.std.specs.declared.option.Option.TheVariants.{None, Some}
+use Rattle.fl_jobs.specs.contracts.job.Job as job_row
 use Rattle.fl_jobs.specs.declared.job.Job.{Job}
 use Rattle.fl_crew_turns.specs.declared.held.Batch.{Batch}
 
@@ -16,6 +18,16 @@ pub record HeldJobs : Type 0 where
 pub record IsBatch (held : HeldJobs) : Type 0 where
   pub few : length held.jobs ≤ 256
   pub each : length held.aliases ≡ length held.jobs
+
+-- they are stored as the tuple of their fields
+abbrev pub coded_held : Coded HeldJobs
+coded_held =
+    code_by (ℕ × (List Job × List (Option (List ℕ))))
+    (coded× coded_ℕ (coded× (coded_list (job_row.the_row).coded)
+    (coded_list (coded_option (coded_list coded_ℕ)))))
+    (λ held. (held.node, (held.jobs, held.aliases)))
+    (λ t. record { node = t.0; jobs = t.1.0; aliases = t.1.1 })
+    (λ _. refl)
 
 -- the lines as the program has them
 abbrev pub held_jobs : Batch → HeldJobs

@@ -1,7 +1,7 @@
 //! Lines that wait for the end of their batch.
 ghost use Rattle.std.specs.Prelude.{◌≡◌, ◌≢◌, ◌<◌, ◌≤◌, ◌↔◌, [], IsTrue, OnErr, OnOk, length};
 ghost use Rattle.std.specs.Bool.{MatchBool};
-ghost use Rattle.fl_crew_turns.specs.Held.{count_set, none_held, with_job};
+ghost use Rattle.fl_crew_turns.specs.Held.{IsBatch, count_set, held_jobs, none_held, with_job};
 ghost use Rattle.fl_crew_turns.specs.Naming.{NamesHeld};
 
 use crate::naming::is_named_in;
@@ -31,9 +31,11 @@ pub struct Held {
 }
 
 impl Model for Held {
-    ghost use Rattle.fl_crew_turns.specs.Held.{HeldJobs, IsBatch, held_jobs};
+    ghost use Rattle.fl_crew_turns.specs.Held.{HeldJobs, IsBatch, coded_held, held_jobs};
 
     ghost Value = { HeldJobs };
+
+    ghost coded = { coded_held };
 
     ghost view = { λ a. held_jobs a.batch };
 
