@@ -1,8 +1,7 @@
 -- Lines that wait for the end of their batch.
-use Rattle.std.specs.Prelude.{◌≡◌, ◌≤◌, ◌+◌, ◌++◌, ◌∷◌, [], ℕ, List, length, refl}
+use Rattle.std.specs.Prelude.{◌≡◌, ◌≤◌, ◌++◌, ◌∷◌, [], ℕ, List, count_by, is_some, length, refl}
 use Rattle.std.specs.Coded.{Coded, code_by, coded×, coded_list, coded_option, coded_ℕ}
 use Rattle.std.specs.declared.option.Option.{Option}
-use Rattle.std.specs.declared.option.Option.TheVariants.{None, Some}
 use Rattle.fl_jobs.specs.contracts.job.Job as job_row
 use Rattle.fl_jobs.specs.declared.job.Job.{Job}
 use Rattle.fl_crew_turns.specs.declared.held.Batch.{Batch}
@@ -44,6 +43,4 @@ with_job held node job alias =
 
 -- how many of these are to be set
 abbrev pub count_set : List (Option (List ℕ)) → ℕ
-count_set [] = 0
-count_set (None ∷ aliases) = count_set aliases
-count_set (Some alias ∷ aliases) = 1 + count_set aliases
+count_set aliases = count_by is_some aliases

@@ -81,7 +81,11 @@ impl Held {
         ensures count { result ≡ count_set self.now.aliases }
         ensures most { result ≤ 256 }
     {
-        self.batch.aliases.iter().flatten().count()
+        self.batch
+            .aliases
+            .iter()
+            .filter(|alias| alias.is_some())
+            .count()
     }
 
     /// Whether the line names an alias that is to be set, so that it can be read only then. Not

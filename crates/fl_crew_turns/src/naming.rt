@@ -13,13 +13,22 @@ use fl_aliases::target::Target;
 use fl_jobs::answer::Reply as JobReply;
 use fl_system::reply::Reply;
 
+// Whether no letter of aliases stands first.
+fn no_letter_first(text: &[u8]) -> bool
+    ensures { IsTrue result ↔ NoLetterFirst text.now }
+{
+    match text {
+        [first, ..] => !is_letter(*first),
+        [] => true,
+    }
+}
+
 // Whether the text begins with the letters of the alias, and no further letter.
 fn begins_with(text: &[u8], alias: &Alias) -> bool
     ensures { IsTrue result ↔ BeginsWith alias.now text.now }
 {
     match text.strip_prefix(alias.as_str().as_bytes()) {
-        Some([next, ..]) => !is_letter(*next),
-        Some([]) => true,
+        Some(behind) => no_letter_first(behind),
         None => false,
     }
 }
@@ -28,10 +37,14 @@ fn begins_with(text: &[u8], alias: &Alias) -> bool
 fn begins_with_one(text: &[u8], aliases: &[Option<Alias>]) -> bool
     ensures { IsTrue result ↔ BeginsWithOne aliases.now text.now }
 {
-    aliases.iter().any(|alias| match alias {
-        Some(alias) => begins_with(text, alias),
-        None => false,
-    })
+    for alias in aliases {
+        if let Some(alias) = alias
+            && begins_with(text, alias)
+        {
+            return true;
+        }
+    }
+    false
 }
 
 // Where the first `$` stands.
