@@ -33,14 +33,23 @@ fn begins_with(text: &[u8], alias: &Alias) -> bool
     }
 }
 
-// Whether it begins so with one of these.
+// Whether there is an alias, and the text begins so with it.
+fn begins_with_some(text: &[u8], alias: Option<Alias>) -> bool
+    ensures { IsTrue result ↔ ((letters : List ℕ) × (alias ≡ Some letters)
+        × BeginsWith letters text.now) }
+{
+    match alias {
+        Some(alias) => begins_with(text, &alias),
+        None => false,
+    }
+}
+
+// Whether the text begins so with one of these.
 fn begins_with_one(text: &[u8], aliases: &[Option<Alias>]) -> bool
     ensures { IsTrue result ↔ BeginsWithOne aliases.now text.now }
 {
     for alias in aliases {
-        if let Some(alias) = alias
-            && begins_with(text, alias)
-        {
+        if begins_with_some(text, *alias) {
             return true;
         }
     }

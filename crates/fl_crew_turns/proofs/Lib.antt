@@ -1,0 +1,2 @@
+pub mod Dollars
+pub mod Settling
