@@ -1,5 +1,5 @@
 -- What one line of a script over crews does.
-use Rattle.std.specs.Prelude.{◌≡◌, ◌≢◌, ◌⊎◌, ◌+◌, ◌<◌, ◌++◌, ◌∷◌, [], ℕ, Bool, List, false, length, max, true}
+use Rattle.std.specs.Prelude.{◌≡◌, ◌≢◌, ◌⊎◌, ◌+◌, ◌<◌, ◌++◌, [], ℕ, Bool, List, false, length, max, true}
 use Rattle.std.specs.declared.option.Option.{Option}
 use Rattle.std.specs.declared.option.Option.TheVariants.{None, Some}
 use Rattle.std.specs.declared.result.Result.TheVariants.{Ok, Err}
@@ -14,8 +14,7 @@ use Rattle.fl_script.specs.declared.line.Line.{Line}
 use Rattle.fl_script.specs.declared.line.Line.TheVariants.{Aliases, Audit, Node, Union}
 use Rattle.fl_script.specs.declared.reading.Reading.{Reading}
 use Rattle.fl_script.specs.declared.reading.Reading.TheVariants.{Bad, Means, Quiet}
-use Rattle.fl_script.specs.declared.request.Request.{Request}
-use Rattle.fl_script.specs.declared.request.Request.TheVariants.{Job, Begin, Deliver, BeginDeliver, Tell, Save, Publish, Cancel, Restart, Text, Check}
+use Rattle.fl_script.specs.declared.request.Request.TheVariants.{Job}
 use Rattle.fl_calls.specs.Answer.{Answer as Said, replied}
 use Rattle.fl_turns.specs.Answer.{Answer, bad_line, listed, said, silence, starved_line, status_of}
 use Rattle.fl_turns.specs.AnswerText.{text_of}

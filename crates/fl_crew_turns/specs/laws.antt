@@ -1,2 +1,3 @@
--- What follows from the definitions.
+-- What follows from the definitions, for proofs of the crates above.
 pub mod Counting
+pub mod Settling

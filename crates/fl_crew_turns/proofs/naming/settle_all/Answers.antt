@@ -4,7 +4,7 @@ use Rattle.fl_turns.specs.Answer.{said}
 use Rattle.fl_turns.specs.Naming.{made_by}
 use Rattle.fl_crew_turns.specs.Held.{count_set}
 use Rattle.fl_crew_turns.specs.Naming.{named_all}
-use Rattle.fl_crew_turns.proofs.Settling.{count_step, length-renamed, named_end, named_step}
+use Rattle.fl_crew_turns.specs.laws.Settling.{count_step, length-renamed, named_end, named_step}
 use Rattle.fl_crew_turns.proofs.naming.settle_all.Goals as goal
 
 pub loop-alias-init : goal.loop-alias-init
