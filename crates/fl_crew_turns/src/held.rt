@@ -124,6 +124,7 @@ impl Held {
         ensures batch { held_jobs result ≡ self }
         ensures few { IsBatch self }
     {
-        self.batch
+        let Held { batch } = self;
+        batch
     }
 }
