@@ -1,6 +1,1 @@
-pub mod RunLemmas
-pub mod SplitLemmas
-pub mod InterpreterLemmas
-pub mod StreamLemmas
-pub mod IntakeLemmas
-pub mod OverLemmas
+pub mod HearLemmas

@@ -1,4 +1,6 @@
 pub mod Turns
 pub mod Output
 pub mod Served
-pub mod parts
+pub mod Intake
+pub mod Driving
+pub mod laws

@@ -1,6 +1,6 @@
 //! A whole run.
 ghost use Rattle.std.specs.Prelude.{◌≡◌, ◌+◌, ◌^◌, ◌<◌, ◌≤◌, ◌⊎◌, ℕ, List, Option, None};
-ghost use Rattle.std.specs.Prelude.{IfErr, IfOk, IfSome, OnErr, OnOk, [], length, vec_len};
+ghost use Rattle.std.specs.Prelude.{IfErr, IfOk, IfSome, OnErr, OnOk, [], length};
 ghost use Rattle.std.specs.Io.KnownBytes.{IsAtEnd};
 ghost use Rattle.fl_stream.specs.Served.{Answered, CountsPast, HearsLongLine, MayLackRoom};
 ghost use Rattle.fl_stream.specs.Served.{Outgrows, Served};
@@ -10,17 +10,62 @@ use crate::conversation::Conversation;
 use crate::fault::RunFault;
 use crate::intake::Intake;
 use crate::responder::Responder;
-use crate::stream::{AT_ONCE, Stream};
+use crate::tally::Tally;
 use fl_sink::writer::Writer;
 use std::alloc::{AllocGlobal, Global};
 use std::io::{Read, Write};
 
-// A function of its own, so that no proof of the loop sees the numeral unfold.
-fn zeros(alloc: Global, count: usize) -> Result<Vec<u8>, RunFault>
-    ensures len { IfOk result (λ bytes. vec_len bytes ≡ count) }
-    ensures kind { IfErr result (λ e. e ≡ RunFault.Memory) }
+// Hears all there is, and has each line answered as it is handed out, up to one at which the
+// responder is over; and sends all.
+fn hear_all<M: Responder, C: Conversation<W>, W: Writer>(
+    alloc: Global,
+    responder: &mut M,
+    most: usize,
+    input: &mut C,
+    output: &mut W,
+) -> Result<u8, RunFault>
+    requires live { M.over responder.old → ⊥ }
+    requires most { most ≤ 2 ^ 62 }
+    requires unheard { IfSome (C.heard input.old) (λ bytes. bytes ≡ []) }
+    requires fresh { C.hearings input.old ≡ 0 }
+    requires due { (heard : List ℕ) (said : Option (List ℕ)) (mid : M) →
+        Answered M.turns responder.old heard (W.contents output.old) said mid →
+        (M.over mid → ⊥) → C.may_hear heard said }
+    ensures ok { IfOk result (λ status. IfSome (C.remaining input.old) (λ script.
+        WritesOutput M.turns responder.old
+        (W.contents output.old) (W.contents output.new) script status responder.new)) }
+    ensures whole { OnOk result (IsAtEnd (C.remaining input.new) ⊎ M.over responder.new) }
+    ensures short { OnOk result (IfSome (C.remaining input.old)
+        (λ script. length script ≤ most) ⊎ M.over responder.new) }
+    ensures said { OnOk result (C.said output.new ≡ W.contents output.new) }
+    ensures seldom { C.hearings input.new ≤ most + 1 }
+    ensures served { IfErr result (λ e. e ≡ RunFault.Read → Served most M.turns responder.old
+        (C.remaining input.old) (C.remaining input.new)
+        (W.contents output.old) (W.contents output.new) responder.new) }
+    ensures cause { IfErr result (λ e. e ≡ RunFault.Read → C.is_deaf input.new
+        ⊎ (Outgrows most (C.heard input.old) (C.heard input.new)
+        × CountsPast most (C.counted input.old) (C.counted input.new))
+        ⊎ ((16777216 < most) × HearsLongLine 16777216
+        (C.remaining input.old) (C.remaining input.new)
+        (C.heard input.old) (C.heard input.new))) }
+    ensures write_cause { IfErr result (λ e. e ≡ RunFault.Write → W.has_failed output.new) }
+    ensures memory_cause { IfErr result (λ e. e ≡ RunFault.Memory →
+        MayLackRoom (C.remaining input.old) (C.remaining input.new)
+        (C.heard input.old) (C.heard input.new)) }
+    ensures err { OnErr result (IfSome (C.remaining input.old) (λ script.
+        WritesFirst M.turns responder.old
+        (W.contents output.old) (W.contents output.new) script responder.new)) }
 {
-    vec![in alloc; 0u8; count].map_err(|_| RunFault::Memory)
+    let mut intake = Intake::new(alloc, most)?;
+    let mut tally = Tally::new(alloc);
+    'lines: while intake.next(input, output, &mut tally.sink)? {
+        let status = responder.answer(alloc, tally.number, intake.line(), &mut tally.sink, output)?;
+        tally.count(status);
+        if responder.is_over() {
+            return tally.end(input, output);
+        }
+    }
+    tally.end(input, output)
 }
 
 /// Hears a script of at most `most` bytes, and says what the responder answers to its lines.
@@ -78,17 +123,9 @@ pub fn converse<M: Responder + Drop, C: Conversation<W>, W: Writer>(
         WritesFirst M.turns responder
         (W.contents output.old) (W.contents output.new) script result.0)) }
 {
-    let chunk = match zeros(alloc, AT_ONCE) {
-        Ok(chunk) => chunk,
-        Err(fault) => return (responder, Err(fault)),
-    };
-    let mut intake = Intake {
-        stream: Stream::new(alloc, responder),
-        chunk,
-        room: most,
-    };
-    let result = intake.hear_all(alloc, input, output);
-    (intake.into_responder(), result)
+    let mut responder = responder;
+    let result = hear_all(alloc, &mut responder, most, input, output);
+    (responder, result)
 }
 
 /// Reads a script of at most `most` bytes, by at most `most + 1` reads, and writes what the

@@ -1,5 +1,5 @@
-//! A text is cut at its first line feed.
-ghost use Rattle.std.specs.Prelude.{◌≡◌, ◌<◌, ◌≤◌, ◌∷◌, ◌++◌, MatchOption, IfSome, length};
+//! Where a line ends.
+ghost use Rattle.std.specs.Prelude.{◌≡◌, ◌<◌, ◌+◌, ◌∷◌, ◌++◌, MatchOption, IfSome, drop, length, take};
 ghost use Rattle.std.specs.Str.Lines.{strip_carriage_return};
 ghost use Rattle.fl_stream.specs.Served.{HasNoFeed};
 
@@ -15,16 +15,12 @@ pub fn without_return(line: &[u8]) -> &[u8]
     }
 }
 
-/// What stands before the first line feed, and what follows it.
-pub fn cut_line(text: &[u8]) -> Option<(&[u8], &[u8])>
+/// Where the first line feed stands.
+pub fn find_feed(text: &[u8]) -> Option<usize>
     ensures cut { MatchOption result (HasNoFeed text.now)
-        (λ r. text.now ≡ r.0.now ++ 10 ∷ r.1.now) }
-    ensures first { IfSome result (λ r. HasNoFeed r.0.now) }
-    ensures shorter { IfSome result (λ r. length r.1.now < length text.now) }
-    ensures within { IfSome result (λ r. length r.0.now ≤ length text.now) }
+        (λ at. text.now ≡ take at text.now ++ 10 ∷ drop (at + 1) text.now) }
+    ensures first { IfSome result (λ at. HasNoFeed (take at text.now)) }
+    ensures inside { IfSome result (λ at. at < length text.now) }
 {
-    match memchr(b'\n', text) {
-        None => None,
-        Some(at) => Some((&text[..at], &text[at + 1..])),
-    }
+    memchr(b'\n', text)
 }

@@ -1,0 +1,79 @@
+use Rattle.std.proofs.Common.{◌≡◌, ◌+◌, ◌∙◌, inr, sym, ap, refl, true, false, arith, rules}
+use Rattle.std.proofs.lemmas.Result.{err_from_is_err_and, on_err_weaker}
+use Rattle.fl_sink.specs.laws.Passing.{on_err_always, cuts_behind}
+use Rattle.fl_stream.specs.laws.Driving.{stops_at_once, driven_none, driven_due, driven_more, driven_cut, driven_stops, driven_served, driven_cause, driven_mid_line, driven_over, driven_ends}
+use Rattle.fl_stream.proofs.run.hear_all.Goals as goal
+
+pub returns-in_err-intake-clause-err : goal.returns-in_err-intake-clause-err
+returns-in_err-intake-clause-err g c = on_err_always _ (stops_at_once _ _ _ _)
+
+pub lines-init : goal.lines-init
+lines-init g c =
+    let fresh : g.C.Conversation.hearings c.args.input.now ≡ 0 = c.requires.fresh in
+    record {
+      driven = driven_none _ _ _ _ c.in_ok-intake.ensures.ok c.new-tally.ensures refl;
+      live = c.requires.live;
+      asked = rw c.in_ok-intake.ensures.ok (omega (arith, fresh));
+      few = rw (c.in_ok-intake.ensures.ok, c.new-tally.ensures) (omega arith);
+    }
+
+pub next-requires-clause-due : goal.next-requires-clause-due
+next-requires-clause-due g c =
+    driven_due g.C.Conversation.may_hear c.lines.invariant.driven c.requires.unheard (λ heard said answered. c.requires.due heard said _ answered c.lines.invariant.live)
+
+pub returns-in_err-next-clause-served : goal.returns-in_err-next-clause-served
+returns-in_err-next-clause-served g c =
+    let fault = err_from_is_err_and c.from_residual-in_err-next.result c.from_residual-in_err-next.ensures.1 in
+    rw fault.1 (λ is_read. driven_served c.lines.invariant.driven c.in_err-next.ensures.goes_on (c.in_err-next.ensures.no_more (sym fault.2 ∙ is_read)) (c.in_err-next.ensures.written (sym fault.2 ∙ is_read)))
+
+pub returns-in_err-next-clause-cause : goal.returns-in_err-next-clause-cause
+returns-in_err-next-clause-cause g c =
+    let fault = err_from_is_err_and c.from_residual-in_err-next.result c.from_residual-in_err-next.ensures.1 in
+    rw fault.1 (λ is_read. driven_cause c.lines.invariant.driven c.in_err-next.ensures.goes_on (c.in_err-next.ensures.cause (sym fault.2 ∙ is_read)))
+
+pub returns-in_err-next-clause-memory_cause : goal.returns-in_err-next-clause-memory_cause
+returns-in_err-next-clause-memory_cause g c =
+    let fault = err_from_is_err_and c.from_residual-in_err-next.result c.from_residual-in_err-next.ensures.1 in
+    rw fault.1 (λ is_memory. inr (driven_mid_line c.lines.invariant.driven c.in_err-next.ensures.goes_on (c.in_err-next.ensures.memory_cause (sym fault.2 ∙ is_memory))))
+
+pub returns-in_err-next-clause-err : goal.returns-in_err-next-clause-err
+returns-in_err-next-clause-err g c = on_err_always _ (driven_stops c.lines.invariant.driven c.in_err-next.ensures.err)
+
+pub returns-in_err-status-clause-err : goal.returns-in_err-status-clause-err
+returns-in_err-status-clause-err g c =
+    let some : c.in_ok-next.field-0 ≡ true = search rules in
+    on_err_always _ (driven_cut c.lines.invariant.driven (c.in_ok-next.ensures.some some) c.in_ok-next.ensures.passed (rw c.line.ensures at c.in_err-status.ensures.err))
+
+pub returns-then-is_over-clause-ok : goal.returns-then-is_over-clause-ok
+returns-then-is_over-clause-ok g c =
+    let some : c.in_ok-next.field-0 ≡ true = search rules in
+    let driven = driven_more c.lines.invariant.driven (c.in_ok-next.ensures.some some) c.in_ok-next.ensures.passed (rw c.line.ensures at c.in_ok-status.ensures.ok) in
+    let is_over : g.M.Responder.over c.answer.new.self = search rules in
+    driven_over _ c.end.result g.met.M.Responder.silent driven is_over (rw c.count.ensures at c.end.ensures.status) (rw c.count.ensures at c.end.ensures.ok)
+
+pub returns-then-is_over-clause-err : goal.returns-then-is_over-clause-err
+returns-then-is_over-clause-err g c =
+    let some : c.in_ok-next.field-0 ≡ true = search rules in
+    let driven = driven_more c.lines.invariant.driven (c.in_ok-next.ensures.some some) c.in_ok-next.ensures.passed (rw c.line.ensures at c.in_ok-status.ensures.ok) in
+    on_err_weaker c.end.result (λ cut. driven_stops driven cut) (rw c.count.ensures at c.end.ensures.err)
+
+pub lines-preserved : goal.lines-preserved
+lines-preserved g c =
+    let some : c.in_ok-next.field-0 ≡ true = search rules in
+    let less = c.in_ok-next.ensures.less some in
+    let number : c.count.new.self.number ≡ c.lines.tally.number + 1 = ap (λ x. x.number) c.count.ensures in
+    record {
+      driven = rw c.count.ensures (driven_more c.lines.invariant.driven (c.in_ok-next.ensures.some some) c.in_ok-next.ensures.passed (rw c.line.ensures at c.in_ok-status.ensures.ok));
+      live = search rules;
+      asked = search rules;
+      few = omega (arith, c.lines.invariant.few, less, number);
+    }
+
+pub returns-clause-ok : goal.returns-clause-ok
+returns-clause-ok g c =
+    let none : c.in_ok-next.field-0 ≡ false = search rules in
+    driven_ends _ c.end-2.result c.lines.invariant.driven (λ same. ap g.C.Conversation.remaining same) (c.in_ok-next.ensures.none none) c.in_ok-next.ensures.passed c.end-2.ensures.status c.end-2.ensures.ok
+
+pub returns-clause-err : goal.returns-clause-err
+returns-clause-err g c =
+    on_err_weaker c.end-2.result (λ cut. driven_stops c.lines.invariant.driven (cuts_behind c.in_ok-next.ensures.passed cut)) c.end-2.ensures.err
