@@ -1,10 +1,11 @@
 -- Aliases that stand in a text.
-use Rattle.std.proofs.Common.{◌≡◌, ◌≢◌, ◌↔◌, ◌⊎◌, inl, inr, ℕ, ◌<◌, ◌+◌, ◌-◌, Bool, true, false, true≢false, IsTrue, Option, Some, List, [], ◌∷◌, ◌++◌, length, take, drop, get_or, nat_eq, slice_index, slice_index_or, sym, ap, subst, refl, ◌∙◌, arith}
+use Rattle.std.proofs.Common.{◌≡◌, ◌≢◌, ◌↔◌, ◌⊎◌, inl, inr, ℕ, ◌<◌, ◌+◌, ◌-◌, Bool, true, false, true≢false, IsTrue, Option, Some, List, [], ◌∷◌, ◌++◌, length, take, drop, nat_eq, slice_index, slice_index_or, sym, ap, subst, refl, ◌∙◌, arith}
 use Rattle.std.specs.Cmp.Lexicographic.{pointwise, bytes_decides}
 use Rattle.std.proofs.Math.Seq.{take-append_seam}
 use Rattle.std.proofs.lemmas.List.{append_cancel_left, append_assoc, drop_more, length-drop, take_all, take-append-drop}
 use Rattle.std.proofs.lemmas.List.Elements.{All-head, All-tail}
 use Rattle.fl_aliases.specs.Expansion.{NoDollar, NoLetterFirst}
+use Rattle.fl_aliases.specs.laws.Runs.{head_of, tail_of}
 use Rattle.fl_crew_turns.specs.Naming.{BeginsWith, BeginsWithOne, IsNamedIn}
 
 pub not_true : ¬ IsTrue false
@@ -32,12 +33,6 @@ cut_dollar text at inside found =
     sym (take-append-drop at text)
     ∙ ap (λ x. take at text ++ x) (drop_more text at 0 inside ∙ ap (λ b. b ∷ drop (at + 1) text) found
     ∙ ap (λ l. 36 ∷ l) (sym (take_all (length text - (at + 1)) (drop (at + 1) text) (omega (arith, length-drop (at + 1) text)))))
-
-head_of : {a b : ℕ} {xs ys : List ℕ} → a ∷ xs ≡ b ∷ ys → a ≡ b
-head_of {a} e = ap (λ l. get_or l 0 a) e
-
-tail_of : {a b : ℕ} {xs ys : List ℕ} → a ∷ xs ≡ b ∷ ys → xs ≡ ys
-tail_of e = ap (drop 1) e
 
 -- each `$` is the first one, or stands behind it
 first_or_behind : (front behind before after : List ℕ) → NoDollar front → front ++ 36 ∷ behind ≡ before ++ 36 ∷ after → (behind ≡ after) ⊎ ((more : List ℕ) × (behind ≡ more ++ 36 ∷ after))
