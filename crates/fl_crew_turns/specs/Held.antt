@@ -6,8 +6,8 @@ use Rattle.fl_jobs.specs.contracts.job.Job as job_row
 use Rattle.fl_jobs.specs.declared.job.Job.{Job}
 use Rattle.fl_crew_turns.specs.declared.held.Batch.{Batch}
 
--- the jobs of a batch that has not ended, in the order of their lines, and of each the alias that it
--- is to set, if it is to set one
+-- the jobs of a batch that has not ended, in the order of their lines, and of each the alias that
+-- it is to set, if it is to set one
 pub record HeldJobs : Type 0 where
   pub node : ℕ
   pub jobs : List Job
@@ -30,7 +30,8 @@ coded_held =
 
 -- the lines as the program has them
 abbrev pub held_jobs : Batch → HeldJobs
-held_jobs batch = record { node = batch.node; jobs = batch.jobs.items; aliases = batch.aliases.items }
+held_jobs batch =
+    record { node = batch.node; jobs = batch.jobs.items; aliases = batch.aliases.items }
 
 -- no line waits
 abbrev pub none_held : HeldJobs
