@@ -44,7 +44,7 @@ pub record IsSeated {K : Type 0} (custody : Custody K) (number workers : ℕ) (k
   pub opens : Passes custody (λ k k'. OpensCrew number workers k crew k') keeper crew.node.keeper
 
 -- why it has no crew: none was made, or the one that was made is not opened, or there was no memory
-data IsNotOpened {K M : Type 0} (custody : Custody K) (making : Making M K) (maker : M) (number : ℕ)
+pub data IsNotOpened {K M : Type 0} (custody : Custody K) (making : Making M K) (maker : M) (number : ℕ)
     : Fault → Type 0 where
   unmade : {fault : Fault} → making.unmade maker number fault
       → IsNotOpened custody making maker number fault
