@@ -13,6 +13,7 @@ fn reply_to(sent: &mut Vec<Packet>, told: Told) -> Reply
     ensures reply { result ≡ reply_behind (length sent.old.items) told }
     ensures sent { sent.new.items ≡ sent.old.items ++ sent_by told }
     ensures room { vec_capacity sent.new ≡ vec_capacity sent.old }
+    ensures one { vec_len sent.new ≤ vec_len sent.old + 1 }
 {
     match told {
         Told::Took(count) => Reply::Took(count),
