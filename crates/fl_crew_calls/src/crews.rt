@@ -35,7 +35,10 @@ use std::sync::Wait;
 pub const STARVED: Fault = Fault::Refused(Refusal::Memory);
 
 // Why none of a batch was begun.
-fn fault_of(fault: CrewFault) -> Fault {
+fn fault_of(fault: CrewFault) -> Fault
+    ensures stopped { fault ≡ CrewFault.Stopped → result ≡ Fault.Stopped }
+    ensures memory { fault ≡ CrewFault.Memory → result ≡ Fault.Refused Refusal.Memory }
+{
     match fault {
         CrewFault::Memory => STARVED,
         CrewFault::Stopped => Fault::Stopped,
@@ -130,9 +133,9 @@ impl<R: CrewRuntime, M: MakesKeepers> Crews<R, M> {
         ensures some { IfSome result (λ crew. IsCrewAt self.now number crew.now) }
         ensures none { IfNone result (IsUnopened self.now number) }
     {
-        match self.all.get(&number) {
-            Some(Some(manned)) => Some(manned.crew()),
-            _ => None,
+        match self.all.get(&number)? {
+            Some(manned) => Some(manned.crew()),
+            None => None,
         }
     }
 
@@ -205,7 +208,10 @@ impl<R: CrewRuntime, M: MakesKeepers> Crews<R, M> {
         let Ok(mut replies) = Vec::with_capacity(alloc, count) else {
             return Err(STARVED);
         };
-        let Some(Some(manned)) = self.all.get_mut(&number) else {
+        let Some(place) = self.all.get_mut(&number) else {
+            return Err(Fault::Stopped);
+        };
+        let Some(manned) = place else {
             return Err(Fault::Stopped);
         };
         match manned.batch(alloc, jobs, packets) {

@@ -1,0 +1,67 @@
+use Rattle.std.proofs.Common.{◌∙◌, refl, sym}
+use Rattle.std.proofs.lemmas.Result.{err_from_is_err_and}
+use Rattle.fl_crew_calls.specs.Asking.{IsNotOpened, Opens}
+use Rattle.fl_crew_calls.proofs.Maps.{found, full_after, is_opened, put_new, stays_shut, there_after}
+use Rattle.fl_crew_calls.proofs.crews.Crews.open.Goals as goal
+
+pub returns-then-contains_key-clause-there : goal.returns-then-contains_key-clause-there
+returns-then-contains_key-clause-there g c =
+    found _ _ c.self.inside.all.entries _ c.args.self.now c.self.view_is c.args.number
+    c.self.invariant.2 (sym c.contains_key.ensures ∙ c.if-contains_key.true)
+
+pub returns-then-contains_key-clause-opens : goal.returns-then-contains_key-clause-opens
+returns-then-contains_key-clause-opens g c =
+    Opens.is_open (returns-then-contains_key-clause-there g c).1
+
+pub returns-in_err-keeper-clause-opens : goal.returns-in_err-keeper-clause-opens
+returns-in_err-keeper-clause-opens g c =
+    let fault = err_from_is_err_and c.from_residual.result c.from_residual.ensures.1 in
+    rw fault.1 (rw fault.2 (stays_shut _ _ c.self.inside.all.entries _ c.args.self.now
+    c.self.view_is g.M.K.Keeper.custody g.M.MakesKeepers.making c.make.new.self c.args.number
+    (sym c.contains_key.ensures ∙ c.if-contains_key.false) c.make.ensures.same
+    c.self.inside.all.entries c.in_err-keeper.field-0.0 refl
+    (IsNotOpened.unmade c.in_err-keeper.ensures.why)))
+
+pub returns-in_err-manned-clause-opens : goal.returns-in_err-manned-clause-opens
+returns-in_err-manned-clause-opens g c =
+    let fault = err_from_is_err_and c.from_residual-in_err-manned.result
+    c.from_residual-in_err-manned.ensures.1 in
+    rw fault.1 (rw fault.2 (stays_shut _ _ c.self.inside.all.entries _ c.args.self.now
+    c.self.view_is g.M.K.Keeper.custody g.M.MakesKeepers.making c.make.new.self c.args.number
+    (sym c.contains_key.ensures ∙ c.if-contains_key.false) c.make.ensures.same
+    c.self.inside.all.entries c.in_err-manned.field-0.0 refl
+    (IsNotOpened.not_opened c.in_ok-keeper.ensures.makes c.in_err-manned.ensures.err)))
+
+pub invariant_of-self-in-Ok : goal.invariant_of-self-in-Ok
+invariant_of-self-in-Ok g c =
+    let put = put_new _ _ c.self.inside.all.entries _ c.args.self.now c.self.view_is
+    c.insert.new.self.entries c.args.number c.in_ok-manned.manned c.in-Ok.ensures.updates.0 in (
+      c.self.invariant.0,
+      c.self.invariant.1,
+      full_after _ _ c.self.inside.all.entries _ c.args.self.now c.self.view_is
+          c.insert.new.self.entries c.args.number c.in_ok-manned.manned c.self.invariant.2 put,
+    )
+
+pub returns-in-Ok-clause-opens : goal.returns-in-Ok-clause-opens
+returns-in-Ok-clause-opens g c =
+    let put = put_new _ _ c.self.inside.all.entries _ c.args.self.now c.self.view_is
+    c.insert.new.self.entries c.args.number c.in_ok-manned.manned c.in-Ok.ensures.updates.0 in
+    is_opened _ _ c.self.inside.all.entries _ c.args.self.now c.self.view_is
+    g.M.K.Keeper.custody g.M.MakesKeepers.making c.make.new.self c.args.number
+    (sym c.contains_key.ensures ∙ c.if-contains_key.false) c.make.ensures.same
+    c.insert.new.self.entries c.in_ok-keeper.keeper c.in_ok-manned.manned put
+    c.in_ok-keeper.ensures.makes c.in_ok-manned.ensures.ok
+
+pub returns-in-Ok-clause-there : goal.returns-in-Ok-clause-there
+returns-in-Ok-clause-there g c =
+    let put = put_new _ _ c.self.inside.all.entries _ c.args.self.now c.self.view_is
+    c.insert.new.self.entries c.args.number c.in_ok-manned.manned c.in-Ok.ensures.updates.0 in
+    (c.in_ok-manned.manned, there_after _ _ c.self.inside.all.entries _ c.args.self.now
+    c.self.view_is c.insert.new.self.entries c.args.number c.in_ok-manned.manned put)
+
+pub returns-clause-opens : goal.returns-clause-opens
+returns-clause-opens g c =
+    stays_shut _ _ c.self.inside.all.entries _ c.args.self.now c.self.view_is
+    g.M.K.Keeper.custody g.M.MakesKeepers.making c.make.new.self c.args.number
+    (sym c.contains_key.ensures ∙ c.if-contains_key.false) c.make.ensures.same
+    c.insert.new.self.entries _ c.in-Err.ensures.err IsNotOpened.no_room
