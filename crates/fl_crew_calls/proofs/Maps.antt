@@ -1,5 +1,6 @@
 -- The crews of a script, by the entries that hold their places.
-use Rattle.std.proofs.Common.{◌≡◌, ◌∙◌, ◌+◌, ◌++◌, ◌<◌, length, refl, sym, ap, subst, ℕ, Bool, true, false, cond, List, Option, Some, None, Result, Ok, Err, nat_cmp}
+use Rattle.std.proofs.Common.{◌≡◌, ◌∙◌, ◌+◌, ◌++◌, ◌<◌, length, refl, sym, ap, subst, ℕ, Bool, true}
+use Rattle.std.proofs.Common.{false, cond, List, Option, Some, None, Result, Ok, Err, nat_cmp}
 use Rattle.std.proofs.lemmas.Cmp.{nat_cmp_total}
 use Rattle.std.specs.BTreeMap.{is_at}
 use Rattle.std.specs.FinMap as map
@@ -16,8 +17,10 @@ use Rattle.fl_wire.specs.declared.packet.Packet.{Packet}
 use Rattle.fl_workers.specs.Over.{CrewOver}
 use Rattle.fl_calls.specs.Answer.{replied}
 use Rattle.fl_calls.specs.Completing.{starved}
-use Rattle.fl_crew_calls.specs.Asking.{IsNotOpened, IsRestarted, IsSeated, Opens, RestartsAt, SendsAll, boot_reply}
-use Rattle.fl_crew_calls.specs.Over.{AreThere, CrewsOver, IsCrewAt, IsUnopened, with_crew, with_sent}
+use Rattle.fl_crew_calls.specs.Asking.{IsNotOpened, IsRestarted, IsSeated, Opens, RestartsAt}
+use Rattle.fl_crew_calls.specs.Asking.{SendsAll, boot_reply}
+use Rattle.fl_crew_calls.specs.Over.{AreThere, CrewsOver, IsCrewAt, IsUnopened, with_crew}
+use Rattle.fl_crew_calls.specs.Over.{with_sent}
 
 -- what is seen of crews with these parts
 abbrev pub seen : {K M : Type 0} → M → ℕ → List (ℕ × Option (CrewOver K)) → List Packet
@@ -102,10 +105,11 @@ module _ {K M : Type 0} (maker : M) (workers : ℕ) (es : List (ℕ × Option (C
       (Some (Some crew)) (lookup (is_at (nat_cmp q)) es))
       → map.from_entries {R = nat_cmp} fs ≡ map.insert old.crews number (Some crew)
   put_new fs number crew updates =
-      one_put nat_cmp_total nat_cmp-IsAntisymmetric es fs old.crews number (Some crew) the_map updates
+      one_put nat_cmp_total nat_cmp-IsAntisymmetric es fs old.crews number (Some crew) the_map
+      updates
 
-  pub put_through_place : (fs : List (ℕ × Option (CrewOver K))) (number : ℕ) (crew crew' : CrewOver K)
-      → lookup (is_at (nat_cmp number)) es ≡ Some (Some crew)
+  pub put_through_place : (fs : List (ℕ × Option (CrewOver K))) (number : ℕ)
+      (crew crew' : CrewOver K) → lookup (is_at (nat_cmp number)) es ≡ Some (Some crew)
       → fs ≡ set_value (is_at (nat_cmp number)) es (Some crew')
       → map.from_entries {R = nat_cmp} fs ≡ map.insert old.crews number (Some crew')
   put_through_place fs number crew crew' there written =

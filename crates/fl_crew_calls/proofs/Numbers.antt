@@ -1,5 +1,7 @@
 -- Packets by their numbers, which are counted from 1.
-use Rattle.std.proofs.Common.{arith, ◌≡◌, ◌+◌, ◌-◌, ◌<◌, ◌≤◌, ℕ, zero, suc, List, [], ◌∷◌, Option, Some, None, HoldsAt, MatchOption, slice_index_or, length, refl, sym, ap, subst}
+use Rattle.std.proofs.Common.{arith, ◌≡◌, ◌-◌, ◌<◌, ◌≤◌, ℕ, zero, suc, List, [], ◌∷◌, Option, Some}
+use Rattle.std.proofs.Common.{None, HoldsAt, MatchOption, slice_index_or, length, refl, sym, ap}
+use Rattle.std.proofs.Common.{subst}
 use Rattle.fl_system.specs.Numbered.{item_at}
 
 -- no item has the number 0, nor one beyond the last

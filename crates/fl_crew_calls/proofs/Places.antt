@@ -10,9 +10,9 @@ use Rattle.fl_workers.specs.Over.{CrewOver}
 use Rattle.fl_crew_calls.specs.Over.{AreThere}
 
 -- no place, so none is empty
-pub none_there : {K : Type 0} (entries : List (ℕ × Option (CrewOver K))) → length entries ≡ 0
+pub no_place : {K : Type 0} (entries : List (ℕ × Option (CrewOver K))) → length entries ≡ 0
     → AreThere (map.from_entries {R = nat_cmp} entries)
-none_there entries none number at =
+no_place entries none number at =
     let nothing = nothing_held nat_cmp_total nat_cmp-IsAntisymmetric entries _ refl none number in
     cc (nothing, at)
 

@@ -111,10 +111,10 @@ pub comes_one : {K M : Type 0} (custody : Custody K) (old new : CrewsOver K M) (
     → Comes custody old number packet reply new
 comes_one custody old new number packet {jobs} {packets} {replies} front reply none one serves cut =
     let so : ServesBatch custody old number [] (packet ∷ []) (Ok replies) new =
-        subst (λ ps. ServesBatch custody old number [] ps (Ok replies) new) one
-        (subst (λ js. ServesBatch custody old number js packets (Ok replies) new) none serves) in
+    subst (λ ps. ServesBatch custody old number [] ps (Ok replies) new) one
+    (subst (λ js. ServesBatch custody old number js packets (Ok replies) new) none serves) in
     let alone : replies ≡ reply ∷ [] = cut ∙ ap (λ f. f ++ reply ∷ [])
-        (the_only front reply (sym (ap length cut) ∙ replied_each [] (packet ∷ []) replies so)) in
+    (the_only front reply (sym (ap length cut) ∙ replied_each [] (packet ∷ []) replies so)) in
     Comes.batch (subst (λ rs. ServesBatch custody old number [] (packet ∷ []) (Ok rs) new) alone so)
 
 pub comes_unreplied : {K M : Type 0} (custody : Custody K) (old new : CrewsOver K M) (number : ℕ)

@@ -30,7 +30,6 @@ use std::collections::BTreeMap;
 use std::marker::Model;
 use std::sync::Wait;
 
-
 /// There was not enough memory.
 pub const STARVED: Fault = Fault::Refused(Refusal::Memory);
 

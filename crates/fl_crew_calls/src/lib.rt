@@ -6,4 +6,3 @@ pub mod crews;
 mod manned;
 pub mod runtime;
 mod telling;
-

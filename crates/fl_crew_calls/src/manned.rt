@@ -19,7 +19,6 @@ use std::alloc::Global;
 use std::marker::Model;
 use std::sync::Wait;
 
-
 /// A crew with what it waits by, so that it is closed where it is dropped. Contracts see the crew.
 pub(crate) struct Manned<R: Wait, K: Keeper> {
     rt: R,

@@ -275,10 +275,7 @@ fn union<R: CrewRuntime, M: MakesKeepers>(
 }
 
 // Whether the request names a packet that was not sent.
-fn names_no_packet<R: CrewRuntime, M: MakesKeepers>(
-    crews: &Crews<R, M>,
-    request: &Request,
-) -> bool
+fn names_no_packet<R: CrewRuntime, M: MakesKeepers>(crews: &Crews<R, M>, request: &Request) -> bool
     ensures { result ≡ names_none crews.now request.now }
 {
     match request {

@@ -29,8 +29,13 @@ loop-entry-preserved c =
     let told = c.reply_to-reply.ensures in
     record {
       sent_room = omega (arith, told.one, told.room, c.loop-entry.invariant.sent_room, ap length steps);
-      replies_room = omega (arith, pushed.len, pushed.capacity, c.loop-entry.invariant.replies_room,
-          ap length steps);
+      replies_room = omega (
+        arith,
+        pushed.len,
+        pushed.capacity,
+        c.loop-entry.invariant.replies_room,
+        ap length steps,
+      );
       sent = sends_one c.loop-entry.sent.items c.in-Some.entry steps told.sent c.loop-entry.invariant.sent;
       replies = replies_one c.loop-entry.sent.items c.in-Some.entry steps told.sent
           c.loop-entry.replies.items c.reply_to-reply.result pushed.items told.reply c.loop-entry.invariant.replies;

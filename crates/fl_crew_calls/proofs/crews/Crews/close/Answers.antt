@@ -18,13 +18,13 @@ loop-number-preserved-in-Some-place g c = record {
   found = λ number k finds. elim (c.close.ensures number k finds) [
     | inl old ↦ c.loop-number.invariant.found number k old
     | inr new ↦ inr (record {
-          crew = c.in-Some-place.manned;
-          there = subst (λ n. map.get c.args.self.crews n ≡ Some (Some c.in-Some-place.manned))
-              (sym new.0) (c.loop-number.invariant.left c.in-Some.number _
-              (c.in-Some.ensures.value ∙ ap Some c.in-Some-place.is));
-          held = subst (λ keeper. g.M.K.Keeper.custody.is_honest keeper
-              → g.M.K.Keeper.custody.may_hold keeper k) c.into_keeper.ensures new.1;
-        })
+      crew = c.in-Some-place.manned;
+      there = subst (λ n. map.get c.args.self.crews n ≡ Some (Some c.in-Some-place.manned))
+          (sym new.0) (c.loop-number.invariant.left c.in-Some.number _
+          (c.in-Some.ensures.value ∙ ap Some c.in-Some-place.is));
+      held = subst (λ keeper. g.M.K.Keeper.custody.is_honest keeper
+          → g.M.K.Keeper.custody.may_hold keeper k) c.into_keeper.ensures new.1;
+    })
   ];
 }
 

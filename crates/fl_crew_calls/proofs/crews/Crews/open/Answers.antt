@@ -1,8 +1,12 @@
-use Rattle.std.proofs.Common.{◌∙◌, refl, sym}
+use Rattle.std.proofs.Common.{◌≡◌, ◌∙◌, Some, nat_cmp, refl, sym}
 use Rattle.std.proofs.lemmas.Result.{err_from_is_err_and}
+use Rattle.std.specs.FinMap as map
 use Rattle.fl_crew_calls.specs.Asking.{IsNotOpened, Opens}
-use Rattle.fl_crew_calls.proofs.Maps.{found, full_after, is_opened, put_new, stays_shut, there_after}
+use Rattle.fl_crew_calls.proofs.Maps.{found, full_after, is_opened, put_new, stays_shut}
+use Rattle.fl_crew_calls.proofs.Maps.{there_after}
+use Rattle.fl_crew_calls.proofs.crews.Crews.open.Given.{Over}
 use Rattle.fl_crew_calls.proofs.crews.Crews.open.Goals as goal
+use Rattle.fl_crew_calls.proofs.crews.Crews.open.Goals.{Joined-insert-2}
 
 pub returns-then-contains_key-clause-there : goal.returns-then-contains_key-clause-there
 returns-then-contains_key-clause-there g c =
@@ -32,32 +36,37 @@ returns-in_err-manned-clause-opens g c =
     c.self.inside.all.entries c.in_err-manned.field-0.0 refl
     (IsNotOpened.not_opened c.in_ok-keeper.ensures.makes c.in_err-manned.ensures.err)))
 
+-- what was made is in the place of the number now
+inserted : (g : Over) (c : Joined-insert-2 g)
+    → map.from_entries {R = nat_cmp} c.insert.new.self.entries
+    ≡ map.insert c.args.self.now.crews c.args.number (Some c.in_ok-manned.manned)
+inserted g c =
+    put_new _ _ c.self.inside.all.entries _ c.args.self.now c.self.view_is
+    c.insert.new.self.entries c.args.number c.in_ok-manned.manned c.in-Ok.ensures.updates.0
+
 pub invariant_of-self-in-Ok : goal.invariant_of-self-in-Ok
-invariant_of-self-in-Ok g c =
-    let put = put_new _ _ c.self.inside.all.entries _ c.args.self.now c.self.view_is
-    c.insert.new.self.entries c.args.number c.in_ok-manned.manned c.in-Ok.ensures.updates.0 in (
-      c.self.invariant.0,
-      c.self.invariant.1,
-      full_after _ _ c.self.inside.all.entries _ c.args.self.now c.self.view_is
-          c.insert.new.self.entries c.args.number c.in_ok-manned.manned c.self.invariant.2 put,
-    )
+invariant_of-self-in-Ok g c = (
+  c.self.invariant.0,
+  c.self.invariant.1,
+  full_after _ _ c.self.inside.all.entries _ c.args.self.now c.self.view_is
+      c.insert.new.self.entries c.args.number c.in_ok-manned.manned c.self.invariant.2
+      (inserted g c),
+)
 
 pub returns-in-Ok-clause-opens : goal.returns-in-Ok-clause-opens
 returns-in-Ok-clause-opens g c =
-    let put = put_new _ _ c.self.inside.all.entries _ c.args.self.now c.self.view_is
-    c.insert.new.self.entries c.args.number c.in_ok-manned.manned c.in-Ok.ensures.updates.0 in
     is_opened _ _ c.self.inside.all.entries _ c.args.self.now c.self.view_is
     g.M.K.Keeper.custody g.M.MakesKeepers.making c.make.new.self c.args.number
     (sym c.contains_key.ensures ∙ c.if-contains_key.false) c.make.ensures.same
-    c.insert.new.self.entries c.in_ok-keeper.keeper c.in_ok-manned.manned put
+    c.insert.new.self.entries c.in_ok-keeper.keeper c.in_ok-manned.manned (inserted g c)
     c.in_ok-keeper.ensures.makes c.in_ok-manned.ensures.ok
 
 pub returns-in-Ok-clause-there : goal.returns-in-Ok-clause-there
-returns-in-Ok-clause-there g c =
-    let put = put_new _ _ c.self.inside.all.entries _ c.args.self.now c.self.view_is
-    c.insert.new.self.entries c.args.number c.in_ok-manned.manned c.in-Ok.ensures.updates.0 in
-    (c.in_ok-manned.manned, there_after _ _ c.self.inside.all.entries _ c.args.self.now
-    c.self.view_is c.insert.new.self.entries c.args.number c.in_ok-manned.manned put)
+returns-in-Ok-clause-there g c = (
+  c.in_ok-manned.manned,
+  there_after _ _ c.self.inside.all.entries _ c.args.self.now
+      c.self.view_is c.insert.new.self.entries c.args.number c.in_ok-manned.manned (inserted g c),
+)
 
 pub returns-clause-opens : goal.returns-clause-opens
 returns-clause-opens g c =

@@ -1,7 +1,8 @@
 use Rattle.std.proofs.Common.{◌≡◌, ◌∙◌, Some, ap, nat_cmp, sym}
 use Rattle.std.specs.BTreeMap.{is_at}
 use Rattle.std.specs.Map.{lookup}
-use Rattle.fl_crew_calls.proofs.Maps.{full_after, held, not_empty, not_none, put_through_place, restarted}
+use Rattle.fl_crew_calls.proofs.Maps.{full_after, held, not_empty, not_none, put_through_place}
+use Rattle.fl_crew_calls.proofs.Maps.{restarted}
 use Rattle.fl_crew_calls.proofs.crews.Crews.restart.Goals as goal
 
 pub returns-in_default : goal.returns-in_default
