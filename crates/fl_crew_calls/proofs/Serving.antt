@@ -1,5 +1,5 @@
 -- A batch of the crew of a node, by the entries that hold the places of crews.
-use Rattle.std.proofs.Common.{◌≡◌, ◌∙◌, ◌<◌, ◌+◌, ◌++◌, ◌∷◌, [], inl, inr, refl, sym, ap, subst, arith, ℕ, suc, true, length, length-append, List, Option, None, Some, Result, Ok, Err, nat_cmp}
+use Rattle.std.proofs.Common.{◌≡◌, ◌∙◌, ◌<◌, ◌+◌, ◌++◌, ◌∷◌, [], inl, inr, refl, sym, ap, subst, arith, ℕ, suc, false, true, length, length-append, List, Option, None, Some, Result, Ok, Err, nat_cmp}
 use Rattle.std.specs.BTreeMap.{is_at}
 use Rattle.std.specs.Map.{lookup, set_value}
 use Rattle.fl_dealing.specs.declared.entry.Entry.{Entry}
@@ -15,7 +15,7 @@ use Rattle.fl_workers.specs.Batches.{IsStill, IsUnbegun}
 use Rattle.fl_workers.specs.Over.{CrewOver}
 use Rattle.fl_workers.specs.declared.fault.CrewFault.{CrewFault}
 use Rattle.fl_workers.specs.declared.fault.CrewFault.TheVariants as NotBegun
-use Rattle.fl_crew_calls.specs.Asking.{Comes}
+use Rattle.fl_crew_calls.specs.Asking.{Comes, is_window}
 use Rattle.fl_crew_calls.specs.Batches.{IsServedBy, IsUnbegunFor, ServesBatch}
 use Rattle.fl_crew_calls.specs.Over.{CrewsOver, with_crew, with_sent}
 use Rattle.fl_crew_calls.specs.Told.{all_sent, replies_behind, sent_by}
@@ -106,16 +106,16 @@ the_only (r ∷ rs) reply one = absurd (omega (arith, one, length-append rs (rep
 -- a packet that comes is a batch of one
 pub comes_one : {K M : Type 0} (custody : Custody K) (old new : CrewsOver K M) (number : ℕ)
     (packet : Packet) {jobs : List Job} {packets : List Packet} {replies : List Reply} (front : List Reply) (reply : Reply)
-    → jobs ≡ [] → packets ≡ packet ∷ []
+    → is_window packet ≡ false → jobs ≡ [] → packets ≡ packet ∷ []
     → ServesBatch custody old number jobs packets (Ok replies) new → replies ≡ front ++ reply ∷ []
     → Comes custody old number packet reply new
-comes_one custody old new number packet {jobs} {packets} {replies} front reply none one serves cut =
+comes_one custody old new number packet {jobs} {packets} {replies} front reply other none one serves cut =
     let so : ServesBatch custody old number [] (packet ∷ []) (Ok replies) new =
     subst (λ ps. ServesBatch custody old number [] ps (Ok replies) new) one
     (subst (λ js. ServesBatch custody old number js packets (Ok replies) new) none serves) in
     let alone : replies ≡ reply ∷ [] = cut ∙ ap (λ f. f ++ reply ∷ [])
     (the_only front reply (sym (ap length cut) ∙ replied_each [] (packet ∷ []) replies so)) in
-    Comes.batch (subst (λ rs. ServesBatch custody old number [] (packet ∷ []) (Ok rs) new) alone so)
+    Comes.batch other (subst (λ rs. ServesBatch custody old number [] (packet ∷ []) (Ok rs) new) alone so)
 
 pub comes_unreplied : {K M : Type 0} (custody : Custody K) (old new : CrewsOver K M) (number : ℕ)
     (packet : Packet) {jobs : List Job} {packets : List Packet} {replies : List Reply} (reply : Reply)
@@ -127,9 +127,9 @@ comes_unreplied custody old new number packet {jobs} {packets} {replies} reply n
 
 pub comes_refused : {K M : Type 0} (custody : Custody K) (old new : CrewsOver K M) (number : ℕ)
     (packet : Packet) {jobs : List Job} {packets : List Packet} (fault : Fault)
-    → jobs ≡ [] → packets ≡ packet ∷ []
+    → is_window packet ≡ false → jobs ≡ [] → packets ≡ packet ∷ []
     → ServesBatch custody old number jobs packets (Err fault) new
     → Comes custody old number packet (IsRefused fault) new
-comes_refused custody old new number packet {jobs} {packets} fault none one serves =
-    Comes.batch (subst (λ ps. ServesBatch custody old number [] ps (Err fault) new) one
+comes_refused custody old new number packet {jobs} {packets} fault other none one serves =
+    Comes.batch other (subst (λ ps. ServesBatch custody old number [] ps (Err fault) new) one
     (subst (λ js. ServesBatch custody old number js packets (Err fault) new) none serves))

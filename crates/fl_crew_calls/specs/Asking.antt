@@ -116,16 +116,25 @@ only_reply (Ok []) = Refused Stopped
 only_reply (Ok (reply ∷ replies)) = reply
 only_reply (Err fault) = Refused fault
 
--- A packet comes: a window is answered, and any other is a batch of its own.
+-- it asks for what it lacks, and brings nothing
+abbrev pub is_window : Packet → Bool
+is_window (packets.Full batch) = false
+is_window (packets.Have window) = true
+is_window (packets.Delta batch) = false
+is_window (packets.Data message) = false
+
+-- A packet comes: a window is answered, and any other is a batch of its own, which takes memory.
 pub data Comes {K M : Type 0} (custody : Custody K) (old : CrewsOver K M) (number : ℕ)
     : Packet → Reply → CrewsOver K M → Type 0 where
   window : {window : Intervals} {reply : Reply} {new : CrewsOver K M}
       → AnswersWindow old number window reply new
       → Comes custody old number (packets.Have window) reply new
   batch : {packet : Packet} {result : Result (List Reply) Fault} {new : CrewsOver K M}
+      → is_window packet ≡ false
       → ServesBatch custody old number [] (packet ∷ []) result new
       → Comes custody old number packet (only_reply result) new
-  no_room : {packet : Packet} → Comes custody old number packet starved old
+  no_room : {packet : Packet} → is_window packet ≡ false
+      → Comes custody old number packet starved old
 
 -- the packet of this number, which was sent, comes to the node
 pub data DeliversAt {K M : Type 0} (custody : Custody K) (old : CrewsOver K M)

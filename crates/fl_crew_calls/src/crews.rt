@@ -1,9 +1,10 @@
 //! The crews of a script, and the packets that they sent.
 ghost use Rattle.std.specs.Prelude.{◌≡◌, ◌<◌, ◌≤◌, ◌+◌, ◌∷◌, [], ℕ, Err, None, Ok, Some};
-ghost use Rattle.std.specs.Prelude.{IfErr, IfNone, IfOk, IfSome, MatchOption, OnOk, length};
+ghost use Rattle.std.specs.Prelude.{IfErr, IfNone, IfOk, IfSome, MatchOption, OnOk};
+ghost use Rattle.std.specs.Prelude.{false, length};
 ghost use Rattle.fl_calls.specs.Answer.{replied};
 ghost use Rattle.fl_crew_calls.specs.Asking.{Comes, IsServing, Opens, RestartsAt, SendsAll};
-ghost use Rattle.fl_crew_calls.specs.Asking.{boot_reply};
+ghost use Rattle.fl_crew_calls.specs.Asking.{boot_reply, is_window};
 ghost use Rattle.fl_crew_calls.specs.Batches.{ServesBatch};
 ghost use Rattle.fl_crew_calls.specs.Closing.{MayBeLeft};
 ghost use Rattle.fl_crew_calls.specs.Over.{IsCrewAt, IsUnopened, begun_crews};
@@ -243,8 +244,9 @@ impl<R: CrewRuntime, M: MakesKeepers> Crews<R, M> {
         self.batch(alloc, number, jobs, Vec::new(alloc), count)
     }
 
-    /// Takes a packet as a batch of its own, and gives what it is replied.
+    /// Takes a packet that is no window as a batch of its own, and gives what it is replied.
     pub fn take(&mut self, alloc: Global, number: NodeNumber, packet: Packet) -> Reply
+        requires { is_window packet ≡ false }
         ensures { Comes M.K.custody self.old number packet result self.new }
     {
         let Ok(packets) = Vec::from_array(alloc, [packet]) else {

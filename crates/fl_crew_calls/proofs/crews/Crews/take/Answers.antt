@@ -7,12 +7,12 @@ no_more : false ≡ true → ⊥
 no_more e = cc
 
 pub returns-in_default : goal.returns-in_default
-returns-in_default g c = Comes.no_room
+returns-in_default g c = Comes.no_room c.requires
 
 pub returns-in-Some : goal.returns-in-Some
 returns-in-Some g c =
     comes_one g.M.K.Keeper.custody c.args.self.now c.batch.new.self c.args.number c.args.packet
-    c.pop.new.self.items c.in-Some.reply c.new.ensures.items c.in-Ok.ensures.items
+    c.pop.new.self.items c.in-Some.reply c.requires c.new.ensures.items c.in-Ok.ensures.items
     c.in-Ok-batch.ensures.ok c.in-Some.ensures.items
 
 pub returns-in-Ok-batch : goal.returns-in-Ok-batch
@@ -24,4 +24,4 @@ returns-in-Ok-batch g c =
 pub returns : goal.returns
 returns g c =
     comes_refused g.M.K.Keeper.custody c.args.self.now c.batch.new.self c.args.number
-    c.args.packet c.in-Err.fault c.new.ensures.items c.in-Ok.ensures.items c.in-Err.ensures.err
+    c.args.packet c.in-Err.fault c.requires c.new.ensures.items c.in-Ok.ensures.items c.in-Err.ensures.err
