@@ -2,5 +2,4 @@
 //! come when the batch has ended.
 #![tactic(auto)]
 
-mod hearing;
 pub mod run;

@@ -1,17 +1,16 @@
-use Rattle.std.proofs.Common.{◌≡◌, ◌≤◌, ◌+◌, length}
-use Rattle.fl_crew_lines.specs.Putting.{Grows}
-use Rattle.fl_crew_calls.specs.Status.{IsStatus}
+use Rattle.std.proofs.Common.{◌+◌, ◌≤◌, length}
+use Rattle.fl_stream.specs.Intake.{may_ask, waiting}
+use Rattle.fl_stream.specs.Driving.{Driven}
+use Rattle.fl_crew_turns.specs.Turn.{CrewTurns}
+use Rattle.fl_crew_calls.specs.Calls.{crews_calls}
 use Rattle.fl_crews.proofs.run.hear_all.Given as goal
 
--- bytes were written and said at most, and each turn heard some
-abbrev pub invariant-hearing : goal.invariant-hearing
-invariant-hearing g l = record {
-  grows : Grows (g.W.Writer.contents l.initial.output) (g.W.Writer.contents l.output);
-  said : g.C.Conversation.said l.output ≡ g.W.Writer.contents l.output;
-  status : IsStatus l.hearing.status;
-  chunk : length l.chunk ≤ 65536;
-  count : g.C.Conversation.hearings l.input + l.hearing.room ≤ 16777216;
+abbrev pub invariant-lines : goal.invariant-lines
+invariant-lines g l = record {
+  driven : Driven (CrewTurns (crews_calls g.M.K.Keeper.custody g.M.MakesKeepers.making)) l.initial.session l.session 16777216 (g.C.Conversation.remaining l.initial.input) (g.C.Conversation.remaining l.input) (g.C.Conversation.heard l.initial.input) (g.C.Conversation.heard l.input) (g.C.Conversation.counted l.initial.input) (g.C.Conversation.counted l.input) (g.W.Writer.contents l.initial.output) (g.W.Writer.contents l.output) l.intake l.tally;
+  asked : g.C.Conversation.hearings l.input + may_ask l.intake ≤ 16777217;
+  few : l.tally.number + (length (waiting l.intake) + l.intake.room) ≤ 16777217;
 }
 
-abbrev pub decreases-hearing : goal.decreases-hearing
-decreases-hearing g l = l.hearing.room
+abbrev pub decreases-lines : goal.decreases-lines
+decreases-lines g l = length (waiting l.intake) + l.intake.room

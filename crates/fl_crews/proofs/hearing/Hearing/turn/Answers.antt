@@ -1,8 +1,0 @@
-use Rattle.fl_crew_lines.specs.laws.Steps.{grows_then}
-use Rattle.fl_crews.proofs.hearing.Hearing.turn.Goals as goal
-
-pub returns-in_err-send-clause-grows : goal.returns-in_err-send-clause-grows
-returns-in_err-send-clause-grows g c = grows_then _ c.in_ok-take.ensures.grows c.in_err-send.ensures.grows
-
-pub returns-clause-grows : goal.returns-clause-grows
-returns-clause-grows g c = grows_then _ c.in_ok-take.ensures.grows c.in_ok-send.ensures.grows
