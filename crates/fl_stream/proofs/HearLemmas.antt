@@ -1,8 +1,8 @@
 -- What is heard one time after another, and what of it waits.
-use Rattle.std.proofs.Common.{◌<◌, ◌≤◌, ◌⊎◌, inl, inr, ◌≡◌, ◌+◌, ◌-◌, ◌++◌, ◌∙◌, ◌==◌, refl, sym, ap, List, [], ◌∷◌, ℕ, length, take, drop, subst, Option, IfErr, Result, Ok, Err, false, true, arith}
+use Rattle.std.proofs.Common.{◌<◌, ◌≤◌, ◌⊎◌, inl, inr, ◌≡◌, ◌+◌, ◌-◌, ◌++◌, ◌∙◌, ◌==◌, refl, sym, ap, List, [], ◌∷◌, ℕ, Bool, if◌then◌else◌, length, take, drop, subst, Option, IfErr, Result, Ok, Err, false, true, arith}
 use Rattle.std.specs.List.{slice_range}
 use Rattle.std.proofs.lemmas.List.{append_assoc, append-nil, length-append, drop-take, drop-drop, take-take}
-use Rattle.std.proofs.lemmas.List.Elements.{All-append}
+use Rattle.std.proofs.lemmas.List.Elements.{All-append, All-nil}
 use Rattle.std.proofs.KnownBytes.{Appends-trans, Consumes-nil, Consumes-kept, Consumes-trans}
 use Rattle.std.specs.Io.KnownBytes.{Appends, Consumes, IsAtEnd, Keeps}
 use Rattle.std.specs.Str.Lines.{strip_carriage_return}
@@ -27,16 +27,30 @@ pub on_err_if : {T E P : Type 0} (r : Result T E) (e : E) → P → IfErr r (λ 
 on_err_if (Ok x) e p = tt
 on_err_if (Err x) e p = λ _. p
 
+-- where nothing is held, nothing waits of it
+pub either_none : (b : Bool) → ◌≡◌ {A = List ℕ} (if b then [] else []) []
+either_none true = refl
+either_none false = refl
+
+-- no line ends in no bytes
+pub no_feed_nil : HasNoFeed []
+no_feed_nil = All-nil (λ b. (b == 10) ≡ false)
+
 -- where a chunk is cut
 pub range_line : (chunk : List ℕ) (next heard at : ℕ) → next + at ≤ heard → take at (slice_range chunk next heard) ≡ slice_range chunk next (next + at)
 range_line chunk next heard at few = take-take at (heard - next) (drop next chunk) (omega arith) ∙ ap (λ k. take k (drop next chunk)) (omega arith)
 
-pub range_after : (chunk : List ℕ) (next heard at : ℕ) → next + at < heard → drop (at + 1) (slice_range chunk next heard) ≡ slice_range chunk (next + at + 1) heard
+pub range_after : (chunk : List ℕ) (next heard at : ℕ) → next + at < heard → drop (at + 1) (slice_range chunk next heard) ≡ slice_range chunk (next + (at + 1)) heard
 range_after chunk next heard at few =
-    let more : heard - next ≡ (at + 1) + (heard - (next + at + 1)) = omega arith in
+    let more : heard - next ≡ (at + 1) + (heard - (next + (at + 1))) = omega arith in
     ap (λ k. drop (at + 1) (take k (drop next chunk))) more
-    ∙ drop-take (at + 1) (heard - (next + at + 1)) (drop next chunk)
-    ∙ ap (take (heard - (next + at + 1))) (drop-drop (at + 1) next chunk ∙ ap (λ k. drop k chunk) (omega arith))
+    ∙ drop-take (at + 1) (heard - (next + (at + 1))) (drop next chunk)
+    ∙ ap (take (heard - (next + (at + 1)))) (drop-drop (at + 1) next chunk)
+
+-- where there is no more, nothing waits
+pub goes_on_here : (ended : Bool) {next heard : ℕ} (at : ℕ) → (ended ≡ true → next ≡ heard) → next + at < heard → ended ≡ false
+goes_on_here true at none inside = absurd (omega (arith, none refl, inside))
+goes_on_here false at none inside = refl
 
 -- the line that is held ends at a line feed
 pub cuts_line : {bytes : List ℕ} {new : IntakeState} (held rest line after : List ℕ) → bytes ≡ held ++ rest → rest ≡ line ++ 10 ∷ after → HasNoFeed held → HasNoFeed line
@@ -84,7 +98,7 @@ hands_out {r} {l} {h} {k} {n} {o} {s} {t} {u} goes_on a c room = record {
 
 -- all that waits is the last line
 pub hands_out_last : {r l h k : Option (List ℕ)} {n o : Option ℕ} {s t u : IntakeState} → s.has_ended ≡ false → HearsMore r l h k n o s t → IsAtEnd l → t.rest ≡ [] → HasNoFeed t.held → 0 < length t.held
-    → u.line ≡ t.held → u.held ≡ [] → u.rest ≡ t.rest → u.room ≡ t.room → u.has_ended ≡ true → HandsOut r l h k n o s u
+    → u.line ≡ t.held → u.held ≡ [] → u.rest ≡ [] → u.room ≡ t.room → u.has_ended ≡ true → HandsOut r l h k n o s u
 hands_out_last {r} {l} {h} {k} {n} {o} {s} {t} {u} goes_on a all none no_feed some line held rest room ended =
     let whole : t.held ≡ waiting s ++ a.bytes = sym (append-nil t.held) ∙ ap (λ x. t.held ++ x) (sym none) ∙ a.behind in
     record {
@@ -96,7 +110,7 @@ hands_out_last {r} {l} {h} {k} {n} {o} {s} {t} {u} goes_on a all none no_feed so
         line_is = line ∙ whole;
         some = subst (λ x. 0 < length x) whole some;
         no_feed = subst HasNoFeed whole no_feed;
-        none = ap (λ x. x ++ u.rest) held ∙ rest ∙ none;
+        none = ap (λ x. x ++ u.rest) held ∙ rest;
         has_ended = ended;
       });
     }

@@ -32,10 +32,11 @@ pub struct Intake {
     held: Vec<u8>,
     is_handed_out: bool,
     chunk: Vec<u8>,
-    // Where the line that was handed out begins and ends in the chunk, if it lies there whole.
+    // Where the line that was handed out begins in the chunk, if it lies there whole, and how long
+    // it is.
     start: usize,
-    end: usize,
-    // What waits in the chunk.
+    length: usize,
+    // Where what waits in the chunk begins, and where it ends.
     next: usize,
     heard: usize,
     room: usize,
@@ -43,7 +44,8 @@ pub struct Intake {
 }
 
 impl Model for Intake {
-    ghost use Rattle.std.specs.Prelude.{◌≡◌, ◌+◌, ◌<◌, ◌≤◌, [], Bool, false, if◌then◌else◌, slice_range};
+    ghost use Rattle.std.specs.Prelude.{◌≡◌, ◌+◌, ◌<◌, ◌≤◌, ◌==◌, [], false, true};
+    ghost use Rattle.std.specs.Prelude.{if◌then◌else◌, slice_range};
     ghost use Rattle.std.specs.Vec.{vec_len, vec_capacity};
     ghost use Rattle.std.specs.Str.Lines.{strip_carriage_return};
     ghost use Rattle.fl_stream.specs.Served.{HasNoFeed};
@@ -54,9 +56,9 @@ impl Model for Intake {
     ghost coded = { coded_intake };
 
     ghost view = { λ i. record {
-      line = if i.has_ended then i.held.items else
-          strip_carriage_return (if i.is_handed_out then i.held.items else
-          slice_range i.chunk.items i.start i.end);
+      line =
+          if vec_len i.held == 0 then strip_carriage_return (slice_range i.chunk.items i.start (i.start + i.length))
+          else if i.has_ended then i.held.items else strip_carriage_return i.held.items;
       held = if i.is_handed_out then [] else i.held.items;
       rest = slice_range i.chunk.items i.next i.heard;
       room = i.room;
@@ -67,8 +69,9 @@ impl Model for Intake {
         (i.is_handed_out ≡ false → HasNoFeed i.held.items)
         × (i.is_handed_out ≡ false → 0 < vec_len i.held →
         vec_len i.held + 65536 ≤ vec_capacity i.held)
+        × (i.has_ended ≡ true → i.next ≡ i.heard)
         × (vec_len i.chunk ≡ 65536)
-        × (i.start ≤ i.end) × (i.end ≤ 65536) × (i.next ≤ i.heard) × (i.heard ≤ 65536) };
+        × (i.start + i.length ≤ 65536) × (i.next ≤ i.heard) × (i.heard ≤ 65536) };
 }
 
 impl Intake {
@@ -83,7 +86,7 @@ impl Intake {
             is_handed_out: false,
             chunk: zeros(alloc, AT_ONCE)?,
             start: 0,
-            end: 0,
+            length: 0,
             next: 0,
             heard: 0,
             room,
@@ -95,29 +98,54 @@ impl Intake {
     pub fn line(&self) -> &[u8]
         ensures { result.now ≡ self.now.line }
     {
+        if self.held.is_empty() {
+            return without_return(&self.chunk[self.start..self.start + self.length]);
+        }
         if self.has_ended {
             return &self.held;
         }
-        if self.is_handed_out {
-            return without_return(&self.held);
-        }
-        without_return(&self.chunk[self.start..self.end])
+        without_return(&self.held)
     }
 
-    // Hands out the line that ends first in what waits in the chunk. It is copied only where some
-    // of it came before, behind which there is room. Says whether one does: where none does, what
-    // waits may be held.
-    fn cut(&mut self) -> bool
-        requires goes_on { self.old.has_ended ≡ false }
+    // Hands out the line that is held, where it ends in the chunk. The rest of it is copied, for
+    // which there is room behind it. Says whether it ends.
+    fn end_held(&mut self) -> bool
+        requires some { 0 < length self.old.held }
         ensures line { OnTrue result (CutsLine (waiting self.old) self.new) }
         ensures none { OnFalse result (HasNoFeed self.old.held) }
         ensures none_behind { OnFalse result (HasNoFeed self.old.rest) }
         ensures held { OnFalse result (self.new.held ≡ self.old.held) }
         ensures rest { OnFalse result (self.new.rest ≡ self.old.rest) }
         ensures room { self.new.room ≡ self.old.room }
-        ensures ended { self.new.has_ended ≡ false }
+        ensures ended { self.new.has_ended ≡ self.old.has_ended }
     {
-        if self.is_handed_out {
+        let rest = &self.chunk[self.next..self.heard];
+        let Some(length) = find_feed(rest) else {
+            return false;
+        };
+        let Ok(()) = self.held.extend_from_slice(&rest[..length]) else {
+            unreachable!("there is room");
+        };
+        self.is_handed_out = true;
+        self.next += length + 1;
+        true
+    }
+
+    // Hands out the line that ends first in what waits, and says whether one does. A line that lies
+    // whole in the chunk is not copied.
+    fn cut(&mut self) -> bool
+        ensures line { OnTrue result (CutsLine (waiting self.old) self.new) }
+        ensures none { OnFalse result (HasNoFeed self.old.held) }
+        ensures none_behind { OnFalse result (HasNoFeed self.old.rest) }
+        ensures held { OnFalse result (self.new.held ≡ self.old.held) }
+        ensures rest { OnFalse result (self.new.rest ≡ self.old.rest) }
+        ensures room { self.new.room ≡ self.old.room }
+        ensures ended { self.new.has_ended ≡ self.old.has_ended }
+    {
+        if !self.held.is_empty() {
+            if !self.is_handed_out {
+                return self.end_held();
+            }
             self.held.clear();
             self.is_handed_out = false;
         }
@@ -125,27 +153,19 @@ impl Intake {
             return false;
         };
         self.start = self.next;
-        self.end = self.next + length;
-        self.next = self.end + 1;
-        if !self.held.is_empty() {
-            let Ok(()) = self
-                .held
-                .extend_from_slice(&self.chunk[self.start..self.end])
-            else {
-                unreachable!("there is room");
-            };
-            self.is_handed_out = true;
-        }
+        self.length = length;
+        self.next += length + 1;
         true
     }
 
     // Holds what waits in the chunk, with room behind it for all that is heard at once.
     fn hold(&mut self) -> Result<(), RunFault>
+        requires goes_on { self.old.has_ended ≡ false }
         requires part { HasNoFeed self.old.rest }
         ensures held { OnOk result (self.new.held ≡ waiting self.old) }
         ensures rest { OnOk result (self.new.rest ≡ []) }
         ensures room { OnOk result (self.new.room ≡ self.old.room) }
-        ensures ended { OnOk result (self.new.has_ended ≡ self.old.has_ended) }
+        ensures ended { OnOk result (self.new.has_ended ≡ false) }
         ensures kind { IfErr result (λ e. e ≡ RunFault.Memory) }
         ensures some { OnErr result (0 < length self.old.rest) }
     {
@@ -180,6 +200,7 @@ impl Intake {
         input: &mut C,
         output: &W,
     ) -> Result<bool, RunFault>
+        requires goes_on { self.old.has_ended ≡ false }
         requires rest { self.old.rest ≡ [] }
         requires part { HasNoFeed self.old.held }
         requires answered { IfSome (C.heard input.old)
@@ -192,7 +213,7 @@ impl Intake {
         ensures all { IfOk result (λ more. more ≡ false → IsAtEnd (C.remaining input.new)) }
         ensures none { IfOk result (λ more. more ≡ false → self.new.rest ≡ []) }
         ensures held { OnOk result (self.new.held ≡ self.old.held) }
-        ensures ended { OnOk result (self.new.has_ended ≡ self.old.has_ended) }
+        ensures ended { OnOk result (self.new.has_ended ≡ false) }
         ensures once { C.hearings input.new ≤ C.hearings input.old + 1 }
         ensures kind { IfErr result (λ e. e ≡ RunFault.Read) }
         ensures no_more { OnErr result
@@ -220,16 +241,18 @@ impl Intake {
 
     // Hands out what is held as the last line, if anything is.
     fn hand_out_last(&mut self) -> bool
+        requires rest { self.old.rest ≡ [] }
         ensures some { OnTrue result (0 < length self.old.held) }
         ensures line { OnTrue result (self.new.line ≡ self.old.held) }
         ensures none { OnFalse result (self.old.held ≡ []) }
         ensures held { self.new.held ≡ [] }
-        ensures rest { self.new.rest ≡ self.old.rest }
+        ensures none_behind { self.new.rest ≡ [] }
         ensures room { self.new.room ≡ self.old.room }
         ensures ended { self.new.has_ended ≡ true }
     {
         let some = !self.is_handed_out && !self.held.is_empty();
         self.is_handed_out = true;
+        self.next = self.heard;
         self.has_ended = true;
         some
     }
@@ -288,10 +311,10 @@ impl Intake {
         ensures err { OnErr result
             (Cuts (W.contents output.old) (W.contents output.new) sink.old []) }
     {
-        if self.has_ended {
-            return Ok(false);
-        }
         'hearing: while !self.cut() {
+            if self.has_ended {
+                return Ok(false);
+            }
             self.hold()?;
             send(sink, input, output)?;
             if !self.hear(input, output)? {
