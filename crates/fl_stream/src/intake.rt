@@ -109,6 +109,7 @@ impl Intake {
 
     // Hands out the line that is held, where it ends in the chunk. The rest of it is copied, for
     // which there is room behind it. Says whether it ends.
+    #[inline(never)]
     fn end_held(&mut self) -> bool
         requires some { 0 < length self.old.held }
         ensures line { OnTrue result (CutsLine (waiting self.old) self.new) }

@@ -16,6 +16,7 @@ pub fn without_return(line: &[u8]) -> &[u8]
 }
 
 /// Where the first line feed stands.
+#[inline(always)]
 pub fn find_feed(text: &[u8]) -> Option<usize>
     ensures cut { MatchOption result (HasNoFeed text.now)
         (λ at. text.now ≡ take at text.now ++ 10 ∷ drop (at + 1) text.now) }
