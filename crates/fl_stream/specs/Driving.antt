@@ -17,20 +17,22 @@ pub record GoesOn (bytes : List ℕ) (intake : IntakeState) (seen : List (List �
   pub split : (later : List ℕ) → lines (done ++ later) ≡ seen ++ lines later
 
 -- there is no more, and these are the lines of the bytes
-pub record HasEnded (left : Option (List ℕ)) (bytes : List ℕ) (intake : IntakeState) (seen : List (List ℕ)) : Type 0 where
+pub record HasEnded (left : Option (List ℕ)) (bytes : List ℕ) (intake : IntakeState)
+    (seen : List (List ℕ)) : Type 0 where
   pub has_ended : intake.has_ended ≡ true
   pub all : IsAtEnd left
   pub whole : lines bytes ≡ seen
 
 -- these lines were handed out of what was heard
-pub record Handed (most : ℕ) (remaining left heard grown : Option (List ℕ)) (counted recounted : Option ℕ)
-    (intake : IntakeState) (seen : List (List ℕ)) : Type 0 where
+pub record Handed (most : ℕ) (remaining left heard grown : Option (List ℕ))
+    (counted recounted : Option ℕ) (intake : IntakeState) (seen : List (List ℕ)) : Type 0 where
   pub bytes : List ℕ
   pub hears : Hears remaining left heard grown counted recounted most intake.room bytes
   pub place : GoesOn bytes intake seen ⊎ HasEnded left bytes intake seen
 
 -- these are the lines of all that there was to hear, and there was room for it
-pub record AllHanded (most : ℕ) (remaining left : Option (List ℕ)) (seen : List (List ℕ)) : Type 0 where
+pub record AllHanded (most : ℕ) (remaining left : Option (List ℕ)) (seen : List (List ℕ))
+    : Type 0 where
   pub bytes : List ℕ
   pub consumed : Consumes remaining left bytes
   pub all : IsAtEnd left
@@ -54,8 +56,9 @@ pub record LinesCut {M : Type 0} (turns : Turns M) (start end : M)
   pub cut : Cuts before after [] (texts outputs)
 
 -- exactly the lines that were handed out were answered
-pub record Driven {M : Type 0} (turns : Turns M) (start now : M) (most : ℕ) (remaining left heard grown : Option (List ℕ))
-    (counted recounted : Option ℕ) (before after : Option (List ℕ)) (intake : IntakeState) (tally : Tally) : Type 0 where
+pub record Driven {M : Type 0} (turns : Turns M) (start now : M) (most : ℕ)
+    (remaining left heard grown : Option (List ℕ)) (counted recounted : Option ℕ)
+    (before after : Option (List ℕ)) (intake : IntakeState) (tally : Tally) : Type 0 where
   pub seen : List (List ℕ)
   pub handed : Handed most remaining left heard grown counted recounted intake seen
   pub passed : LinesPass turns start now tally before after seen

@@ -1,5 +1,6 @@
 -- A script is heard, and its lines are handed out.
-use Rattle.std.specs.Prelude.{◌≡◌, ◌+◌, ◌++◌, ◌∷◌, ◌<◌, ◌≤◌, ◌⊎◌, [], Bool, ℕ, List, Option, false, if◌then◌else◌, length, refl, true}
+use Rattle.std.specs.Prelude.{◌≡◌, ◌+◌, ◌++◌, ◌∷◌, ◌<◌, ◌≤◌, ◌⊎◌, [], Bool, ℕ, List, Option}
+use Rattle.std.specs.Prelude.{false, if◌then◌else◌, length, refl, true}
 use Rattle.std.specs.Coded.{Coded, code_by, coded×, coded_bool, coded_ℕ, coded_list}
 use Rattle.std.specs.Str.Lines.{strip_carriage_return}
 use Rattle.std.specs.Io.KnownBytes.{Consumes, IsAtEnd, append_known}
@@ -30,8 +31,8 @@ abbrev pub fresh_intake : ℕ → IntakeState
 fresh_intake room = record { line = []; held = []; rest = []; room = room; has_ended = false }
 
 -- these bytes were heard, for which there was room
-pub record Hears (remaining left heard grown : Option (List ℕ)) (counted recounted : Option ℕ) (room less : ℕ)
-    (bytes : List ℕ) : Type 0 where
+pub record Hears (remaining left heard grown : Option (List ℕ)) (counted recounted : Option ℕ)
+    (room less : ℕ) (bytes : List ℕ) : Type 0 where
   pub consumed : Consumes remaining left bytes
   pub grown_by : grown ≡ append_known heard bytes
   pub counted_by : recounted ≡ plus_known counted (length bytes)
@@ -74,8 +75,10 @@ pub record FindsEnd (remaining left : Option (List ℕ)) : Type 0 where
   pub consumed : Consumes remaining left []
   pub all : IsAtEnd left
 
--- bytes were heard, for which there was room, and the line has not ended, which has more than so many
-pub record HearsPart (most : ℕ) (remaining left heard grown : Option (List ℕ)) (old : IntakeState) : Type 0 where
+-- bytes were heard, for which there was room, and the line has not ended, which has more than so
+-- many
+pub record HearsPart (most : ℕ) (remaining left heard grown : Option (List ℕ))
+    (old : IntakeState) : Type 0 where
   pub bytes : List ℕ
   pub consumed : Consumes remaining left bytes
   pub grown_by : grown ≡ append_known heard bytes
@@ -95,7 +98,14 @@ pub record HearsNoMore (remaining left : Option (List ℕ)) (old : IntakeState) 
 abbrev pub coded_intake : Coded IntakeState
 coded_intake =
     code_by (List ℕ × (List ℕ × (List ℕ × (ℕ × Bool))))
-    (coded× (coded_list coded_ℕ) (coded× (coded_list coded_ℕ) (coded× (coded_list coded_ℕ) (coded× coded_ℕ coded_bool))))
+    (coded× (coded_list coded_ℕ) (coded× (coded_list coded_ℕ) (coded× (coded_list coded_ℕ)
+    (coded× coded_ℕ coded_bool))))
     (λ i. (i.line, (i.held, (i.rest, (i.room, i.has_ended)))))
-    (λ t. record { line = t.0; held = t.1.0; rest = t.1.1.0; room = t.1.1.1.0; has_ended = t.1.1.1.1 })
+    (λ t. record {
+      line = t.0;
+      held = t.1.0;
+      rest = t.1.1.0;
+      room = t.1.1.1.0;
+      has_ended = t.1.1.1.1;
+    })
     (λ _. refl)

@@ -57,7 +57,9 @@ impl Model for Intake {
 
     ghost view = { λ i. record {
       line =
-          if vec_len i.held == 0 then strip_carriage_return (slice_range i.chunk.items i.start (i.start + i.length))
+          if vec_len i.held == 0
+          then strip_carriage_return
+          (slice_range i.chunk.items i.start (i.start + i.length))
           else if i.has_ended then i.held.items else strip_carriage_return i.held.items;
       held = if i.is_handed_out then [] else i.held.items;
       rest = slice_range i.chunk.items i.next i.heard;
