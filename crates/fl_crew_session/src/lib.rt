@@ -1,5 +1,6 @@
-//! The session of a script over crews, line by line: which lines wait, and what ends their batch.
+//! The session of a script over crews, line by line: which lines wait, what ends their batch, and
+//! what each is answered.
 #![tactic(auto)]
 
-mod held;
 pub mod session;
+mod told;

@@ -1,9 +1,7 @@
-use Rattle.fl_crew_lines.specs.laws.Steps.{then_ok, then_stop}
+use Rattle.fl_crew_session.proofs.Turning.{cuts_turn}
 use Rattle.fl_crew_session.proofs.session.Session.answer.Goals as goal
 
-pub returns-in_err-own-clause-puts : goal.returns-in_err-own-clause-puts
-returns-in_err-own-clause-puts g c =
-    then_stop _ c.in_ok-told.ensures.puts c.in_err-own.ensures.puts c.from_residual-in_err-own.ensures.0
-
-pub returns-clause-puts : goal.returns-clause-puts
-returns-clause-puts g c = then_ok _ c.in_ok-told.ensures.puts c.in_ok-own.ensures.puts
+pub returns-clause-err : goal.returns-clause-err
+returns-clause-err g c =
+    cuts_turn _ {rest = c.write.new.sink} _ _ _ _ _ _ c.write.result c.respond-told.ensures
+    (rw (← c.self.view_is) c.write.ensures.puts)
