@@ -4,6 +4,7 @@ ghost use Rattle.std.specs.Prelude.{false, length, true};
 ghost use Rattle.fl_calls.specs.Answer.{shown_alone};
 ghost use Rattle.fl_crew_calls.specs.Asking.{AnswersWindow, ChecksAt, Comes, DeliversAt};
 ghost use Rattle.fl_crew_calls.specs.Asking.{IsServing, RestartsAt, TellsAt, TellsText, Unites};
+ghost use Rattle.fl_crew_calls.specs.Asking.{is_window};
 ghost use Rattle.fl_crew_calls.specs.Calls.{AsksCrew, RespondsTo};
 ghost use Rattle.fl_crew_calls.specs.Over.{IsCrewAt};
 ghost use Rattle.fl_crew_lines.specs.parts.Once.{AsksOpen, ComesAt, is_of_crews, names_none};
@@ -54,9 +55,11 @@ fn copy_batch(alloc: Global, batch: &Batch) -> Result<Batch, AllocError>
 
 // The packet again, and nothing of a window, which no batch takes.
 fn copy_packet(alloc: Global, packet: &Packet) -> Result<Option<Packet>, AllocError>
-    ensures some { IfOk result (λ made. IfSome made (λ copy. copy ≡ packet.now)) }
+    ensures some { IfOk result (λ made. IfSome made
+        (λ copy. (copy ≡ packet.now) × (is_window packet.now ≡ false))) }
     ensures none { IfOk result (λ made.
         IfNone made ((window : Intervals) × (packet.now ≡ packets.Have window))) }
+    ensures err { OnErr result (is_window packet.now ≡ false) }
 {
     Ok(match packet {
         Packet::Full(batch) => Some(Packet::Full(copy_batch(alloc, batch)?)),
@@ -243,9 +246,13 @@ fn unite<R: CrewRuntime, M: MakesKeepers>(
     requires second { (crew : CrewOver M.K) × IsCrewAt crews.now second crew }
     ensures { Unites crews.now first second (shown_alone result) crews.now }
 {
-    let (one, other) = match (crews.serving(first), crews.serving(second)) {
-        (Ok(one), Ok(other)) => (one, other),
-        (Err(fault), _) | (_, Err(fault)) => return refused(fault),
+    let one = match crews.serving(first) {
+        Ok(one) => one,
+        Err(fault) => return refused(fault),
+    };
+    let other = match crews.serving(second) {
+        Ok(other) => other,
+        Err(fault) => return refused(fault),
     };
     match all_of(alloc, one, other) {
         Ok(all) => Response::Union(all),

@@ -1,0 +1,4 @@
+pub mod Opening
+pub mod Serving
+pub mod Bringing
+pub mod Unions
