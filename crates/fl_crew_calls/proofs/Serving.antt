@@ -1,5 +1,5 @@
 -- A batch of the crew of a node, by the entries that hold the places of crews.
-use Rattle.std.proofs.Common.{◌≡◌, ◌∙◌, ◌<◌, ◌+◌, ◌++◌, ◌∷◌, [], inl, inr, refl, sym, ap, subst, arith, ℕ, suc, false, true, length, length-append, List, Option, None, Some, Result, Ok, Err, nat_cmp}
+use Rattle.std.proofs.Common.{◌≡◌, ◌∙◌, ◌<◌, ◌+◌, ◌++◌, ◌∷◌, [], inl, inr, refl, sym, ap, subst, arith, ℕ, false, true, length, length-append, List, Option, None, Some, Result, Ok, Err, nat_cmp}
 use Rattle.std.specs.BTreeMap.{is_at}
 use Rattle.std.specs.Map.{lookup, set_value}
 use Rattle.fl_dealing.specs.declared.entry.Entry.{Entry}
@@ -18,7 +18,8 @@ use Rattle.fl_workers.specs.declared.fault.CrewFault.TheVariants as NotBegun
 use Rattle.fl_crew_calls.specs.Asking.{Comes, is_window}
 use Rattle.fl_crew_calls.specs.Batches.{IsServedBy, IsUnbegunFor, ServesBatch}
 use Rattle.fl_crew_calls.specs.Over.{CrewsOver, with_crew, with_sent}
-use Rattle.fl_crew_calls.specs.Told.{all_sent, replies_behind, sent_by}
+use Rattle.fl_crew_calls.specs.Told.{all_sent, replies_behind}
+use Rattle.fl_crew_calls.specs.laws.Replies.{replied_each}
 use Rattle.fl_crew_calls.proofs.Maps.{held, put_through_place, seen}
 
 module _ {K M : Type 0} (custody : Custody K) {maker : M} {workers : ℕ}
@@ -86,18 +87,6 @@ pub why_unbegun : {K V : Type 0} (crew : CrewOver K) (fault : CrewFault) (told :
     → IsUnbegunFor crew told
 why_unbegun crew NotBegun.Stopped told stopped memory is = inl (stopped refl, is refl)
 why_unbegun crew NotBegun.Memory told stopped memory is = inr (memory refl)
-
--- each place has its reply
-length-replies : (sent : List Packet) (es : List Entry) → length (replies_behind sent es) ≡ length es
-length-replies sent [] = refl
-length-replies sent (e ∷ es) = ap suc (length-replies (sent ++ sent_by e.reply) es)
-
-pub replied_each : {K M : Type 0} {custody : Custody K} {old : CrewsOver K M} {number : ℕ}
-    (jobs : List Job) (packets : List Packet) (replies : List Reply) {new : CrewsOver K M}
-    → ServesBatch custody old number jobs packets (Ok replies) new
-    → length replies ≡ length jobs + length packets
-replied_each {old = old} jobs packets replies (ServesBatch.served {es = es} there served) =
-    length-replies old.sent es ∙ served.count
 
 the_only : (front : List Reply) (reply : Reply) → length (front ++ reply ∷ []) ≡ 1 → front ≡ []
 the_only [] reply one = refl

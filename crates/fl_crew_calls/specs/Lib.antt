@@ -4,3 +4,4 @@ pub mod Told
 pub mod Batches
 pub mod Asking
 pub mod Calls
+pub mod laws

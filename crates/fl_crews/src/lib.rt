@@ -2,4 +2,5 @@
 //! come when the batch has ended.
 #![tactic(auto)]
 
+pub mod laws;
 pub mod run;

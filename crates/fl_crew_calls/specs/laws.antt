@@ -1,0 +1,2 @@
+-- What follows from the definitions, for proofs of the crates above.
+pub mod Replies
