@@ -35,7 +35,7 @@ def in_one_line(text):
 def help_of(name):
     """What a program says for --help."""
     if name == HOST:
-        return run(sys.executable, TOP / "host/flume-host", "--help").stdout
+        return run(sys.executable, "-B", TOP / "host/flume-host", "--help").stdout
     return read_words.answer(name, ["--help"])[1]
 
 
@@ -148,7 +148,7 @@ def wrong_installed(checkout, root):
         if run(root / "bin" / name, cwd="/").stdout != says:
             yield f"bin/{name} is another program"
     if sys.version_info >= (3, 11):
-        said = run(sys.executable, root / "bin" / HOST, "--help", cwd="/")
+        said = run(sys.executable, "-B", root / "bin" / HOST, "--help", cwd="/")
         if said.stdout != help_of(HOST):
             yield f"bin/{HOST} does not run from there: {said.stderr}"
     for name in PROGRAMS:

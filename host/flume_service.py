@@ -7,7 +7,6 @@ from typing import Any
 
 class Refused(Exception):
     """The host refused a request: why, as F8 or 'no such name', and the tag or right it names."""
-
     def __init__(self, why: str, names: str) -> None:
         super().__init__(f"{why} {names}".strip())
         self.why, self.names = why, names
@@ -17,7 +16,6 @@ class Host:
     """The host. One request is under way at a time. A message has 1,024 bytes at most, and goes
     under the labels of the service, or under secrecy=[..] and integrity=[..] where these are
     given. Tags are given as alice/calendar or by handles, and rights as -alice/calendar."""
-
     def __init__(self) -> None:
         self.socket = socket.socket(fileno=int(os.environ["FLUME_SOCKET"]))
 

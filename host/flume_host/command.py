@@ -4,11 +4,11 @@ import fcntl
 import json
 import os
 import pathlib
-import secrets
 import shutil
 import signal
 import subprocess
 import sys
+import time
 from typing import Callable
 
 from .config import Table, Unfit, read_config, unfit
@@ -32,44 +32,36 @@ CALLED_FROM, LEAST_PAGE = pathlib.Path.cwd(), 512
 
 class Host:
     """A host that runs: its files, and one world after another."""
-    world: World
-
     def __init__(self, config: Table) -> None:
-        """Opens its files, and ends the real processes that a kill left. Raises Unfit where another
-        host has them."""
+        """Opens its files, and ends what a kill left. Raises Unfit where another host has them."""
         self.config, self.starts = config, 0
-        self.folder = folder = pathlib.Path(config.node.directory)
+        self.folder = folder = pathlib.Path(config.node.directory).resolve()
         with unfit(f"{folder}: init makes it, and it is unavailable where another host has it"):
-            self.lock = open(folder / "lock", "a")
-            fcntl.flock(self.lock, fcntl.LOCK_EX | fcntl.LOCK_NB)
-            self.keys = [bytes.fromhex(pathlib.Path(it).read_text()) for it in config.node.keys]
-        self.running, self.vault = end_left(folder / "running"), Vault(folder / "vault")
-        self.journal = Journal(folder, config.node.journal_bytes, config.node.journal_files)
+            self.running = open(folder / "running", "a+")
+            fcntl.flock(self.running, fcntl.LOCK_EX | fcntl.LOCK_NB)
+            config.keys = [bytes.fromhex(pathlib.Path(it).read_text()) for it in config.node.keys]
+        end_left(self.running)
+        self.vault, self.journal = Vault(folder / "vault"), Journal(folder, config.node)
 
     async def run(self, only_meets: bool = False) -> int:
-        """Runs one node after another, each from its greeting to the end of all that lives, until a
-        signal ends it, a node ends with 2 or 4, or it has met the other machines, where that is
-        all. Returns the status."""
-        stop, node = asyncio.Event(), self.config.node
-        path = node.directory + "/control"
+        """Runs one node after another, each to the end of all that lives, until a signal comes, one
+        ends with 2 or 4, or it has met the others, where that is all. Returns the status."""
+        stop, node, path = asyncio.Event(), self.config.node, self.folder / "control"
         # before it has a child, which would have to change its group too
         delegated()
         for number in (signal.SIGTERM, signal.SIGINT):
             asyncio.get_running_loop().add_signal_handler(number, stop.set)
-        pathlib.Path(path).unlink(missing_ok=True)
         async with await asyncio.start_unix_server(self.control, path):
-            os.chmod(path, 0o600)
-            async for _ in attempts(stop):
-                self.starts += 1
-                keys = [word for it in node.keys for word in ("--key", it)]
+            path.chmod(0o600)
+            async for self.starts in attempts(stop):
+                keys = [f"--key={it}" for it in node.keys]
                 books = Books([*node.words, *keys], node.number, self.journal)
+                self.world = World(self.config, books, self.vault, self.running)
                 try:
-                    self.world = World(self.config, books, self.vault, self.running, self.keys)
                     # a task of its own: a group that fails leaves its task as one to be cancelled
                     await asyncio.create_task(self.world.run(stop, only_meets))
-                    status = books.end()
                 finally:
-                    books.program.kill()
+                    status = books.end()
                 if status in (2, 4):
                     return status
                 if not stop.is_set():
@@ -85,7 +77,9 @@ class Host:
             "emissions": {name: it["number"] for name, it in self.journal.last.items()},
             "undone": sum(it["kind"] == "emission" for it in self.journal.last.values()),
             "processes": {pid: it.name for pid, it in self.world.living.items()},
-            "peers": {number: it.status() for number, it in self.world.machines.peers.items()}
+            "peers": {number: {"age": round(time.monotonic() - it.heard, 3) if it.heard else None,
+                               "lag": it.lag, "waiting": len(it.waiting)}
+                      for number, it in self.world.machines.peers.items()}
         }).encode() + b"\n")
         writer.close()
 
@@ -94,13 +88,13 @@ def init(config: Table) -> int:
     """Makes the directory, the first key where none is, and the node: 4 where one is there."""
     os.makedirs(config.node.directory, exist_ok=True)
     for key in (it for it in config.node.keys[:1] if not os.path.exists(it)):
-        pathlib.Path(key).write_text(secrets.token_hex(32))
+        pathlib.Path(key).write_text(os.urandom(32).hex())
     return subprocess.run([*config.node.words, "--new"], stdin=subprocess.DEVNULL).returncode
 
 
 def copy(config: Table, place: pathlib.Path, is_back: bool) -> None:
-    """Copies what a host keeps to a place, where host.toml is the last, or back, where its keys and
-    its configuration stay if they are there. Raises Unfit."""
+    """Copies what a host keeps to a place, host.toml last, or back, but for keys and configuration
+    that are there. Raises Unfit."""
     keys = {f"key-{at}": it for at, it in enumerate(config.node.keys)}
     files = {"directory": config.node.directory, **keys, "host.toml": config.path}
     with unfit(place):
@@ -115,8 +109,7 @@ def copy(config: Table, place: pathlib.Path, is_back: bool) -> None:
 
 
 def backup(config: Table, to: str) -> None:
-    """Copies what a host keeps to a new folder. Raises Unfit where the host runs, which it cannot
-    meanwhile, or its node did not end cleanly."""
+    """Copies a host to a new folder. Raises Unfit where it runs, or its node did not end well."""
     host = Host(config)
     if any(log.stat().st_size > LEAST_PAGE for log in host.folder.glob("*.db-wal")):
         raise Unfit(f"{host.folder}: the node's log is not merged: let the host run, and end it")
@@ -142,8 +135,8 @@ def restore(config: Table, kept: str) -> int:
 
 VERBS: dict[str, Callable[..., int | None]] = {
     "": lambda config: asyncio.run(Host(config).run()), "init": init, "explain": explain,
-    "check": lambda _: None, "status": lambda config: print(json.dumps(asked(config))),
-    "backup": backup, "restore": restore}
+    "status": lambda config: print(json.dumps(asked(config.node.directory))),
+    "check": lambda _: None, "backup": backup, "restore": restore}
 
 
 def main(words: list[str]) -> int:
@@ -167,6 +160,5 @@ def main(words: list[str]) -> int:
         why: BaseException = group
         while isinstance(why, BaseExceptionGroup):
             why = why.exceptions[0]
-    for line in str(why.args[0]).splitlines():
-        print(f"flume-host: {line}", file=sys.stderr)
+    print("flume-host:", why.args[0].replace("\n", "\nflume-host: "), file=sys.stderr)
     return int(why.args[1]) if why.args[1:] else 2

@@ -3,17 +3,15 @@ envelope, which has a seal of its own: who carries it can lose it, and nothing e
 import asyncio
 import contextlib
 import hmac
+import itertools
 import json
 import random
 import re
 import time
-from typing import TYPE_CHECKING, NamedTuple
+from typing import TYPE_CHECKING, AsyncIterator, NamedTuple
 
 from .config import Table, Unfit
-
 if TYPE_CHECKING:
-    from asyncio_mqtt import Client
-
     from .world import World
 
 CONTEXT, MOST, TICK, BATCH = b"flume-envelope-1\n", 1000, 1.0, 64
@@ -21,12 +19,6 @@ CONTEXT, MOST, TICK, BATCH = b"flume-envelope-1\n", 1000, 1.0, 64
 # lacked, and the last; the names of services and tags; a message; and which one was handled
 TELL, NEWS, OPERATIONS, LAST, NAMES = "tell", "news", "operations", "last", "names"
 MESSAGE, HANDLED, TWICE = "message", "handled", "a number twice"
-
-
-def is_cancelled() -> bool:
-    """Returns whether the task is to end. asyncio-mqtt waits by wait_for, which may swallow it."""
-    task = asyncio.current_task()
-    return bool(task and task.cancelling())
 
 
 class Envelope(NamedTuple):
@@ -56,7 +48,6 @@ def opened(content: bytes, keys: list[bytes]) -> Envelope | None:
 
 class Peer:
     """Another machine: what was heard of it, and what it has not said that it handled."""
-
     def __init__(self, config: Table) -> None:
         self.config, self.is_met = config, asyncio.Event()
         self.waiting: dict[int, tuple[float, str]] = {}
@@ -75,24 +66,15 @@ class Peer:
             self.taken[is_message] = {old for old in taken if old > least} | {it.number}
         return is_new
 
-    def status(self) -> dict[str, object]:
-        """Returns how long ago it was heard, how much it lacked then, and what waits for it."""
-        age = round(time.monotonic() - self.heard, 3) if self.heard else None
-        return {"age": age, "lag": self.lag, "waiting": len(self.waiting)}
-
 
 class Machines:
     """The other machines, as one run of the node meets them."""
-
-    def __init__(self, keys: list[bytes], world: "World") -> None:
-        self.config, self.keys = world.config.cluster, keys
-        self.world, self.books = world, world.books
+    def __init__(self, world: "World") -> None:
+        self.world, self.books, self.has_met, self.met = world, world.books, False, list[int]()
+        self.config, self.keys = world.config.cluster, world.config.keys
         self.peers = {it.number: Peer(it) for it in world.config.peers.values()}
-        self.outgoing: asyncio.Queue[tuple[str, bytes]] = asyncio.Queue(MOST)
-        self.last, self.has_met, self.met = 0, False, list[int]()
-
-    def topic(self, to: object, sender: object) -> str:
-        return f"flume/{self.config.name}/to/{to}/from/{sender}"
+        self.outgoing, self.numbers = asyncio.Queue[tuple[str, bytes]](MOST), itertools.count(1)
+        self.topic = f"flume/{self.config.name}/to/{{}}/from/{{}}".format
 
     async def meet(self) -> None:
         """Waits for peers' windows: a number that was made anew shows before the first order."""
@@ -106,10 +88,15 @@ class Machines:
     async def run(self) -> None:
         """Meets the others, by one client of the broker after another."""
         # what a machine without peers need not have
-        from asyncio_mqtt import Client, MqttError, TLSParameters
+        from asyncio_mqtt import Client, Message, MqttError, TLSParameters
         host, port = self.config.broker.rsplit(":", 1)
         tls = TLSParameters(self.config.ca, self.config.certificate, self.config.private_key)
-        while not is_cancelled():
+
+        async def hear(messages: AsyncIterator[Message]) -> None:
+            async for it in messages:
+                self.take(it.topic.value, it.payload)
+        # the client waits by wait_for, which may swallow that this is to end
+        while (task := asyncio.current_task()) and not task.cancelling():
             try:
                 async with (Client(host, int(port), client_id=str(self.books.number),
                                    clean_session=True, keepalive=10,
@@ -117,34 +104,27 @@ class Machines:
                             client.messages(queue_maxsize=MOST) as heard,
                             asyncio.TaskGroup() as group):
                     await client.subscribe(self.topic(self.books.number, "+"))
-                    if is_cancelled():
-                        return
-                    group.create_task(self.publish(client))
-                    async for it in heard:
-                        self.take(it.topic.value, it.payload)
+                    group.create_task(hear(heard))
+                    while not task.cancelling():
+                        await client.publish(*await self.outgoing.get())
+                    raise asyncio.CancelledError
             # a broker that dies is an error twice: in the block, and as it is left
             except* (MqttError, OSError) as why:
                 self.world.note("broker", why=str(why.exceptions[0]))
             await asyncio.sleep(random.uniform(0.5, 1.5))
 
-    async def publish(self, client: "Client") -> None:
-        while not is_cancelled():
-            await client.publish(*await self.outgoing.get())
-
     async def talk(self) -> None:
         """Tells all what the node has, again and again, and sends again what was not handled."""
-        due = again = 0.0
+        due = 0.0
         while True:
             now = time.monotonic()
-            for to, peer in self.peers.items() if now > again else ():
+            for to, peer in self.peers.items():
                 for number, (at, digits) in [*peer.waiting.items()][:BATCH]:
                     if now - at > TICK:
                         self.send(MESSAGE, to, digits, number)
                         peer.waiting[number] = now, digits
-            again = now + TICK if now > again else again
             if self.books.is_news or now > due:
-                is_news = self.books.is_news or not self.has_met
-                self.tell(NEWS if is_news else TELL, *self.peers)
+                self.tell(NEWS if self.books.is_news or not self.has_met else TELL, *self.peers)
                 seconds = self.config.seconds * random.uniform(0.5, 1.5)
                 due, self.books.is_news = now + (seconds if self.has_met else TICK), False
             # orders that come together are told together
@@ -152,31 +132,34 @@ class Machines:
 
     def tell(self, kind: str, *peers: int) -> None:
         """Tells peers what the node has, and what is called how here."""
-        names = json.dumps(self.world.names()).encode().hex()
+        world = self.world
+        names = {it: world.tags[it] for it in world.config.tags if it in world.tags} | {
+            name: f"{it.pid} {it.endpoint}" for name, it in world.processes.items()
+            if it.pid in world.living}
         for packet in self.books.ask("tell")[1:]:
             for to in peers:
                 self.send(kind, to, packet)
-                self.send(NAMES, to, names)
+                self.send(NAMES, to, json.dumps(names).encode().hex())
 
     def send(self, kind: str, to: int, packet: str, number: int = 0) -> None:
         """Has an envelope on its way. What is over 1,000 is lost."""
-        self.last += 1
-        it = Envelope(kind, self.books.number, to, self.books.boot, number or self.last, packet)
+        number, here = number or next(self.numbers), self.books.number
+        it = Envelope(kind, here, to, self.books.boot, number, packet)
         with contextlib.suppress(asyncio.QueueFull):
-            self.outgoing.put_nowait((self.topic(to, self.books.number), it.sealed(self.keys[0])))
+            self.outgoing.put_nowait((self.topic(to, here), it.sealed(self.keys[0])))
 
     def post(self, to: int, digits: str) -> None:
         """Has a message on its way, again and again until it was handled, but for 1,000."""
         peer = self.peers[to]
-        if peer.sent - min(peer.waiting, default=peer.sent) >= MOST - 1:
+        if peer.sent - min(peer.waiting, default=peer.sent) < MOST - 1:
+            peer.sent += 1
+            peer.waiting[peer.sent] = time.monotonic(), digits
+            self.send(MESSAGE, to, digits, peer.sent)
+        else:
             self.world.note("lost", packet=digits)
-            return
-        peer.sent += 1
-        peer.waiting[peer.sent] = time.monotonic(), digits
-        self.send(MESSAGE, to, digits, peer.sent)
 
     def take(self, topic: str, content: bytes) -> None:
-        """Takes an envelope, or notes why it does not. Raises NodeEnded, and Unfit."""
+        """Takes an envelope, or notes why it does not. Raises as `handle`."""
         it, here = opened(content, self.keys), self.books.number
         why = ("no seal" if not it else
                "another's topic" if (it.to, topic) != (here, self.topic(here, it.sender)) else
@@ -193,35 +176,25 @@ class Machines:
             self.send(HANDLED, it.sender, f"{it.boot}.{it.number}")
 
     def handle(self, it: Envelope, peer: Peer) -> None:
-        """Does what an envelope is for, which is of whom it says, and came once."""
+        """Does what one is for. Raises NodeEnded, and Unfit at a name that the node never gave."""
         peer.heard = time.monotonic()
         if it.kind == MESSAGE:
             self.world.arrive(it.packet)
         elif it.kind == HANDLED:
             boot, number = map(int, it.packet.split("."))
-            if boot == self.books.boot:
-                peer.waiting.pop(number, None)
+            peer.waiting.pop(number if boot == self.books.boot else 0, None)
         # before owners are there they give nothing: names come again
         elif it.kind == NAMES and self.has_met and (it.boot, it.number) > peer.named:
             peer.named = it.boot, it.number
             self.world.hear(peer.config, json.loads(bytes.fromhex(it.packet)))
-        elif it.kind in (TELL, NEWS):
-            packets = self.receive(it.packet)[1:]
-            peer.lag = len(packets)
-            for place, packet in enumerate(packets, 1):
-                self.send(LAST if place == peer.lag else OPERATIONS, it.sender, packet)
-            if it.kind == NEWS:
+        elif it.kind in (TELL, NEWS, OPERATIONS, LAST):
+            took, *lacked = self.books.ask(f"receive {it.packet}")
+            if re.match(rf"refused F1[67] {it.to}\.", took):
+                raise Unfit(f"{took}: the number {it.to} is another's", 4)
+            for place, packet in enumerate(lacked, 1):
+                self.send(LAST if place == len(lacked) else OPERATIONS, it.sender, packet)
+            if it.kind == NEWS or it.kind == LAST and re.match("took [1-9]", took):
                 self.tell(TELL, it.sender)
-            peer.is_met.set()
-        elif it.kind in (OPERATIONS, LAST):
-            took = self.receive(it.packet)[0]
-            if it.kind == LAST and took.startswith("took ") and took != "took 0":
-                self.tell(TELL, it.sender)
-
-    def receive(self, packet: str) -> list[str]:
-        """Returns what the node answers to a packet. Raises Unfit where a peer knows a name of this
-        node that it never gave."""
-        answer = self.books.ask(f"receive {packet}")
-        if re.match(rf"refused F1[67] {self.books.number}\.", answer[0]):
-            raise Unfit(f"{answer[0]}: the number {self.books.number} is another's", 4)
-        return answer
+            if it.kind in (TELL, NEWS):
+                peer.lag = len(lacked)
+                peer.is_met.set()

@@ -3,8 +3,8 @@ nothing in it but what the node answered, bytes in hexadecimal, and sets that ar
 import contextlib
 import re
 import socket
-import subprocess
 from dataclasses import dataclass
+from subprocess import Popen, TimeoutExpired
 from typing import Iterable, NamedTuple
 
 from .records import Journal, digest
@@ -20,12 +20,7 @@ class NodeEnded(Exception):
 
 
 class Refused(Exception):
-    """The node refused a line: by F3, and what that names last, as -1.1, or nothing."""
-
-    def __init__(self, answer: str) -> None:
-        super().__init__(answer)
-        _, self.code, *named = answer.split(" ")
-        self.named = "".join(named[-1:])
+    """The node refused a line, and its answer, as 'refused F3 -1.1'."""
 
 
 class Labels(NamedTuple):
@@ -39,7 +34,6 @@ class Process:
     pid: str
     labels: Labels = Labels()
     endpoint: str = "e1"
-    mode: str = "r"
 
 
 def set_text(members: Iterable[str]) -> str:
@@ -48,23 +42,19 @@ def set_text(members: Iterable[str]) -> str:
 
 class Books:
     """A node that is served, line by line. All functions raise Refused and NodeEnded."""
-
     def __init__(self, words: list[str], number: int, journal: Journal) -> None:
         """Starts the program, which is then to greet."""
         # what is to be told to other machines at once: a start, and each order
         self.number, self.journal, self.is_news = number, journal, True
-        self.socket, theirs = socket.socketpair()
+        self.socket, end = socket.socketpair()
         self.socket.settimeout(SECONDS)
         self.lines = self.socket.makefile("r", encoding="ascii", newline="\n")
-        with theirs:
-            self.program = subprocess.Popen(words, stdin=theirs.fileno(), stdout=theirs.fileno(),
-                                            process_group=0)
+        with end:
+            self.program = Popen(words, stdin=end.fileno(), stdout=end.fileno(), process_group=0)
 
     def greet(self) -> None:
         """Notes what the program says first. Raises NodeEnded where it does not greet."""
-        found = re.fullmatch(GREETING.format(self.number), self.line())
-        if not found:
-            self.program.kill()
+        if not (found := re.fullmatch(GREETING.format(self.number), self.line())):
             raise NodeEnded
         self.boot = int(found[1])
         self.journal.note("greeting", boot=self.boot, published=int(found[2]))
@@ -78,8 +68,8 @@ class Books:
         return [first, *(self.line() for _ in range(many))]
 
     def ask(self, line: str, secret: str = "") -> list[str]:
-        """Returns the lines of the answer to a line, with a secret as its last word where it has
-        one. It takes a write and a read of a socket, and an order a write to the disk."""
+        """Returns the lines of the answer to a line, with a secret as its last word, if any. It
+        takes a write and a read of a socket, and an order a write to the disk."""
         answer = self.answer(f"{line} {secret}".rstrip(" "))
         told = f"{line} sha256:{digest(secret)}" if secret else line
         # the registry is its own record: a journal that had it at each start would be full of it
@@ -97,29 +87,24 @@ class Books:
         return answer.rpartition(" ")[2]
 
     def line(self, said: str = "") -> str:
-        """Writes a line, where there is one, and returns the next that the program writes, which is
-        killed where it takes too long."""
-        try:
+        """Writes a line, if any, and returns the next one that the program writes in time."""
+        with contextlib.suppress(OSError):
             self.socket.sendall(said.encode("ascii"))
             if (found := self.lines.readline()).endswith("\n"):
                 return found[:-1]
-        except OSError as why:
-            if isinstance(why, TimeoutError):
-                self.program.kill()
         raise NodeEnded
 
     def end(self) -> int:
-        """Ends its input, and returns its status, once its log is merged."""
+        """Ends its input, and returns its status, once its log is merged, or it is killed."""
         self.socket.shutdown(socket.SHUT_WR)
-        with contextlib.suppress(subprocess.TimeoutExpired):
+        with contextlib.suppress(TimeoutExpired):
             self.program.wait(SECONDS)
         self.program.kill()
         return int(self.program.wait())
 
     def proc(self, mode: str, line: str = "proc", labels: Labels = Labels()) -> Process:
         """Returns the process that a line makes, with an endpoint of its labels and this mode."""
-        pid = self.do(line)
-        return Process(pid, labels, self.open(pid, mode, labels), mode)
+        return Process(pid := self.do(line), labels, self.open(pid, mode, labels))
 
     def open(self, pid: str, mode: str, labels: Labels) -> str:
         return self.do(f"open {pid} {mode} {' '.join(map(set_text, labels))}")
@@ -137,26 +122,22 @@ class Books:
 
     def logins(self) -> dict[str, tuple[str, str]]:
         """Returns each login of the registry by its digest: its name, and the tag of its right."""
-        found, puts = dict[str, tuple[str, str]](), dict[str, str]()
-        for name, kind, *rest in map(str.split, self.ask("text")[1:]):
-            if kind == "put":
-                puts[f"*{rest[0]}"] = rest[1][1:]
-            elif kind == "login":
-                found[rest[1]] = name, puts.get(rest[0], rest[0][1:])
-        return found
+        text = "\n".join(self.ask("text"))
+        tags = dict(re.findall(r"(?m)^\S+ put (\S+) .(\S+)$", text))
+        return {secret: (name, tags.get(right, right)) for name, right, secret in
+                re.findall(r"(?m)^(\S+) login .(\S+) (\S+)$", text)}
 
-    def relabel(self, process: Process, labels: Labels) -> None:
+    def relabel(self, process: Process, labels: Labels, mode: str = "rw") -> None:
         """Changes a label of a process, with that of its endpoint, or neither."""
         if labels == process.labels:
             return
         self.do(f"close {process.pid} {process.endpoint}")
         try:
-            for kind, old, new in zip("SI", process.labels, labels):
-                if new != old:
-                    self.do(f"label {process.pid} {kind} {set_text(new)}")
+            for kind, members in zip("SI", labels):
+                self.do(f"label {process.pid} {kind} {set_text(members)}")
             process.labels = labels
         finally:
-            process.endpoint = self.open(process.pid, process.mode, process.labels)
+            process.endpoint = self.open(process.pid, mode, process.labels)
 
     def send(self, process: Process, under: Labels, to: Process, rights: Iterable[str],
              content: bytes) -> tuple[str, str]:

@@ -1,6 +1,5 @@
-"""What is real of processes of the books: outlets, by which alone bytes go out, and services, each
-with the names by which it calls others, what it may ask, and its life in a sandbox. A service is
-told nothing of others: no pid, no endpoint, and not whether its message arrived."""
+"""What is real of processes of the books: outlets, by which alone bytes go out, and services, which
+are told nothing of others: no pid, no endpoint, and not whether a message arrived."""
 import asyncio
 import collections
 import contextlib
@@ -13,44 +12,32 @@ from typing import TYPE_CHECKING, Any, AsyncIterator
 from .config import Table
 from .node import OPERATION, Books, Labels, Process, Refused, set_text
 from .sandbox import Sandbox
-
 if TYPE_CHECKING:
     from .world import World
 
 DATAGRAM_BYTES, MESSAGE_BYTES, HOUR = 65_536, 1024, 3600
-MOST_TAGS, MOST_RIGHTS = 256, 64
+# how what a request names begins, and how many it names at most
+TAGS, RIGHTS = (("",), 256), (("+", "-"), 64)
 
 
 class Wrong(Exception):
     """A request that the host refuses itself, and why."""
 
 
-def texts(given: Any, most: int) -> list[str]:
-    """Returns a list of texts, so many at most. Raises Wrong."""
-    if not isinstance(given, list) or not all(isinstance(it, str) for it in given):
-        raise Wrong("bad request")
-    if len(given) > most:
-        raise Wrong("too many")
-    return given
-
-
-async def attempts(stop: asyncio.Event) -> AsyncIterator[None]:
-    """Yields for each attempt, until all is to stop. Between them are pauses, which grow from one
-    second to sixty, but behind an attempt that lasted for so long."""
-    pause = 1.0
+async def attempts(stop: asyncio.Event) -> AsyncIterator[int]:
+    """Yields 1, 2, .. until all is to stop, with pauses between, which grow from 1 second to 60."""
+    number, pause = 0, 1.0
     while not stop.is_set():
-        began = time.monotonic()
-        yield
+        number, began = number + 1, time.monotonic()
+        yield number
         pause = 1.0 if time.monotonic() - began > 60 else pause
         with contextlib.suppress(TimeoutError):
-            async with asyncio.timeout(pause):
-                await stop.wait()
+            await asyncio.wait_for(stop.wait(), pause)
         pause = min(2 * pause, 60.0)
 
 
 class Outlet:
     """An outlet, and where its bytes go."""
-
     def __init__(self, name: str, config: Table, process: Process, books: Books) -> None:
         self.name, self.config, self.process, self.books = name, config, process, books
         self.journal, self.bell = books.journal, asyncio.Event()
@@ -103,16 +90,12 @@ class Outlet:
 
 class Service:
     """One life of a service, which has a process of the books and a sandbox of its own."""
-
     def __init__(self, world: "World", name: str, process: Process, tags: dict[str, str]) -> None:
         self.world, self.books, self.name, self.process = world, world.books, name, process
         self.config, self.pid = world.config.services[name], process.pid
-        # the names by which it calls tags: aliases of the configuration, and handles
-        self.tags = dict(tags)
-        # and those by which it calls services, of which its own are handles
-        self.others = collections.ChainMap[str, Process]({}, world.processes)
-        self.children: list[asyncio.Task[None]] = []
-        self.packet: tuple[str, str] | None = None
+        # the names by which it calls tags and services: those of the configuration, and handles
+        self.tags, self.others = {**tags}, collections.ChainMap[str, Process]({}, world.processes)
+        self.children, self.packets = list[asyncio.Task[None]](), list[tuple[str, str]]()
         self.bell, self.is_gone = asyncio.Event(), False
 
     def named(self, what: str) -> str:
@@ -125,8 +108,7 @@ class Service:
         return what.removesuffix(tag) + name
 
     async def serve(self) -> None:
-        """Runs it. As it returns its real process is gone, and then its pid. Raises NodeEnded, and
-        RuntimeError where the real process does not end."""
+        """Runs it. As it returns its real process is gone, and its pid. Raises as Sandbox.end."""
         world, sandbox = self.world, None
         world.living[self.pid] = self
         world.note("started", service=self.name, pid=self.pid)
@@ -149,80 +131,79 @@ class Service:
         await asyncio.gather(*self.children, return_exceptions=True)
 
     async def converse(self, sandbox: Sandbox) -> None:
-        """Answers its requests, until it ends. A packet is delivered behind the answer."""
-        loop = asyncio.get_running_loop()
+        """Answers its requests, until it ends. Packets are delivered behind the answer."""
+        loop, its = asyncio.get_running_loop(), sandbox.socket
         loop.add_reader(sandbox.handle, self.leave)
-        while not self.is_gone and (
-                content := await loop.sock_recv(sandbox.socket, DATAGRAM_BYTES + 1)):
-            answer = await self.answer(content)
+        while not self.is_gone and (asked := await loop.sock_recv(its, DATAGRAM_BYTES + 1)):
+            answer = await self.answer(asked)
             try:
-                await loop.sock_sendall(sandbox.socket, json.dumps(answer).encode())
+                await loop.sock_sendall(its, json.dumps(answer).encode())
             finally:
-                if self.packet:
-                    self.world.deliver(self.packet)
+                for packet in self.packets:
+                    self.world.deliver(packet)
             # a service that always has a request more must not hold up the others
             await asyncio.sleep(0)
 
     async def answer(self, content: bytes) -> dict[str, Any]:
         """Returns the answer to a datagram. Raises NodeEnded. `receive` waits for a message."""
-        self.packet = None
+        self.packets.clear()
         try:
             if len(content) > DATAGRAM_BYTES:
                 raise Wrong("too long")
             return {"ok": True, **await self.do(json.loads(content))}
         except Refused as refused:
-            return {"refused": refused.code, "names": self.named(refused.named)}
-        except (Wrong, KeyError, ValueError, RecursionError) as wrong:
-            why = "no such name" if isinstance(wrong, KeyError) else "bad request"
-            why = str(wrong) if isinstance(wrong, Wrong) else why
+            _, code, *names = str(refused).split(" ")
+            return {"refused": code, "names": self.named("".join(names[-1:]))}
+        except (Wrong, KeyError, TypeError, ValueError, RecursionError) as wrong:
+            why = {Wrong: str(wrong), KeyError: "no such name"}.get(type(wrong), "bad request")
             self.world.note("refused", service=self.name, pid=self.pid, why=why)
             return {"refused": why}
 
     async def do(self, asked: Any) -> dict[str, Any]:
-        """Does what is asked, and returns what it gives. Raises Wrong, KeyError where it was given
-        no such name, and ValueError at digits that are none."""
+        """Does what is asked, and returns what it gives. Raises Wrong, KeyError, and ValueError."""
         match asked:
             case {"do": "label", **under} if len(under) == 1:
                 self.books.relabel(self.process, self.labels(under))
-            case {"do": "send", "to": str(to), "bytes": str(digits), **under}:
-                self.post(self.others[to], digits, [], under)
+            case {"do": "send" | "emit" as do, "to": str(to), "bytes": str(digits), **under}:
+                of = self.world.outlets if do == "emit" else self.others
+                self.post(of[to], digits, [], under)
             case {"do": "grant", "to": str(to), "rights": list(rights), **under}:
                 self.post(self.others[to], "", rights, under)
-            case {"do": "emit", "to": str(to), "bytes": str(digits), **under}:
-                self.post(self.world.outlets[to].process, digits, [], under)
             case {"do": "tag", "policy": "export" | "read" | "integrity" as it, **no} if not no:
                 return {"tag": self.tag(it)}
             case {"do": "spawn", "service": str(it), "rights": list(rights), **no} if not no:
-                return {"service": self.spawn(it, self.rights(rights))}
+                return {"service": self.spawn(it, self.known(rights, *RIGHTS))}
             case {"do": "ask", "right": str(it), **no} if not no:
-                return {"is": self.books.do(f"ask {self.pid} {self.rights([it])[0]}") == "yes"}
+                [right] = self.known([it], *RIGHTS)
+                return {"is": self.books.do(f"ask {self.pid} {right}") == "yes"}
             case {"do": "receive", "wait": bool(), **no} | {"do": "receive", **no} if not no:
                 return await self.receive(asked.get("wait", True))
             case {"do": "exit", **no} if not no:
                 self.leave()
             case _:
-                raise Wrong("bad request")
+                raise ValueError
         return {}
 
-    def rights(self, given: list[Any]) -> list[str]:
-        """Returns the rights that texts say, as -alice/calendar. Raises Wrong, and KeyError."""
-        if not all(it[:1] in ("+", "-") for it in texts(given, MOST_RIGHTS)):
-            raise Wrong("bad request")
-        return [it[0] + self.tags[it[1:]] for it in given]
+    def known(self, given: Any, signs: tuple[str, ...], most: int) -> list[str]:
+        """Returns the tags that texts name, or rights with their signs, so many at most."""
+        if not isinstance(given, list) or not all(
+                isinstance(it, str) and it.startswith(signs) for it in given):
+            raise ValueError
+        if len(given) > most:
+            raise Wrong("too many")
+        sign = len(signs[0])
+        return [it[:sign] + self.tags[it[sign:]] for it in given]
 
     def labels(self, under: dict[Any, Any]) -> Labels:
         """Returns labels of these names, and where there are none those of the service."""
-        if not {*under} <= {*self.process.labels._fields}:
-            raise Wrong("bad request")
         return self.process.labels._replace(**{
-            kind: frozenset(self.tags[it] for it in texts(names, MOST_TAGS))
-            for kind, names in under.items()})
+            kind: frozenset(self.known(names, *TAGS)) for kind, names in under.items()})
 
     def post(self, to: Process, digits: str, rights: list[Any], under: dict[Any, Any]) -> None:
-        given, labels, content = self.rights(rights), self.labels(under), bytes.fromhex(digits)
+        given, content = self.known(rights, *RIGHTS), bytes.fromhex(digits)
         if len(content) > MESSAGE_BYTES:
             raise Wrong("too long")
-        self.packet = self.books.send(self.process, labels, to, given, content)
+        self.packets = [self.books.send(self.process, self.labels(under), to, given, content)]
 
     def tag(self, policy: str) -> str:
         """Returns the handle of a new tag, which is counted before it is made. Raises Wrong."""
@@ -240,8 +221,7 @@ class Service:
         # those that have ended count too, since that they ended is nothing to tell
         if len(self.children) >= self.config.children:
             raise Wrong("too many")
-        line = f"spawn {self.pid} {set_text(rights)}"
-        process = self.books.proc("rw", line, self.process.labels)
+        process = self.books.proc("rw", f"spawn {self.pid} {set_text(rights)}", self.process.labels)
         child = Service(self.world, name, process, self.tags)
         self.children.append(self.world.group.create_task(child.serve()))
         handle = f"s{len(self.children)}"

@@ -43,7 +43,7 @@ WRONG = (
     ("NODE[cluster]\nname = 'a'\nbroker = 'x:1'\nca = 'no'", "must be files"),
     ("NODE[cluster]\nname = 'a'\nbroker = 'x:1'\nseconds = 0", "cluster.seconds: must be from"),
     ("NODE[peers.two]\nnumber = 2", "cluster: is missing"),
-    ("NODE[peers.two]\nnumber = 1", "peers: the number 1 is of two"),
+    ("NODE[peers.two]\nnumber = 1", "peers: the number 1 is here"),
     ("NODE[peers.two]", "peers.two.number: is missing"),
     ("NODE[peers.two]\nnumber = 2\nservices = ['one']\n[services.one]\ncommand = ['x']",
      "peers: one is here"),
