@@ -139,8 +139,12 @@ def types_and_style(room):
 
 @case
 def limits_of_the_host(room):
-    """No file is over 300 lines, and no function over 40."""
-    for path in (room.bench.folder / "host").glob("flume*/*.py"):
+    """It has 1,500 lines at most without its tests, no file over 300, and no function over 40."""
+    host = room.bench.folder / "host"
+    files = [it for it in host.rglob("*") if it.is_file() and host / "tests" not in it.parents]
+    many = sum(it.read_text().count("\n") for it in files)
+    expect(many <= 1500, many, "lines")
+    for path in host.glob("flume*/*.py"):
         content = path.read_text()
         expect(content.count("\n") <= 300, path.name, "is too long")
         for it in ast.walk(ast.parse(content)):
