@@ -68,8 +68,7 @@ class Books:
         return [first, *(self.line() for _ in range(many))]
 
     def ask(self, line: str, secret: str = "") -> list[str]:
-        """Returns the lines of the answer to a line, with a secret as its last word, if any. It
-        takes a write and a read of a socket, and an order a write to the disk."""
+        """Returns the lines of the answer to a line, a secret behind it. An order costs a sync."""
         answer = self.answer(f"{line} {secret}".rstrip(" "))
         told = f"{line} sha256:{digest(secret)}" if secret else line
         # the registry is its own record: a journal that had it at each start would be full of it

@@ -5,13 +5,15 @@ import collections
 import contextlib
 import json
 import os
+import select
+import socket
 import sys
 import time
 from typing import TYPE_CHECKING, Any, AsyncIterator
 
 from .config import Table
 from .node import OPERATION, Books, Labels, Process, Refused, set_text
-from .sandbox import Sandbox
+from .sandbox import SECONDS, Sandbox
 if TYPE_CHECKING:
     from .world import World
 
@@ -40,11 +42,10 @@ class Outlet:
     """An outlet, and where its bytes go."""
     def __init__(self, name: str, config: Table, process: Process, books: Books) -> None:
         self.name, self.config, self.process, self.books = name, config, process, books
-        self.journal, self.bell = books.journal, asyncio.Event()
+        self.journal, self.bell, self.kept = books.journal, asyncio.Event(), list[socket.socket]()
 
     async def pump(self) -> None:
-        """Lets out what an end of the host left undone, and then each message that it may. An
-        emission costs lines of the node, a sync of the journal, and its deed."""
+        """Lets out what was left undone, and what may go: for node lines, a sync, and the deed."""
         while True:
             self.bell.clear()
             last = self.journal.last.get(self.name, {})
@@ -59,22 +60,23 @@ class Outlet:
                 await self.bell.wait()
 
     async def let_out(self, number: int, content: bytes) -> None:
-        """Does an emission, again and again until it is done."""
+        """Does an emission, again and again until it is done and raises no OSError."""
         async for _ in attempts(asyncio.Event()):
             try:
-                await self.write(number, content)
+                await asyncio.to_thread(self.write, number, content)
                 self.journal.note("done", outlet=self.name, number=number)
                 return
             except OSError as why:
                 print(f"flume-host: outlet {self.name}: {why}", file=sys.stderr, flush=True)
 
-    async def write(self, number: int, content: bytes) -> None:
-        """Does an emission once, by a connection, or with a sync of a file. Raises OSError."""
+    def write(self, number: int, content: bytes) -> None:
+        """Does an emission, with a sync of a file, or by a connection, kept while it is silent."""
         if self.config.kind == "tcp":
-            _, writer = await asyncio.open_connection(*self.config.to.rsplit(":", 1))
-            with contextlib.closing(writer):
-                writer.write(content)
-                await writer.drain()
+            connection = self.kept.pop() if self.kept else None
+            if not connection or select.select([connection], [], [], 0)[0]:
+                connection = socket.create_connection(self.config.to.rsplit(":", 1), SECONDS)
+            connection.sendall(content)
+            self.kept.append(connection)
         elif self.config.kind == "standard-output":
             sys.stdout.buffer.write(content + b"\n")
             sys.stdout.buffer.flush()
@@ -85,7 +87,7 @@ class Outlet:
             with open(self.config.to, "ab") as file:
                 file.write(json.dumps(entry).encode() + b"\n" if is_log else content)
                 file.flush()
-                await asyncio.to_thread(os.fsync, file)
+                os.fsync(file)
 
 
 class Service:

@@ -19,8 +19,7 @@ class World:
         self.machines, self.living = Machines(self), dict[str, Service | Outlet]()
         self.owners, self.outlets = dict[str, Process](), dict[str, Process]()
         # one that ended keeps its name, since that is nothing to tell; one not yet heard is nobody
-        nobody, places = "p{}.4294967295.4294967295", config.places.items()
-        self.processes = {name: Process(nobody.format(number)) for name, number in places}
+        self.processes = {it: Process(f"p{at}.4294967295.1") for it, at in config.places.items()}
 
     async def run(self, stop: asyncio.Event, only_meets: bool) -> None:
         """Runs all until it is to stop, its node ends, or machines have met, where that is all. No

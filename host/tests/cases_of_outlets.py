@@ -1,4 +1,5 @@
 """Outlets: nothing goes out but by an emission of the outlet's process, each with its number."""
+import contextlib
 import json
 import socket
 import threading
@@ -106,32 +107,39 @@ class Listener:
                 return
             self.open.append(connection)
             self.heard.append(b"")
-            while content := connection.recv(65536):
-                self.heard[-1] += content
+            # one is reset that is closed before its other end has read what was said here
+            with contextlib.suppress(ConnectionResetError):
+                while content := connection.recv(65536):
+                    self.heard[-1] += content
 
     def end(self):
         self.socket.shutdown(socket.SHUT_RDWR)
         self.socket.close()
         for it in self.open:
-            it.shutdown(socket.SHUT_RDWR)
+            with contextlib.suppress(OSError):
+                it.shutdown(socket.SHUT_RDWR)
 
 
 @case
 def an_address(room):
-    """Bytes go to a TCP address that the host dials, each emission by a connection of its own.
-    While nobody listens they wait."""
+    """Bytes go to a TCP address that the host dials, by one connection. Where something was said
+    there, or it was closed, the host dials anew, and while nobody listens they wait."""
     listener = Listener()
     code = "for k in range(3): host.emit('far', b'%d.' % k)\nhost.receive()"
-    later = "wait_for('go')\nfor it in b'3.', b'4.': host.emit('far', it)\nstay()"
+    later = "wait_for('said')\nhost.emit('far', b'3.')\nwait_for('go')\n" \
+            "for it in b'4.', b'5.': host.emit('far', it)\nstay()"
     far = f'[outlets.far]\nkind = "tcp"\nto = "127.0.0.1:{listener.port}"\n'
     room.let("")
     room.configure(far + service("one", code) + service("two", later, SIGNALS)).init().start()
-    room.until(lambda: listener.heard == [b"0.", b"1.", b"2."], f"three, of {listener.heard}")
+    room.until(lambda: listener.heard == [b"0.1.2."], f"three, of {listener.heard}")
+    listener.open[0].sendall(b"hi")
+    room.let("said")
+    room.until(lambda: listener.heard == [b"0.1.2.", b"3."], f"one more, of {listener.heard}")
     listener.end()
     room.let("go")
-    room.until(lambda: len(room.entries("emission")) >= 4, "an emission to nobody")
+    room.until(lambda: len(room.entries("emission")) >= 5, "an emission to nobody")
     again = Listener(listener.port)
-    room.until(lambda: again.heard == [b"3.", b"4."], f"the rest, of {again.heard}")
+    room.until(lambda: again.heard == [b"4.5."], f"the rest, of {again.heard}")
     again.end()
 
 
