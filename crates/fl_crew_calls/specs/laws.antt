@@ -1,2 +1,3 @@
 -- What follows from the definitions, for proofs of the crates above.
+pub mod Calling
 pub mod Replies

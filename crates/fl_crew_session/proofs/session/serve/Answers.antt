@@ -1,6 +1,6 @@
 use Rattle.std.proofs.Common.{◌∙◌}
 use Rattle.fl_crew_turns.specs.Held.{held_jobs}
-use Rattle.fl_crew_calls.specs.Calls.{call_serves}
+use Rattle.fl_crew_calls.specs.laws.Calling.{call_serves}
 use Rattle.fl_crew_session.proofs.Turning.{serves_each, serves_none}
 use Rattle.fl_crew_session.proofs.session.serve.Goals as goal
 

@@ -1,7 +1,7 @@
 use Rattle.std.proofs.Common.{◌≡◌, rules, true}
 use Rattle.fl_calls.specs.Answer.{shown_alone}
 use Rattle.fl_crew_turns.specs.Turn.{AnswersNow, is_other}
-use Rattle.fl_crew_calls.specs.Calls.{call_responds}
+use Rattle.fl_crew_calls.specs.laws.Calling.{call_responds}
 use Rattle.fl_crew_session.proofs.session.Session.answer_line_now.Goals as goal
 use Rattle.fl_crew_session.proofs.session.Session.answer_line_now.Goals.{in_default-via-in-Node+in_default, in_default-via-in_default}
 

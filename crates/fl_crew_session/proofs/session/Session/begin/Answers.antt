@@ -1,6 +1,6 @@
 use Rattle.std.proofs.Common.{◌∙◌, sym, true≢false}
 use Rattle.fl_crew_turns.specs.Turn.{AnswersNow}
-use Rattle.fl_crew_calls.specs.Calls.{call_opens}
+use Rattle.fl_crew_calls.specs.laws.Calling.{call_opens}
 use Rattle.fl_crew_session.proofs.Turning.{begins_batch, begins_none}
 use Rattle.fl_crew_session.proofs.session.Session.begin.Goals as goal
 use Rattle.fl_crew_session.proofs.session.Session.begin.Goals.{in-Ok, in-Err-add}
