@@ -138,13 +138,13 @@ module _ {C : Type 0} (calls : CrewCalls C) (each : GivesEach calls) where
       let rest = one_answer mid new lines later count run counts in
       let more = one_more written later in let own = in_written written in
       elim (turn_sums old mid line written.replies written.answer turn) [
-      | inl h ↦ omega (arith, h.1, rest, more, own)
-      | inr h ↦ absurd (h.0 is)
+        | inl h ↦ omega (arith, h.1, rest, more, own)
+        | inr h ↦ absurd (h.0 is)
       ]
   one_answer old new (line ∷ lines) (written ∷ later) count (mid, turn, run) (CountsLoud.loud {count = behind} is counts) =
       let rest = one_answer mid new lines later behind run counts in
       let more = one_more written later in let own = in_written written in
       elim (turn_sums old mid line written.replies written.answer turn) [
-      | inl h ↦ absurd (is h.0)
-      | inr h ↦ omega (arith, h.1, rest, more, own)
+        | inl h ↦ absurd (is h.0)
+        | inr h ↦ omega (arith, h.1, rest, more, own)
       ]
