@@ -60,7 +60,7 @@ RespondsTo custody making old Audit = IsNone old
 RespondsTo custody making old Aliases = IsNone old
 
 -- all of them
-pub crews_calls : {K M : Type 0} → Custody K → Making M K → CrewCalls (CrewsOver K M)
+unfoldable pub crews_calls : {K M : Type 0} → Custody K → Making M K → CrewCalls (CrewsOver K M)
 crews_calls custody making = record {
   opens = Opens custody making;
   serves = λ old number jobs. ServesBatch custody old number jobs [];
