@@ -47,7 +47,6 @@ class Host:
         """Runs one node after another, each to the end of all that lives, until a signal comes, one
         ends with 2 or 4, or it has met the others, where that is all. Returns the status."""
         stop, node, path = asyncio.Event(), self.config.node, self.folder / "control"
-        # before it has a child, which would have to change its group too
         delegated()
         for number in (signal.SIGTERM, signal.SIGINT):
             asyncio.get_running_loop().add_signal_handler(number, stop.set)

@@ -7,6 +7,7 @@ import itertools
 import json
 import random
 import re
+import socket
 import time
 from typing import TYPE_CHECKING, AsyncIterator, NamedTuple
 
@@ -15,6 +16,7 @@ if TYPE_CHECKING:
     from .world import World
 
 CONTEXT, MOST, TICK, BATCH = b"flume-envelope-1\n", 1000, 1.0, 64
+AT_ONCE = socket.IPPROTO_TCP, socket.TCP_NODELAY, 1
 # what an envelope brings: a window; one that is to be answered by one, too; a part of what a window
 # lacked, and the last; the names of services and tags; a message; and which one was handled
 TELL, NEWS, OPERATIONS, LAST, NAMES = "tell", "news", "operations", "last", "names"
@@ -86,20 +88,18 @@ class Machines:
         self.world.note("met", peers=self.met)
 
     async def run(self) -> None:
-        """Meets the others, by one client of the broker after another."""
-        # what a machine without peers need not have
+        """Meets the others, by one client after another, which a host without peers may lack."""
+        async def hear(messages: "AsyncIterator[Message]") -> None:
+            async for it in messages:
+                self.take(it.topic.value, it.payload)
         from asyncio_mqtt import Client, Message, MqttError, TLSParameters
         host, port = self.config.broker.rsplit(":", 1)
         tls = TLSParameters(self.config.ca, self.config.certificate, self.config.private_key)
-
-        async def hear(messages: AsyncIterator[Message]) -> None:
-            async for it in messages:
-                self.take(it.topic.value, it.payload)
         # the client waits by wait_for, which may swallow that this is to end
         while (task := asyncio.current_task()) and not task.cancelling():
             try:
-                async with (Client(host, int(port), client_id=str(self.books.number),
-                                   clean_session=True, keepalive=10,
+                async with (Client(host, int(port), client_id=str(self.books.number), keepalive=10,
+                                   clean_session=True, socket_options=[AT_ONCE],
                                    tls_params=tls if self.config.ca else None) as client,
                             client.messages(queue_maxsize=MOST) as heard,
                             asyncio.TaskGroup() as group):

@@ -65,8 +65,8 @@ def end_left(file: TextIO) -> None:
 
 @functools.cache
 def delegated(groups: pathlib.Path = GROUPS) -> pathlib.Path | None:
-    """Returns the control group that is delegated, if any. From here on the host is in one within,
-    since a group has either processes or groups with limits."""
+    """Returns the control group that is delegated, if any. From here on the host, still without a
+    child, is in one within, since a group has either processes or groups with limits."""
     group = groups / pathlib.Path("/proc/self/cgroup").read_text().rpartition("0::/")[2].strip()
     with contextlib.suppress(OSError):
         if {"memory", "pids"} <= {*(group / "cgroup.controllers").read_text().split()}:
