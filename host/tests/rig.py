@@ -174,6 +174,12 @@ class Room:
         for line in self.read("it/running").splitlines():
             with contextlib.suppress(OSError):
                 os.kill(int(line.split()[0]), signal.SIGKILL)
+        # and one that was half made, which no file names
+        called = f"bwrap of {self.folder}/it/running\0".encode()
+        for path in pathlib.Path("/proc").glob("[1-9]*/cmdline"):
+            with contextlib.suppress(OSError):
+                if path.read_bytes().startswith(called):
+                    os.kill(int(path.parent.name), signal.SIGKILL)
 
     def said(self):
         """Returns what the host said on standard error."""
