@@ -6,3 +6,4 @@ pub mod lines;
 pub mod ruling;
 pub mod running;
 mod threads;
+mod weight;

@@ -8,7 +8,7 @@ ghost use Rattle.fl_crew_threads.specs.Registers.{Registers};
 
 use crate::lines::Lines;
 use crate::ruling::{Placed, rule_all, take_all};
-use crate::threads::{DoneOf, serve_all};
+use crate::threads::{DoneOf, serve_all, threads_for, threads_without_orders};
 use fl_dealing::entry::Taken;
 use fl_jobs::job::{Act, Job};
 use fl_registrar::registrar::Registrar;
@@ -42,7 +42,9 @@ fn has_order(worker: &Worker) -> bool {
 /// stopped or had no row left, or stopped at it.
 ///
 /// Where there is neither an order nor a packet, the registrar has nothing to do, and this thread
-/// is that of a worker: so no thread is made where only one worker has tasks.
+/// is that of a worker: so no thread is made where only one worker has tasks, nor where the gate
+/// never holds and all tasks are soon done: 256 jobs without labels, say, or eight labels of 256
+/// tags.
 ///
 /// Where no thread can be made, the lines are closed first, so that no worker waits for a ruling:
 /// each serves what it can, one after the other, and stops at an order. The lines serve no further
@@ -74,7 +76,8 @@ pub fn run<
         registrar.old registrar.new }
 {
     if packets.is_empty() && !workers.iter().any(has_order) {
-        let workers = serve_all(&rt, alloc, &*gate, workers);
+        let threads = threads_without_orders(&*gate, &workers);
+        let workers = serve_all(&rt, alloc, &*gate, threads, workers);
         take_all(&rt, alloc, registrar, packets, taken);
         rule_all(&rt, alloc, registrar, lines);
         return workers;
@@ -85,7 +88,8 @@ pub fn run<
         ensures { Each IsDone workers.items result.items }
     {
         let handed = workers;
-        serve_all(&rt, alloc, &*gate, handed)
+        let threads = threads_for(&handed);
+        serve_all(&rt, alloc, &*gate, threads, handed)
     };
     match thread::spawn_with(&rt, promise, work) {
         Ok(handle) => {

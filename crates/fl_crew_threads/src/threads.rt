@@ -4,6 +4,7 @@ ghost use Rattle.std.specs.Thread.{IsSync};
 ghost use Rattle.fl_worker.specs.Done.{IsReady, IsDone};
 ghost use Rattle.fl_settling.specs.Each.{Each};
 
+use crate::weight::is_light;
 use fl_worker::gate::Gate;
 use fl_worker::worker::{Worker, serve};
 use std::alloc::Global;
@@ -31,8 +32,8 @@ fn is_busy(worker: &Worker) -> bool {
     !worker.tasks.is_empty()
 }
 
-// In how many threads the workers do their tasks: in one where no two have some.
-fn threads_for(workers: &[Worker]) -> usize
+/// In how many threads the workers do their tasks: in one where no two have some.
+pub(crate) fn threads_for(workers: &[Worker]) -> usize
     ensures { 0 < result }
 {
     if workers.iter().filter(|worker| is_busy(worker)).count() < 2 {
@@ -42,17 +43,30 @@ fn threads_for(workers: &[Worker]) -> usize
     }
 }
 
-// Serves the tasks of each worker, in a thread for each, or in this one where no two have some.
+/// The same where none of them is an order: in one also where all are soon done, and none of the
+/// gate's calls waits for another.
+pub(crate) fn threads_without_orders<G: Gate>(gate: &G, workers: &[Worker]) -> usize
+    ensures { 0 < result }
+{
+    if gate.never_holds() && is_light(workers) {
+        1
+    } else {
+        threads_for(workers)
+    }
+}
+
+// Serves the tasks of each worker, in a thread for each, or all in this one where it is to be one.
 fn serve_each<R: Threads + Wait + Sync, G: Gate>(
     rt: &R,
     alloc: Global,
     gate: &G,
+    threads: usize,
     workers: &mut [Worker],
 )
-    requires { All IsReady workers.old }
+    requires ready { All IsReady workers.old }
+    requires some { 0 < threads }
     ensures { Each IsDone workers.old workers.new }
 {
-    let threads = threads_for(workers);
     thread::for_each_mut(
         rt,
         workers,
@@ -64,17 +78,19 @@ fn serve_each<R: Threads + Wait + Sync, G: Gate>(
     );
 }
 
-// The same of workers that are handed over and come back.
+/// The same of workers that are handed over and come back.
 pub(crate) fn serve_all<R: Threads + Wait + Sync, G: Gate>(
     rt: &R,
     alloc: Global,
     gate: &G,
+    threads: usize,
     workers: Vec<Worker>,
 ) -> Vec<Worker>
-    requires { All IsReady workers.items }
+    requires ready { All IsReady workers.items }
+    requires some { 0 < threads }
     ensures { Each IsDone workers.items result.items }
 {
     let mut workers = workers;
-    serve_each(rt, alloc, gate, workers.as_mut_slice());
+    serve_each(rt, alloc, gate, threads, workers.as_mut_slice());
     workers
 }

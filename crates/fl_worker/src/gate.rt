@@ -11,6 +11,9 @@ pub trait Gate: Sync {
 
     /// After it, and after the ruling on what it ordered.
     fn after(&self, job: usize);
+
+    /// Whether none of these calls waits for another worker's.
+    fn never_holds(&self) -> bool;
 }
 
 /// It does nothing.
@@ -21,6 +24,10 @@ impl Gate for OpenGate {
     fn before(&self, _job: usize) {}
 
     fn after(&self, _job: usize) {}
+
+    fn never_holds(&self) -> bool {
+        true
+    }
 }
 
 /// A gate as a worker has it, who hands over its desk at each call. A look holds the desk, so none

@@ -44,6 +44,10 @@ impl Gate for SecondFirst {
             self.done.fetch_add(1, Ordering::SeqCst);
         }
     }
+
+    fn never_holds(&self) -> bool {
+        false
+    }
 }
 
 /// Each job waits until so many jobs have begun.
@@ -64,6 +68,10 @@ impl Gate for AllAtOnce {
     }
 
     fn after(&self, _job: usize) {}
+
+    fn never_holds(&self) -> bool {
+        false
+    }
 }
 
 // So many processes are to be made.

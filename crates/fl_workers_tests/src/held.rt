@@ -93,6 +93,10 @@ impl Gate for Counting {
             self.answered.fetch_add(1, Ordering::SeqCst);
         }
     }
+
+    fn never_holds(&self) -> bool {
+        false
+    }
 }
 
 // Whether the one process is given its tag, and the other one is told that it may not add it.
