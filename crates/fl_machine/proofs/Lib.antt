@@ -11,3 +11,4 @@ pub mod Runs
 pub mod Starting
 pub mod Explanations
 pub mod Foresights
+pub mod BadLines

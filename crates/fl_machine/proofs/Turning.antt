@@ -19,6 +19,7 @@ use Rattle.fl_machine.specs.Shown.{status_said}
 use Rattle.fl_machine.specs.parts.Hearing.{Hears}
 use Rattle.fl_machine.specs.parts.Responding.{Responds}
 use Rattle.fl_machine.specs.declared.response.Response.{Response}
+use Rattle.fl_machine.specs.declared.response.Response.TheVariants as response
 use Rattle.fl_machine.proofs.Statuses.{same_status}
 
 pub not_true : (b : Bool) → (b ≡ true → ⊥) → b ≡ false
@@ -141,3 +142,14 @@ module _ {K : Type 0} (custody : Custody K) (old new : SessionOver K) (bytes : L
           };
           cut = cut;
         }
+
+-- a line that is none of the machine changes nothing
+pub bad_changes : {K : Type 0} (x : SessionOver K) → x.over ≡ false → x.admitted ≤ most_counted
+    → Changes x x response.Unknown 0
+bad_changes x live fits = record {
+  settings = refl;
+  live = live;
+  fits = fits;
+  counted = omega (arith, fits);
+  over = live;
+}

@@ -1,6 +1,6 @@
 //! What a line asks of a machine's node.
-ghost use Rattle.std.specs.Prelude.{◌≡◌, [], ◌∷◌, List, false};
-ghost use Rattle.fl_machine.specs.parts.Hearing.{Hears};
+ghost use Rattle.std.specs.Prelude.{◌≡◌, [], ◌∷◌, ℕ, List, false};
+ghost use Rattle.fl_machine.specs.parts.Hearing.{Hears, IsRead};
 ghost use Rattle.fl_machine.specs.parts.Responding.{Responds, ShowsSaying};
 ghost use Rattle.fl_machine_calls.specs.Saying.{saying_of};
 ghost use Rattle.fl_machine_model.specs.Acts.{Sends};
@@ -24,7 +24,7 @@ use fl_machine_calls::calls::{cancel, publish, save};
 use fl_machine_calls::guarding::{begin, work};
 use fl_machine_calls::said::Said;
 use fl_machine_lines::asked::Asked;
-use fl_machine_lines::line::{MachineLine, read_machine_line};
+use fl_machine_lines::line::MachineLine;
 use fl_message::boxed::Boxed;
 use fl_message::message::Data;
 use fl_node::node::Node;
@@ -168,23 +168,25 @@ fn respond<'a, K: Keeper>(
     }
 }
 
-/// Does what the bytes of a line say to the node, of which so much was admitted before, and says
-/// what is responded, and how much was admitted now. There may be no memory to read them.
-pub fn hear<'a, K: Keeper>(
+/// Does what was read of the bytes of a line to the node, of which so much was admitted before, and
+/// says what is responded, and how much was admitted now. There may have been no memory to read
+/// them.
+pub fn respond_to_read<'a, K: Keeper>(
     alloc: Global,
     node: &mut Node<K>,
     keys: &[Key],
     guards: bool,
     admitted: u64,
-    bytes: &'a [u8],
+    read: Result<MachineLine<'a>, AllocError>,
 ) -> (Response<'a>, u64)
     requires { IsDeskOf node.old.node 1 }
     ensures { let settings = settings_of node.old.node.number keys.now guards in
+        (bytes : List ℕ) → IsRead node.old.node.number bytes read.entry →
         Responds K.custody keys.now node.old
-        (λ s. Hears settings (record { s = s; admitted = admitted; over = false }) bytes.now)
+        (λ s. Hears settings (record { s = s; admitted = admitted; over = false }) bytes)
         result.0 result.1 node.new }
 {
-    match read_machine_line(alloc, node.number(), bytes) {
+    match read {
         Ok(line) => respond(alloc, node, keys, guards, admitted, line),
         Err(AllocError) => (starved(), 0),
     }

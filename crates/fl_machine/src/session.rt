@@ -10,9 +10,11 @@ ghost use Rattle.fl_system.specs.Openings.{IsOf, Opens};
 ghost use Rattle.fl_machine.specs.laws.Silence.{stays_silent};
 
 use crate::answers::write_response;
-use crate::asking::hear;
+use crate::asking::respond_to_read;
 use fl_labels::name::NodeNumber;
+use fl_machine_lines::line::{MachineLine, read_machine_line};
 use fl_node::node::Node;
+use fl_replies::text::write_count;
 use fl_seal::seal::Key;
 use fl_sink::sink::{Sink, WriteFault};
 use fl_sink::writer::Writer;
@@ -147,13 +149,18 @@ impl<K: Keeper> Responder for Session<K> {
         sink: &mut Sink,
         output: &mut W,
     ) -> Result<u8, WriteFault> {
-        let (response, more) = hear(
+        let read = read_machine_line(alloc, self.node.number(), line);
+        if let Ok(MachineLine::Bad) = &read {
+            write_count(b"refused F19 ", number, sink, output)?;
+            return Ok(1);
+        }
+        let (response, more) = respond_to_read(
             alloc,
             &mut self.node,
             &self.keys,
             self.guards,
             self.admitted,
-            line,
+            read,
         );
         self.admitted = self.admitted.saturating_add(more);
         let status = response.status();
