@@ -573,8 +573,7 @@ class World(Session):
                 raise Refused(12)
             node = Node(it, boot + 1, saved)
             self.keep(node)
-            if not self.workers:
-                self.join(node)
+            self.join(node)
             self.nodes[it] = node
         return self.nodes[it]
 

@@ -4,3 +4,4 @@ pub mod Places
 pub mod Maps
 pub mod Numbers
 pub mod Serving
+pub mod Joins

@@ -19,6 +19,7 @@ use Rattle.fl_calls.specs.Answer.{replied}
 use Rattle.fl_calls.specs.Completing.{starved}
 use Rattle.fl_crew_calls.specs.Asking.{IsNotOpened, IsRestarted, IsSeated, Opens, RestartsAt}
 use Rattle.fl_crew_calls.specs.Asking.{SendsAll, boot_reply}
+use Rattle.fl_crew_calls.specs.Joining.{ClashesAt, FindsAgainst, StraysAt}
 use Rattle.fl_crew_calls.specs.Over.{AreThere, CrewsOver, IsCrewAt, IsUnopened, with_crew}
 use Rattle.fl_crew_calls.specs.Over.{with_sent}
 
@@ -135,35 +136,51 @@ module _ {K M : Type 0} (maker : M) (workers : ℕ) (es : List (ℕ × Option (C
   module _ (custody : Custody K) (making : Making M K) (maker' : M) (number : ℕ)
       (none : is_some (lookup (is_at (nat_cmp number)) es) ≡ false)
       (allows : AllowsNoMore making maker maker') where
+    left_is : (fs : List (ℕ × Option (CrewOver K))) → fs ≡ es
+        → seen maker' workers fs sent ≡ record old { maker = maker' }
+    left_is fs same = λ i. record {
+      maker = maker';
+      workers = the_workers i;
+      crews = (ap (λ l. map.from_entries l) same ∙ the_map) i;
+      sent = (ap (λ (crews : CrewsOver K M). crews.sent) is) i;
+    }
+
     -- the node is left as it was
     pub stays_shut : (fs : List (ℕ × Option (CrewOver K))) (fault : Fault) → fs ≡ es
         → IsNotOpened custody making maker number fault
         → Opens custody making old number (Err fault) (seen maker' workers fs sent)
     stays_shut fs fault same why =
-        subst (Opens custody making old number (Err fault)) (sym left_is)
+        subst (Opens custody making old number (Err fault)) (sym (left_is fs same))
         (Opens.shut (unopened number none)
         (subst (λ m. AllowsNoMore making m maker') made_by allows)
         (subst (λ m. IsNotOpened custody making m number fault) made_by why))
-      where
-        left_is : seen maker' workers fs sent ≡ record old { maker = maker' }
-        left_is = λ i. record {
-          maker = maker';
-          workers = the_workers i;
-          crews = (ap (λ l. map.from_entries l) same ∙ the_map) i;
-          sent = (ap (λ (crews : CrewsOver K M). crews.sent) is) i;
-        }
+
+    -- so it is where it and the open ones contradict each other
+    pub contradicted : (fault : Fault) (keeper : K) (crew : CrewOver K)
+        → making.makes maker number keeper → IsSeated custody number workers keeper crew
+        → FindsAgainst (ClashesAt old crew.node.node.saved)
+        (StraysAt old number crew.node.node.saved) (Some fault)
+        → Opens custody making old number (Err fault) (seen maker' workers es sent)
+    contradicted fault keeper crew makes seated why =
+        subst (Opens custody making old number (Err fault)) (sym (left_is es refl))
+        (Opens.contradicts (unopened number none)
+        (subst (λ m. making.makes m number keeper) made_by makes)
+        (subst (λ m. AllowsNoMore making m maker') made_by allows)
+        (subst (λ w. IsSeated custody number w keeper crew) the_workers seated) why)
 
     -- it has a crew now
     pub is_opened : (fs : List (ℕ × Option (CrewOver K))) (keeper : K) (crew : CrewOver K)
         → map.from_entries fs ≡ map.insert old.crews number (Some crew)
         → making.makes maker number keeper → IsSeated custody number workers keeper crew
+        → FindsAgainst (ClashesAt old crew.node.node.saved)
+        (StraysAt old number crew.node.node.saved) None
         → Opens custody making old number (Ok tt) (seen maker' workers fs sent)
-    is_opened fs keeper crew put_is makes seated =
+    is_opened fs keeper crew put_is makes seated joins =
         subst (Opens custody making old number (Ok tt)) (sym (put fs maker' number crew put_is))
         (Opens.opened (unopened number none)
         (subst (λ m. making.makes m number keeper) made_by makes)
         (subst (λ m. AllowsNoMore making m maker') made_by allows)
-        (subst (λ w. IsSeated custody number w keeper crew) the_workers seated))
+        (subst (λ w. IsSeated custody number w keeper crew) the_workers seated) joins)
 
   -- the crew is restarted in its place
   pub restarted : (custody : Custody K) (fs : List (ℕ × Option (CrewOver K))) (number : ℕ)

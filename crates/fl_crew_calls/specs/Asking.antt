@@ -32,6 +32,7 @@ use Rattle.fl_calls.specs.Answer.{Answer, bad_packet, checked, replied, text, un
 use Rattle.fl_calls.specs.Calls.{counted, said_of}
 use Rattle.fl_calls.specs.Completing.{starved}
 use Rattle.fl_crew_calls.specs.Batches.{ServesBatch}
+use Rattle.fl_crew_calls.specs.Joining.{ClashesAt, FindsAgainst, StraysAt}
 use Rattle.fl_crew_calls.specs.Over.{CrewsOver, IsCrewAt, IsUnopened, with_crew, with_sent}
 
 -- ---- a node is opened
@@ -52,7 +53,8 @@ pub data IsNotOpened {K M : Type 0} (custody : Custody K) (making : Making M K) 
       → NotOpened custody number keeper fault → IsNotOpened custody making maker number fault
   no_room : IsNotOpened custody making maker number (Refuses Memory)
 
--- The node of this number is open, or is opened over the keeper that is made for it, or is not.
+-- The node of this number is open, or is opened over the keeper that is made for it, or is not: where
+-- it and the open ones contradict each other, that is why.
 pub data Opens {K M : Type 0} (custody : Custody K) (making : Making M K) (old : CrewsOver K M)
     (number : ℕ) : Result (Unit {0}) Fault → CrewsOver K M → Type 0 where
   is_open : {crew : CrewOver K} → IsCrewAt old number crew
@@ -60,7 +62,14 @@ pub data Opens {K M : Type 0} (custody : Custody K) (making : Making M K) (old :
   opened : {keeper : K} {crew : CrewOver K} {maker : M} → IsUnopened old number
       → making.makes old.maker number keeper → AllowsNoMore making old.maker maker
       → IsSeated custody number old.workers keeper crew
+      → FindsAgainst (ClashesAt old crew.node.node.saved) (StraysAt old number crew.node.node.saved) None
       → Opens custody making old number (Ok tt) (with_crew (record old { maker = maker }) number crew)
+  contradicts : {keeper : K} {crew : CrewOver K} {maker : M} {fault : Fault} → IsUnopened old number
+      → making.makes old.maker number keeper → AllowsNoMore making old.maker maker
+      → IsSeated custody number old.workers keeper crew
+      → FindsAgainst (ClashesAt old crew.node.node.saved) (StraysAt old number crew.node.node.saved)
+      (Some fault)
+      → Opens custody making old number (Err fault) (record old { maker = maker })
   shut : {maker : M} {fault : Fault} → IsUnopened old number
       → AllowsNoMore making old.maker maker
       → IsNotOpened custody making old.maker number fault

@@ -2,6 +2,8 @@ pub mod Over
 pub mod Closing
 pub mod Told
 pub mod Batches
+pub mod Joining
+pub mod parts
 pub mod Asking
 pub mod Calls
 pub mod laws

@@ -12,6 +12,7 @@ ghost use Rattle.fl_store.specs.Kept.{Kept};
 ghost use Rattle.fl_system.specs.Numbered.{item_at};
 ghost use Rattle.fl_workers.specs.Over.{CrewOver};
 
+use crate::joining::against;
 use crate::manned::Manned;
 use crate::runtime::CrewRuntime;
 use crate::telling::tell_all;
@@ -168,6 +169,11 @@ impl<R: CrewRuntime, M: MakesKeepers> Crews<R, M> {
     }
 
     /// Opens the node of this number where it is not open. An error leaves it so.
+    ///
+    /// As [`Crew::open`], and refused with `Clash` where something else is saved at an open node
+    /// under one of its names, and with `Impostor` where an operation is saved, though not by the
+    /// node whose number it has, each with the least such name. The keeper is given back then.
+    /// Costs what that does, and for each open node what [`against`] says.
     pub fn open(&mut self, alloc: Global, number: NodeNumber) -> Result<(), Fault>
         requires { 0 < number }
         ensures opens { Opens M.K.custody M.making self.old number result self.new }
@@ -178,6 +184,10 @@ impl<R: CrewRuntime, M: MakesKeepers> Crews<R, M> {
         }
         let keeper = self.maker.make(alloc, number)?;
         let manned = Manned::open(self.rt, alloc, keeper, number, self.workers)?;
+        if let Some(fault) = against(&self.all, number, manned.crew().node().saved()) {
+            self.maker.take_back(number, manned.into_keeper(), fault);
+            return Err(fault);
+        }
         match self.all.insert(number, Some(manned)) {
             Ok(_) => Ok(()),
             Err(_) => Err(STARVED),

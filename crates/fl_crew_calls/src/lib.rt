@@ -3,6 +3,7 @@
 #![tactic(auto)]
 
 pub mod crews;
+mod joining;
 mod manned;
 pub mod runtime;
 mod telling;

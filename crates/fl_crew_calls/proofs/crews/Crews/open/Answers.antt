@@ -1,8 +1,11 @@
-use Rattle.std.proofs.Common.{◌≡◌, ◌∙◌, Some, nat_cmp, refl, sym}
+use Rattle.std.proofs.Common.{◌≡◌, ◌∙◌, None, Some, nat_cmp, refl, rules, sym}
 use Rattle.std.proofs.lemmas.Result.{err_from_is_err_and}
 use Rattle.std.specs.FinMap as map
 use Rattle.fl_crew_calls.specs.Asking.{IsNotOpened, Opens}
-use Rattle.fl_crew_calls.proofs.Maps.{found, full_after, is_opened, put_new, stays_shut}
+use Rattle.fl_calls.proofs.Opening.{no_more_then}
+use Rattle.fl_crew_calls.specs.Joining.{ClashesAt, FindsAgainst, StraysAt}
+use Rattle.fl_crew_calls.proofs.Joins.{against_crews}
+use Rattle.fl_crew_calls.proofs.Maps.{contradicted, found, full_after, held, is_opened, put_new, stays_shut}
 use Rattle.fl_crew_calls.proofs.Maps.{there_after}
 use Rattle.fl_crew_calls.proofs.crews.Crews.open.Given.{Over}
 use Rattle.fl_crew_calls.proofs.crews.Crews.open.Goals as goal
@@ -53,13 +56,30 @@ invariant_of-self-in-Ok g c = (
       (inserted g c),
 )
 
+pub returns-in-Some-clause-opens : goal.returns-in-Some-clause-opens
+returns-in-Some-clause-opens g c =
+    contradicted _ _ c.self.inside.all.entries _ c.args.self.now c.self.view_is
+    g.M.K.Keeper.custody g.M.MakesKeepers.making c.take_back.new.self c.args.number
+    (sym c.contains_key.ensures ∙ c.if-contains_key.false)
+    (no_more_then g.M.K.Keeper.custody g.M.MakesKeepers.making _ _ _ c.make.ensures.same
+    c.take_back.ensures)
+    c.in-Some.fault c.in_ok-keeper.keeper c.in_ok-manned.manned
+    c.in_ok-keeper.ensures.makes c.in_ok-manned.ensures.ok
+    (rw (c.saved.ensures.saved, c.node.ensures, c.crew.ensures, c.in-Some.is) at (against_crews c.self.inside.all c.against.ensures.ordered c.args.self.now
+    (held _ _ c.self.inside.all.entries _ c.args.self.now c.self.view_is)
+    c.args.number _ c.against.result c.against.ensures.found))
+
 pub returns-in-Ok-clause-opens : goal.returns-in-Ok-clause-opens
 returns-in-Ok-clause-opens g c =
+    let nothing : c.against.result ≡ None = search rules in
     is_opened _ _ c.self.inside.all.entries _ c.args.self.now c.self.view_is
     g.M.K.Keeper.custody g.M.MakesKeepers.making c.make.new.self c.args.number
     (sym c.contains_key.ensures ∙ c.if-contains_key.false) c.make.ensures.same
     c.insert.new.self.entries c.in_ok-keeper.keeper c.in_ok-manned.manned (inserted g c)
     c.in_ok-keeper.ensures.makes c.in_ok-manned.ensures.ok
+    (rw (c.saved.ensures.saved, c.node.ensures, c.crew.ensures, nothing) at (against_crews c.self.inside.all c.against.ensures.ordered c.args.self.now
+    (held _ _ c.self.inside.all.entries _ c.args.self.now c.self.view_is)
+    c.args.number _ c.against.result c.against.ensures.found))
 
 pub returns-in-Ok-clause-there : goal.returns-in-Ok-clause-there
 returns-in-Ok-clause-there g c = (

@@ -1,0 +1,2 @@
+-- What joins the private functions.
+pub mod Places
