@@ -21,7 +21,7 @@ use Rattle.fl_crew_turns.specs.Batch.{EndsBatch, replies_text, worst_reply}
 use Rattle.fl_crew_turns.specs.Held.{HeldJobs, count_set, none_held, with_job}
 use Rattle.fl_crew_turns.specs.Naming.{NamesHeld, named_all}
 use Rattle.fl_crew_turns.specs.Session.{CrewCalls, CrewSession}
-use Rattle.fl_crew_turns.specs.Turn.{AnswersNow, CrewTurn, CrewTurns, EndsBefore, GoesOn, GoesOnWith, HasRoomFor}
+use Rattle.fl_crew_turns.specs.Turn.{AnswersNow, CrewTurn, CrewTurns, GoesOn, GoesOnWith, HasRoomFor}
 use Rattle.fl_crew_turns.specs.laws.Settling.{named_refused}
 use Rattle.fl_crew_session.specs.Parts.{session_of}
 
@@ -85,26 +85,22 @@ module _ {C : Type 0} (calls : CrewCalls C) where
       (alias : Option (List ℕ)) (unnamed : ¬ NamesHeld held bytes)
       (says : IsReading aliases bytes (Means (Node node (Job job)) alias))
       (goes : GoesOn (session_of crews aliases held) node alias) where
-    -- there is no memory to hold the job
-    pub ends_unheld : {replies : List Reply} {held' : HeldJobs} {new : CrewSession C} → held' ≡ held
-        → EndsBatch calls (session_of crews aliases held') replies new
-        → CrewTurn calls (session_of crews aliases held) bytes replies starved_line new
-    ends_unheld {replies} {new = new} same ends =
-        let ends' : EndsBatch calls (session_of crews aliases held) replies new = rw same at ends in
-        CrewTurn.ends_before (EndsBefore.no_room (Some (Means (Node node (Job job)) alias)) unnamed says goes ends') AnswersNow.unread
-
     -- it waits
-    pub turn_waits : {held' : HeldJobs} → held' ≡ with_job held node job alias → length held'.jobs < 256
+    pub turn_waits : {held' : HeldJobs} → held' ≡ with_job held held.node job alias → length held'.jobs < 256
         → CrewTurn calls (session_of crews aliases held) bytes [] silence (session_of crews aliases held')
     turn_waits is few =
-        rw is (CrewTurn.waits unnamed says goes (omega (arith, rw is at few, length-append held.jobs (job ∷ []))))
+        let held_is = is ∙ ap (λ n. with_job held n job alias) goes.own in
+        rw held_is (CrewTurn.waits unnamed says goes
+        (omega (arith, rw held_is at few, length-append held.jobs (job ∷ []))))
 
     -- it is the last of its batch
-    pub turn_fills : {replies : List Reply} {held' : HeldJobs} {new : CrewSession C} → held' ≡ with_job held node job alias
+    pub turn_fills : {replies : List Reply} {held' : HeldJobs} {new : CrewSession C} → held' ≡ with_job held held.node job alias
         → length held'.jobs ≡ 256 → EndsBatch calls (session_of crews aliases held') replies new
         → CrewTurn calls (session_of crews aliases held) bytes replies silence new
     turn_fills is full ends =
-        CrewTurn.ends_behind unnamed says goes (omega (arith, rw is at full, length-append held.jobs (job ∷ []))) (rw is at ends)
+        let held_is = is ∙ ap (λ n. with_job held n job alias) goes.own in
+        CrewTurn.ends_behind unnamed says goes
+        (omega (arith, rw held_is at full, length-append held.jobs (job ∷ []))) (rw held_is at ends)
 
 -- the line asks for a job
 abbrev pub is_job : Line → Bool

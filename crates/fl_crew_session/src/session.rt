@@ -309,8 +309,7 @@ impl<R: CrewRuntime, M: MakesKeepers> Session<R, M> {
         alias.is_none() || self.aliases.len() + self.held.count_aliases() < MOST_ALIASES
     }
 
-    // Has the batch that is held go on with the job. It ends behind it where it is full then; where
-    // there is no memory to hold the job it ends before, and the line is refused.
+    // Has the batch that is held go on with the job. It ends behind it where it is full then.
     fn go_on(&mut self, alloc: Global, task: Task) -> Told
         requires { GoesOn self.old task.node task.alias }
         ensures { (bytes : List ℕ) → ¬ NamesHeld self.old.held bytes
@@ -318,13 +317,12 @@ impl<R: CrewRuntime, M: MakesKeepers> Session<R, M> {
             → CrewTurn (crews_calls M.K.custody M.making) self.old bytes
             (replies_of result.replies) (shown self.new.aliases result.own) self.new }
     {
-        let Task { node, job, alias } = task;
-        if let Err(AllocError) = self.held.add(node, job, alias) {
-            return Told {
-                replies: self.end(alloc),
-                own: Response::starved(),
-            };
-        }
+        let Task {
+            node: _,
+            job,
+            alias,
+        } = task;
+        self.held.go_on(job, alias);
         if !self.held.is_full() {
             return Told {
                 replies: Replies::none(alloc),
@@ -386,7 +384,7 @@ impl<R: CrewRuntime, M: MakesKeepers> Session<R, M> {
         if let Err(fault) = self.crews.open(alloc, node) {
             return Response::Said(Said::Reply(Reply::Refused(fault)));
         }
-        match self.held.add(node, job, alias) {
+        match self.held.begin(node, job, alias) {
             Ok(()) => Response::Silence,
             Err(AllocError) => Response::starved(),
         }

@@ -1,5 +1,6 @@
 -- Lines that wait for the end of their batch.
-use Rattle.std.specs.Prelude.{◌≡◌, ◌≤◌, ◌++◌, ◌∷◌, [], ℕ, List, count_by, is_some, length, refl}
+use Rattle.std.specs.Prelude.{◌≡◌, ◌≢◌, ◌≤◌, ◌++◌, ◌∷◌, [], ℕ, List, count_by, is_some, length, refl}
+use Rattle.std.specs.Prelude.{vec_capacity}
 use Rattle.std.specs.Coded.{Coded, code_by, coded×, coded_list, coded_option, coded_ℕ}
 use Rattle.std.specs.declared.option.Option.{Option}
 use Rattle.fl_jobs.specs.contracts.job.Job as job_row
@@ -32,6 +33,11 @@ coded_held =
 abbrev pub held_jobs : Batch → HeldJobs
 held_jobs batch =
     record { node = batch.node; jobs = batch.jobs.items; aliases = batch.aliases.items }
+
+-- once some line waits, there is room for all that may
+abbrev pub HasRoom : Batch → Type 0
+HasRoom batch =
+    batch.jobs.items ≢ [] → (256 ≤ vec_capacity batch.jobs) × (256 ≤ vec_capacity batch.aliases)
 
 -- no line waits
 abbrev pub none_held : HeldJobs

@@ -47,8 +47,7 @@ GoesOnWith session (Some (Means (Node node (Job job)) alias)) = GoesOn session n
 GoesOnWith session heard = ⊥
 
 -- The batch that was held has ended before the line: the line names an alias that it was to set, and
--- was read only then; or what it says is no job with which the batch goes on, or there was no memory
--- to hold it.
+-- was read only then; or what it says is no job with which the batch goes on.
 pub data EndsBefore {C : Type 0} (calls : CrewCalls C) (old : CrewSession C) (bytes : List ℕ)
     : Option Reading → List Reply → CrewSession C → Type 0 where
   named : {heard : Option Reading} {replies : List Reply} {new : CrewSession C}
@@ -58,10 +57,6 @@ pub data EndsBefore {C : Type 0} (calls : CrewCalls C) (old : CrewSession C) (by
       → ¬ NamesHeld old.held bytes → IsHeard old.aliases bytes heard
       → ¬ GoesOnWith old heard → EndsBatch calls old replies new
       → EndsBefore calls old bytes heard replies new
-  no_room : (heard : Option Reading) {replies : List Reply} {new : CrewSession C}
-      → ¬ NamesHeld old.held bytes → IsHeard old.aliases bytes heard
-      → GoesOnWith old heard → EndsBatch calls old replies new
-      → EndsBefore calls old bytes None replies new
 
 -- the line is neither a job nor asks for the aliases
 abbrev pub is_other : Line → Bool

@@ -31,7 +31,7 @@ pub struct Held {
 }
 
 impl Model for Held {
-    ghost use Rattle.fl_crew_turns.specs.Held.{HeldJobs, IsBatch, coded_held, held_jobs};
+    ghost use Rattle.fl_crew_turns.specs.Held.{HasRoom, HeldJobs, IsBatch, coded_held, held_jobs};
 
     ghost Value = { HeldJobs };
 
@@ -39,7 +39,7 @@ impl Model for Held {
 
     ghost view = { λ a. held_jobs a.batch };
 
-    ghost invariant = { λ a. IsBatch (held_jobs a.batch) };
+    ghost invariant = { λ a. IsBatch (held_jobs a.batch) × HasRoom a.batch };
 }
 
 impl Held {
@@ -99,24 +99,34 @@ impl Held {
         is_named_in(line, &self.batch.aliases)
     }
 
-    /// Adds a line, which is of this node, as all are then. An error is want of memory, and leaves
-    /// all.
-    pub fn add(
+    /// Begins a batch of this node with a line, and makes room for all that it may have. An error
+    /// is want of memory, and leaves all.
+    pub fn begin(
         &mut self,
         node: NodeNumber,
         job: Job,
         alias: Option<Alias>,
     ) -> Result<(), AllocError>
-        requires { length self.old.jobs < 256 }
+        requires { self.old.jobs ≡ [] }
         ensures ok { OnOk result (self.new ≡ with_job self.old node job alias) }
         ensures err { OnErr result (self.new ≡ self.old) }
     {
-        self.batch.jobs.reserve(1)?;
-        self.batch.aliases.reserve(1)?;
+        self.batch.jobs.reserve(MOST_JOBS)?;
+        self.batch.aliases.reserve(MOST_JOBS)?;
         self.batch.node = node;
         self.batch.jobs.push_reserved(job);
         self.batch.aliases.push_reserved(alias);
         Ok(())
+    }
+
+    /// Adds a line of the same node. Takes no memory.
+    pub fn go_on(&mut self, job: Job, alias: Option<Alias>)
+        requires some { self.old.jobs ≢ [] }
+        requires few { length self.old.jobs < 256 }
+        ensures { self.new ≡ with_job self.old self.old.node job alias }
+    {
+        self.batch.jobs.push_reserved(job);
+        self.batch.aliases.push_reserved(alias);
     }
 
     /// The lines.

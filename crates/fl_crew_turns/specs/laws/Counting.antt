@@ -15,7 +15,7 @@ use Rattle.fl_turns.specs.Answer.{Answer, said}
 use Rattle.fl_crew_turns.specs.Answered.{CountsLoud, CrewRun, GivesEach, Written, answers_in, count_answers, count_held, own_answers}
 use Rattle.fl_crew_turns.specs.Batch.{EndsBatch, replies_to}
 use Rattle.fl_crew_turns.specs.Session.{CrewCalls, CrewSession}
-use Rattle.fl_crew_turns.specs.Turn.{AnswersNow, CrewTurn, EndsBefore, GoesOnWith, IsHeard}
+use Rattle.fl_crew_turns.specs.Turn.{AnswersNow, CrewTurn, EndsBefore, IsHeard}
 
 module _ {C : Type 0} (calls : CrewCalls C) (each : GivesEach calls) where
   -- as many replies as jobs
@@ -41,8 +41,6 @@ module _ {C : Type 0} (calls : CrewCalls C) (each : GivesEach calls) where
       batch_counts old between replies ends
   before_counts old between bytes heard replies (EndsBefore.other names is on ends) =
       batch_counts old between replies ends
-  before_counts old between bytes heard replies (EndsBefore.no_room meant names is on ends) =
-      batch_counts old between replies ends
 
   -- what was heard says nothing: the line is quiet
   abbrev SaysNothing : Option Reading → List ℕ → Type 0
@@ -56,21 +54,12 @@ module _ {C : Type 0} (calls : CrewCalls C) (each : GivesEach calls) where
   heard_so table bytes (Some Bad) h = h.loud
   heard_so table bytes (Some (Means line alias)) h = h.asking.loud
 
-  goes_loud : (session : CrewSession C) (table : _) (bytes : List ℕ) (heard : Option Reading)
-      → IsHeard table bytes heard → GoesOnWith session heard → ¬ IsQuiet bytes
-  goes_loud session table bytes None h on = absurd on
-  goes_loud session table bytes (Some Quiet) h on = absurd on
-  goes_loud session table bytes (Some Bad) h on = absurd on
-  goes_loud session table bytes (Some (Means line alias)) h on = h.asking.loud
-
   says : (old between : CrewSession C) (bytes : List ℕ) (heard : Option Reading)
       (replies : List Reply) → EndsBefore calls old bytes heard replies between
       → SaysNothing heard bytes
   says old between bytes heard replies (EndsBefore.named names ends is) = heard_so _ bytes heard is
   says old between bytes heard replies (EndsBefore.other names is on ends) =
       heard_so _ bytes heard is
-  says old between bytes heard replies (EndsBefore.no_room meant names is on ends) =
-      goes_loud old _ bytes meant is on
 
   -- a line gives so much: nothing where it is quiet, and else one answer, or one that is held
   abbrev Gives : List ℕ → ℕ → Type 0

@@ -3,7 +3,7 @@ use Rattle.fl_crew_turns.specs.Turn.{AnswersNow}
 use Rattle.fl_crew_calls.specs.laws.Calling.{call_opens}
 use Rattle.fl_crew_session.proofs.Turning.{begins_batch, begins_none}
 use Rattle.fl_crew_session.proofs.session.Session.begin.Goals as goal
-use Rattle.fl_crew_session.proofs.session.Session.begin.Goals.{in-Ok, in-Err-add}
+use Rattle.fl_crew_session.proofs.session.Session.begin.Goals.{in-Ok, in-Err-begin}
 
 pub returns-then-not-has_room_for : goal.returns-then-not-has_room_for
 returns-then-not-has_room_for g c =
@@ -22,9 +22,9 @@ returns g c =
     let none = rw (← c.self.view_is) at c.requires.none in
     let opens = call_opens g.M.K.Keeper.custody g.M.MakesKeepers.making _ _ _ _ c.in_default.ensures.opens in
     let task = c.args.task in
-    rw (← c.self.view_is) (elim c.match-add.branch [
+    rw (← c.self.view_is) (elim c.match-begin.branch [
       | in-Ok w ↦ rw w.result-is (begins_batch _ _ _ _ _ task.node task.job task.alias none room
           opens w.in-Ok.ensures.ok)
-      | in-Err-add w ↦ rw (w.result-is, w.starved.ensures) (begins_none _ _ _ _ _ task.node task.job task.alias room
-          opens w.in-Err-add.ensures.err)
+      | in-Err-begin w ↦ rw (w.result-is, w.starved.ensures) (begins_none _ _ _ _ _ task.node task.job task.alias room
+          opens w.in-Err-begin.ensures.err)
     ])
