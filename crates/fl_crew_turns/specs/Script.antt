@@ -1,5 +1,5 @@
 -- What is written for a script over crews.
-use Rattle.std.specs.Prelude.{◌≡◌, ◌⊎◌, ◌++◌, [], ℕ, List, max}
+use Rattle.std.specs.Prelude.{◌≡◌, ◌⊎◌, ◌≤◌, ◌++◌, [], ℕ, List, max}
 use Rattle.std.specs.Io.KnownBytes.{Appends}
 use Rattle.std.specs.Str.Lines.{lines}
 use Rattle.std.specs.declared.option.Option.{Option}
@@ -39,3 +39,12 @@ pub record WritesBatchesFirst {C : Type 0} (calls : CrewCalls C) (start : CrewSe
   pub rest : List ℕ
   pub cut : text ++ replies_text replies ≡ front ++ rest
   pub written : Appends old new front
+
+-- 0, 1 or 3: nothing is to be told of a line, it is none of the script, or a keeper failed
+abbrev pub IsStatus : ℕ → Type 0
+IsStatus status = (status ≤ 1) ⊎ (status ≡ 3)
+
+-- known bytes grow by some, and none of them is lost
+pub record Grows (old new : Option (List ℕ)) : Type 0 where
+  pub text : List ℕ
+  pub written : Appends old new text

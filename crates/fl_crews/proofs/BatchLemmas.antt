@@ -1,18 +1,19 @@
 -- What is written for a script over crews, up to its end or not.
-use Rattle.std.proofs.Common.{◌<◌, ◌≤◌, ◌⊎◌, inl, inr, ◌≡◌, ◌++◌, ◌∙◌, refl, sym, ap, List, [], ℕ, length, max, subst, Option, None, Some, IfSome, IfOk, OnOk, Result, Ok, Err, arith}
+use Rattle.std.proofs.Common.{◌<◌, ◌≤◌, ◌⊎◌, inl, inr, ◌≡◌, ◌++◌, ◌∙◌, refl, sym, ap, List, [], ℕ, length, max, subst, Option, None, Some, IfSome, IfOk, OnOk, Result, Ok, Err, OnErr, arith}
 use Rattle.std.proofs.lemmas.List.{append-nil}
-use Rattle.std.proofs.KnownBytes.{Appends-trans, Consumes-whole}
+use Rattle.std.proofs.KnownBytes.{Appends-nil, Appends-trans, Consumes-whole}
 use Rattle.std.specs.Io.KnownBytes.{Appends}
-use Rattle.fl_sink.specs.Sink.{Cuts}
+use Rattle.fl_sink.specs.Sink.{Cuts, Passes}
 use Rattle.fl_sink.specs.laws.Passing.{passes_then, cuts_behind}
 use Rattle.fl_stream.specs.declared.tally.Tally.{Tally}
 use Rattle.fl_stream.specs.Turns.{Run, texts, worst}
 use Rattle.fl_stream.specs.Output.{WritesFirst}
 use Rattle.fl_stream.specs.Driving.{AllHanded, LinesPass}
 use Rattle.fl_crew_turns.specs.Batch.{BatchPasses, BatchCuts, replies_text}
-use Rattle.fl_crew_turns.specs.Script.{WritesBatches, WritesBatchesFirst}
+use Rattle.fl_crew_turns.specs.Script.{Grows, IsStatus, WritesBatches, WritesBatchesFirst}
 use Rattle.fl_crew_turns.specs.Session.{CrewCalls, CrewSession}
 use Rattle.fl_crew_turns.specs.Turn.{CrewTurns}
+use Rattle.fl_crew_turns.specs.laws.Statuses.{lines_are_status, max_is_status, replies_are_status}
 
 -- it stopped before the end
 pub stops_before : {C : Type 0} (calls : CrewCalls C) (start end : CrewSession C) (a b r : Option (List ℕ)) → IfSome r (λ script. WritesFirst (CrewTurns calls) start a b script end)
@@ -89,3 +90,32 @@ cause_of_two q = elim q [ inl a ↦ inl a | inr (inl b) ↦ inr b | inr (inr c) 
   where
     irreflexive : {n : ℕ} → n < n → ⊥
     irreflexive less = omega arith
+
+-- ---- known bytes only grow, also at a fault
+
+pub grows_none : (a : Option (List ℕ)) → Grows a a
+grows_none a = record { text = []; written = Appends-nil a }
+
+-- a text passed, and a front of what waits and of more was written
+pub grows_cut : {a b c : Option (List ℕ)} {pending text rest more : List ℕ}
+    → Passes a b pending text rest → Cuts b c rest more → Grows a c
+grows_cut {a = a} {b = b} {c = c} p q =
+    record { text = p.front ++ q.front; written = Appends-trans a b c p.front q.front p.written q.written }
+
+-- a text passed, and what waits was written, or a front of it
+pub grows_at_end : {E : Type 0} {a b c : Option (List ℕ)} {pending text rest : List ℕ} (result : Result ℕ E)
+    → Passes a b pending text rest → OnOk result (Appends b c rest) → OnErr result (Cuts b c rest []) → Grows a c
+grows_at_end {a = a} {b = b} {c = c} {rest = rest} (Ok status) p written cut =
+    record { text = p.front ++ rest; written = Appends-trans a b c p.front rest p.written written }
+grows_at_end (Err fault) p written cut = grows_cut p cut
+
+-- ---- the status is 0, 1 or 3
+
+pub batch_is_status : {C E : Type 0} {calls : CrewCalls C} {told : ℕ} {a b c : Option (List ℕ)} {start now end : CrewSession C} {tally : Tally} {seen : List (List ℕ)} {rest : List ℕ} (result : Result ℕ E)
+    → LinesPass (CrewTurns calls) start now tally a b seen → BatchPasses calls now told end b c tally.sink rest
+    → IfOk result (λ status. status ≡ max tally.status told) → IfOk result IsStatus
+batch_is_status {calls = calls} {told = told} {start = start} {now = now} {tally = tally} {seen = seen} (Ok status) p q is =
+    subst IsStatus (sym is) (max_is_status tally.status told
+    (subst IsStatus (sym p.status_is) (lines_are_status calls 1 start seen p.outputs now p.run))
+    (subst IsStatus (sym q.status_is) (replies_are_status q.replies)))
+batch_is_status (Err fault) p q is = tt

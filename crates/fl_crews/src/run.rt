@@ -3,7 +3,7 @@ ghost use Rattle.std.specs.Prelude.{◌≡◌, ◌≤◌, ◌⊎◌, [], ℕ, Li
 ghost use Rattle.std.specs.Prelude.{OnErr, OnOk, length};
 ghost use Rattle.std.specs.Io.KnownBytes.{IsAtEnd};
 ghost use Rattle.fl_stream.specs.Served.{Answered, CountsPast, MayLackRoom, Outgrows, Served};
-ghost use Rattle.fl_crew_turns.specs.Script.{WritesBatches, WritesBatchesFirst};
+ghost use Rattle.fl_crew_turns.specs.Script.{Grows, IsStatus, WritesBatches, WritesBatchesFirst};
 ghost use Rattle.fl_crew_turns.specs.Session.{CrewSession, begun_session};
 ghost use Rattle.fl_crew_turns.specs.Turn.{CrewTurns};
 ghost use Rattle.fl_crew_calls.specs.Calls.{crews_calls};
@@ -44,6 +44,8 @@ fn hear_all<
     ensures ok { IfOk result (λ status. IfSome (C.remaining input.old) (λ script.
         WritesBatches (crews_calls M.K.custody M.making) session.old
         (W.contents output.old) (W.contents output.new) script status session.new)) }
+    ensures status { IfOk result IsStatus }
+    ensures grows { Grows (W.contents output.old) (W.contents output.new) }
     ensures whole { OnOk result (IsAtEnd (C.remaining input.new)) }
     ensures short { OnOk result (IfSome (C.remaining input.old)
         (λ script. length script ≤ 16777216)) }
@@ -123,6 +125,8 @@ pub fn converse<
         WritesBatches (crews_calls M.K.custody M.making)
         (begun_session (begun_crews keepers workers))
         (W.contents output.old) (W.contents output.new) script status result.0)) }
+    ensures status { IfOk result.1 IsStatus }
+    ensures grows { Grows (W.contents output.old) (W.contents output.new) }
     ensures whole { OnOk result.1 (IsAtEnd (C.remaining input.new)) }
     ensures short { OnOk result.1 (IfSome (C.remaining input.old)
         (λ script. length script ≤ 16777216)) }
@@ -181,6 +185,8 @@ pub fn run<
         WritesBatches (crews_calls M.K.custody M.making)
         (begun_session (begun_crews keepers workers))
         (W.contents output.old) (W.contents output.new) script status result.0)) }
+    ensures status { IfOk result.1 IsStatus }
+    ensures grows { Grows (W.contents output.old) (W.contents output.new) }
     ensures whole { OnOk result.1 (IsAtEnd (R.remaining input.new)) }
     ensures short { OnOk result.1 (IfSome (R.remaining input.old)
         (λ script. length script ≤ 16777216)) }

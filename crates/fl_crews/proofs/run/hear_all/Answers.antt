@@ -1,8 +1,8 @@
 use Rattle.std.proofs.Common.{◌≡◌, ◌+◌, ◌∙◌, inr, sym, ap, refl, true, false, arith, rules}
 use Rattle.std.proofs.lemmas.Result.{err_from_is_err_and, on_err_weaker, on_ok_weaker}
-use Rattle.fl_sink.specs.laws.Passing.{on_err_always}
+use Rattle.fl_sink.specs.laws.Passing.{on_err_always, passes_then}
 use Rattle.fl_stream.specs.laws.Driving.{stops_at_once, driven_none, driven_due, driven_more, driven_cut, driven_stops, driven_served, driven_cause, driven_mid_line, driven_all, pass_on}
-use Rattle.fl_crews.proofs.BatchLemmas.{stops_before, stops_in_batch, batch_cut, ends_batch, handed_short, cause_of_two}
+use Rattle.fl_crews.proofs.BatchLemmas.{stops_before, stops_in_batch, batch_cut, ends_batch, handed_short, cause_of_two, batch_is_status, grows_at_end, grows_cut, grows_none}
 use Rattle.fl_crews.proofs.run.hear_all.Goals as goal
 
 pub returns-in_err-intake-clause-err : goal.returns-in_err-intake-clause-err
@@ -87,3 +87,30 @@ returns-clause-err g c =
     let driven = c.lines.invariant.driven in
     let all = driven_all driven (λ same. ap g.C.Conversation.remaining same) (c.in_ok-next.ensures.none none) in
     on_err_weaker c.end.result (λ cut. stops_in_batch all (pass_on _ driven.passed c.in_ok-next.ensures.passed) (batch_cut c.in_ok-status-2.ensures.ok cut)) (rw c.raise.ensures at c.end.ensures.err)
+
+pub returns-in_err-intake-clause-grows : goal.returns-in_err-intake-clause-grows
+returns-in_err-intake-clause-grows g c = grows_none _
+
+pub returns-in_err-next-clause-grows : goal.returns-in_err-next-clause-grows
+returns-in_err-next-clause-grows g c = grows_cut c.lines.invariant.driven.passed.passed c.in_err-next.ensures.err
+
+pub returns-in_err-status-clause-grows : goal.returns-in_err-status-clause-grows
+returns-in_err-status-clause-grows g c =
+    let passed = passes_then _ _ _ c.lines.invariant.driven.passed.passed c.in_ok-next.ensures.passed in
+    grows_cut passed c.in_err-status.ensures.err.cut
+
+pub returns-in_err-status-2-clause-grows : goal.returns-in_err-status-2-clause-grows
+returns-in_err-status-2-clause-grows g c =
+    let passed = passes_then _ _ _ c.lines.invariant.driven.passed.passed c.in_ok-next.ensures.passed in
+    grows_cut passed c.in_err-status-2.ensures.err.cut
+
+pub returns-clause-grows : goal.returns-clause-grows
+returns-clause-grows g c =
+    let passed = passes_then _ _ _ c.lines.invariant.driven.passed.passed c.in_ok-next.ensures.passed in
+    grows_at_end c.end.result (passes_then _ _ _ passed c.in_ok-status-2.ensures.ok.passed)
+    (rw c.raise.ensures at c.end.ensures.ok) (rw c.raise.ensures at c.end.ensures.err)
+
+pub returns-clause-status : goal.returns-clause-status
+returns-clause-status g c =
+    batch_is_status c.end.result (pass_on _ c.lines.invariant.driven.passed c.in_ok-next.ensures.passed)
+    c.in_ok-status-2.ensures.ok (rw c.raise.ensures at c.end.ensures.status)
