@@ -3,6 +3,7 @@ use Rattle.std.specs.Prelude.{◌≡◌, ◌⊎◌, ◌+◌, ◌∷◌, [], ℕ,
 use Rattle.std.specs.declared.result.Result.{Result}
 use Rattle.std.specs.declared.result.Result.TheVariants.{Ok, Err}
 use Rattle.fl_jobs.specs.declared.job.Job.{Job}
+use Rattle.fl_dealing.specs.Dealt.{procs_behind}
 use Rattle.fl_dealing.specs.declared.entry.Entry.{Entry}
 use Rattle.fl_registrar.specs.Passing.{Passes}
 use Rattle.fl_store.specs.Custody.{Custody}
@@ -21,6 +22,8 @@ pub record IsServedBy {K : Type 0} (custody : Custody K) (old new : CrewOver K) 
     (packets : List Packet) (es : List Entry) : Type 0 where
   pub still : IsStill old new
   pub count : length es ≡ length jobs + length packets
+  -- who makes the next process
+  pub procs : new.procs ≡ procs_behind old.size old.procs (items_for jobs packets)
   pub serves : Passes custody (Serves custody old new (items_for jobs packets) es)
       old.node.keeper new.node.keeper
   pub broken : IsBrokenThere custody new

@@ -10,4 +10,4 @@ returns-clause-ok g c =
     c.args.jobs.items c.args.packets.items es.items)) c.self.view_is
     (if_served g.K.Keeper.custody c.self.inside.crew c.batch.new.self c.args.jobs.items
     c.args.packets.items (λ es. es.items) c.batch.result c.batch.ensures.still
-    c.batch.ensures.count c.batch.ensures.serves c.batch.ensures.broken)
+    c.batch.ensures.count c.batch.ensures.procs c.batch.ensures.serves c.batch.ensures.broken)
