@@ -11,6 +11,7 @@ use crate::fault::RunFault;
 use crate::options::Options;
 use crate::session::Session;
 use fl_makers::maker::MakesKeepers;
+use fl_round_laws::laws::law_exchange;
 use fl_sink::writer::Writer;
 use fl_stream::conversation::Conversation;
 use fl_world::laws::{law_headline, law_lasting};
@@ -37,8 +38,8 @@ pub const MOST_BYTES: usize = 16_777_216;
 /// keepers are honest, the text is that of one run of the definitions (`one_run`), and at a fault a
 /// front of one's (`first_run`). Where a status is answered, that run is one of worlds: what holds
 /// of each world that a run leads to holds all along it; a tag is confined and endorsed, each
-/// capability in effect was granted, and an operation whose name a line was answered is shown and
-/// kept from then on (`lasting`).
+/// capability in effect was granted, an operation whose name a line was answered is shown and
+/// kept from then on, and nodes publish the same behind lines by which they exchange (`lasting`).
 pub fn converse<RT: AllocGlobal, C: Conversation<W>, W: Writer, M: MakesKeepers + Drop>(
     rt: &RT,
     input: &mut C,
@@ -85,6 +86,7 @@ pub fn converse<RT: AllocGlobal, C: Conversation<W>, W: Writer, M: MakesKeepers 
 {
     law_headline();
     law_lasting();
+    law_exchange();
     let alloc = rt.alloc();
     let session = Session::new(alloc, keepers);
     fl_stream::run::converse(alloc, session, MOST_BYTES, input, output)
@@ -106,8 +108,8 @@ pub fn converse<RT: AllocGlobal, C: Conversation<W>, W: Writer, M: MakesKeepers 
 /// keepers are honest, the text is that of one run of the definitions (`one_run`), and at a fault a
 /// front of one's (`first_run`). Where a status is answered, that run is one of worlds: what holds
 /// of each world that a run leads to holds all along it; a tag is confined and endorsed, each
-/// capability in effect was granted, and an operation whose name a line was answered is shown and
-/// kept from then on (`lasting`).
+/// capability in effect was granted, an operation whose name a line was answered is shown and
+/// kept from then on, and nodes publish the same behind lines by which they exchange (`lasting`).
 pub fn run<RT: AllocGlobal, R: Read, W: Write, M: MakesKeepers + Drop>(
     rt: &RT,
     input: &mut R,

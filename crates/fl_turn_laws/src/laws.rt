@@ -29,6 +29,7 @@ ghost use Rattle.fl_world.specs.Reached.{InEach};
 
 use fl_makers::maker::MakesKeepers;
 use fl_makers::mem::MemMaker;
+use fl_round_laws::laws::law_exchange;
 use fl_wire::laws::law_one_packet;
 use fl_world::laws::{law_headline, law_lasting};
 
@@ -70,8 +71,8 @@ pub fn law_worlds<M: MakesKeepers>()
 /// withdrawn, what is published grows by the node's own publications alone, and a tag is confined.
 /// All of this holds at each moment of a run of lines too, from the world without a node on: along
 /// it a tag is confined by what the lines are answered, and endorsed, each capability in effect was
-/// granted, and an operation whose name a line was answered is shown and kept from then on
-/// (`along`).
+/// granted, an operation whose name a line was answered is shown and kept from then on, and nodes
+/// publish the same behind lines by which they exchange (`along`).
 ///
 /// The end is the session that `fl_cluster::run::run` gives back, of which `Writes` is what it
 /// says.
@@ -93,6 +94,7 @@ pub fn law_script_safe<M: MakesKeepers>()
 {
     law_headline();
     law_lasting();
+    law_exchange();
 }
 
 /// What the first lines are answered is a run of them alone; and, where nodes open one way and no

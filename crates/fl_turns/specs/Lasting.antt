@@ -39,6 +39,7 @@ use Rattle.fl_calls.specs.Answer.{replied}
 use Rattle.fl_calls.specs.Entering.{Openings}
 use Rattle.fl_calls.specs.Over.{openings_of}
 use Rattle.fl_turns.specs.Answer.{Answer, said}
+use Rattle.fl_turns.specs.Exchanging.{ExchangesAlong}
 use Rattle.fl_turns.specs.Moments.{Asks, told, Turned, AreTurns, moments_of, moments_before}
 use Rattle.fl_turns.specs.Over.{SessionOver}
 use Rattle.fl_turns.specs.Script.{IsOneRun}
@@ -154,6 +155,7 @@ module _ (turns : List Turned) where
     pub endorsed : EndorsesAlong
     pub granted : GrantsAlong
     pub answered : KeepsAnswersAlong
+    pub exchanges : ExchangesAlong turns
 
 -- The lines were answered so by these turns, which lead from the session before the first line to
 -- this one. Their moments are one run of worlds, which is at the world before a turn where its

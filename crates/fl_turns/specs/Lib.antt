@@ -10,5 +10,6 @@ pub mod Answered
 pub mod Script
 pub mod Leading
 pub mod Moments
+pub mod Exchanging
 pub mod Lasting
 pub mod laws

@@ -30,56 +30,25 @@ use Rattle.fl_world.specs.Headline.{IsSafeWorld}
 use Rattle.fl_world.specs.Lasting.{IsLastingWorld}
 use Rattle.fl_world.proofs.Along.{between, run_take, run_between, end_between}
 use Rattle.fl_kept_laws.specs.Told.{OffersKept, AllOfferKept, IsShownAt, IsKeptAt}
-use Rattle.fl_calls.specs.Answer.{Answer as Said, replied}
+use Rattle.fl_calls.specs.Answer.{replied}
 use Rattle.fl_calls.specs.Entering.{Openings}
-use Rattle.fl_turns.specs.Answer.{Answer, silence, said, listed, starved_line}
+use Rattle.fl_turns.specs.Answer.{Answer, said, starved_line}
 use Rattle.fl_turns.specs.Lasting.{LetsOut, IsLetOut, Tells, DidHappen, ConfinesAlong, EndorsesAlong, GrantsAlong}
 use Rattle.fl_turns.specs.Lasting.{KeepsAnswersAlong, LastsAlong, LastsFor, LastsScript}
 use Rattle.fl_turns.specs.Leading.{IsPlain, ArePlain, Leads}
-use Rattle.fl_turns.specs.Moments.{Asks, event_asked, asked_by, told, told_at, told_in, told_said, told_by}
+use Rattle.fl_turns.specs.Moments.{Asks, event_asked, asked_by, told, told_at, told_by}
 use Rattle.fl_turns.specs.Moments.{Turned, IsTurn, AreTurns, moments_of, moments_before}
 use Rattle.fl_turns.specs.Over.{SessionOver, TurnsOver, begun_over}
 use Rattle.fl_turns.specs.Run.{Run}
 use Rattle.fl_turns.specs.Session.{Session, begun}
-use Rattle.fl_turns.specs.laws.Leads.{runs_on, ends_on, plain_on, turn_does}
+use Rattle.fl_turns.specs.laws.Exchanging.{AreActed, Spreads, Unites, exchanges}
+use Rattle.fl_turns.specs.laws.Leads.{runs_on, ends_on, plain_on, TurnDoes, turn_does}
 use Rattle.fl_turns.specs.laws.Published.{turn_publishes}
 use Rattle.fl_turns.specs.laws.Scripts.{one_run}
+use Rattle.fl_turns.specs.laws.Telling.{slice_past, slice_within, slice_less, front, back, at_which}
+use Rattle.fl_turns.specs.laws.Telling.{Happened, happened, is_told, answered_is}
 
--- ---- places in lists that are put together
-
-slice_past : {A : Type 0} (xs ys : List A) (n j : ℕ) → j ≡ length xs + n → slice_get (xs ++ ys) j ≡ slice_get ys n
-slice_past [] ys n j e =
-    let same : j ≡ n = omega (arith, e) in ap (slice_get ys) same
-slice_past (x ∷ xs) ys n zero e = absurd (omega (arith, e))
-slice_past (x ∷ xs) ys n (suc j) e =
-    let less : j ≡ length xs + n = omega (arith, e) in slice_past xs ys n j less
-
-slice_within : {A : Type 0} (xs ys : List A) (i j : ℕ) (x : A) → j ≡ i → slice_get xs i ≡ Some x
-    → slice_get (xs ++ ys) j ≡ Some x
-slice_within [] ys i j x e h = absurd (none_some refl h)
-slice_within (y ∷ xs) ys zero zero x e h = h
-slice_within (y ∷ xs) ys zero (suc j) x e h = absurd (omega (arith, e))
-slice_within (y ∷ xs) ys (suc i) zero x e h = absurd (omega (arith, e))
-slice_within (y ∷ xs) ys (suc i) (suc j) x e h =
-    let less : j ≡ i = omega (arith, e) in slice_within xs ys i j x less h
-
-slice_less : {A : Type 0} (xs : List A) (i : ℕ) (x : A) → slice_get xs i ≡ Some x → i < length xs
-slice_less [] i x e = absurd (none_some refl e)
-slice_less (y ∷ xs) zero x e = omega arith
-slice_less (y ∷ xs) (suc i) x e = let less = slice_less xs i x e in omega (arith, less)
-
--- where something is that stands in two lists, one after the other
-data IsWhere {A : Type 0} (xs ys : List A) (j : ℕ) (x : A) : Type 0 where
-  front : j < length xs → slice_get xs j ≡ Some x → IsWhere xs ys j x
-  back : (n : ℕ) → j ≡ length xs + n → slice_get ys n ≡ Some x → IsWhere xs ys j x
-
-at_which : {A : Type 0} (xs ys : List A) (j : ℕ) (x : A) → slice_get (xs ++ ys) j ≡ Some x → IsWhere xs ys j x
-at_which [] ys j x e = back j (omega arith) e
-at_which (y ∷ xs) ys zero x e = front (omega arith) e
-at_which (y ∷ xs) ys (suc j) x e = elim (at_which xs ys j x e) [
-  | front less there ↦ front (omega (arith, less)) there
-  | back n is there ↦ back n (omega (arith, is)) there
-]
+-- ---- worlds and moments of runs
 
 world_past : (w : World) (ms ns : List Moment) (n j : ℕ) → j ≡ length ms + n
     → world_at w (ms ++ ns) j ≡ world_at (end w ms) ns n
@@ -120,92 +89,6 @@ reached_by w v reached h = record {
   leads = ends_on (empty_world reached.desks) reached.moments h.moments
       ∙ ap (λ x. end x h.moments) reached.leads ∙ h.leads;
 }
-
--- ---- what is told
-
-first_of : {A : Type 0} → A → List A → A
-first_of d xs = elim xs [ [] ↦ d | x ∷ rest ↦ x ]
-
-module _ (e : Event) (r : Reply) where
-  -- the event has this reply at a moment
-  record Happened (ms : List Moment) : Type 0 where
-    place : ℕ
-    moment : Moment
-    there : slice_get ms place ≡ Some moment
-    move_is : moment.move ≡ Happens e
-    reply_is : moment.reply ≡ r
-
-  one_more : (m : Moment) (ms : List Moment) → Happened ms → Happened (m ∷ ms)
-  one_more m ms h = record {
-    place = suc h.place;
-    moment = h.moment;
-    there = h.there;
-    move_is = h.move_is;
-    reply_is = h.reply_is;
-  }
-
-  head_is : (x : Event × Reply) (xs : List (Event × Reply)) → x ∷ xs ≡ (e, r) ∷ [] → x ≡ (e, r)
-  unfolding first_of
-  head_is x xs is = ap (first_of x) is
-
-  by_head : (move : Move) (reply : Reply) (rest : List (Event × Reply)) → told_at move reply ++ rest ≡ (e, r) ∷ []
-      → ((move ≡ Happens e) × (reply ≡ r)) ⊎ (rest ≡ (e, r) ∷ [])
-  by_head (Happens event) (replies.Job reply) rest is =
-      let h = head_is _ rest is in
-      inl (ap (λ (x : Event × Reply). Happens x.0) h, ap (λ (x : Event × Reply). x.1) h)
-  by_head (Happens event) (replies.Sent first count) rest is =
-      let h = head_is _ rest is in
-      inl (ap (λ (x : Event × Reply). Happens x.0) h, ap (λ (x : Event × Reply). x.1) h)
-  by_head (Happens event) reply rest is = inr is
-  by_head (Comes number kept) reply rest is = inr is
-  by_head (Returns number kept) reply rest is = inr is
-
-  -- what is told happened
-  happened : (ms : List Moment) → told_in ms ≡ (e, r) ∷ [] → Happened ms
-  happened [] is = absurd (cc)
-  happened (m ∷ ms) is = elim (by_head m.move m.reply (told_in ms) is) [
-    | inl here ↦ record { place = zero; moment = m; there = refl; move_is = here.0; reply_is = here.1 }
-    | inr later ↦ one_more m ms (happened ms later)
-  ]
-
-  -- what happened is told, where it is of a kind that is
-  is_told : (ms : List Moment) (i : ℕ) (m : Moment) → slice_get ms i ≡ Some m → told_at m.move m.reply ≡ (e, r) ∷ []
-      → (n : ℕ) × (slice_get (told_in ms) n ≡ Some (e, r))
-  is_told [] i m there is = absurd (none_some refl there)
-  is_told (x ∷ ms) zero m there is =
-      let same : m ≡ x = same_found there refl in
-      let told_is : told_at x.move x.reply ≡ (e, r) ∷ [] = subst (λ (y : Moment). told_at y.move y.reply ≡ (e, r) ∷ []) same is in
-      (zero, ap (λ y. slice_get (y ++ told_in ms) zero) told_is)
-  is_told (x ∷ ms) (suc i) m there is =
-      let rest = is_told ms i m there is in
-      let n = length (told_at x.move x.reply) + rest.0 in
-      (n, slice_past (told_at x.move x.reply) (told_in ms) rest.0 n refl ∙ rest.1)
-
-  -- what a line tells is of its event, and its answer
-  told_is : (event : Event) (reply : Reply) (n : ℕ) → slice_get (told event reply) n ≡ Some (e, r)
-      → (event ≡ e) × (reply ≡ r)
-  told_is event (replies.Job reply) zero is =
-      let h = same_found refl is in
-      (ap (λ (x : Event × Reply). x.0) h, ap (λ (x : Event × Reply). x.1) h)
-  told_is event (replies.Sent first count) zero is =
-      let h = same_found refl is in
-      (ap (λ (x : Event × Reply). x.0) h, ap (λ (x : Event × Reply). x.1) h)
-  told_is event (replies.Job reply) (suc n) is = absurd (none_some refl is)
-  told_is event (replies.Sent first count) (suc n) is = absurd (none_some refl is)
-  told_is event reply n is = absurd (none_some refl is)
-
-  said_is : (asked : Option Event) (what : Said) (n : ℕ) → slice_get (told_said asked what) n ≡ Some (e, r)
-      → (asked ≡ Some e) × (what ≡ replied r)
-  said_is (Some event) (replied reply) n is =
-      let h = told_is event reply n is in (ap Some h.0, ap replied h.1)
-  said_is asked what n is = absurd (none_some refl is)
-
-  answered_is : (asked : Option Event) (answer : Answer) (n : ℕ) → slice_get (told_by asked answer) n ≡ Some (e, r)
-      → (asked ≡ Some e) × (answer ≡ said (replied r))
-  answered_is asked silence n is = absurd (none_some refl is)
-  answered_is asked (said what) n is =
-      let h = said_is asked what n is in (h.0, ap said h.1)
-  answered_is asked (listed table) n is = absurd (none_some refl is)
 
 -- ---- which lines emit
 
@@ -332,38 +215,51 @@ record IsPlayed (openings : Openings) (old : Session) (lines : List (List ℕ)) 
   lines_are : map (λ (t : Turned). t.line) turns ≡ lines
   answers_are : map (λ (t : Turned). t.answer) turns ≡ answers
   are_turns : AreTurns openings old turns new
+  acted : AreActed openings turns
+
+asks_or_starved : (old : Session) (line : List ℕ) (answer : Answer) {new : Session}
+    (does : TurnDoes old line answer new) → Asks old.aliases line does.asked ⊎ (answer ≡ starved_line)
+asks_or_starved old line answer does = elim does.asks [ inl asks ↦ inl asks | inr none ↦ inr none.0 ]
 
 played : (openings : Openings) (old : Session) (lines : List (List ℕ)) (answers : List Answer) (new : Session)
     → Run openings old lines answers new → IsPlayed openings old lines answers new
-played openings old [] [] new h = record { turns = []; lines_are = refl; answers_are = refl; are_turns = h }
+played openings old [] [] new h = record {
+  turns = [];
+  lines_are = refl;
+  answers_are = refl;
+  are_turns = h;
+  acted = tt;
+}
 played openings old [] (answer ∷ answers) new h = absurd h
 played openings old (line ∷ lines) [] new h = absurd h
 played openings old (line ∷ lines) (answer ∷ answers) new h =
     let first = turn_does openings old line answer h.0 h.1 in
     let rest = played openings h.0 lines answers new h.2 in
+    let does = first.acts.does in
     let t : Turned = record {
       before = old;
       line = line;
       answer = answer;
-      moments = first.does.leads.moments;
+      moments = does.leads.moments;
       after = h.0;
+    } in
+    let turn : IsTurn openings t = record {
+      turn = h.1;
+      is_run = does.leads.is_run;
+      plain = does.leads.plain;
+      leads = does.leads.leads;
+      asked = first.asked;
+      asks = asks_or_starved old line answer first;
+      tells = does.tells;
     } in
     record {
       turns = t ∷ rest.turns;
       lines_are = ap (λ l. line ∷ l) rest.lines_are;
       answers_are = ap (λ l. answer ∷ l) rest.answers_are;
-      are_turns = (
-        refl,
-        record {
-          turn = h.1;
-          is_run = first.does.leads.is_run;
-          plain = first.does.leads.plain;
-          leads = first.does.leads.leads;
-          asked = first.asked;
-          asks = first.asks;
-          tells = first.does.tells;
-        },
-        rest.are_turns,
+      are_turns = (refl, turn, rest.are_turns);
+      acted = (
+        record { turn = turn; asks = first.asks; own = does.own; takes = first.acts.takes },
+        rest.acted,
       );
     }
 
@@ -494,7 +390,8 @@ module _ (openings : Openings) where
 -- ---- all lasts along them
 
 module _ (safe : (w : World) → IsReached w → IsSafeWorld w)
-    (lasting : (w : World) → IsReached w → IsLastingWorld w) (openings : Openings) where
+    (lasting : (w : World) → IsReached w → IsLastingWorld w) (spreads : Spreads) (unites : Unites)
+    (openings : Openings) where
   module _ (new : Session) (ts : List Turned) (are : AreTurns openings begun ts new) where
     abbrev ms : List Moment
     ms = moments_of ts
@@ -592,14 +489,15 @@ module _ (safe : (w : World) → IsReached w → IsSafeWorld w)
           );
     }
 
-    all_lasts : LastsAlong ts
-    all_lasts = record {
+    all_lasts : AreActed openings ts → LastsAlong ts
+    all_lasts acted = record {
       safe = λ i. safe _ (reached_at i);
       lasting = λ i. lasting _ (reached_at i);
       confined = confines;
       endorsed = endorses;
       granted = grants;
       answered = keeps_answers;
+      exchanges = exchanges openings spreads unites new ts are acted is_run;
     }
 
   pub run_lasts : (lines : List (List ℕ)) (answers : List Answer) (new : Session)
@@ -616,14 +514,14 @@ module _ (safe : (w : World) → IsReached w → IsSafeWorld w)
         before = λ k t there. world_before openings begun new h.turns k t h.are_turns there;
         happened = did_happen new h.turns h.are_turns;
         emissions = emission new h.turns h.are_turns;
-        lasts = all_lasts new h.turns h.are_turns;
+        lasts = all_lasts new h.turns h.are_turns h.acted;
       }
 
 -- ---- so it is of what is written over keepers
 
 module _ {K M : Type 0} (custody : Custody K) (making : Making M K) (start : M)
     (safe : (w : World) → IsReached w → IsSafeWorld w)
-    (lasting : (w : World) → IsReached w → IsLastingWorld w) where
+    (lasting : (w : World) → IsReached w → IsLastingWorld w) (spreads : Spreads) (unites : Unites) where
   pub lasts_script : (old new : Option (List ℕ)) (script : List ℕ) (status : ℕ) (end : SessionOver K M)
       → WritesOutput (TurnsOver custody making) (begun_over start) old new script status end
       → LastsScript custody making start old new script status end
@@ -637,7 +535,7 @@ module _ {K M : Type 0} (custody : Custody K) (making : Making M K) (start : M)
               let one = all.each honest w is in
               record {
                 one_run = one;
-                lasts = run_lasts safe lasting _ _ one.answered.answers _ one.answered.run;
+                lasts = run_lasts safe lasting spreads unites _ _ one.answered.answers _ one.answered.run;
               };
         };
       }

@@ -20,7 +20,8 @@ pub returns-clause-lasting : goal.returns-clause-lasting
 returns-clause-lasting g c =
     IfOk-weaker c.converse.result.1 _ _ (λ status h. IfSome_then _ h (λ script p.
     lasts_script g.M.K.Keeper.custody g.M.MakesKeepers.making
-    c.args.keepers c.law_headline.ensures c.law_lasting.ensures _ _ script status _ p))
+    c.args.keepers c.law_headline.ensures c.law_lasting.ensures c.law_exchange.ensures.spreads
+    c.law_exchange.ensures.union _ _ script status _ p))
     (rw c.new-session.ensures at c.converse.ensures.ok)
 
 pub returns-clause-ok : goal.returns-clause-ok

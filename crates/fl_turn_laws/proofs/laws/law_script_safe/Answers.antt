@@ -26,4 +26,5 @@ returns-clause-lasting g c = λ maker lines text status end h.
 
 pub returns-clause-along : goal.returns-clause-along
 returns-clause-along g c = λ maker lines answers end.
-    run_lasts c.law_headline.ensures c.law_lasting.ensures _ lines answers end
+    run_lasts c.law_headline.ensures c.law_lasting.ensures c.law_exchange.ensures.spreads
+    c.law_exchange.ensures.union _ lines answers end
