@@ -42,4 +42,5 @@ dir_making {g} custody reach opener dir = record {
   refuses = λ maker number fault. IsUnmade g reach (opener maker) (dir maker) number fault
       ⊎ ((fault ≡ KeeperFailed)
       × FailsAtOpening custody (HoldsAt reach (opener maker) (dir maker) number) number);
+  again = IsKeptIn reach.again;
 }

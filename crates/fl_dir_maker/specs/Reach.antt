@@ -9,7 +9,9 @@ pub record Reach (O : Type 0) : Type 1 where
   pub holds : O → List ℕ → Image → Type 0
   -- why they may not be opened
   pub fails : O → List ℕ → Cause → Type 0
+  -- how files may read that are opened a second time, while they are open
+  pub again : Image → Type 0
 
 -- of files of which nothing is known
 abbrev pub unknown : {O : Type 0} → Reach O
-unknown = record { holds = λ _ _ _. Unit {0}; fails = λ _ _ _. Unit {0} }
+unknown = record { holds = λ _ _ _. Unit {0}; fails = λ _ _ _. Unit {0}; again = λ _. Unit {0} }

@@ -1,5 +1,5 @@
 //! Who opens the files of databases.
-ghost use Rattle.std.specs.Prelude.{ℕ, List, IfOk, IfErr, IsTrue};
+ghost use Rattle.std.specs.Prelude.{ℕ, List, IfOk, IfErr, OnOk, IsTrue};
 ghost use Rattle.sqlite_wal.specs.Recovery.{Image};
 ghost use Rattle.fl_dir_maker.specs.Failing.{IsOfFiles};
 ghost use Rattle.fl_dir_maker.specs.Keeping.{Reads};
@@ -12,8 +12,8 @@ use sqlite_disk::Disk;
 
 /// Opens the files of databases by their paths.
 ///
-/// A contract knows how the files at a path may read from now on, and why they may not be opened: a
-/// call makes no more possible than was before.
+/// A contract knows how the files at a path may read from now on, also a second time while they are
+/// open, and why they may not be opened: a call makes no more possible than was before.
 pub trait OpensFiles {
     /// Each of the two files of a database.
     type D: Disk + Drop;
@@ -29,6 +29,8 @@ pub trait OpensFiles {
         ensures db { IfOk result (λ opened. IsTrue (Self.D.Disk.is_usable opened.0.db)) }
         ensures reads { IfOk result (λ opened.
             Reads Self.D.Disk (reach.holds self.old path.now) opened.0) }
+        ensures out { OnOk result ((image : Image) → reach.holds self.new path.now image
+            → reach.again image) }
         ensures files { IfErr result IsOfFiles }
         ensures fails { IfErr result (reach.fails self.old path.now) }
         ensures same_holds { (at : List ℕ) (image : Image) → reach.holds self.new at image

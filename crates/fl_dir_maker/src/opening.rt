@@ -1,5 +1,5 @@
 //! Opening a keeper over files.
-ghost use Rattle.std.specs.Prelude.{ℕ, List, IfOk, IfErr};
+ghost use Rattle.std.specs.Prelude.{ℕ, List, IfOk, IfErr, OnOk};
 ghost use Rattle.sqlite_wal.specs.Recovery.{Image};
 ghost use Rattle.fl_dir_maker.specs.Keeping.{Connects, IsKeeperOver, IsUnconnected, IsUnopened};
 ghost use Rattle.fl_dir_maker.specs.declared.fault.Cause.{Cause};
@@ -24,6 +24,8 @@ pub fn connect<O: OpensFiles>(
     path: &str,
 ) -> Result<Connection<FileStore<O::D>>, Cause>
     ensures connects { IfOk result (Connects (O.reach.holds opener.old path.now)) }
+    ensures out { OnOk result ((image : Image) → O.reach.holds opener.new path.now image
+        → O.reach.again image) }
     ensures unconnected { IfErr result (IsUnconnected O.D.Disk
         (O.reach.holds opener.old path.now) (O.reach.fails opener.old path.now)) }
     ensures same_holds { (at : List ℕ) (image : Image) → O.reach.holds opener.new at image
@@ -59,6 +61,8 @@ pub fn open<O: OpensFiles>(
 ) -> Result<SqlKeeper<FileStore<O::D>>, Cause>
     ensures keeper { IfOk result (IsKeeperOver
         (O.reach.holds opener.old path.now) number) }
+    ensures out { OnOk result ((image : Image) → O.reach.holds opener.new path.now image
+        → O.reach.again image) }
     ensures unopened { IfErr result (IsUnopened O.D.Disk
         (O.reach.holds opener.old path.now) (O.reach.fails opener.old path.now) number) }
     ensures same_holds { (at : List ℕ) (image : Image) → O.reach.holds opener.new at image

@@ -53,6 +53,11 @@ module _ (old new : Folder) (path : List ℕ) (opens : (at : List ℕ) → place
   pub opened_fails : (at : List ℕ) (cause : Cause) → FailsAt (place new at) cause → FailsAt (place old at) cause
   opened_fails at cause h = open_fails (bytes_eq path at) (place old at) cause (subst (λ it. FailsAt it cause) (opens at) h)
 
+  -- nor is it opened again
+  pub opened_once : (image : Image) → IsAt (place new path) image → ⊥
+  opened_once image h =
+      subst (λ it. IsAt it image) (opens path ∙ cond-true _ _ _ ((bytes_eq-Decides path path).1 refl)) h
+
 module _ (old new : Folder) (same : (at : List ℕ) → place new at ≡ place old at) where
   pub same_holds : (at : List ℕ) (image : Image) → IsAt (place new at) image → IsAt (place old at) image
   same_holds at image h = subst (λ it. IsAt it image) (same at) h

@@ -41,8 +41,13 @@ IsAt (Some (Some files)) image = image ≡ image_in files
 abbrev pub FailsAt : Option (Option (Files Memory)) → Cause → Type 0
 FailsAt it cause = (cause ≡ causes.Files Busy) ⊎ ((cause ≡ causes.Memory) × (it ≡ None))
 
+-- files that are open are not opened a second time
 abbrev pub folder_reach : Reach Folder
-folder_reach = record { holds = λ folder at. IsAt (place folder at); fails = λ folder at. FailsAt (place folder at) }
+folder_reach = record {
+  holds = λ folder at. IsAt (place folder at);
+  fails = λ folder at. FailsAt (place folder at);
+  again = λ _. ⊥;
+}
 
 -- these are the files of a place, or new ones where there are none
 abbrev pub IsTakenFrom : Option (Option (Files Memory)) → Files Memory → Type 0

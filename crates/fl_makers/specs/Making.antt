@@ -26,6 +26,8 @@ pub record Making (M K : Type 0) : Type 1 where
   pub unmade : M → ℕ → Fault → Type 0
   -- why it may not be opened for its keeper's sake: none is made, or the one that is made fails
   pub refuses : M → ℕ → Fault → Type 0
+  -- what another keeper of it may hold, that is made before this one is given back
+  pub again : ℕ → Kept → Type 0
 
 -- from the second maker on nothing is possible that was not from the first
 pub record AllowsNoMore {M K : Type 0} (making : Making M K) (old new : M) : Type 0 where
@@ -34,6 +36,10 @@ pub record AllowsNoMore {M K : Type 0} (making : Making M K) (old new : M) : Typ
   pub unmade : (n : ℕ) (fault : Fault) → making.unmade new n fault → making.unmade old n fault
   pub refuses : (n : ℕ) (fault : Fault) → making.refuses new n fault
       → making.refuses old n fault
+
+-- A keeper of the node was made and is not given back: what is found of it is what another may hold.
+abbrev pub IsOut : {M K : Type 0} → Making M K → M → ℕ → Type 0
+IsOut making maker number = (k : Kept) → making.finds maker number k → making.again number k
 
 -- The maker found this before, or it is what the keeper that was closed may hold, if that is honest.
 abbrev pub MayBeFound : {M K : Type 0} → Custody K → Making M K → M → ℕ → K → ℕ → Kept → Type 0

@@ -1,8 +1,8 @@
 //! Makers of keepers.
-ghost use Rattle.std.specs.Prelude.{◌⊎◌, ◌<◌, ℕ, IfOk, IfErr, IsTrue};
+ghost use Rattle.std.specs.Prelude.{◌⊎◌, ◌<◌, ℕ, IfOk, IfErr, OnOk, IsTrue};
 ghost use Rattle.fl_store.specs.Breaking.{IsLeftBroken};
 ghost use Rattle.fl_store.specs.Kept.{Kept};
-ghost use Rattle.fl_makers.specs.Making.{AllowsNoMore, Making, MayBeFound};
+ghost use Rattle.fl_makers.specs.Making.{AllowsNoMore, IsOut, Making, MayBeFound};
 ghost use Rattle.fl_system.specs.declared.answer.Fault.{Fault};
 
 use fl_labels::name::NodeNumber;
@@ -14,12 +14,14 @@ use std::alloc::Global;
 ///
 /// A contract knows which keepers may be made from now on and what they may hold, why none may be
 /// made, and why a node may not be opened for its keeper's sake: a call makes no more possible than
-/// was before.
+/// was before. It knows what a second keeper of a node may hold while the first one is out: of a
+/// maker that makes no second one nothing, so what is found once the first is closed is what that
+/// may hold.
 pub trait MakesKeepers {
     /// What it makes.
     type K: Keeper + Drop;
 
-    // which keepers it makes, what they may hold, and why none is made or opened
+    // which keepers it makes, what they may hold, also a second one, and why none is made or opened
     ghost making: { Making Self Self.K };
 
     // where none is made, none is opened
@@ -38,6 +40,7 @@ pub trait MakesKeepers {
             IsLeftBroken Self.K.custody keeper left
             ⊎ (Self.K.custody.is_honest left → Self.K.custody.has_bad_row keeper)
             → making.refuses self.old number Fault.KeeperFailed) }
+        ensures out { OnOk result (IsOut making self.new number) }
         ensures why { IfErr result (λ fault. making.unmade self.old number fault) }
         ensures same { AllowsNoMore making self.old self.new };
 

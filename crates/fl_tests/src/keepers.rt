@@ -1,5 +1,5 @@
 //! Makers whose keepers are not made, are another node's, or break.
-ghost use Rattle.std.specs.Prelude.{◌≡◌, Contains};
+ghost use Rattle.std.specs.Prelude.{◌≡◌, Contains, ⊤};
 ghost use Rattle.fl_jobs.specs.declared.answer.Refusal.TheVariants.{Memory};
 ghost use Rattle.fl_makers.specs.Making.{nothing_kept};
 ghost use Rattle.fl_system.specs.declared.answer.Fault.TheVariants.{Refused};
@@ -26,6 +26,7 @@ impl MakesKeepers for RefusingMaker<'_> {
       finds = λ _ number k. k ≡ nothing_kept number;
       unmade = λ maker number fault. Contains maker.refusals.now (number, fault);
       refuses = λ maker number fault. Contains maker.refusals.now (number, fault);
+      again = λ number k. k ≡ nothing_kept number;
     } };
 
     ghost told = { λ _ _ _ why. why };
@@ -59,6 +60,7 @@ impl MakesKeepers for OneNodeMaker {
       finds = λ maker _ k. k ≡ nothing_kept maker.node;
       unmade = λ _ _ _. ⊥;
       refuses = λ _ _ _. ⊥;
+      again = λ _ _. ⊤;
     } };
 
     ghost told = { λ _ _ _ none. absurd none };
@@ -86,6 +88,7 @@ impl MakesKeepers for BreakingMaker {
       finds = λ _ number k. k ≡ nothing_kept number;
       unmade = λ _ _ _. ⊥;
       refuses = λ _ _ _. ⊥;
+      again = λ number k. k ≡ nothing_kept number;
     } };
 
     ghost told = { λ _ _ _ none. absurd none };
@@ -118,6 +121,7 @@ impl MakesKeepers for BootedMaker {
       finds = λ maker number k. k ≡ record (nothing_kept number) { boot = maker.boot };
       unmade = λ _ _ fault. fault ≡ Refused Memory;
       refuses = λ _ _ fault. fault ≡ Refused Memory;
+      again = λ _ _. ⊤;
     } };
 
     ghost told = { λ _ _ _ why. why };

@@ -1,4 +1,4 @@
-use Rattle.std.proofs.Common.{◌∙◌, inr, refl, subst}
+use Rattle.std.proofs.Common.{◌∙◌, inr, refl, subst, sym}
 use Rattle.fl_dir_maker.specs.declared.fault.Cause.TheVariants.{Memory}
 use Rattle.fl_dir_maker.specs.Keeping.{IsKeeperOver, no_room}
 use Rattle.fl_dir_maker.proofs.Keepers.{kept_more, keeper_less, unmade_less, refuses_less}
@@ -11,6 +11,12 @@ pub returns-in-Ok-open-clause-made : goal.returns-in-Ok-open-clause-made
 returns-in-Ok-open-clause-made g c =
     (subst (λ at. IsKeeperOver (g.O.OpensFiles.reach.holds c.args.self.now.opener at) c.args.number c.in-Ok-open.keeper)
     (c.as_str.ensures.value ∙ c.in-Ok.ensures.file) c.in-Ok-open.ensures.keeper).finds
+
+pub returns-in-Ok-open-clause-out : goal.returns-in-Ok-open-clause-out
+returns-in-Ok-open-clause-out g c k found =
+    kept_more _ _ (λ image held. c.in-Ok-open.ensures.out image
+    (subst (λ at. g.O.OpensFiles.reach.holds c.open.new.opener at image)
+    (sym (c.as_str.ensures.value ∙ c.in-Ok.ensures.file)) held)) c.args.number k found
 
 pub returns-in-Ok-open-clause-fails : goal.returns-in-Ok-open-clause-fails
 returns-in-Ok-open-clause-fails g c left why =

@@ -1,5 +1,5 @@
 use Rattle.fl_folder.specs.Lying.{place}
-use Rattle.fl_folder.proofs.Reaching.{both_usable, taken_reads, refused_of_files, refused_fails, opened_holds, opened_fails, same_holds, same_fails}
+use Rattle.fl_folder.proofs.Reaching.{both_usable, taken_reads, refused_of_files, refused_fails, opened_holds, opened_fails, same_holds, same_fails, opened_once}
 use Rattle.fl_folder.proofs.folder.FolderOpensFiles.open.Goals as goal
 
 pub returns-in-Ok-clause-log : goal.returns-in-Ok-clause-log
@@ -16,6 +16,9 @@ returns-in-Ok-clause-same_holds c = opened_holds c.args.self.now c.take.new.self
 
 pub returns-in-Ok-clause-same_fails : goal.returns-in-Ok-clause-same_fails
 returns-in-Ok-clause-same_fails c = opened_fails c.args.self.now c.take.new.self c.args.path.now c.in-Ok.ensures.opens
+
+pub returns-in-Ok-clause-out : goal.returns-in-Ok-clause-out
+returns-in-Ok-clause-out c = opened_once c.args.self.now c.take.new.self c.args.path.now c.in-Ok.ensures.opens
 
 pub returns-in-Err-clause-files : goal.returns-in-Err-clause-files
 returns-in-Err-clause-files c = refused_of_files (place c.args.self.now c.args.path.now) c.in-Err.cause c.in-Err.ensures.refuses

@@ -1,4 +1,4 @@
-use Rattle.std.proofs.Common.{◌∙◌, inr, refl, subst, arith}
+use Rattle.std.proofs.Common.{◌∙◌, inr, refl, subst, sym, arith}
 use Rattle.fl_dir_maker.specs.declared.fault.Cause.TheVariants.{Memory}
 use Rattle.fl_dir_maker.specs.Keeping.{IsKeeperOver, no_room}
 use Rattle.fl_dir_maker.proofs.Keepers.{kept_more, keeper_less, unmade_less, refuses_less}
@@ -19,6 +19,12 @@ returns-in-Ok-open-clause-made c honest k held = (
   (subst (λ at. IsKeeperOver (folder_reach.holds c.args.self.now.folder at) c.args.number c.in-Ok-open.keeper)
       (c.as_str.ensures.value ∙ c.in-Ok.ensures.file) c.in-Ok-open.ensures.keeper).finds honest k held,
 )
+
+pub returns-in-Ok-open-clause-out : goal.returns-in-Ok-open-clause-out
+returns-in-Ok-open-clause-out c k found =
+    kept_more _ _ (λ image held. c.in-Ok-open.ensures.out image
+    (subst (λ at. folder_reach.holds c.open.new.opener at image)
+    (sym (c.as_str.ensures.value ∙ c.in-Ok.ensures.file)) held)) c.args.number k found.1
 
 pub returns-in-Ok-open-clause-fails : goal.returns-in-Ok-open-clause-fails
 returns-in-Ok-open-clause-fails c left why =
