@@ -38,12 +38,12 @@ use Rattle.fl_calls.specs.Answer.{Answer, replied, unknown, shown, lent, registr
 use Rattle.fl_calls.specs.Calls.{Says, said_of, brings_ops, Delivers, BeginsToTake}
 use Rattle.fl_calls.specs.Completing.{Completes}
 use Rattle.fl_calls.specs.Entering.{Openings, Enters, is_there, joins, is_refused, OnceOpen, shut, opened}
-use Rattle.fl_calls.specs.Over.{ClusterOver, openings_of, GoesOn}
+use Rattle.fl_calls.specs.Over.{ClusterOver, openings_between, GoesOn}
 use Rattle.fl_calls.specs.parts.Coming.{coming, is_message, sent_at, IsSentAs}
-use Rattle.fl_calls.specs.laws.Widening.{opens_more, enters_more}
+use Rattle.fl_calls.specs.laws.Widening.{enters_more}
 use Rattle.fl_calls.proofs.Going.{goes_as}
 use Rattle.fl_calls.proofs.Messages.{once_open_with}
-use Rattle.fl_calls.proofs.Opening.{goes_on_as, rests, once_open, once_shut, both_open}
+use Rattle.fl_calls.proofs.Opening.{first_wider, goes_on_as, rests, once_open, once_shut, both_open, then_wider}
 
 -- ---- packets
 
@@ -140,7 +140,7 @@ module _ {K M : Type 0} (custody : Custody K) (making : Making M K) where
             before.0,
             before.1,
             opened
-                (subst (λ r. Enters (openings_of custody making old.maker) before.0 number r after) ok before.2)
+                (subst (λ r. Enters (openings_between custody making old.maker mid.maker) before.0 number r after) ok before.2)
                 (tells after stands.s is stands.at),
           );
     };
@@ -169,10 +169,11 @@ module _ {K M : Type 0} (custody : Custody K) (making : Making M K) where
             before.0,
             before.1,
             opened
-                (subst (λ r. Enters (openings_of custody making old.maker) before.0 first r between.0) ok before.2)
-                (opened (enters_more _ _ (opens_more custody making old.maker mid.maker
+                (enters_more _ _ (first_wider custody making old mid new then_.finds_less) before.0 between.0 first (Ok tt)
+                (subst (λ r. Enters (openings_between custody making old.maker mid.maker) before.0 first r between.0) ok before.2))
+                (opened (enters_more _ _ (then_wider custody making old mid new
                 enters.makes_less enters.finds_less enters.refuses_less) between.0 after second (Ok tt)
-                (subst (λ r. Enters (openings_of custody making mid.maker) between.0 second r after) then_ok between.2))
+                (subst (λ r. Enters (openings_between custody making mid.maker new.maker) between.0 second r after) then_ok between.2))
                 (tells after here.s there.s is here.at there.at)),
           );
     };

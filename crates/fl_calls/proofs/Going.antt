@@ -3,7 +3,7 @@ use Rattle.std.proofs.Common.{◌≡◌, ◌≢◌, ◌⊎◌, inl, inr, ℕ, re
 use Rattle.std.specs.FinMap as map
 use Rattle.fl_store.specs.Custody.{Custody}
 use Rattle.fl_store.specs.Kept.{Kept}
-use Rattle.fl_makers.specs.Making.{Making}
+use Rattle.fl_makers.specs.Making.{IsOut, Making}
 use Rattle.fl_system.specs.declared.answer.Fault.{Fault}
 use Rattle.fl_system.specs.declared.answer.Fault.TheVariants as faults
 use Rattle.fl_system.specs.declared.reply.Reply.TheVariants.{Booted, Refused}
@@ -16,7 +16,7 @@ use Rattle.fl_nodes.specs.Over.{WorldOver}
 use Rattle.fl_nodes.specs.Goes.{MayBeNode, MayBe, AreHonest, Goes}
 use Rattle.fl_nodes.specs.Joining.{TakesIn, GivesBack, IsRefused}
 use Rattle.fl_calls.specs.Entering.{Enters, is_there, joins, is_refused}
-use Rattle.fl_calls.specs.Over.{without_keeper, not_joined, openings_of}
+use Rattle.fl_calls.specs.Over.{without_keeper, not_joined, openings_between}
 
 -- a keeper failed, or it is something else
 failed_or_not : (fault : Fault) → (fault ≡ faults.KeeperFailed) ⊎ (fault ≢ faults.KeeperFailed)
@@ -79,30 +79,31 @@ module _ {K : Type 0} (custody : Custody K) where
   there over w number n at is =
       stands n w number _ refl (subst (λ o. MayBeNode custody.may_hold o (map.get w.nodes number)) at (is.nodes number))
 
-  module _ {M : Type 0} (making : Making M K) (maker : M) where
+  module _ {M : Type 0} (making : Making M K) (maker left : M) where
     -- a node that is there is not opened
     pub entered : (over : WorldOver K) (number : ℕ) (n : NodeOver K) → map.get over.nodes number ≡ Some n
-        → Goes custody over over (λ w w'. Enters (openings_of custody making maker) w number (Ok tt) w')
+        → Goes custody over over (λ w w'. Enters (openings_between custody making maker left) w number (Ok tt) w')
     entered over number n at = stays over _ (λ w is. is_there (there over w number n at is).at)
 
     -- no keeper was made
     pub unmade : (over : WorldOver K) (number : ℕ) (fault : Fault) → map.get over.nodes number ≡ None → making.refuses maker number fault
-        → Goes custody over over (λ w w'. Enters (openings_of custody making maker) w number (Err fault) w')
+        → Goes custody over over (λ w w'. Enters (openings_between custody making maker left) w number (Err fault) w')
     unmade over number fault none why = stays over _ (λ w is. is_refused (not_there over w number none is) (without_keeper why))
 
     -- a keeper was made, and its node joined
     pub joined : (old new : WorldOver K) (number boot : ℕ) (keeper : K) → map.get old.nodes number ≡ None
         → (custody.is_honest keeper → (k : Kept) → custody.may_hold keeper k → making.finds maker number k)
+        → IsOut making left number
         → TakesIn custody old keeper new (λ w k w'. Joins w number k (Booted boot) w')
-        → Goes custody old new (λ w w'. Enters (openings_of custody making maker) w number (Ok tt) w')
-    joined old new number boot keeper none made takes = record {
+        → Goes custody old new (λ w w'. Enters (openings_between custody making maker left) w number (Ok tt) w')
+    joined old new number boot keeper none made out takes = record {
       honest = λ all. (takes.honest all).0;
       comes = λ all after is.
           let before = takes.comes all after is in (
             before.0,
             before.2,
             joins (not_there old before.0 number none before.2)
-                (made (takes.honest all).1 before.1 before.3) before.4,
+                (made (takes.honest all).1 before.1 before.3, out) before.4,
           );
     }
 
@@ -110,9 +111,9 @@ module _ {K : Type 0} (custody : Custody K) where
     pub not_taken : (old new : WorldOver K) (number : ℕ) (fault : Fault) (keeper given : K) → fault ≢ faults.KeeperFailed
         → making.makes maker number keeper → map.get old.nodes number ≡ None → (custody.is_honest keeper → (k : Kept) → custody.may_hold keeper k → making.finds maker number k)
         → GivesBack custody old keeper new given (IsRefused number fault) → new ≡ old
-        → Goes custody old new (λ w w'. Enters (openings_of custody making maker) w number (Err fault) w')
+        → Goes custody old new (λ w w'. Enters (openings_between custody making maker left) w number (Err fault) w')
     not_taken old new number fault keeper given other makes none made gives same =
-        subst (λ x. Goes custody old x (λ w w'. Enters (openings_of custody making maker) w number (Err fault) w')) (sym same)
+        subst (λ x. Goes custody old x (λ w w'. Enters (openings_between custody making maker left) w number (Err fault) w')) (sym same)
         (record {
           honest = λ all. all;
           comes = λ all after is. (
@@ -135,31 +136,32 @@ module _ {K : Type 0} (custody : Custody K) where
     -- the keeper failed, so that the maker refuses the node
     pub failed : (old new : WorldOver K) (number : ℕ) → map.get old.nodes number ≡ None → making.refuses maker number faults.KeeperFailed
         → new ≡ old
-        → Goes custody old new (λ w w'. Enters (openings_of custody making maker) w number (Err faults.KeeperFailed) w')
+        → Goes custody old new (λ w w'. Enters (openings_between custody making maker left) w number (Err faults.KeeperFailed) w')
     failed old new number none why same =
-        subst (λ x. Goes custody old x (λ w w'. Enters (openings_of custody making maker) w number (Err faults.KeeperFailed) w')) (sym same)
+        subst (λ x. Goes custody old x (λ w w'. Enters (openings_between custody making maker left) w number (Err faults.KeeperFailed) w')) (sym same)
         (unmade old number faults.KeeperFailed none why)
 
     pub joins_or_not : (broken : K → Type 0) (bad : Type 0) (old new : WorldOver K) (number : ℕ) (keeper : K)
         (joined_ : Result ℕ (Fault × K)) (result : Result (Unit {0}) Fault) → map.get old.nodes number ≡ None
         → making.makes maker number keeper
         → (custody.is_honest keeper → (k : Kept) → custody.may_hold keeper k → making.finds maker number k)
-        → ((left : K) → broken left ⊎ (custody.is_honest left → bad) → making.refuses maker number faults.KeeperFailed)
+        → ((given : K) → broken given ⊎ (custody.is_honest given → bad) → making.refuses maker number faults.KeeperFailed)
+        → IsOut making left number
         → IfOk joined_ (λ boot. result ≡ Ok tt) → IfErr joined_ (λ e. result ≡ Err e.0)
         → IfOk joined_ (λ boot. TakesIn custody old keeper new (λ w k w'. Joins w number k (Booted boot) w'))
         → IfErr joined_ (λ e. GivesBack custody old keeper new e.1 (IsRefused number e.0))
         → IfErr joined_ (λ e. KeeperFails (broken e.1) (custody.is_honest e.1) bad e.0) → OnErr joined_ (new ≡ old)
-        → Goes custody old new (λ w w'. Enters (openings_of custody making maker) w number result w')
-    joins_or_not broken bad old new number keeper (Ok boot) result none makes made fails ok err takes gives cause same =
-        subst (λ r. Goes custody old new (λ w w'. Enters (openings_of custody making maker) w number r w')) (sym ok)
-        (joined old new number boot keeper none made takes)
-    joins_or_not broken bad old new number keeper (Err e) result none makes made fails ok err takes gives cause same =
-        subst (λ r. Goes custody old new (λ w w'. Enters (openings_of custody making maker) w number r w')) (sym err)
+        → Goes custody old new (λ w w'. Enters (openings_between custody making maker left) w number result w')
+    joins_or_not broken bad old new number keeper (Ok boot) result none makes made fails out ok err takes gives cause same =
+        subst (λ r. Goes custody old new (λ w w'. Enters (openings_between custody making maker left) w number r w')) (sym ok)
+        (joined old new number boot keeper none made out takes)
+    joins_or_not broken bad old new number keeper (Err e) result none makes made fails out ok err takes gives cause same =
+        subst (λ r. Goes custody old new (λ w w'. Enters (openings_between custody making maker left) w number r w')) (sym err)
         (by_fault (failed_or_not e.0))
       where
         by_fault : (e.0 ≡ faults.KeeperFailed) ⊎ (e.0 ≢ faults.KeeperFailed)
-            → Goes custody old new (λ w w'. Enters (openings_of custody making maker) w number (Err e.0) w')
+            → Goes custody old new (λ w w'. Enters (openings_between custody making maker left) w number (Err e.0) w')
         by_fault (inl is) =
-            subst (λ f. Goes custody old new (λ w w'. Enters (openings_of custody making maker) w number (Err f) w')) (sym is)
+            subst (λ f. Goes custody old new (λ w w'. Enters (openings_between custody making maker left) w number (Err f) w')) (sym is)
             (failed old new number none (fails e.1 (cause is)) same)
         by_fault (inr other) = not_taken old new number e.0 keeper e.1 other makes none made gives same

@@ -3,7 +3,7 @@ use Rattle.std.specs.Prelude.{◌≢◌, ℕ, refl}
 use Rattle.std.specs.Coded.{Coded, code_by, coded×}
 use Rattle.fl_store.specs.Custody.{Custody}
 use Rattle.fl_store.specs.Kept.{Kept}
-use Rattle.fl_makers.specs.Making.{Making}
+use Rattle.fl_makers.specs.Making.{IsOut, Making}
 use Rattle.fl_system.specs.declared.answer.Fault.{Fault}
 use Rattle.fl_system.specs.declared.answer.Fault.TheVariants.{KeeperFailed}
 use Rattle.fl_system.specs.declared.reply.Reply.TheVariants.{Refused}
@@ -52,12 +52,19 @@ abbrev pub openings_of : {K M : Type 0} → Custody K → Making M K → M → O
 openings_of custody making maker =
     record { finds = making.finds maker; refuses = NotOpened custody making maker }
 
+-- the same until the maker is this one: the keeper of each node that is opened is out then
+abbrev pub openings_between : {K M : Type 0} → Custody K → Making M K → M → M → Openings
+openings_between custody making maker left = record {
+  finds = λ number k. making.finds maker number k × IsOut making left number;
+  refuses = NotOpened custody making maker;
+}
+
 -- Where all keepers are honest they were before, and each world that it may be now comes by this step from one that it might
--- have been before, with the openings of the maker before; and the maker makes nothing that it did not make before.
+-- have been before, with the openings of the maker until now; and the maker makes nothing that it did not make before.
 pub record GoesOn {K M : Type 0} (custody : Custody K) (making : Making M K)
     (old new : ClusterOver K M) (step : Openings → World → World → Type 0) : Type 0 where
   pub goes : Goes custody old.world new.world
-      (step (openings_of custody making old.maker))
+      (step (openings_between custody making old.maker new.maker))
   pub makes_less : (number : ℕ) (keeper : K) → making.makes new.maker number keeper
       → making.makes old.maker number keeper
   pub finds_less : (number : ℕ) (k : Kept) → making.finds new.maker number k

@@ -8,7 +8,7 @@ use Rattle.fl_system.specs.declared.answer.Fault.{Fault}
 use Rattle.fl_system.specs.World.{World}
 use Rattle.fl_calls.specs.Answer.{Answer}
 use Rattle.fl_calls.specs.Entering.{Openings, Enters, is_there, joins, is_refused, OnceOpen, shut, opened}
-use Rattle.fl_calls.specs.Over.{without_keeper, not_joined, openings_of}
+use Rattle.fl_calls.specs.Over.{without_keeper, not_joined, openings_of, openings_between}
 
 -- the second ones find and refuse no less
 pub record OpensMore (less more : Openings) : Type 0 where
@@ -32,6 +32,24 @@ opens_more {K} {M} custody making maker maker' m f r =
     refuses_more w number fault (not_joined keeper left made other over) =
         not_joined keeper left (m number keeper made) other (λ trusted. let (honest, k, held, found, refused) = over trusted in
         (honest, k, held, f number k found, refused))
+
+-- the same of openings until a maker, and until one that finds no more than that
+pub opens_until : {K M : Type 0} (custody : Custody K) (making : Making M K) (maker maker' left left' : M)
+    → ((n : ℕ) (keeper : K) → making.makes maker' n keeper → making.makes maker n keeper)
+    → ((n : ℕ) (k : Kept) → making.finds maker' n k → making.finds maker n k)
+    → ((n : ℕ) (fault : Fault) → making.refuses maker' n fault → making.refuses maker n fault)
+    → ((n : ℕ) (k : Kept) → making.finds left' n k → making.finds left n k)
+    → OpensMore (openings_between custody making maker' left) (openings_between custody making maker left')
+opens_until custody making maker maker' left left' m f r l = record {
+  finds = λ n k h. (f n k h.0, λ other found. h.1 other (l n other found));
+  refuses = (opens_more custody making maker maker' m f r).refuses;
+}
+
+-- and of all that a maker opens
+pub opens_ever : {K M : Type 0} (custody : Custody K) (making : Making M K) (maker left : M)
+    → OpensMore (openings_between custody making maker left) (openings_of custody making maker)
+opens_ever custody making maker left =
+    record { finds = λ n k h. h.0; refuses = λ w n fault why. why }
 
 module _ (less more : Openings) (wider : OpensMore less more) where
   pub enters_more : (w w' : World) (number : ℕ) (result : Result (Unit {0}) Fault)

@@ -1,5 +1,5 @@
 -- Where no less may be opened, a line may be answered as before.
-use Rattle.std.proofs.Common.{ℕ, List, inl, inr}
+use Rattle.std.proofs.Common.{ℕ, List, [], ◌∷◌, inl, inr}
 use Rattle.fl_system.specs.World.{World}
 use Rattle.fl_script.specs.declared.line.Line.{Line}
 use Rattle.fl_script.specs.declared.reading.Reading.{Reading}
@@ -12,6 +12,7 @@ use Rattle.fl_calls.specs.Calls.{Delivers, BeginsToTake}
 use Rattle.fl_calls.specs.Entering.{Openings, OnceOpen}
 use Rattle.fl_calls.specs.laws.Widening.{OpensMore, once_open_more}
 use Rattle.fl_turns.specs.Answer.{Answer}
+use Rattle.fl_turns.specs.Run.{Run}
 use Rattle.fl_turns.specs.Session.{Session}
 use Rattle.fl_turns.specs.Turn.{AsksNode, AnswersLine, asks, unites, counts, lists, AnswersReading, Turn}
 
@@ -68,3 +69,11 @@ module _ (less more : Openings) (wider : OpensMore less more) where
   turn_too old bytes answer new (inl h) =
       inl (record { reading = h.reading; says = h.says; answered = reading_too old h.reading answer new h.answered })
   turn_too old bytes answer new (inr h) = inr h
+
+  pub run_too : (old : Session) (lines : List (List ℕ)) (answers : List Answer) (new : Session)
+      → Run less old lines answers new → Run more old lines answers new
+  run_too old [] [] new h = h
+  run_too old [] (answer ∷ answers) new h = absurd h
+  run_too old (line ∷ lines) [] new h = absurd h
+  run_too old (line ∷ lines) (answer ∷ answers) new h =
+      (h.0, turn_too old line answer h.0 h.1, run_too h.0 lines answers new h.2)
