@@ -5,3 +5,5 @@ pub mod Memory
 pub mod OneCheck
 pub mod OneTurn
 pub mod RefusedAgain
+pub mod Served
+pub mod TwoRuns

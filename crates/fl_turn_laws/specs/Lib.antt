@@ -1,3 +1,4 @@
 pub mod Beginning
 pub mod Certain
 pub mod InMemory
+pub mod TwoRuns

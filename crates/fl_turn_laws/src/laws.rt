@@ -7,12 +7,16 @@ ghost use Rattle.fl_calls.specs.Over.{openings_of};
 ghost use Rattle.fl_script.specs.Reading.{IsReading};
 ghost use Rattle.fl_script.specs.declared.line.Line.{Line};
 ghost use Rattle.fl_script.specs.declared.reading.Reading.TheVariants.{Means};
+ghost use Rattle.fl_nodes.specs.Goes.{AreHonest};
+ghost use Rattle.fl_store.specs.Kept.{Kept};
 ghost use Rattle.fl_stream.specs.Output.{Writes};
 ghost use Rattle.fl_stream.specs.Turns.{LineOutput, Run as Lines};
 ghost use Rattle.fl_system.specs.Runs.{IsReached};
 ghost use Rattle.fl_turn_laws.specs.Beginning.{Begins};
 ghost use Rattle.fl_turn_laws.specs.Certain.{IsSure, IsSureRun, OpenOneWay, Stores, given};
 ghost use Rattle.fl_turn_laws.specs.InMemory.{in_memory, never_opened};
+ghost use Rattle.fl_turn_laws.specs.TwoRuns.{FoundNext, HasAnswered, HasBack, IsKeptAtEnd};
+ghost use Rattle.fl_turn_laws.specs.TwoRuns.{opened_next};
 ghost use Rattle.fl_turns.specs.Answer.{Answer, starved_line};
 ghost use Rattle.fl_turns.specs.Answered.{IsAnswered};
 ghost use Rattle.fl_turns.specs.Lasting.{LastsFor};
@@ -20,7 +24,7 @@ ghost use Rattle.fl_turns.specs.Leading.{Leads};
 ghost use Rattle.fl_turns.specs.Naming.{SetsAlias, made_by};
 ghost use Rattle.fl_turns.specs.Over.{SessionOver, TurnsOver, begun_over};
 ghost use Rattle.fl_turns.specs.Run.{Run};
-ghost use Rattle.fl_turns.specs.Script.{IsOneRunIfHonest};
+ghost use Rattle.fl_turns.specs.Script.{IsOneRun, IsOneRunIfHonest};
 ghost use Rattle.fl_turns.specs.Session.{Session, begun};
 ghost use Rattle.fl_turns.specs.Turn.{Turn};
 ghost use Rattle.fl_world.specs.Headline.{IsSafeWorld};
@@ -91,6 +95,46 @@ pub fn law_script_safe<M: MakesKeepers>()
         Run (openings_of M.K.custody M.making maker)
         begun lines answers end →
         LastsFor (openings_of M.K.custody M.making maker) lines answers end }
+{
+    law_headline();
+    law_lasting();
+    law_exchange();
+}
+
+/// A second script opens each node that the first one served over just what was kept of it at the
+/// end, and each other node over what was found before: where the maker got the keepers back, as
+/// `fl_cluster::session::Session::close` gives it (`left`), and makes no second keeper of a node
+/// whose first is out. Of one that does, it may be over what that holds (`Making`'s `again`).
+///
+/// What is found so is kept in one of the worlds that the first run may have ended in, so each law
+/// of scripts speaks of it: it has each operation whose name a line was answered (`kept`). The
+/// premise on both ends is that of `law_script`: their keepers are honest.
+pub fn law_two_runs<M: MakesKeepers>()
+    ensures finds { (maker left : M) (lines : List (List ℕ)) (text : List ℕ) (status : ℕ)
+        (end : SessionOver M.K M) →
+        Writes (TurnsOver M.K.custody M.making)
+        (begun_over maker) lines text status end →
+        HasBack M.K.custody M.making end left →
+        InEach M.K.custody end.cluster.world (λ w. (number : ℕ) (k : Kept) →
+        M.making.finds left number k → FoundNext M.K.custody M.making end number k) }
+    ensures second { (maker left : M) (lines others : List (List ℕ)) (text rest : List ℕ)
+        (status worst : ℕ) (end last : SessionOver M.K M) →
+        Writes (TurnsOver M.K.custody M.making)
+        (begun_over maker) lines text status end →
+        HasBack M.K.custody M.making end left →
+        Writes (TurnsOver M.K.custody M.making)
+        (begun_over left) others rest worst last →
+        InEach M.K.custody end.cluster.world (λ _. InEach M.K.custody last.cluster.world (λ w.
+        IsOneRun (opened_next M.K.custody M.making end left) others rest worst
+        (record { world = w; aliases = last.aliases }))) }
+    ensures kept { (maker : M) (lines : List (List ℕ)) (text : List ℕ) (status : ℕ)
+        (end : SessionOver M.K M) →
+        Writes (TurnsOver M.K.custody M.making)
+        (begun_over maker) lines text status end →
+        AreHonest M.K.custody end.cluster.world → (number : ℕ) (k : Kept)
+        (it : IsKeptAtEnd M.K.custody end number k) →
+        HasAnswered (openings_of M.K.custody M.making maker) lines text status
+        (record { world = it.world; aliases = end.aliases }) number k }
 {
     law_headline();
     law_lasting();
