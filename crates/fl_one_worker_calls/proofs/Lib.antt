@@ -1,0 +1,5 @@
+pub mod Places
+pub mod Lifting
+pub mod Delivering
+pub mod Packets
+pub mod Serving
