@@ -43,7 +43,7 @@ fn has_order(worker: &Worker) -> bool {
 ///
 /// Where there is neither an order nor a packet, the registrar has nothing to do, and this thread
 /// is that of a worker: so no thread is made where only one worker has tasks, nor where the gate
-/// never holds and all tasks are soon done: 256 jobs without labels, say, or eight labels of 256
+/// never holds and all tasks are soon done: 256 jobs without labels, say, or seven labels of 256
 /// tags.
 ///
 /// Where no thread can be made, the lines are closed first, so that no worker waits for a ruling:
