@@ -11,14 +11,15 @@ use Rattle.std.specs.Ordering.{eq_by_cmp}
 use Rattle.fl_mailbox.specs.laws.Tables.{get_held, get_put, one_put, put_through}
 use Rattle.fl_makers.specs.Making.{AllowsNoMore, Making}
 use Rattle.fl_store.specs.Custody.{Custody}
+use Rattle.fl_store.specs.Kept.{HasNamesOnce}
 use Rattle.fl_system.specs.declared.answer.Fault.{Fault}
 use Rattle.fl_system.specs.declared.reply.Reply.TheVariants.{Sent}
 use Rattle.fl_wire.specs.declared.packet.Packet.{Packet}
 use Rattle.fl_workers.specs.Over.{CrewOver}
 use Rattle.fl_calls.specs.Answer.{replied}
 use Rattle.fl_calls.specs.Completing.{starved}
-use Rattle.fl_crew_calls.specs.Asking.{IsNotOpened, IsRestarted, IsSeated, Opens, RestartsAt}
-use Rattle.fl_crew_calls.specs.Asking.{SendsAll, boot_reply}
+use Rattle.fl_crew_calls.specs.Asking.{IsMade, IsNotOpened, IsRestarted, IsSeated, Opens}
+use Rattle.fl_crew_calls.specs.Asking.{RestartsAt, SendsAll, boot_reply}
 use Rattle.fl_crew_calls.specs.Joining.{ClashesAt, FindsAgainst, StraysAt}
 use Rattle.fl_crew_calls.specs.Over.{AreThere, CrewsOver, IsCrewAt, IsUnopened, with_crew}
 use Rattle.fl_crew_calls.specs.Over.{with_sent}
@@ -157,30 +158,31 @@ module _ {K M : Type 0} (maker : M) (workers : ℕ) (es : List (ℕ × Option (C
 
     -- so it is where it and the open ones contradict each other
     pub contradicted : (fault : Fault) (keeper : K) (crew : CrewOver K)
-        → making.makes maker number keeper → IsSeated custody number workers keeper crew
+        → IsMade custody making maker number keeper → IsSeated custody number workers keeper crew
         → FindsAgainst (ClashesAt old crew.node.node.saved)
         (StraysAt old number crew.node.node.saved) (Some fault)
         → Opens custody making old number (Err fault) (seen maker' workers es sent)
-    contradicted fault keeper crew makes seated why =
+    contradicted fault keeper crew made seated why =
         subst (Opens custody making old number (Err fault)) (sym (left_is es refl))
         (Opens.contradicts (unopened number none)
-        (subst (λ m. making.makes m number keeper) made_by makes)
+        (subst (λ m. IsMade custody making m number keeper) made_by made)
         (subst (λ m. AllowsNoMore making m maker') made_by allows)
         (subst (λ w. IsSeated custody number w keeper crew) the_workers seated) why)
 
     -- it has a crew now
     pub is_opened : (fs : List (ℕ × Option (CrewOver K))) (keeper : K) (crew : CrewOver K)
         → map.from_entries fs ≡ map.insert old.crews number (Some crew)
-        → making.makes maker number keeper → IsSeated custody number workers keeper crew
+        → IsMade custody making maker number keeper → IsSeated custody number workers keeper crew
+        → HasNamesOnce crew.node.node.saved
         → FindsAgainst (ClashesAt old crew.node.node.saved)
         (StraysAt old number crew.node.node.saved) None
         → Opens custody making old number (Ok tt) (seen maker' workers fs sent)
-    is_opened fs keeper crew put_is makes seated joins =
+    is_opened fs keeper crew put_is made seated names joins =
         subst (Opens custody making old number (Ok tt)) (sym (put fs maker' number crew put_is))
         (Opens.opened (unopened number none)
-        (subst (λ m. making.makes m number keeper) made_by makes)
+        (subst (λ m. IsMade custody making m number keeper) made_by made)
         (subst (λ m. AllowsNoMore making m maker') made_by allows)
-        (subst (λ w. IsSeated custody number w keeper crew) the_workers seated) joins)
+        (subst (λ w. IsSeated custody number w keeper crew) the_workers seated) names joins)
 
   -- the crew is restarted in its place
   pub restarted : (custody : Custody K) (fs : List (ℕ × Option (CrewOver K))) (number : ℕ)

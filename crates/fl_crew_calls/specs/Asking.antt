@@ -14,6 +14,7 @@ use Rattle.fl_ops.specs.Grammar.{first_fault}
 use Rattle.fl_opset.specs.declared.intervals.Intervals.{Intervals}
 use Rattle.fl_registrar.specs.Passing.{Passes}
 use Rattle.fl_store.specs.Custody.{Custody}
+use Rattle.fl_store.specs.Kept.{HasNamesOnce, Kept}
 use Rattle.fl_system.specs.Gossip.{IsAnswer, IsSummary}
 use Rattle.fl_system.specs.Numbered.{item_at}
 use Rattle.fl_system.specs.Waiting.{IsRunning}
@@ -37,6 +38,13 @@ use Rattle.fl_crew_calls.specs.Over.{CrewsOver, IsCrewAt, IsUnopened, with_crew,
 
 -- ---- a node is opened
 
+-- this keeper may be made for the node, and what it may hold is found of it
+pub record IsMade {K M : Type 0} (custody : Custody K) (making : Making M K) (maker : M) (number : ℕ)
+    (keeper : K) : Type 0 where
+  pub makes : making.makes maker number keeper
+  pub finds : custody.is_honest keeper → (k : Kept) → custody.may_hold keeper k
+      → making.finds maker number k
+
 -- the keeper's crew is seated so
 pub record IsSeated {K : Type 0} (custody : Custody K) (number workers : ℕ) (keeper : K)
     (crew : CrewOver K) : Type 0 where
@@ -49,7 +57,7 @@ pub data IsNotOpened {K M : Type 0} (custody : Custody K) (making : Making M K) 
     : Fault → Type 0 where
   unmade : {fault : Fault} → making.unmade maker number fault
       → IsNotOpened custody making maker number fault
-  not_opened : {keeper : K} {fault : Fault} → making.makes maker number keeper
+  not_opened : {keeper : K} {fault : Fault} → IsMade custody making maker number keeper
       → NotOpened custody number keeper fault → IsNotOpened custody making maker number fault
   no_room : IsNotOpened custody making maker number (Refuses Memory)
 
@@ -60,12 +68,12 @@ pub data Opens {K M : Type 0} (custody : Custody K) (making : Making M K) (old :
   is_open : {crew : CrewOver K} → IsCrewAt old number crew
       → Opens custody making old number (Ok tt) old
   opened : {keeper : K} {crew : CrewOver K} {maker : M} → IsUnopened old number
-      → making.makes old.maker number keeper → AllowsNoMore making old.maker maker
-      → IsSeated custody number old.workers keeper crew
+      → IsMade custody making old.maker number keeper → AllowsNoMore making old.maker maker
+      → IsSeated custody number old.workers keeper crew → HasNamesOnce crew.node.node.saved
       → FindsAgainst (ClashesAt old crew.node.node.saved) (StraysAt old number crew.node.node.saved) None
       → Opens custody making old number (Ok tt) (with_crew (record old { maker = maker }) number crew)
   contradicts : {keeper : K} {crew : CrewOver K} {maker : M} {fault : Fault} → IsUnopened old number
-      → making.makes old.maker number keeper → AllowsNoMore making old.maker maker
+      → IsMade custody making old.maker number keeper → AllowsNoMore making old.maker maker
       → IsSeated custody number old.workers keeper crew
       → FindsAgainst (ClashesAt old crew.node.node.saved) (StraysAt old number crew.node.node.saved)
       (Some fault)

@@ -45,8 +45,8 @@ module _ {K M : Type 0} (custody : Custody K) (making : Making M K) where
   sent_still : (old : CrewsOver K M) (number : ℕ) (result : Result (Unit {0}) Fault) (new : CrewsOver K M)
       → Opens custody making old number result new → new.sent ≡ old.sent
   sent_still old number result new (Opens.is_open at) = refl
-  sent_still old number result new (Opens.opened none makes no_more seated joins) = refl
-  sent_still old number result new (Opens.contradicts none makes no_more seated why) = refl
+  sent_still old number result new (Opens.opened none made no_more seated names joins) = refl
+  sent_still old number result new (Opens.contradicts none made no_more seated why) = refl
   sent_still old number result new (Opens.shut none no_more why) = refl
 
   -- and the crews that were there still are
@@ -54,8 +54,8 @@ module _ {K M : Type 0} (custody : Custody K) (making : Making M K) where
       → Opens custody making old number result new → (crew : CrewOver K) × IsCrewAt old other crew
       → (crew : CrewOver K) × IsCrewAt new other crew
   still_there old number other result new (Opens.is_open at) there = there
-  still_there old number other result new (Opens.contradicts none makes no_more seated why) there = there
-  still_there old number other result new (Opens.opened none makes no_more seated joins) there =
+  still_there old number other result new (Opens.contradicts none made no_more seated why) there = there
+  still_there old number other result new (Opens.opened none made no_more seated names joins) there =
       put_still old.crews number other _ there.0 (eq_by_cmp nat_cmp other number) refl there.1
   still_there old number other result new (Opens.shut none no_more why) there = there
 

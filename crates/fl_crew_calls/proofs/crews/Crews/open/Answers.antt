@@ -37,7 +37,10 @@ returns-in_err-manned-clause-opens g c =
     c.self.view_is g.M.K.Keeper.custody g.M.MakesKeepers.making c.make.new.self c.args.number
     (sym c.contains_key.ensures ∙ c.if-contains_key.false) c.make.ensures.same
     c.self.inside.all.entries c.in_err-manned.field-0.0 refl
-    (IsNotOpened.not_opened c.in_ok-keeper.ensures.makes c.in_err-manned.ensures.err)))
+    (IsNotOpened.not_opened (record {
+      makes = c.in_ok-keeper.ensures.makes;
+      finds = c.in_ok-keeper.ensures.made;
+    }) c.in_err-manned.ensures.err)))
 
 -- what was made is in the place of the number now
 inserted : (g : Over) (c : Joined-insert-2 g)
@@ -64,7 +67,8 @@ returns-in-Some-clause-opens g c =
     (no_more_then g.M.K.Keeper.custody g.M.MakesKeepers.making _ _ _ c.make.ensures.same
     c.take_back.ensures)
     c.in-Some.fault c.in_ok-keeper.keeper c.in_ok-manned.manned
-    c.in_ok-keeper.ensures.makes c.in_ok-manned.ensures.ok
+    (record { makes = c.in_ok-keeper.ensures.makes; finds = c.in_ok-keeper.ensures.made })
+    c.in_ok-manned.ensures.ok
     (rw (c.saved.ensures.saved, c.node.ensures, c.crew.ensures, c.in-Some.is) at (against_crews c.self.inside.all c.against.ensures.ordered c.args.self.now
     (held _ _ c.self.inside.all.entries _ c.args.self.now c.self.view_is)
     c.args.number _ c.against.result c.against.ensures.found))
@@ -76,7 +80,8 @@ returns-in-Ok-clause-opens g c =
     g.M.K.Keeper.custody g.M.MakesKeepers.making c.make.new.self c.args.number
     (sym c.contains_key.ensures ∙ c.if-contains_key.false) c.make.ensures.same
     c.insert.new.self.entries c.in_ok-keeper.keeper c.in_ok-manned.manned (inserted g c)
-    c.in_ok-keeper.ensures.makes c.in_ok-manned.ensures.ok
+    (record { makes = c.in_ok-keeper.ensures.makes; finds = c.in_ok-keeper.ensures.made })
+    c.in_ok-manned.ensures.ok (rw (c.node.ensures, c.crew.ensures) at c.saved.ensures.names)
     (rw (c.saved.ensures.saved, c.node.ensures, c.crew.ensures, nothing) at (against_crews c.self.inside.all c.against.ensures.ordered c.args.self.now
     (held _ _ c.self.inside.all.entries _ c.args.self.now c.self.view_is)
     c.args.number _ c.against.result c.against.ensures.found))
