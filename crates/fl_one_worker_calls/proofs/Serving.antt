@@ -26,7 +26,7 @@ use Rattle.fl_crew_calls.specs.Batches.{IsServedBy, ServesBatch}
 use Rattle.fl_crew_calls.specs.Over.{CrewsOver, IsCrewAt, with_crew, with_sent}
 use Rattle.fl_crew_calls.specs.Told.{all_sent, replies_behind}
 use Rattle.fl_one_worker_laws.specs.Single.{IsDone}
-use Rattle.fl_one_worker_calls.specs.Crews.{AreSound, AreTied, IsPlaceOf, IsSound, IsWorldOf, Leads}
+use Rattle.fl_one_worker_calls.specs.Crews.{AreFew, AreSound, AreTied, IsPlaceOf, IsSound, IsWorldOf, Leads}
 use Rattle.fl_one_worker_calls.specs.Worlds.{AreAsked, CompletesAll, Follows, IsElsewhere, Stands}
 use Rattle.fl_one_worker_calls.specs.Worlds.{jobs_at, packet_in, packets_in}
 
@@ -46,12 +46,12 @@ PacketFollows K =
     → Follows w number (event.Deliver index number ∷ []) (replies_behind (packets_in w) es)
     (all_sent es) new
 
-record SentAt (w : World) (index : ℕ) (packet : Packet) : Type 0 where
+pub record SentAt (w : World) (index : ℕ) (packet : Packet) : Type 0 where
   pub sent : Sent
   pub there : item_at w.packets index ≡ Some sent
   pub is : sent.packet ≡ packet
 
-sent_at : (w : World) (index : ℕ) (packet : Packet) → item_at (packets_in w) index ≡ Some packet
+pub sent_at : (w : World) (index : ℕ) (packet : Packet) → item_at (packets_in w) index ≡ Some packet
     → SentAt w index packet
 sent_at w index packet h = by w.packets index refl h
   where
@@ -158,17 +158,17 @@ module _ {K M : Type 0} where
   batch_leads : (custody : Custody K) (old : CrewsOver K M) (w : World) (number : ℕ)
       (jobs : List Job) (packets : List Packet) (events : List Event) (new : CrewsOver K M)
       (r : Result (List Reply) Fault) → IsWorldOf old w → AreSound custody old
-      → AreSound custody new → Does K w number jobs packets events
+      → AreSound custody new → AreFew new → Does K w number jobs packets events
       → ServesBatch custody old number jobs packets r new → (replies : List Reply) → r ≡ Ok replies
       → Leads w events replies new
-  batch_leads custody old w number jobs packets events new r h sound sound_new does
+  batch_leads custody old w number jobs packets events new r h sound sound_new few does
       (ServesBatch.served {crew} {crew'} {es} at served) replies is =
       let here : IsCrewAt (with_sent (with_crew old number crew') (all_sent es)) number crew' =
       get_here nat_cmp_total old.crews number (Some crew') in
       let after = sound_new number crew' here in
       let done =
       is_done custody crew crew' jobs packets es (sound number crew at).idle after served in
-      let it = does crew crew' es (stands_at old w number crew h at) done after.few in
+      let it = does crew crew' es (stands_at old w number crew h at) done (few number crew' here) in
       let said : replies_behind (packets_in w) es ≡ replies =
       ap (λ l. replies_behind l es) h.packets ∙ (let q = is in cc) in
       record {
@@ -178,36 +178,37 @@ module _ {K M : Type 0} where
             stays_tied old w it.world number crew' (all_sent es) h it.stands it.elsewhere
             it.packets;
       }
-  batch_leads custody old w number jobs packets events new r h sound sound_new does
+  batch_leads custody old w number jobs packets events new r h sound sound_new few does
       (ServesBatch.unbegun at why unbegun still) replies is = absurd (cc)
-  batch_leads custody old w number jobs packets events new r h sound sound_new does
+  batch_leads custody old w number jobs packets events new r h sound sound_new few does
       ServesBatch.no_room replies is = absurd (cc)
-  batch_leads custody old w number jobs packets events new r h sound sound_new does
+  batch_leads custody old w number jobs packets events new r h sound sound_new few does
       (ServesBatch.no_crew none) replies is = absurd (cc)
 
   pub jobs_lead : (custody : Custody K) → JobsFollow K → (old new : CrewsOver K M) (w : World)
       (number : ℕ) (jobs : List Job) (replies : List Reply) → IsWorldOf old w
-      → AreSound custody old → AreSound custody new → AreAsked jobs
+      → AreSound custody old → AreSound custody new → AreFew new → AreAsked jobs
       → ServesBatch custody old number jobs [] (Ok replies) new
       → Leads w (jobs_at number jobs) replies new
-  jobs_lead custody follow old new w number jobs replies h sound sound_new asked serves =
+  jobs_lead custody follow old new w number jobs replies h sound sound_new short asked serves =
       batch_leads custody old w number jobs [] (jobs_at number jobs) new (Ok replies) h sound
-      sound_new
+      sound_new short
       (λ crew crew' es stands done few. follow w number crew crew' jobs es stands asked done few)
       serves replies refl
 
   pub packet_leads : (custody : Custody K) → PacketFollows K → (old new : CrewsOver K M) (w : World)
       (number index : ℕ) (packet : Packet) (replies : List Reply) → IsWorldOf old w
-      → AreSound custody old → AreSound custody new → item_at old.sent index ≡ Some packet
+      → AreSound custody old → AreSound custody new → AreFew new
+      → item_at old.sent index ≡ Some packet
       → is_window packet ≡ false
       → ServesBatch custody old number [] (packet ∷ []) (Ok replies) new
       → Leads w (event.Deliver index number ∷ []) replies new
-  packet_leads custody follow old new w number index packet replies h sound sound_new there window
+  packet_leads custody follow old new w number index packet replies h sound sound_new short there window
       serves =
       let it =
       sent_at w index packet (ap (λ l. item_at l index) h.packets ∙ there) in
       batch_leads custody old w number [] (packet ∷ []) (event.Deliver index number ∷ []) new
-      (Ok replies) h sound sound_new
+      (Ok replies) h sound sound_new short
       (λ crew crew' es stands done few. follow w number index it.sent crew crew' es stands it.there
       (subst (λ (p : Packet). is_window p ≡ false) (sym it.is) window)
       (subst (λ (p : Packet). IsDone crew crew' [] (p ∷ []) es) (sym it.is) done) few)

@@ -1,9 +1,10 @@
 -- The world that crews of one worker stand for.
-use Rattle.std.specs.Prelude.{◌≡◌, ◌≤◌, ℕ, false, List, length}
+use Rattle.std.specs.Prelude.{◌≡◌, ◌≤◌, [], ℕ, false, List, length}
 use Rattle.std.specs.FinMap as fin
 use Rattle.std.specs.declared.option.Option.{Option}
 use Rattle.std.specs.declared.option.Option.TheVariants.{None, Some}
 use Rattle.fl_jobs.specs.declared.job.Job.{Job}
+use Rattle.fl_registrar.specs.Listing.{HasListed}
 use Rattle.fl_store.specs.Custody.{Custody}
 use Rattle.fl_system.specs.declared.event.Event.{Event}
 use Rattle.fl_system.specs.declared.reply.Reply.{Reply}
@@ -15,18 +16,30 @@ use Rattle.fl_crew_calls.specs.Over.{CrewsOver, IsCrewAt}
 use Rattle.fl_one_worker_laws.specs.Single.{IsNodeOf}
 use Rattle.fl_one_worker_calls.specs.Worlds.{CompletesAll, packets_in}
 
--- the crew serves, with nothing due, over a keeper that is honest, and its list has no more
--- operations than a desk may look at
+-- the crew serves, with nothing due, over a keeper that is honest, and its node has published what
+-- the desks may see
 pub record IsSound {K : Type 0} (custody : Custody K) (c : CrewOver K) : Type 0 where
   pub runs : c.stopped ≡ false
   pub idle : c.due ≡ None
   pub trusts : Trusts custody c.node.keeper
-  pub few : length c.list ≤ 18446744073709551615
+  pub listed : HasListed c.node.node c.list []
 
 -- so is each crew
 abbrev pub AreSound : {K M : Type 0} → Custody K → CrewsOver K M → Type 0
 AreSound {K} custody crews =
     (number : ℕ) (crew : CrewOver K) → IsCrewAt crews number crew → IsSound custody crew
+
+-- no list has more operations than a desk may look at
+abbrev pub AreFew : {K M : Type 0} → CrewsOver K M → Type 0
+AreFew {K} crews =
+    (number : ℕ) (crew : CrewOver K) → IsCrewAt crews number crew
+    → length crew.list ≤ 18446744073709551615
+
+-- no keeper is broken
+abbrev pub AreWhole : {K M : Type 0} → Custody K → CrewsOver K M → Type 0
+AreWhole {K} custody crews =
+    (number : ℕ) (crew : CrewOver K) → IsCrewAt crews number crew
+    → custody.is_broken crew.node.keeper ≡ false
 
 -- the node is the crew's, and what is kept of it is what it saved
 pub record IsPlaceOf {K : Type 0} (c : CrewOver K) (s : KeptNode) : Type 0 where

@@ -14,7 +14,7 @@ ghost use Rattle.fl_crew_calls.specs.Batches.{ServesBatch};
 ghost use Rattle.fl_crew_calls.specs.Over.{CrewsOver};
 ghost use Rattle.fl_crew_calls.specs.Told.{all_sent, replies_behind};
 ghost use Rattle.fl_one_worker_laws.specs.Single.{IsDone};
-ghost use Rattle.fl_one_worker_calls.specs.Crews.{AreSound, IsWorldOf, Leads};
+ghost use Rattle.fl_one_worker_calls.specs.Crews.{AreFew, AreSound, IsWorldOf, Leads};
 ghost use Rattle.fl_one_worker_calls.specs.Worlds.{AreAsked, Follows, Stands, jobs_at, packets_in};
 
 use fl_makers::maker::MakesKeepers;
@@ -48,12 +48,12 @@ pub fn law_one_worker_world<K: Keeper>()
 pub fn law_one_worker_batch<M: MakesKeepers>()
     ensures jobs { (old new : CrewsOver M.K M) (w : World) (number : ℕ) (jobs : List Job)
         (replies : List Reply) → IsWorldOf old w → AreSound M.K.custody old →
-        AreSound M.K.custody new → AreAsked jobs →
+        AreSound M.K.custody new → AreFew new → AreAsked jobs →
         ServesBatch M.K.custody old number jobs [] (Ok replies) new →
         Leads w (jobs_at number jobs) replies new }
     ensures packet { (old new : CrewsOver M.K M) (w : World) (number index : ℕ)
         (packet : Packet) (replies : List Reply) → IsWorldOf old w → AreSound M.K.custody old →
-        AreSound M.K.custody new → item_at old.sent index ≡ Some packet →
+        AreSound M.K.custody new → AreFew new → item_at old.sent index ≡ Some packet →
         is_window packet ≡ false →
         ServesBatch M.K.custody old number [] (packet ∷ []) (Ok replies) new →
         Leads w (event.Deliver index number ∷ []) replies new }

@@ -21,7 +21,7 @@ use Rattle.fl_workers.specs.Seated.{seated_of}
 use Rattle.fl_one_worker_laws.specs.Single.{IsNodeOf}
 
 -- what was opened again, over what was kept
-record IsReopened (m : NodeState) (k : Kept) (boot : ℕ) (m' : NodeState) (k' : Kept) : Type 0 where
+pub record IsReopened (m : NodeState) (k : Kept) (boot : ℕ) (m' : NodeState) (k' : Kept) : Type 0 where
   pub own : IsOwn (kept_of m) None k
   pub low : k.boot < 4294967295
   pub node : m' ≡ opened (length m.views) k
@@ -49,7 +49,7 @@ again_as m m' k k' boot r (OpensAgain.opens own) is =
     subst (λ (b : ℕ). IsReopened m k b m' k') same (opens_as m m' k k' (Ok m') own refl)
 again_as m m' k k' boot r (OpensAgain.stays own) is = absurd (cc)
 
-restarts_as : (m m' : NodeState) (k k' : Kept) (keeps : Bool) (boot : ℕ) (r : Result ℕ Fault)
+pub restarts_as : (m m' : NodeState) (k k' : Kept) (keeps : Bool) (boot : ℕ) (r : Result ℕ Fault)
     → m.state ≡ Running Nothing → Restarts m k keeps r m' k' → r ≡ Ok boot
     → IsReopened m k boot m' k'
 restarts_as m m' k k' keeps boot r idle (Restarts.not_saved keep at saves) is = absurd (cc)
@@ -65,7 +65,7 @@ restarts_as m m' k k' keeps boot r idle (Restarts.stopped at again) is =
     absurd (let q = sym idle ∙ at in cc)
 
 -- the same is kept of both nodes
-kept_same : (n m : NodeState) → n.number ≡ m.number → n.boot ≡ m.boot → n.saved ≡ m.saved
+pub kept_same : (n m : NodeState) → n.number ≡ m.number → n.boot ≡ m.boot → n.saved ≡ m.saved
     → kept_of n ≡ kept_of m
 kept_same n m number boot saved =
     ap (λ (x : ℕ). let k : Kept = record { number = x; boot = n.boot; saved = n.saved } in k) number
