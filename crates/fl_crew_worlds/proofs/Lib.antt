@@ -1,0 +1,11 @@
+pub mod Opening
+pub mod Moments
+pub mod Rotating
+pub mod Wide
+pub mod Begun
+pub mod Turning
+pub mod Running
+pub mod Places
+pub mod Delivering
+pub mod Batches
+pub mod Packets
