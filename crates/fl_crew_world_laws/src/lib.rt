@@ -1,0 +1,4 @@
+//! Crews of any number of workers, as nodes of a world.
+#![tactic(auto)]
+
+pub mod laws;
