@@ -144,7 +144,7 @@ class Checkout:
 
 def wrong_installed(checkout, root):
     """What is not as it should be of what was installed."""
-    for name, says in ((TAGS, "flume_in_turn\n"), (NODE, "flume_node\n")):
+    for name, says in ((TAGS, "flume_tags\n"), (NODE, "flume_node\n")):
         if run(root / "bin" / name, cwd="/").stdout != says:
             yield f"bin/{name} is another program"
     if sys.version_info >= (3, 11):
@@ -171,7 +171,7 @@ def wrong_install():
         room = pathlib.Path(room)
         checkout, root = Checkout(room), room / "a prefix"
         yield from wrong_refusals(checkout, root, TAGS)
-        checkout.build("flume_in_turn")
+        checkout.build("flume_tags")
         yield from wrong_refusals(checkout, root, NODE)
         checkout.build("flume_node")
         trees = []

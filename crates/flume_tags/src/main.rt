@@ -6,7 +6,6 @@ ghost use Rattle.std.specs.Prelude.{◌≤◌};
 
 use fl_cluster::fault::RunFault;
 use fl_cluster::run::converse;
-use fl_cluster::session::Session;
 use fl_cluster::standard::{exit_code, tell_length};
 use fl_cluster::watched::Watched;
 use fl_dir_maker::host::HostMaker;
@@ -20,21 +19,33 @@ use std::sync::Wait;
 use std::thread::Threads;
 use std::{env, io};
 
-/// Answers the script of standard input over these keepers, by one call after another, and gives
-/// what is left of it too.
+/// What becomes of the session behind the last line.
+#[derive(Clone, Copy)]
+enum AtEnd {
+    /// It is left as it is, since the program ends with it.
+    Left,
+    /// The maker of its keepers closes them.
+    Closed,
+}
+
+/// Answers the script of standard input over these keepers, by one call after another.
 fn answered_in_turn<M: MakesKeepers + Drop>(
     rt: &HostRuntime,
     keepers: M,
-) -> (Session<M>, Result<u8, RunFault>) {
+    at_end: AtEnd,
+) -> Result<u8, RunFault> {
     let mut input = Watched::new(rt.reader());
     let mut output = io::writer(rt);
     let (session, result) = converse(rt, &mut input, &mut output, keepers);
     tell_length(rt, &input, result);
-    (session, result)
+    match at_end {
+        AtEnd::Left => forget(session),
+        AtEnd::Closed => drop(session.close()),
+    }
+    result
 }
 
-/// Answers the script of standard input over these keepers, by crews of so many workers, and has
-/// their maker close them.
+/// Answers it by crews of so many workers, and has the maker of their keepers close them.
 fn answered_by_crews<
     R: AllocGlobal + Threads + Wait + Sync + Send + Copy + Drop + 'static,
     M: MakesKeepers + Drop,
@@ -56,39 +67,17 @@ fn answered_by_crews<
     result
 }
 
-/// Runs it over nodes in memory.
-fn answered_in_memory<R: AllocGlobal + Threads + Wait + Sync + Send + Copy + Drop + 'static>(
-    rt: &HostRuntime,
-    waits: R,
-    workers: u8,
-) -> Result<u8, RunFault>
+/// Answers it over these keepers, where each node has so many workers, or none.
+fn answered_over<
+    R: AllocGlobal + Threads + Wait + Sync + Send + Copy + Drop + 'static,
+    M: MakesKeepers + Drop,
+>(rt: &HostRuntime, waits: R, workers: u8, keepers: M, at_end: AtEnd) -> Result<u8, RunFault>
     requires { workers ≤ 16 }
 {
-    if workers > 0 {
-        return answered_by_crews(rt, waits, workers, MemMaker);
-    }
-    let (session, result) = answered_in_turn(rt, MemMaker);
-    // The program ends here, and all that the session holds goes with it.
-    forget(session);
-    result
-}
-
-/// Runs it over nodes that are kept in this directory, whose files are closed in the end.
-fn answered_in_directory<R: AllocGlobal + Threads + Wait + Sync + Send + Copy + Drop + 'static>(
-    rt: &HostRuntime,
-    waits: R,
-    workers: u8,
-    dir: &str,
-) -> Result<u8, RunFault>
-    requires { workers ≤ 16 }
-{
-    let keepers = HostMaker::new(rt, dir);
     if workers > 0 {
         return answered_by_crews(rt, waits, workers, keepers);
     }
-    let (session, result) = answered_in_turn(rt, keepers);
-    let _closed = session.close();
-    result
+    answered_in_turn(rt, keepers, at_end)
 }
 
 /// Runs the program, but where its words were refused, or its help or version was asked for.
@@ -104,8 +93,10 @@ fn answered<R: AllocGlobal + Threads + Wait + Sync + Send + Copy + Drop + 'stati
         Err(WordsFault::Memory) => return Err(RunFault::Memory),
     };
     match place {
-        Place::Memory => answered_in_memory(rt, waits, workers),
-        Place::Directory(dir) => answered_in_directory(rt, waits, workers, dir),
+        Place::Memory => answered_over(rt, waits, workers, MemMaker, AtEnd::Left),
+        Place::Directory(dir) => {
+            answered_over(rt, waits, workers, HostMaker::new(rt, dir), AtEnd::Closed)
+        }
     }
 }
 
