@@ -1,132 +1,179 @@
-//! The node that trials are made over, and what they ask of it.
-use crate::calls::{NotBegun, answered};
-use crate::sets::has_just;
-use fl_jobs::job::Job;
+//! The crew that trials are made over, and what it is asked.
+ghost use Rattle.std.specs.Prelude.{◌<◌, ◌≤◌};
+
+use crate::ending::NotBegun;
+use fl_crew_model::record::Told;
+use fl_jobs::answer;
+use fl_jobs::answer::Refusal;
+use fl_jobs::job::{Act, Job, Order};
 use fl_labels::cap::Cap;
 use fl_labels::name::Name;
-use fl_node::node::Node;
-use fl_ops::digest::Digest;
-use fl_ops::op::{Body, Op, Policy};
+use fl_labels::pid::Pid;
+use fl_ops::op::{Body, Op};
 use fl_store::mem::MemKeeper;
-use fl_system::answer::{Answer, Fault};
-use fl_system::state::{Pending, State};
+use fl_system::answer::Fault;
+use fl_workers::crew::Crew;
+use fl_workers::entry::{Entry, Reply};
+use fl_workers::fault::CrewFault;
+use fl_workers::gate::OpenGate;
 use std::alloc::Global;
+use std::sync::Wait;
+use std::thread::Threads;
 
-/// A node over a keeper in memory.
-pub type MemNode = Node<MemKeeper>;
+/// A crew over a keeper in memory.
+pub type MemCrew = Crew<MemKeeper, OpenGate>;
 
-/// A group into which the right to add the tag is put.
-pub const GROUP: Name = Name { node: 1, seq: 1 };
+/// The first two groups.
+pub const GROUPS: [Op; 2] = [
+    Op {
+        name: Name { node: 1, seq: 1 },
+        body: Body::MakeGroup,
+    },
+    Op {
+        name: Name { node: 1, seq: 2 },
+        body: Body::MakeGroup,
+    },
+];
 
-/// A tag that everybody may add.
-pub const TAG: Name = Name { node: 1, seq: 2 };
-
-/// A login that gives the use of the group, by the secret of 32 times 7.
-pub const LOGIN: Name = Name { node: 1, seq: 3 };
-
-/// A second group, which the node does not have yet.
-pub const NEXT: Name = Name { node: 1, seq: 5 };
-
-const DIGEST: Digest = Digest {
-    bytes: [
-        75, 176, 111, 142, 78, 58, 119, 21, 210, 1, 213, 115, 208, 170, 66, 55, 98, 229, 93, 171,
-        214, 26, 44, 2, 39, 143, 165, 108, 198, 210, 148, 224,
-    ],
-};
-
-/// What makes the group.
-pub const GROUP_MADE: Op = Op {
-    name: GROUP,
-    body: Body::MakeGroup,
-};
-
-const TAG_MADE: Op = Op {
-    name: TAG,
-    body: Body::MakeTag(Policy::Export),
-};
-
-const LOGIN_MADE: Op = Op {
-    name: LOGIN,
-    body: Body::MakeLogin(Cap::Use(GROUP), DIGEST),
-};
-
-/// What puts the right to add the tag into the group.
-pub const PUT: Op = Op {
-    name: Name { node: 1, seq: 4 },
-    body: Body::Put(GROUP, Cap::Plus(TAG)),
-};
-
-const NEXT_MADE: Op = Op {
-    name: NEXT,
-    body: Body::MakeGroup,
-};
-
-/// What the node has.
-pub const FEW: [Op; 4] = [GROUP_MADE, TAG_MADE, LOGIN_MADE, PUT];
-
-/// The same, and the second group.
-pub const MORE: [Op; 5] = [GROUP_MADE, TAG_MADE, LOGIN_MADE, PUT, NEXT_MADE];
-
-/// Whether a node runs, and what is on its way.
-#[derive(Clone, Copy, PartialEq, Eq)]
-pub enum Stage {
-    Idle,
-    Unsaved,
-    Due,
+/// What became of a job, as far as trials tell it apart.
+#[derive(Clone, Copy, Debug, PartialEq, Eq)]
+pub enum Outcome {
+    /// Its process was made.
+    Made,
+    /// What it ordered is published.
+    Published,
+    /// It was answered, in whichever words.
+    Answered,
+    /// There was not enough memory.
+    Memory,
+    /// Something saved was due.
+    Busy,
+    /// The crew stopped.
     Stopped,
+    Other,
 }
 
-fn stage_of(node: &MemNode) -> Stage {
-    match node.state() {
-        State::Running(Pending::Nothing) => Stage::Idle,
-        State::Running(Pending::Unsaved(_)) => Stage::Unsaved,
-        State::Running(Pending::Due(_)) => Stage::Due,
-        State::Stopped(_) => Stage::Stopped,
+// What a job was answered that was admitted.
+fn answered(reply: &answer::Reply) -> Outcome {
+    match reply {
+        answer::Reply::Made(_) => Outcome::Made,
+        _ => Outcome::Answered,
     }
 }
 
-/// Whether the node has saved and published these, and is at this stage.
-pub fn stands(node: &MemNode, saved: &[Op], published: &[Op], stage: Stage) -> bool {
-    has_just(node.saved(), saved) && node.published() == published && stage_of(node) == stage
-}
-
-/// What the node answers to a job at its desk, which first looks at the list up to a length.
-pub fn asked(alloc: Global, node: &mut MemNode, upto: u64, mut job: Job) -> Result<Answer, Fault> {
-    if node.desks() == 0 {
-        return Err(Fault::Stopped);
+// Why a job was refused.
+fn refused(fault: &Fault) -> Outcome {
+    match fault {
+        Fault::Refused(Refusal::Memory) => Outcome::Memory,
+        Fault::Refused(Refusal::Busy) => Outcome::Busy,
+        Fault::Stopped => Outcome::Stopped,
+        _ => Outcome::Other,
     }
-    node.job(alloc, 1, upto, &mut job)
 }
 
-// Has the node save and publish the few operations.
-fn fill(alloc: Global, node: &mut MemNode) -> Result<(), NotBegun> {
-    for op in &FEW {
-        node.begin(op.body, None)?;
-        node.save()?;
-        node.publish(alloc)?;
+fn told(told: &Told) -> Outcome {
+    match told {
+        Told::Published(_) => Outcome::Published,
+        Told::Reply(reply) => answered(reply),
+        Told::Refused(fault) => refused(fault),
+        Told::Out(_) => Outcome::Other,
     }
-    Ok(())
 }
 
-/// The node, whose desk has seen nothing.
-pub fn filled(alloc: Global) -> Result<MemNode, NotBegun> {
-    match Node::open(alloc, MemKeeper::new(alloc, 1), 1, 1) {
-        Ok(mut node) => {
-            fill(alloc, &mut node)?;
-            Ok(node)
+fn outcome_of(entry: &Entry) -> Outcome {
+    match &entry.reply {
+        Reply::Told(it) => told(it),
+        Reply::Took(_) => Outcome::Other,
+    }
+}
+
+/// The process of this worker since a boot.
+pub fn process(worker: u32, boot: u32) -> Pid {
+    Pid {
+        node: 1,
+        boot: if boot == 0 { 1 } else { boot },
+        serial: if worker == 0 { 1 } else { worker },
+    }
+}
+
+/// That the process makes a group.
+pub fn group(pid: Pid) -> Job {
+    Job::By(pid, Act::Order(Order::Group))
+}
+
+/// That the process asks whether it has the use of the first group.
+pub fn ask(pid: Pid) -> Job {
+    Job::By(pid, Act::Ask(Cap::Use(GROUPS[0].name)))
+}
+
+/// What a batch of three jobs came to.
+#[derive(Clone, Copy, Debug, PartialEq, Eq)]
+pub enum Served {
+    /// There was no memory for the list of the jobs.
+    NoJobs,
+    /// It was not begun, for want of memory.
+    NotBegun,
+    /// It was not begun, since the crew is stopped.
+    Stopped,
+    /// What became of each job.
+    Begun([Outcome; 3]),
+    /// The entries are not one for each job, in its place.
+    Misplaced,
+}
+
+fn outcomes_of(entries: &[Entry]) -> Served {
+    match entries {
+        [one, two, three] if (one.job, two.job, three.job) == (0, 1, 2) => {
+            Served::Begun([outcome_of(one), outcome_of(two), outcome_of(three)])
         }
+        _ => Served::Misplaced,
+    }
+}
+
+/// Has the crew serve a batch of three jobs.
+pub fn serve<R: Threads + Wait + Sync + Send + Copy + Drop + 'static>(
+    rt: R,
+    alloc: Global,
+    crew: &mut MemCrew,
+    jobs: [Job; 3],
+) -> Served {
+    let Ok(jobs) = Vec::from_array(alloc, jobs) else {
+        return Served::NoJobs;
+    };
+    match crew.batch(rt, alloc, jobs, Vec::new(alloc)) {
+        Ok(entries) => outcomes_of(&entries),
+        Err(CrewFault::Memory) => Served::NotBegun,
+        Err(CrewFault::Stopped) => Served::Stopped,
+    }
+}
+
+/// Has the crew make three processes, and says whether it did, and goes on. Where no thread was
+/// made it does not, though the processes are made.
+pub fn makes_three<R: Threads + Wait + Sync + Send + Copy + Drop + 'static>(
+    rt: R,
+    alloc: Global,
+    crew: &mut MemCrew,
+) -> bool {
+    let made = [Outcome::Made, Outcome::Made, Outcome::Made];
+    let served = serve(rt, alloc, crew, [Job::Proc, Job::Proc, Job::Proc]);
+    served == Served::Begun(made) && !crew.is_stopped()
+}
+
+/// A crew of two over a keeper of nothing.
+pub fn opened<R: Wait>(rt: &R, alloc: Global) -> Result<MemCrew, NotBegun> {
+    match Crew::open(rt, alloc, MemKeeper::new(alloc, 1), 1, 2, OpenGate) {
+        Ok(crew) => Ok(crew),
         Err(_) => Err(NotBegun),
     }
 }
 
-/// Whether who uses the group may add the tag.
-pub fn question() -> Job {
-    Job::Member(Cap::Use(GROUP), Cap::Plus(TAG))
+/// Whether the crew's node has saved just these, each of which is there once.
+pub fn has_saved(crew: &MemCrew, ops: &[Op]) -> bool {
+    let saved = crew.node().saved();
+    saved.len() == ops.len() && ops.iter().all(|op| saved.contains(op))
 }
 
-/// The node, whose desk has seen all.
-pub fn watched(alloc: Global) -> Result<MemNode, NotBegun> {
-    let mut node = filled(alloc)?;
-    answered(asked(alloc, &mut node, u64::MAX, question()))?;
-    Ok(node)
+/// Whether the crew's node has saved these and published them.
+pub fn stands(crew: &MemCrew, ops: &[Op]) -> bool {
+    has_saved(crew, ops) && crew.node().published() == ops
 }

@@ -1,5 +1,6 @@
 //! Trials of sets of operations, and of who reaches what by them.
-use crate::calls::{Ending, NotBegun, Said, Trial, run};
+use crate::calls::{Trial, run};
+use crate::ending::{Ending, NotBegun};
 use fl_closure::index::Index;
 use fl_labels::cap::Cap;
 use fl_labels::cap_set::CapSet;
@@ -38,16 +39,6 @@ const LAST: Op = Op {
     body: Body::MakeGroup,
 };
 
-// What is left of a set or an index.
-const KEPT: &str = "all is as it was";
-
-fn said(answer: Result<(), AllocError>) -> Said {
-    match answer {
-        Ok(()) => Said::Done,
-        Err(AllocError) => Said::Refused,
-    }
-}
-
 fn set_of(alloc: Global, ops: &[Op]) -> Result<OpSet, AllocError> {
     let mut set = OpSet::new(alloc);
     for op in ops {
@@ -56,8 +47,8 @@ fn set_of(alloc: Global, ops: &[Op]) -> Result<OpSet, AllocError> {
     Ok(set)
 }
 
-/// Whether the set has just these members, each of which is there once. Takes no memory.
-pub fn has_just(set: &OpSet, ops: &[Op]) -> bool {
+// Whether the set has just these members, each of which is there once. Takes no memory.
+fn has_just(set: &OpSet, ops: &[Op]) -> bool {
     set.len() == ops.len() && ops.iter().all(|op| set.contains(op))
 }
 
@@ -96,12 +87,12 @@ impl Trial for Merge {
         })
     }
 
-    fn call(_alloc: Global, state: &mut Both) -> Said {
-        said(state.set.merge(&state.other))
+    fn call(_alloc: Global, state: &mut Both) -> Result<(), AllocError> {
+        state.set.merge(&state.other)
     }
 
-    fn left(_alloc: Global, state: &mut Both) -> Option<&'static str> {
-        has_just(&state.set, &[MADE, TOLD, OPENED, LAST]).then_some(KEPT)
+    fn is_kept(_alloc: Global, state: &mut Both) -> bool {
+        has_just(&state.set, &[MADE, TOLD, OPENED, LAST])
     }
 
     fn is_done(_alloc: Global, state: &mut Both) -> bool {
@@ -123,12 +114,12 @@ impl Trial for Absorb {
         Ok(index)
     }
 
-    fn call(_alloc: Global, index: &mut Index) -> Said {
-        said(index.absorb(&PUT))
+    fn call(_alloc: Global, index: &mut Index) -> Result<(), AllocError> {
+        index.absorb(&PUT)
     }
 
-    fn left(alloc: Global, index: &mut Index) -> Option<&'static str> {
-        knows(alloc, index, &[MADE, TOLD, OPENED, LAST], false).then_some(KEPT)
+    fn is_kept(alloc: Global, index: &mut Index) -> bool {
+        knows(alloc, index, &[MADE, TOLD, OPENED, LAST], false)
     }
 
     fn is_done(alloc: Global, index: &mut Index) -> bool {
@@ -161,12 +152,12 @@ impl Trial for AbsorbAll {
         Ok(Taking { index, ops })
     }
 
-    fn call(alloc: Global, state: &mut Taking) -> Said {
-        said(state.index.absorb_all(alloc, &state.ops))
+    fn call(alloc: Global, state: &mut Taking) -> Result<(), AllocError> {
+        state.index.absorb_all(alloc, &state.ops)
     }
 
-    fn left(alloc: Global, state: &mut Taking) -> Option<&'static str> {
-        knows(alloc, &state.index, &[MADE], false).then_some(KEPT)
+    fn is_kept(alloc: Global, state: &mut Taking) -> bool {
+        knows(alloc, &state.index, &[MADE], false)
     }
 
     fn is_done(alloc: Global, state: &mut Taking) -> bool {
