@@ -153,8 +153,9 @@ fn save_none<K: Keeper>(keeper: &mut K) -> Result<(), KeeperFault> {
     keeper.save(&[])
 }
 
-// Saves an operation, where what is loaded has none of its name; else it answers that a row is bad.
-fn save_one<K: Keeper>(alloc: Global, keeper: &mut K, op: Op) -> Result<(), KeeperFault> {
+/// Saves an operation, where what is loaded has none of its name; else it answers that a row is
+/// bad.
+pub fn save_one<K: Keeper>(alloc: Global, keeper: &mut K, op: Op) -> Result<(), KeeperFault> {
     let saved = match keeper.load(alloc) {
         Ok(saved) => saved,
         Err(fault) => return Err(fault),

@@ -1,10 +1,12 @@
-//! Tests of keepers, in memory and over databases.
+//! Tests of keepers, in memory, over databases and over folders.
 #![tactic(auto)]
 
 #[cfg(test)]
 mod asking;
 #[cfg(test)]
 mod databases;
+#[cfg(test)]
+mod folders;
 #[cfg(test)]
 mod memory;
 #[cfg(test)]

@@ -1,5 +1,5 @@
 //! Tests of keepers over a folder, one after another.
-use crate::saving::{has_group, save_group};
+use crate::asking::{FIRST, save_one};
 use fl_dir_maker::fault::Cause;
 use fl_dir_maker::opening::open;
 use fl_folder::folder::Folder;
@@ -23,11 +23,19 @@ type MemoryKeeper = SqlKeeper<FileStore<Memory>>;
 fn kept(alloc: Global) -> Result<Folder, Cause> {
     let mut folder = Folder::new(alloc, 1);
     let mut keeper = open(&mut folder, alloc, PATH, 1)?;
-    if keeper.boot() != Ok(1) || save_group(alloc, &mut keeper).is_err() {
+    if keeper.boot() != Ok(1) || save_one(alloc, &mut keeper, FIRST).is_err() {
         return Err(Cause::Broken);
     }
     folder.keep(PATH, keeper)?;
     Ok(folder)
+}
+
+// Whether the keeper has the group, and nothing else.
+fn has_group(alloc: Global, keeper: &mut MemoryKeeper) -> bool {
+    match keeper.load(alloc) {
+        Ok(saved) => saved.contains(&FIRST) && saved.len() == 1,
+        Err(_) => false,
+    }
 }
 
 // Whether it is the keeper of node 1, has the group, and is booted for this time.
