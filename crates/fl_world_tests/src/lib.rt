@@ -1,8 +1,6 @@
 //! Tests of worlds over keepers in memory, and over files.
 #![tactic(auto)]
 
-#[cfg(test)]
-mod gossip;
 pub mod handed;
 #[cfg(test)]
 mod hiccup;

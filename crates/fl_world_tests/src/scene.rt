@@ -91,11 +91,6 @@ pub fn is_begun<K: Keeper>(
     happens(world, alloc, job(order), Reply::Begun(name))
 }
 
-/// What is begun there is saved and published.
-pub fn tag_is_made(world: &mut World<MemKeeper>, alloc: Global) -> bool {
-    is_made(world, alloc, Name { node: 1, seq: 1 })
-}
-
 /// What is begun at node 1, under this name, is saved and published.
 pub fn is_made(world: &mut World<MemKeeper>, alloc: Global, name: Name) -> bool {
     happens(world, alloc, Event::Save(1), Reply::Done)
