@@ -158,7 +158,7 @@ def seal(key, content):
 
 
 def key_of(path):
-    """The key that a file holds, which nobody else may read."""
+    """The key that a file holds, to which nobody else has a right."""
     try:
         with open(path, "rb") as file:
             mode, content = os.fstat(file.fileno()).st_mode, file.read(66)
@@ -166,7 +166,7 @@ def key_of(path):
         raise Ended(BAD_WORDS, f"{path}: {why.strerror}") from None
     if not re.fullmatch(rb"[0-9a-fA-F]{64}\n?", content):
         raise Ended(BAD_WORDS, f"{path}: it is not 64 hexadecimal digits")
-    if mode & (stat.S_IRGRP | stat.S_IROTH):
+    if mode & (stat.S_IRWXG | stat.S_IRWXO):
         raise Ended(BAD_WORDS, f"{path}: others may read it")
     return bytes.fromhex(content.decode().strip())
 
